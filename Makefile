@@ -1,0 +1,29 @@
+# `make test` is the gate: every proof from nothing, the edits that must be refused, the tests, the programs.
+# `make run` answers request lines from standard input over ./watchmand.state, which it makes where it isn't there.
+PREFIX ?= $(HOME)/.local
+STATE ?= watchmand.state
+PROGRAM := crates/watchmand/out/watchmand
+SOURCES := crates.txt $(shell find crates -name out -prune -o -type f \( -name '*.rt' -o -name '*.antt' \) -print)
+
+.PHONY: test build run install bench
+
+test:
+	rt ci
+
+build: $(PROGRAM)
+
+# `rt run` proves what has changed, builds the program and runs it once.
+$(PROGRAM): $(SOURCES)
+	cd crates/watchmand && rt run -- --help </dev/null >&2
+	@touch $@
+
+run: $(PROGRAM)
+	@test -e $(STATE) || $(PROGRAM) format $(STATE) >&2
+	@$(PROGRAM) lines $(STATE)
+
+install: $(PROGRAM)
+	install -d $(DESTDIR)$(PREFIX)/bin
+	install -m 755 $(PROGRAM) $(DESTDIR)$(PREFIX)/bin/watchmand
+
+bench: $(PROGRAM)
+	bench/watch_list.sh $(PROGRAM)

@@ -1,0 +1,14 @@
+//! A disk as a store sees it, and the numbered refusals of the whole server.
+//!
+//! A [`Disk`] tells what a read gives, what a crash may leave, and how often it has failed. Its laws on
+//! reads and crashes bind only while it is honest; the law on the count of failures binds always.
+//! [`MemDisk`] is a disk in memory that is honest always.
+#![tactic(auto)]
+
+mod disk;
+mod memory;
+mod refusal;
+
+pub use disk::{Crashed, Disk};
+pub use memory::MemDisk;
+pub use refusal::{DeviceFailed, NoMemory, Refusal};

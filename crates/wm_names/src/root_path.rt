@@ -1,0 +1,161 @@
+ghost use Rattle.std.specs.Prelude.{◌≡◌, ◌≢◌, ℕ, List, true, false, string_bytes, IfOk, IfErr, IsErrOf, IsUtf8, ◌↔◌, ◌==◌, not};
+ghost use Rattle.std.specs.List.{list_all};
+ghost use Rattle.wm_names.specs.Paths.{components, is_component as is_component_lem, is_dots as is_dots_lem, is_root_path};
+
+use std::alloc::Global;
+use std::marker::Model;
+use wm_disk::{NoMemory, Refusal};
+
+/// The most bytes of a root path.
+pub const MAX_ROOT_PATH: usize = 1024;
+
+/// The path of a watched root: a text of at most 1,024 bytes that begins with `/`, whose components
+/// between slashes aren't empty, `.` or `..` and hold no zero byte. Contracts see its bytes.
+#[derive(Drop)]
+pub struct RootPath {
+    text: String,
+}
+
+impl Model for RootPath {
+    ghost Value = { List ℕ };
+
+    ghost view = { λ p. string_bytes p.text };
+
+    ghost invariant = { λ p. is_root_path (string_bytes p.text) ≡ true };
+}
+
+/// Whether a part is empty, `.` or `..`.
+fn is_dots(part: &[u8]) -> bool
+    ensures { result ≡ is_dots_lem part.now }
+{
+    part.len() < 3 && part.iter().all(|byte| *byte == b'.')
+}
+
+/// Whether no byte is zero.
+fn has_no_zero(part: &[u8]) -> bool
+    ensures { result ≡ list_all (λ b. not (b == 0)) part.now }
+{
+    part.iter().all(|byte| *byte != 0)
+}
+
+/// Whether a part of a path may stand between slashes.
+fn is_component(part: &[u8]) -> bool
+    ensures { result ≡ is_component_lem part.now }
+{
+    !is_dots(part) && has_no_zero(part)
+}
+
+/// Whether each part between slashes may stand there.
+fn are_components(rest: &[u8]) -> bool
+    ensures { result ≡ list_all is_component_lem (components rest.now) }
+{
+    rest.split(|byte| *byte == b'/')
+        .all(|part| is_component(part))
+}
+
+/// Whether the text keeps the rules of a root path.
+fn keeps_rules(text: &str) -> bool
+    ensures { result ≡ is_root_path text.now }
+{
+    match text.as_bytes() {
+        [b'/', rest @ ..] => text.len() <= MAX_ROOT_PATH && are_components(rest),
+        _ => false,
+    }
+}
+
+impl RootPath {
+    /// The path that the text is, with the text's bytes. `BadPath` where the text breaks a rule, and
+    /// `NoMemory` where its copy finds no room.
+    pub fn read(alloc: Global, text: &str) -> Result<RootPath, Refusal>
+        ensures ok { IfOk result (λ p. (p ≡ text.now) × (is_root_path text.now ≡ true)) }
+        ensures refused { IsErrOf result Refusal.BadPath ↔ (is_root_path text.now ≡ false) }
+        ensures kinds { IfErr result (λ e. e ≢ Refusal.NoMemory → e ≡ Refusal.BadPath) }
+    {
+        if !keeps_rules(text) {
+            return Err(Refusal::BadPath);
+        }
+        let text = String::from_str(alloc, text)?;
+        Ok(RootPath { text })
+    }
+
+    /// The path's text.
+    pub fn as_str(&self) -> &str
+        ensures value { result.now ≡ self.now }
+        ensures rules { is_root_path self.now ≡ true }
+        ensures utf8 { IsUtf8 self.now }
+    {
+        self.text.as_str()
+    }
+
+    /// The same path again.
+    pub fn copy(&self, alloc: Global) -> Result<RootPath, NoMemory>
+        ensures { IfOk result (λ p. p ≡ self.now) }
+    {
+        let text = String::from_str(alloc, &self.text)?;
+        Ok(RootPath { text })
+    }
+}
+
+#[cfg(test)]
+mod tests {
+    use super::*;
+    use std::test::Fail;
+
+    // A path of so many bytes.
+    fn long(alloc: Global, len: usize) -> Result<String, NoMemory> {
+        let mut text = String::from_str(alloc, "/")?;
+        for _ in 1..len {
+            text.push('a')?;
+        }
+        Ok(text)
+    }
+
+    #[test]
+    fn reads_paths(rt: HostRuntime) -> Result<(), Fail> {
+        let longest = long(rt.alloc(), 1024)?;
+        for text in [
+            "/r",
+            "/a/b",
+            "/.x",
+            "/...",
+            "/a b",
+            "/a/..b/c..",
+            "/\u{e9}",
+            "/a\\b",
+            longest.as_str(),
+        ] {
+            let path = RootPath::read(rt.alloc(), text)?;
+            assert_eq!(rt; path.as_str(), text);
+            assert_eq!(rt; path.copy(rt.alloc())?.as_str(), text);
+        }
+        Ok(())
+    }
+
+    #[test]
+    fn refuses_other_texts(rt: HostRuntime) -> Result<(), Fail> {
+        let too_long = long(rt.alloc(), 1025)?;
+        for text in [
+            "",
+            "/",
+            "a",
+            "a/b",
+            "//a",
+            "/a/",
+            "/a//b",
+            "/.",
+            "/./a",
+            "/..",
+            "/a/../b",
+            "/a/..",
+            "/a\0b",
+            "/\0",
+            too_long.as_str(),
+        ] {
+            match RootPath::read(rt.alloc(), text) {
+                Ok(_) => assert!(rt; false, "read {text:?}"),
+                Err(e) => assert_eq!(rt; e, Refusal::BadPath, "{text:?}"),
+            }
+        }
+        Ok(())
+    }
+}

@@ -1,0 +1,5 @@
+pub mod Meaning
+pub mod PathSpelling
+pub mod Registry
+pub mod Roots
+pub mod Spelling

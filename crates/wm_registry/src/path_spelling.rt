@@ -1,0 +1,39 @@
+ghost use Rattle.std.specs.Prelude.{◌≡◌, ◌++◌, length, IfOk, OnOk, OnErr};
+ghost use Rattle.wm_wire.specs.Spelling.{text, Takes};
+ghost use Rattle.wm_registry.specs.PathSpelling.{IsPath};
+
+use std::alloc::Global;
+use wm_disk::{NoMemory, Refusal};
+use wm_names::RootPath;
+use wm_wire::{put_text, take_text};
+
+/// Appends the spelling of a path: that of its text.
+pub(crate) fn put_path(path: &RootPath, out: &mut Vec<u8>) -> Result<(), NoMemory>
+    ensures ok { OnOk result (out.new.items ≡ out.old.items ++ text path.now) }
+    ensures err { OnErr result (out.new.items ≡ out.old.items) }
+{
+    put_text(path.as_str(), out)
+}
+
+/// How many bytes that spelling has.
+pub(crate) fn path_size(path: &RootPath) -> u64
+    ensures exact { result ≡ length (text path.now) }
+    ensures fits { IsPath path.now }
+{
+    path.as_str().len() as u64 + 4
+}
+
+/// The path whose spelling begins the bytes, and the spelling's length. A text that breaks the rules
+/// of a root path is no spelling.
+pub(crate) fn take_path(alloc: Global, bytes: &[u8]) -> Result<Option<(RootPath, usize)>, NoMemory>
+    ensures { IfOk result (Takes IsPath text bytes.now) }
+{
+    let Some((text, size)) = take_text(bytes, 1024) else {
+        return Ok(None);
+    };
+    match RootPath::read(alloc, text) {
+        Ok(path) => Ok(Some((path, size))),
+        Err(Refusal::BadPath) => Ok(None),
+        Err(_) => Err(NoMemory),
+    }
+}

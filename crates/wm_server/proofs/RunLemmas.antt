@@ -1,0 +1,223 @@
+-- Runs that go on, line by line.
+use Rattle.std.proofs.Common.{◌≡◌, ◌≢◌, ℕ, ◌+◌, ◌<◌, ◌≤◌, List, [], ◌∷◌, ◌++◌, length, take, Bool, true, false, cond, Option, Some, None, Err, refl, sym, ap, ◌∙◌, arith, inl, inr, append_assoc, subst, codes}
+use Rattle.std.proofs.lemmas.List.{append-nil, take_all, length-take-le}
+use Rattle.std.proofs.lemmas.Bool.{cases_lt}
+use Rattle.std.proofs.lemmas.Bool.Decides.{nat_tests}
+use Rattle.std.specs.Prelude.{◌==◌, ◌&&◌, nat_le}
+use Rattle.std.specs.Io.BufRead.{take_through, drop_through, ends_with_byte}
+use Rattle.std.specs.Io.KnownBytes.{Appends}
+use Rattle.serde_json.proofs.OnLiterals.{serde_json_on_literals}
+use Rattle.wm_disk.specs.declared.refusal.Refusal.TheVariants as refusals
+use Rattle.wm_server.specs.Inputs.{lines_of, in_front, max_kept}
+use Rattle.wm_server.specs.Lines.{text_of, max_line, request_of_text}
+use Rattle.wm_server.proofs.Texts.{text_of-cut}
+use Rattle.wm_server.specs.Replies.{line_text, refusal_reply, reply_bytes}
+use Rattle.wm_server.specs.Sessions.{State, Standing, Way, Defined, Device, Memory, Outcome, Answers, faults_of, line_met, met_or_refused, refusal_or, state_or}
+use Rattle.wm_server.specs.Runs.{Run, Served, ServedCleanly, Serves, output_of, state_after, faults_in}
+use Rattle.wm_server.specs.declared.input.LineRead.{LineRead}
+use Rattle.wm_server.specs.declared.input.LineRead.TheVariants as reads
+use Rattle.wm_server.specs.Reading.{ReadsLine, Stands}
+
+-- ---- the lines of an input
+
+-- the first line of an input, and the lines of the rest
+lines_of-first : (x : ℕ) (xs : List ℕ) → lines_of (x ∷ xs) ≡ take_through 10 (x ∷ xs) ∷ lines_of (drop_through 10 (x ∷ xs))
+lines_of-first x [] = by_byte (x == 10)
+  where
+    by_byte : (b : Bool) → cond b ((x ∷ []) ∷ []) ((x ∷ []) ∷ []) ≡ cond b (x ∷ []) (x ∷ []) ∷ lines_of (cond b [] [])
+    by_byte true = refl
+    by_byte false = refl
+lines_of-first x (y ∷ ys) = by_byte (x == 10) (lines_of-first y ys)
+  where
+    by_byte : (b : Bool) → lines_of (y ∷ ys) ≡ take_through 10 (y ∷ ys) ∷ lines_of (drop_through 10 (y ∷ ys))
+        → cond b ((x ∷ []) ∷ lines_of (y ∷ ys)) (in_front x (lines_of (y ∷ ys))) ≡ cond b (x ∷ []) (x ∷ take_through 10 (y ∷ ys)) ∷ lines_of (cond b (y ∷ ys) (drop_through 10 (y ∷ ys)))
+    by_byte true e = refl
+    by_byte false e = ap (in_front x) e
+
+lines_of-next : (xs : List ℕ) → xs ≢ [] → lines_of xs ≡ take_through 10 xs ∷ lines_of (drop_through 10 xs)
+lines_of-next [] ne = absurd (ne refl)
+lines_of-next (x ∷ xs) ne = lines_of-first x xs
+
+-- ---- a line that is longer than a line may be
+
+over : (n m : ℕ) (b : Bool) → m < n → (b && nat_le n m) ≡ false
+over n m true h = grind (arith, nat_tests)
+over n m false h = refl
+
+no_text : (line : List ℕ) → max_line < length line → text_of line ≡ None
+no_text line h = text_of-cut line (over (length line) max_line (ends_with_byte 10 line) h)
+
+-- what is kept of a line is met as the line
+same_text : (kept whole : List ℕ) → kept ≡ take max_kept whole → text_of kept ≡ text_of whole
+same_text kept whole e =
+    elim (cases_lt max_line (length whole)) [
+      | inl long ↦
+          let enough : length (take max_kept whole) ≡ max_kept = length-take-le max_kept whole (omega arith) in
+          let longer : max_line < length kept = omega (arith, ap length e, enough) in
+          no_text kept longer ∙ sym (no_text whole long)
+      | inr short ↦ ap text_of (e ∙ take_all max_kept whole (omega arith))
+    ]
+
+same_met : (s : State) (moment : ℕ) (kept whole : List ℕ) → kept ≡ take max_kept whole → line_met s moment kept ≡ line_met s moment whole
+same_met s moment kept whole e = ap (λ t. met_or_refused s moment (request_of_text t)) (same_text kept whole e)
+
+pub stands_kept : (old new : Standing) (moment n : ℕ) (kept whole : List ℕ) (held holds : Option (List ℕ)) → kept ≡ take max_kept whole → Serves old moment kept n held holds new → Serves old moment whole n held holds new
+stands_kept old new moment n kept whole held holds e s =
+    let same = same_met old.state moment kept whole e in
+    record {
+      way = s.way;
+      bytes = s.bytes;
+      faults_are = s.faults_are;
+      appends = s.appends;
+      answers = record {
+        cause = s.answers.cause;
+        bytes_are = s.answers.bytes_are ∙ ap (λ (o : Outcome). reply_bytes (refusal_or s.way o.reply)) same;
+        state_is = s.answers.state_is ∙ ap (λ (o : Outcome). state_or s.way o.state old.state) same;
+      };
+    }
+
+pub no_memory_line : codes "{\"error\":\"16 NoMemory\",\"version\":\"w1\"}\n" ≡ line_text (refusal_reply refusals.NoMemory)
+unfolding line_text serde_json_on_literals
+no_memory_line = refl
+
+-- a line that was answered by want of memory, with nothing changed
+pub no_memory : (old new : Standing) (moment n : ℕ) (line : List ℕ) (held holds : Option (List ℕ)) → new ≡ old → n ≡ 1 → Appends held holds (reply_bytes (Err refusals.NoMemory)) → Serves old moment line n held holds new
+no_memory old new moment n line held holds same one appends = record {
+  way = Memory;
+  bytes = reply_bytes (Err refusals.NoMemory);
+  faults_are = one;
+  appends = appends;
+  answers = record { cause = ap (λ (s : Standing). s.failures) same; bytes_are = refl; state_is = ap (λ (s : Standing). s.state) same };
+}
+
+-- ---- what two steps appended
+
+pub appends-then : (a b c : Option (List ℕ)) (x y : List ℕ) → Appends a b x → Appends b c y → Appends a c (x ++ y)
+appends-then None b c x y p q = tt
+appends-then (Some a) None c x y p q = absurd p
+appends-then (Some a) (Some b) None x y p q = absurd q
+appends-then (Some a) (Some b) (Some c) x y p q = q ∙ ap (λ (t : List ℕ). t ++ y) p ∙ append_assoc a x y
+
+appends-none : (a : Option (List ℕ)) → Appends a a []
+appends-none None = tt
+appends-none (Some a) = sym (append-nil a)
+
+-- ---- a run without faults is the defined one
+
+no_faults : (way : Way) → faults_of way ≡ 0 → way ≡ Defined
+no_faults Defined e = refl
+no_faults Device e = absurd (omega arith)
+no_faults Memory e = absurd (omega arith)
+
+clean_line : (way : Way) (old next : Standing) (moment : ℕ) (line front : List ℕ) → way ≡ Defined → Answers way old moment line front next
+    → (front ≡ reply_bytes (line_met old.state moment line).reply) × (next.state ≡ (line_met old.state moment line).state)
+clean_line way old next moment line front e a = (
+  a.bytes_are ∙ ap (λ (w : Way). reply_bytes (refusal_or w (line_met old.state moment line).reply)) e,
+  a.state_is ∙ ap (λ (w : Way). state_or w (line_met old.state moment line).state old.state) e,
+)
+
+clean : (old : Standing) (moment : ℕ → ℕ) (k : ℕ) (lines : List (List ℕ)) (ways : List Way) (bytes : List ℕ) (new : Standing) → faults_in ways ≡ 0 → Run old moment k lines ways bytes new
+    → (bytes ≡ output_of old.state moment k lines) × (new.state ≡ state_after old.state moment k lines)
+clean old moment k [] [] bytes new none r = (r.0, ap (λ (s : Standing). s.state) r.1)
+clean old moment k [] (way ∷ ways) bytes new none r = absurd r
+clean old moment k (line ∷ lines) [] bytes new none r = absurd r
+clean old moment k (line ∷ lines) (way ∷ ways) bytes new none r =
+    let here = clean_line way old r.2 (moment k) line r.0 (no_faults way (omega arith)) r.4 in
+    let rest = clean r.2 moment (k + 1) lines ways r.1 new (omega arith) r.5 in
+    let met = line_met old.state (moment k) line in (
+      r.3 ∙ ap (λ (t : List ℕ). t ++ r.1) here.0 ∙ ap (λ (t : List ℕ). reply_bytes met.reply ++ t) (rest.0 ∙ ap (λ (s : State). output_of s moment (k + 1) lines) here.1),
+      rest.1 ∙ ap (λ (s : State). state_after s moment (k + 1) lines) here.1,
+    )
+
+-- ---- the loop
+
+-- what has been written so far, and what a run of the rest makes of it
+pub record Underway (old : Standing) (moment : ℕ → ℕ) (k : ℕ) (input : List ℕ) (ways : List Way) (now : Standing) (place : ℕ) (rest written : List ℕ) : Type 0 where
+  pub goes_on : (more : List Way) (bytes : List ℕ) (new : Standing) → Run now moment place (lines_of rest) more bytes new → Run old moment k (lines_of input) (ways ++ more) (written ++ bytes) new
+
+one_more : (old : Standing) (moment : ℕ → ℕ) (k : ℕ) (input : List ℕ) (ways : List Way) (now next : Standing) (place : ℕ) (rest written front : List ℕ) (way : Way)
+    → Underway old moment k input ways now place rest written → rest ≢ [] → Answers way now (moment place) (take_through 10 rest) front next
+    → Underway old moment k input (ways ++ way ∷ []) next (place + 1) (drop_through 10 rest) (written ++ front)
+one_more old moment k input ways now next place rest written front way u ne a = record {
+  goes_on = λ more bytes new r.
+      let run : Run now moment place (take_through 10 rest ∷ lines_of (drop_through 10 rest)) (way ∷ more) (front ++ bytes) new = (front, bytes, next, refl, a, r) in
+      let all : Run now moment place (lines_of rest) (way ∷ more) (front ++ bytes) new = rw (lines_of-next rest ne) run in
+      rw (append_assoc ways (way ∷ []) more, append_assoc written front bytes) (u.goes_on (way ∷ more) (front ++ bytes) new all);
+}
+
+sum-one : (ways : List Way) (way : Way) → faults_in (ways ++ way ∷ []) ≡ faults_in ways + faults_of way
+sum-one [] way = omega arith
+sum-one (w ∷ ways) way = omega (arith, sum-one ways way)
+
+-- one turn
+pub record Loop (old : Standing) (moment : ℕ → ℕ) (input : List ℕ) (held : Option (List ℕ)) (faults : ℕ) (now : Standing) (place : ℕ) (left holds : Option (List ℕ)) : Type 0 where
+  pub ways : List Way
+  pub rest : List ℕ
+  pub written : List ℕ
+  pub faults_are : faults ≡ faults_in ways
+  pub left_is : left ≡ Some rest
+  pub appends : Appends held holds written
+  pub underway : Underway old moment 0 input ways now place rest written
+
+pub begins : (old : Standing) (moment : ℕ → ℕ) (input : List ℕ) (held left : Option (List ℕ)) (place : ℕ) → place ≡ 0 → left ≡ Some input → Loop old moment input held 0 old place left held
+begins old moment input held left place first e = record {
+  ways = [];
+  rest = input;
+  written = [];
+  faults_are = refl;
+  left_is = e;
+  appends = appends-none held;
+  underway = record { goes_on = λ more bytes new r. rw first at r };
+}
+
+pub turns : (old : Standing) (moment now_moment : ℕ → ℕ) (input : List ℕ) (held : Option (List ℕ)) (faults : ℕ) (now next : Standing) (place place' m n : ℕ) (left left' holds holds' : Option (List ℕ)) (reading : LineRead) (kept : List ℕ)
+    → Loop old moment input held faults now place left holds
+    → reading ≢ reads.End → ((rest : List ℕ) → left ≡ Some rest → ReadsLine rest reading kept left')
+    → now_moment ≡ moment → m ≡ now_moment place → place' ≡ place + 1
+    → ((whole : List ℕ) → Stands reading kept whole → Serves now m whole n holds holds' next)
+    → Loop old moment input held (faults + n) next place' left' holds'
+turns old moment now_moment input held faults now next place place' m n left left' holds holds' reading kept l more read same m_is place_is serves =
+    let r = some_line reading kept l.rest left' more (read l.rest l.left_is) in
+    let s = serves (take_through 10 l.rest) r.1 in
+    let m_at : m ≡ moment place = m_is ∙ ap (λ (f : ℕ → ℕ). f place) same in
+    let a : Answers s.way now (moment place) (take_through 10 l.rest) s.bytes next = rw (← m_at) s.answers in
+    record {
+      ways = l.ways ++ s.way ∷ [];
+      rest = drop_through 10 l.rest;
+      written = l.written ++ s.bytes;
+      faults_are = omega (arith, l.faults_are, s.faults_are, sum-one l.ways s.way);
+      left_is = r.2;
+      appends = appends-then held holds holds' l.written s.bytes l.appends s.appends;
+      underway = rw place_is (one_more old moment 0 input l.ways now next place l.rest l.written s.bytes s.way l.underway r.0 a);
+    }
+  where
+    some_line : (reading : LineRead) (kept rest : List ℕ) (left' : Option (List ℕ)) → reading ≢ reads.End → ReadsLine rest reading kept left'
+        → (rest ≢ []) × Stands reading kept (take_through 10 rest) × (left' ≡ Some (drop_through 10 rest))
+    some_line reads.Kept kept rest left' more r = r
+    some_line reads.Lost kept rest left' more r = (r.0, tt, r.1)
+    some_line reads.End kept rest left' more r = absurd (more refl)
+
+pub ends : (old : Standing) (moment : ℕ → ℕ) (input : List ℕ) (held : Option (List ℕ)) (faults : ℕ) (now : Standing) (place : ℕ) (left holds : Option (List ℕ)) (reading : LineRead) (kept : List ℕ) (left' : Option (List ℕ))
+    → Loop old moment input held faults now place left holds → reading ≡ reads.End → ((rest : List ℕ) → left ≡ Some rest → ReadsLine rest reading kept left')
+    → Served old moment 0 input faults held holds now
+ends old moment input held faults now place left holds reading kept left' l end read =
+    let none : l.rest ≡ [] = rw end at (read l.rest l.left_is) in
+    let last : Run now moment place (lines_of l.rest) [] [] now = rw none (refl, refl) in
+    record {
+      ways = l.ways;
+      bytes = l.written;
+      run = rw (append-nil l.ways, append-nil l.written) at (l.underway.goes_on [] [] now last);
+      faults_are = l.faults_are;
+      appends = l.appends;
+    }
+
+pub cleanly : (old : Standing) (moment : ℕ → ℕ) (input : List ℕ) (held : Option (List ℕ)) (faults : ℕ) (now : Standing) (holds : Option (List ℕ))
+    → Served old moment 0 input faults held holds now → faults ≡ 0 → ServedCleanly old.state moment 0 input held holds now.state
+cleanly old moment input held faults now holds s none =
+    let c = clean old moment 0 (lines_of input) s.ways s.bytes now (sym s.faults_are ∙ none) s.run in
+    record { appends = subst (λ (t : List ℕ). Appends held holds t) c.0 s.appends; state_is = c.1 }
+
+pub few_faults : (way : Way) → faults_of way ≤ 1
+few_faults Defined = omega arith
+few_faults Device = omega arith
+few_faults Memory = omega arith

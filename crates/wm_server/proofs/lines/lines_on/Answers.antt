@@ -1,0 +1,4 @@
+use Rattle.wm_server.proofs.lines.lines_on.Goals as goal
+
+pub returns-in-Served-clause-served : goal.returns-in-Served-clause-served
+returns-in-Served-clause-served g c = λ zero h input e. c.serve_lines-ending.ensures.served c.in-Served.is h input e

@@ -1,0 +1,35 @@
+use Rattle.std.proofs.Common.{◌≡◌, ◌≢◌, ◌∙◌, refl, rules, arith}
+use Rattle.wm_server.specs.declared.input.LineRead.TheVariants.{End}
+use Rattle.wm_server.proofs.RunLemmas.{begins, turns, ends, cleanly}
+use Rattle.wm_server.proofs.run.run.Goals as goal
+
+pub loop-init : goal.loop-init
+loop-init g c = (
+  omega arith,
+  c.requires,
+  refl,
+  g.met.F.Front.stays c.args.session.now.front,
+  λ input e. begins (g.F.Front.standing c.args.session.now.front) (g.M.Moments.moment c.args.moments.now) input (g.W.Write.contents c.args.writer.now) _ _ c.requires e,
+)
+
+pub returns-then-eq-clause-served : goal.returns-then-eq-clause-served
+returns-then-eq-clause-served g c = λ input e.
+    let end : c.in_ok-read.read ≡ End = search rules in
+    ends _ _ input _ _ _ _ _ _ _ _ _ (c.loop.invariant.4 input e) end c.in_ok-read.ensures
+
+pub returns-then-eq-clause-clean : goal.returns-then-eq-clause-clean
+returns-then-eq-clause-clean g c = λ none input e.
+    let end : c.in_ok-read.read ≡ End = search rules in
+    cleanly _ _ input _ _ _ _ (ends _ _ input _ _ _ _ _ _ _ _ _ (c.loop.invariant.4 input e) end c.in_ok-read.ensures) none
+
+pub loop-preserved : goal.loop-preserved
+loop-preserved g c =
+    let more : c.in_ok-read.read ≢ End = search rules in (
+      search rules,
+      search rules,
+      c.next-moment.ensures.same ∙ c.loop.invariant.2,
+      g.met.F.Front.goes_on _ _ _ c.loop.invariant.3 c.serve_line.ensures.later,
+      λ input e.
+          turns _ _ _ input _ _ _ _ _ _ _ _ _ _ _ _ c.in_ok-read.read c.read_line.new.line.items (c.loop.invariant.4 input e) more
+          c.in_ok-read.ensures c.loop.invariant.2 c.next-moment.ensures.value c.next-moment.ensures.place (rw c.deref.ensures.value at c.in_ok-found.ensures.served),
+    )

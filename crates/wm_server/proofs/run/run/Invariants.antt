@@ -1,0 +1,10 @@
+use Rattle.std.proofs.Common.{◌≡◌, ◌≤◌, List, ℕ, Some}
+use Rattle.wm_server.proofs.RunLemmas.{Loop}
+use Rattle.wm_server.proofs.run.run.Given as goal
+
+abbrev pub invariant-loop : goal.invariant-loop
+invariant-loop g l = (l.faults ≤ l.counter) × (g.M.Moments.place l.moments ≡ l.counter) × (g.M.Moments.moment l.moments ≡ g.M.Moments.moment l.fn.moments)
+    × g.F.Front.leads_to l.fn.session.front l.session.front
+    × ((input : List ℕ) → g.R.Read.remaining l.fn.reader ≡ Some input
+    → Loop (g.F.Front.standing l.fn.session.front) (g.M.Moments.moment l.fn.moments) input (g.W.Write.contents l.fn.writer)
+    l.faults (g.F.Front.standing l.session.front) (g.M.Moments.place l.moments) (g.R.Read.remaining l.reader) (g.W.Write.contents l.writer))

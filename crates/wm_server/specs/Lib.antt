@@ -1,0 +1,14 @@
+pub mod Endings
+pub mod FileDisks
+pub mod FileEvents
+pub mod FileLaws
+pub mod Inputs
+pub mod Lines
+pub mod LocalLaws
+pub mod Locals
+pub mod Programs
+pub mod Reading
+pub mod Replies
+pub mod Runs
+pub mod Sessions
+pub mod Words

@@ -1,0 +1,52 @@
+-- A whole session: what is written for what is read, and what state is left.
+use Rattle.std.specs.Prelude.{◌≡◌, ℕ, ◌+◌, List, [], ◌∷◌, ◌++◌, Option}
+use Rattle.std.specs.Io.KnownBytes.{Appends}
+use Rattle.wm_server.specs.Inputs.{lines_of}
+use Rattle.wm_server.specs.Replies.{reply_bytes}
+use Rattle.wm_server.specs.Sessions.{State, Standing, Way, Answers, faults_of, line_met}
+
+-- the bytes written for lines, the first of which comes at the k-th moment
+abbrev pub output_of : State → (ℕ → ℕ) → ℕ → List (List ℕ) → List ℕ
+output_of s moment k [] = []
+output_of s moment k (line ∷ lines) =
+    let here = line_met s (moment k) line in
+    reply_bytes here.reply ++ output_of here.state moment (k + 1) lines
+
+-- the state after them
+abbrev pub state_after : State → (ℕ → ℕ) → ℕ → List (List ℕ) → State
+state_after s moment k [] = s
+state_after s moment k (line ∷ lines) = state_after (line_met s (moment k) line).state moment (k + 1) lines
+
+-- From old, the lines may be met in these ways, one a line, be answered with these bytes and leave new.
+abbrev pub Run : Standing → (ℕ → ℕ) → ℕ → List (List ℕ) → List Way → List ℕ → Standing → Type 0
+Run old moment k [] [] bytes new = (bytes ≡ []) × (new ≡ old)
+Run old moment k [] (way ∷ ways) bytes new = ⊥
+Run old moment k (line ∷ lines) [] bytes new = ⊥
+Run old moment k (line ∷ lines) (way ∷ ways) bytes new =
+    (front : List ℕ) × (rest : List ℕ) × (next : Standing) × (bytes ≡ front ++ rest) × Answers way old (moment k) line front next × Run next moment (k + 1) lines ways rest new
+
+-- how many of these ways are faults
+abbrev pub faults_in : List Way → ℕ
+faults_in [] = 0
+faults_in (way ∷ ways) = faults_of way + faults_in ways
+
+-- an input was served, where the writer tells its bytes, and so many faults were met
+pub record Served (old : Standing) (moment : ℕ → ℕ) (k : ℕ) (input : List ℕ) (faults : ℕ) (held holds : Option (List ℕ)) (new : Standing) : Type 0 where
+  pub ways : List Way
+  pub bytes : List ℕ
+  pub run : Run old moment k (lines_of input) ways bytes new
+  pub faults_are : faults ≡ faults_in ways
+  pub appends : Appends held holds bytes
+
+-- each line was answered as it is defined
+pub record ServedCleanly (old : State) (moment : ℕ → ℕ) (k : ℕ) (input : List ℕ) (held holds : Option (List ℕ)) (new : State) : Type 0 where
+  pub appends : Appends held holds (output_of old moment k (lines_of input))
+  pub state_is : new ≡ state_after old moment k (lines_of input)
+
+-- for private clauses: a line was answered to the writer, with so many faults
+pub record Serves (old : Standing) (moment : ℕ) (line : List ℕ) (faults : ℕ) (held holds : Option (List ℕ)) (new : Standing) : Type 0 where
+  pub way : Way
+  pub bytes : List ℕ
+  pub faults_are : faults ≡ faults_of way
+  pub appends : Appends held holds bytes
+  pub answers : Answers way old moment line bytes new

@@ -1,0 +1,363 @@
+//! The real file as a disk.
+//!
+//! No contract can say what a file holds. So a file keeps a record of its calls with their answers, which
+//! only clauses read, and the disk is honest where each answer is that of the model.
+ghost use Rattle.std.specs.Prelude.{◌≡◌, ◌+◌, ◌≤◌, ◌∷◌, [], ℕ, List, length, IfOk, OnOk, MatchResult};
+ghost use Rattle.std.proofs.Common.{inl, refl};
+ghost use Rattle.wm_disk.specs.Points.{MayLeave};
+ghost use Rattle.wm_server.specs.FileEvents.{measured, read, wrote, synced, measure_failed, read_failed, write_failed, sync_failed, replay, raised, failures_of, IsHonest, LeftSince};
+ghost use Rattle.wm_server.specs.FileLaws.{left_now, left_last};
+
+use crate::record::Record;
+use std::fs::{File, Files, OpenOptions};
+use std::io;
+use std::marker::PhantomData;
+use std::os::fd::AsRawFd;
+use std::os::unix::fs::FileExt;
+use std::path::Path;
+use wm_disk::{DeviceFailed, Disk};
+
+/// What a file held, durably, when it was opened. Code over `S: Start` is proved for all contents.
+pub trait Start: Drop {
+    ghost content: { List ℕ };
+}
+
+/// For `main` to name. At this type itself a clause on values says nothing of a file that held bytes.
+#[derive(Drop)]
+pub struct Unknown;
+
+impl Start for Unknown {
+    ghost content = { [] };
+}
+
+const MEASURED: u64 = 0;
+
+const READ: u64 = 1;
+
+const WROTE: u64 = 2;
+
+const SYNCED: u64 = 3;
+
+const MEASURE_FAILED: u64 = 4;
+
+const READ_FAILED: u64 = 5;
+
+const WRITE_FAILED: u64 = 6;
+
+const SYNC_FAILED: u64 = 7;
+
+/// An open file, and the record of its calls. Each method makes one call, and then notes it with its answer.
+#[derive(Drop)]
+struct NotedFile {
+    file: File,
+    log: Record,
+}
+
+impl NotedFile {
+    fn len(&mut self) -> Result<u64, DeviceFailed>
+        ensures noted { MatchResult result
+            (λ n. self.new.log.events ≡ measured n ∷ self.old.log.events)
+            (λ _. self.new.log.events ≡ measure_failed ∷ self.old.log.events) }
+    {
+        let Ok(found) = self.file.metadata() else {
+            self.log.note(&[MEASURE_FAILED, 0, 0], &[]);
+            return Err(DeviceFailed);
+        };
+        self.log.note(&[MEASURED, 0, found.len()], &[]);
+        Ok(found.len())
+    }
+
+    fn read_at(&mut self, at: u64, bytes: &mut [u8]) -> Result<(), DeviceFailed>
+        ensures noted { MatchResult result
+            (λ _. self.new.log.events ≡ read at bytes.new ∷ self.old.log.events)
+            (λ _. self.new.log.events ≡ read_failed at (length bytes.old) ∷ self.old.log.events) }
+    {
+        let len = bytes.len() as u64;
+        if self.file.read_exact_at(bytes, at).is_err() {
+            self.log.note(&[READ_FAILED, at, len], &[]);
+            return Err(DeviceFailed);
+        }
+        self.log.note(&[READ, at, len], bytes);
+        Ok(())
+    }
+
+    fn write_at(&mut self, at: u64, bytes: &[u8]) -> Result<(), DeviceFailed>
+        ensures noted { MatchResult result
+            (λ _. self.new.log.events ≡ wrote at bytes.now ∷ self.old.log.events)
+            (λ _. self.new.log.events ≡ write_failed at bytes.now ∷ self.old.log.events) }
+    {
+        if self.file.write_all_at(bytes, at).is_err() {
+            self.log
+                .note(&[WRITE_FAILED, at, bytes.len() as u64], bytes);
+            return Err(DeviceFailed);
+        }
+        self.log.note(&[WROTE, at, bytes.len() as u64], bytes);
+        Ok(())
+    }
+
+    fn sync(&mut self) -> Result<(), DeviceFailed>
+        ensures noted { MatchResult result
+            (λ _. self.new.log.events ≡ synced ∷ self.old.log.events)
+            (λ _. self.new.log.events ≡ sync_failed ∷ self.old.log.events) }
+    {
+        if self.file.sync_all().is_err() {
+            self.log.note(&[SYNC_FAILED, 0, 0], &[]);
+            return Err(DeviceFailed);
+        }
+        self.log.note(&[SYNCED, 0, 0], &[]);
+        Ok(())
+    }
+}
+
+/// A file that held what `S` says when it was opened.
+#[derive(Drop)]
+pub struct FileDisk<S: Start> {
+    file: NotedFile,
+    failures: u64,
+    start: PhantomData<S>,
+    ghost counted: { failures ≡ failures_of file.log.events },
+}
+
+const LAST_COUNT: u64 = 9_223_372_036_854_775_807;
+
+fn fault(failures: &mut u64) -> DeviceFailed
+    ensures raised { failures.new ≡ raised failures.old }
+{
+    if *failures < LAST_COUNT {
+        *failures += 1;
+    }
+    DeviceFailed
+}
+
+// What is meant for a standard stream that was closed must not land in the file.
+fn above_standard(file: File) -> io::Result<File> {
+    if file.as_raw_fd() <= 2 {
+        file.try_clone()
+    } else {
+        Ok(file)
+    }
+}
+
+fn sync_folder(files: &impl Files<File = File>, path: &str) -> io::Result<()> {
+    let folder = match Path::new(path).parent() {
+        Some(folder) if !folder.as_str().is_empty() => folder.as_str(),
+        _ => ".",
+    };
+    File::open(files, folder)?.sync_all()
+}
+
+impl<S: Start> FileDisk<S> {
+    ghost use Rattle.wm_server.specs.FileDisks.{IsFresh};
+
+    fn fresh(file: File) -> FileDisk<S>
+        ensures fresh { IsFresh result }
+    {
+        FileDisk {
+            file: NotedFile {
+                file,
+                log: Record::new(),
+            },
+            failures: 0,
+            start: PhantomData,
+        }
+    }
+
+    /// Opens a regular file that is there, to read and write it, and makes what it reads durable.
+    pub fn open(files: &impl Files<File = File>, path: &str) -> Result<FileDisk<S>, DeviceFailed>
+        ensures fresh { IfOk result (λ disk. IsFresh disk) }
+    {
+        let Ok(file) = OpenOptions::new().read(true).write(true).open(files, path) else {
+            return Err(DeviceFailed);
+        };
+        match file.metadata() {
+            Ok(found) if found.is_file() => {}
+            _ => return Err(DeviceFailed),
+        }
+        match above_standard(file) {
+            Ok(file) if file.sync_all().is_ok() => Ok(FileDisk::fresh(file)),
+            _ => Err(DeviceFailed),
+        }
+    }
+
+    /// Makes a new file, which holds nothing, and makes its name durable. Where that fails, the empty
+    /// file may stay.
+    pub fn create(files: &impl Files<File = File>, path: &str) -> Result<FileDisk<S>, DeviceFailed>
+        requires empty { S.Start.content ≡ [] }
+        ensures fresh { IfOk result (λ disk. IsFresh disk) }
+    {
+        let Ok(file) = File::create_new(files, path) else {
+            return Err(DeviceFailed);
+        };
+        match above_standard(file) {
+            Ok(file) if sync_folder(files, path).is_ok() => Ok(FileDisk::fresh(file)),
+            _ => Err(DeviceFailed),
+        }
+    }
+}
+
+impl<S: Start> Disk for FileDisk<S> {
+    ghost use Rattle.wm_server.specs.FileDisks.{events_of, file_failures};
+
+    ghost honest = { λ f. IsHonest S.Start.content (events_of f) };
+
+    ghost seen = { λ f. (replay S.Start.content (events_of f)).seen };
+
+    ghost may_leave = { λ f c. MayLeave (replay S.Start.content (events_of f)) c };
+
+    ghost moment = { λ f. length (events_of f) };
+
+    ghost left_since = { λ f t c. LeftSince S.Start.content (events_of f) t c };
+
+    ghost failures = { λ f. file_failures f };
+
+    ghost reads_stand = { λ f h. inl refl };
+
+    ghost counts_now = { λ f t c h le now. left_now S.Start.content (events_of f) t c now };
+
+    ghost only_now = { λ f c h left. left_last S.Start.content (events_of f) c left };
+
+    fn len(&mut self) -> Result<u64, DeviceFailed> {
+        match self.file.len() {
+            Ok(len) => Ok(len),
+            Err(_) => Err(fault(&mut self.failures)),
+        }
+    }
+
+    fn read_at(&mut self, at: u64, bytes: &mut [u8]) -> Result<(), DeviceFailed> {
+        match self.file.read_at(at, bytes) {
+            Ok(()) => Ok(()),
+            Err(_) => Err(fault(&mut self.failures)),
+        }
+    }
+
+    fn write_at(&mut self, at: u64, bytes: &[u8]) -> Result<(), DeviceFailed> {
+        match self.file.write_at(at, bytes) {
+            Ok(()) => Ok(()),
+            Err(_) => Err(fault(&mut self.failures)),
+        }
+    }
+
+    fn sync(&mut self) -> Result<(), DeviceFailed> {
+        match self.file.sync() {
+            Ok(()) => Ok(()),
+            Err(_) => Err(fault(&mut self.failures)),
+        }
+    }
+}
+
+#[cfg(test)]
+mod tests {
+    use super::*;
+    use std::fs;
+    use std::test::Fail;
+
+    // Writes and syncs, and then reads the bytes back, through the trait. It gives the new length.
+    fn write_back<D: Disk>(
+        disk: &mut D,
+        at: u64,
+        bytes: &[u8],
+        back: &mut [u8],
+    ) -> Result<u64, DeviceFailed>
+        requires { length back.old ≡ length bytes.now }
+        ensures { D.honest disk.new → OnOk result (at + length bytes.now ≤ length (D.seen disk.new)) }
+    {
+        if disk.len()? < at {
+            return Err(DeviceFailed);
+        }
+        disk.write_at(at, bytes)?;
+        disk.sync()?;
+        disk.read_at(at, back)?;
+        disk.len()
+    }
+
+    #[test]
+    fn gives_back_what_was_written(rt: HostRuntime) -> Result<(), Fail> {
+        const PATH: &str = "wm_server_file_written";
+        let _ = fs::remove_file(&rt, PATH);
+        let mut disk = FileDisk::<Unknown>::create(&rt, PATH)?;
+        for (at, bytes, len, text) in [
+            (0, b"abc", 3, "abc"),
+            (3, b"def", 6, "abcdef"),
+            (1, b"XYZ", 6, "aXYZef"),
+            (5, b"!!!", 8, "aXYZe!!!"),
+        ] {
+            let mut back = [0; 3];
+            assert_eq!(rt;
+                write_back(&mut disk, at, bytes, &mut back)?,
+                len,
+                "at {at}"
+            );
+            assert_eq!(rt; &back, bytes, "at {at}");
+            assert_eq!(rt; fs::read_to_string(&rt, PATH)?.as_str(), text, "at {at}");
+        }
+        assert_eq!(rt; disk.failures, 0);
+        fs::remove_file(&rt, PATH)?;
+        Ok(())
+    }
+
+    #[test]
+    fn tells_a_read_past_the_end(rt: HostRuntime) -> Result<(), Fail> {
+        const PATH: &str = "wm_server_file_short";
+        let _ = fs::remove_file(&rt, PATH);
+        let mut disk = FileDisk::<Unknown>::create(&rt, PATH)?;
+        let mut back = [0; 4];
+        write_back(&mut disk, 0, b"abcd", &mut back)?;
+        // Another writer cuts the file.
+        fs::write(&rt, PATH, b"ab".as_slice())?;
+        assert_eq!(rt; disk.read_at(0, &mut back), Err(DeviceFailed));
+        assert_eq!(rt; disk.failures, 1);
+        assert_eq!(rt; disk.read_at(0, &mut back), Err(DeviceFailed));
+        assert_eq!(rt; disk.failures, 2);
+        assert_eq!(rt; disk.len()?, 2);
+        assert_eq!(rt; disk.failures, 2);
+        fs::remove_file(&rt, PATH)?;
+        Ok(())
+    }
+
+    #[test]
+    fn tells_a_write_that_the_system_refuses(rt: HostRuntime) -> Result<(), Fail> {
+        const PATH: &str = "wm_server_file_refused";
+        fs::write(&rt, PATH, b"abc".as_slice())?;
+        // The system gave this handle no right to write.
+        let mut disk = FileDisk::<Unknown>::fresh(File::open(&rt, PATH)?);
+        assert_eq!(rt; disk.write_at(0, b"XYZ"), Err(DeviceFailed));
+        assert_eq!(rt; disk.failures, 1);
+        assert_eq!(rt; fs::read_to_string(&rt, PATH)?.as_str(), "abc");
+        fs::remove_file(&rt, PATH)?;
+        Ok(())
+    }
+
+    #[test]
+    fn opens_regular_files_alone(rt: HostRuntime) -> Result<(), Fail> {
+        const PATH: &str = "wm_server_file_there";
+        const FOLDER: &str = "wm_server_file_folder";
+        let _ = fs::remove_file(&rt, PATH);
+        let _ = fs::remove_dir(&rt, FOLDER);
+        fs::write(&rt, PATH, b"abc".as_slice())?;
+        fs::create_dir(&rt, FOLDER)?;
+        for (path, opens, makes) in [
+            (PATH, true, false),
+            ("./wm_server_file_there", true, false),
+            (FOLDER, false, false),
+            ("/dev/null", false, false),
+            ("wm_server_file_missing/file", false, false),
+            ("", false, false),
+        ] {
+            assert_eq!(rt;
+                FileDisk::<Unknown>::open(&rt, path).is_ok(),
+                opens,
+                "open {path}"
+            );
+            assert_eq!(rt;
+                FileDisk::<Unknown>::create(&rt, path).is_ok(),
+                makes,
+                "create {path}"
+            );
+        }
+        assert!(rt; FileDisk::<Unknown>::open(&rt, "wm_server_file_missing").is_err());
+        assert_eq!(rt; FileDisk::<Unknown>::open(&rt, PATH)?.len()?, 3);
+        fs::remove_file(&rt, PATH)?;
+        fs::remove_dir(&rt, FOLDER)?;
+        Ok(())
+    }
+}

@@ -1,0 +1,96 @@
+//! The `lines` command: the lines of a reader over a state file.
+ghost use Rattle.std.specs.Prelude.{◌≡◌, ℕ, List, Some, OnOk};
+ghost use Rattle.std.specs.Io.KnownBytes.{Appends};
+ghost use Rattle.wm_server.specs.Locals.{IsDurable, Later};
+ghost use Rattle.wm_server.specs.Endings.{Ends, status_of};
+ghost use Rattle.wm_server.specs.Programs.{LinesServed, message_of};
+
+use crate::local::LocalFront;
+use crate::run::{LineNumbers, run};
+use crate::session::Session;
+use std::alloc::Global;
+use std::io;
+use std::io::{BufRead, Write};
+use wm_disk::{Disk, Refusal};
+
+/// How a session over a file ended.
+#[derive(Clone, Copy, Debug, PartialEq, Eq)]
+pub enum Ending {
+    /// The reader ended, and the file was closed.
+    Served,
+    /// The start or the close was refused.
+    Refused(Refusal),
+    /// The reader or the writer failed; the file was closed.
+    Broken,
+}
+
+/// Answers the lines of a reader to a writer over the state file on a disk, and closes the file at the
+/// reader's end, or where the reader or the writer fails. The disk is handed back.
+pub fn serve_lines<D: Disk, R: BufRead, W: Write>(
+    alloc: Global,
+    disk: D,
+    reader: &mut R,
+    writer: &mut W,
+) -> (Ending, D)
+    ensures served { result.0 ≡ Ending.Served → D.honest result.1 → (input : List ℕ) → R.remaining reader.old ≡ Some input →
+        LinesServed (D.seen disk) input (W.contents writer.old) (W.contents writer.new) (D.seen result.1) }
+    ensures durable { result.0 ≡ Ending.Served → D.honest result.1 → IsDurable D.Disk result.1 }
+    ensures refused { Ends D.Disk result.0 disk result.1 }
+    ensures later { Later D.Disk disk result.1 }
+{
+    let front = match LocalFront::open(alloc, disk) {
+        Ok(front) => front,
+        Err((refusal, disk)) => return (Ending::Refused(refusal), disk),
+    };
+    let mut session = Session::new(front);
+    let ran = run(alloc, &mut session, &mut LineNumbers::new(), reader, writer);
+    let (closed, disk) = session.front.close();
+    match (closed, ran) {
+        (Err(refusal), _) => (Ending::Refused(refusal), disk),
+        (Ok(()), Err(_)) => (Ending::Broken, disk),
+        (Ok(()), Ok(_)) => (Ending::Served, disk),
+    }
+}
+
+/// Tells on `faults` why a program was refused: its name, and the refusal's number and name.
+pub fn tell<E: Write>(refusal: Refusal, faults: &mut E) -> io::Result<()>
+    ensures { OnOk result (Appends (E.contents faults.old) (E.contents faults.new) (message_of refusal)) }
+{
+    faults.write_all(b"watchmand: ")?;
+    faults.write_all(refusal.text().as_bytes())?;
+    faults.write_all(b"\n")?;
+    Ok(())
+}
+
+/// The status of a program that was refused, which it tells on `faults`.
+pub(crate) fn refuse<E: Write>(refusal: Refusal, faults: &mut E) -> u8
+    ensures { result ≡ 1 }
+{
+    // Where even this can't be told, the status still tells that it was refused.
+    let _told = tell(refusal, faults);
+    1
+}
+
+/// All of `watchmand lines` on a disk, with its status: 0, or 1 with the reason told on `faults`. A
+/// reader or writer that failed is told as `DeviceFailed`.
+pub fn lines_on<D: Disk, R: BufRead, W: Write, E: Write>(
+    alloc: Global,
+    disk: D,
+    reader: &mut R,
+    writer: &mut W,
+    faults: &mut E,
+) -> (u8, D)
+    ensures served { result.0 ≡ 0 → D.honest result.1 → (input : List ℕ) → R.remaining reader.old ≡ Some input →
+        LinesServed (D.seen disk) input (W.contents writer.old) (W.contents writer.new) (D.seen result.1) }
+    ensures durable { result.0 ≡ 0 → D.honest result.1 → IsDurable D.Disk result.1 }
+    ensures quiet { result.0 ≡ 0 → faults.new ≡ faults.old }
+    ensures refused { (ending : Ending) × (result.0 ≡ status_of ending) × Ends D.Disk ending disk result.1 }
+    ensures later { Later D.Disk disk result.1 }
+{
+    let (ending, disk) = serve_lines(alloc, disk, reader, writer);
+    match ending {
+        Ending::Served => (0, disk),
+        Ending::Refused(refusal) => (refuse(refusal, faults), disk),
+        Ending::Broken => (refuse(Refusal::DeviceFailed, faults), disk),
+    }
+}

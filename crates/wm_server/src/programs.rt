@@ -1,0 +1,68 @@
+//! What the programs' mains call.
+use crate::file::{FileDisk, Start, Unknown};
+use crate::lines::{lines_on, refuse};
+use crate::words::Words;
+use std::alloc::Global;
+use std::fs::{File, Files};
+use std::io::{BufRead, Write};
+use wm_disk::{NoMemory, Refusal};
+
+/// `watchmand` with these words, of which its own name is none: gives the status to end with. Replies
+/// and help go to `writer`, and what goes wrong is told on `faults`.
+pub fn watchmand<R: BufRead, W: Write, E: Write>(
+    alloc: Global,
+    files: &impl Files<File = File>,
+    words: &[&str],
+    reader: &mut R,
+    writer: &mut W,
+    faults: &mut E,
+) -> u8 {
+    match Words::read(alloc, words) {
+        Ok(Words::Format { file }) => format(files, &file, writer, faults),
+        Ok(Words::Lines { file }) => lines::<Unknown, R, W, E>(
+            alloc, files, &file, reader, writer, faults,
+        ),
+        Ok(Words::Shown { text, status: 0 }) => shown(&text, 0, writer),
+        Ok(Words::Shown { text, status }) => shown(&text, status, faults),
+        Err(NoMemory) => refuse(Refusal::NoMemory, faults),
+    }
+}
+
+/// Shows help or a fault of the words.
+fn shown<W: Write>(text: &str, status: u8, writer: &mut W) -> u8 {
+    match writer.write_all(text.as_bytes()) {
+        Ok(()) => status,
+        Err(_) => 1,
+    }
+}
+
+/// `watchmand format FILE`: makes a state file, which must not be there yet.
+fn format<W: Write, E: Write>(
+    files: &impl Files<File = File>,
+    path: &str,
+    writer: &mut W,
+    faults: &mut E,
+) -> u8 {
+    if FileDisk::<Unknown>::create(files, path).is_err() {
+        return refuse(Refusal::DeviceFailed, faults);
+    }
+    match writer.write_all(b"formatted\n") {
+        Ok(()) => 0,
+        Err(_) => refuse(Refusal::DeviceFailed, faults),
+    }
+}
+
+/// `watchmand lines FILE`: answers the lines of a reader over a state file that held what `S` says.
+fn lines<S: Start, R: BufRead, W: Write, E: Write>(
+    alloc: Global,
+    files: &impl Files<File = File>,
+    path: &str,
+    reader: &mut R,
+    writer: &mut W,
+    faults: &mut E,
+) -> u8 {
+    match FileDisk::<S>::open(files, path) {
+        Ok(disk) => lines_on(alloc, disk, reader, writer, faults).0,
+        Err(_) => refuse(Refusal::DeviceFailed, faults),
+    }
+}

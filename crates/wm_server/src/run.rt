@@ -1,0 +1,153 @@
+ghost use Rattle.std.specs.Prelude.{◌≡◌, ◌+◌, ◌-◌, ◌^◌, ◌<◌, ◌≤◌, ℕ, List, Some, Err, IfOk};
+ghost use Rattle.std.specs.Io.KnownBytes.{Appends};
+ghost use Rattle.wm_server.specs.Reading.{Stands};
+ghost use Rattle.wm_server.specs.Replies.{reply_bytes};
+ghost use Rattle.wm_server.specs.Runs.{Served, ServedCleanly, Serves};
+
+use crate::front::Front;
+use crate::input::{LineRead, read_line};
+use crate::session::Session;
+use std::alloc::Global;
+use std::io;
+use std::io::{BufRead, ErrorKind, Write};
+use std::marker::Model;
+use wm_disk::{NoMemory, Refusal};
+
+/// Tells the moments of lines, as a reader tells its bytes.
+pub trait Moments {
+    /// The moment of each line, counted from 0.
+    ghost moment: { Self → ℕ → ℕ };
+
+    /// Which line comes next.
+    ghost place: { Self → ℕ };
+
+    /// The moment of the next line.
+    fn next(&mut self) -> u64
+        requires { place self.old < 2 ^ 64 - 1 }
+        ensures value { result ≡ moment self.old (place self.old) }
+        ensures same { moment self.new ≡ moment self.old }
+        ensures place { place self.new ≡ place self.old + 1 };
+}
+
+/// Line k, counted from 1, has the moment k.
+#[derive(Drop)]
+pub struct LineNumbers {
+    told: u64,
+}
+
+impl Model for LineNumbers {
+    ghost Value = { ℕ };
+
+    ghost view = { λ n. n.told };
+}
+
+impl Moments for LineNumbers {
+    ghost moment = { λ _ k. k + 1 };
+
+    ghost place = { λ n. n };
+
+    fn next(&mut self) -> u64 {
+        self.told += 1;
+        self.told
+    }
+}
+
+impl LineNumbers {
+    /// Before the first line.
+    pub fn new() -> LineNumbers
+        ensures { result ≡ 0 }
+    {
+        LineNumbers { told: 0 }
+    }
+}
+
+/// The line of a refusal for want of memory.
+const NO_MEMORY: &str = "{\"error\":\"16 NoMemory\",\"version\":\"w1\"}\n";
+
+/// Answers a line by want of memory, which is one fault.
+fn answer_no_memory<W: Write>(writer: &mut W) -> io::Result<u64>
+    ensures { IfOk result (λ n. (n ≡ 1) × Appends (W.contents writer.old) (W.contents writer.new) (reply_bytes (Err Refusal.NoMemory))) }
+{
+    writer.write_all(NO_MEMORY.as_bytes())?;
+    Ok(1)
+}
+
+/// Answers a line that was kept, and tells how many faults were met: none or one.
+fn answer_kept<F: Front, W: Write>(
+    alloc: Global,
+    session: &mut Session<F>,
+    moment: u64,
+    line: &[u8],
+    writer: &mut W,
+) -> io::Result<u64>
+    ensures served { IfOk result (λ n. Serves (F.standing session.old.front) moment line.now n (W.contents writer.old) (W.contents writer.new) (F.standing session.new.front)) }
+    ensures few { IfOk result (λ n. n ≤ 1) }
+    ensures later { F.leads_to session.old.front session.new.front }
+{
+    let mut reply = Vec::new(alloc);
+    match session.answer(alloc, moment, line, &mut reply) {
+        Ok(faults) => {
+            writer.write_all(&reply)?;
+            Ok(faults)
+        }
+        Err(NoMemory) => answer_no_memory(writer),
+    }
+}
+
+/// Answers a line as far as it was read, and tells how many faults were met: none or one.
+fn serve_line<F: Front, W: Write>(
+    alloc: Global,
+    session: &mut Session<F>,
+    moment: u64,
+    read: LineRead,
+    line: &[u8],
+    writer: &mut W,
+) -> io::Result<u64>
+    ensures served { IfOk result (λ n. (whole : List ℕ) → Stands read line.now whole →
+        Serves (F.standing session.old.front) moment whole n (W.contents writer.old) (W.contents writer.new) (F.standing session.new.front)) }
+    ensures few { IfOk result (λ n. n ≤ 1) }
+    ensures later { F.leads_to session.old.front session.new.front }
+{
+    let faults = match read {
+        LineRead::Kept => answer_kept(alloc, session, moment, line, writer)?,
+        _ => answer_no_memory(writer)?,
+    };
+    Ok(faults)
+}
+
+/// Answers the lines of a reader to a writer, each before the next is read, until the reader ends. It
+/// tells how many faults were met: lines that were answered `DeviceFailed` or `NoMemory`. It holds one
+/// line and one reply. An `Err` is one of the reader or the writer.
+pub fn run<F: Front, M: Moments, R: BufRead, W: Write>(
+    alloc: Global,
+    session: &mut Session<F>,
+    moments: &mut M,
+    reader: &mut R,
+    writer: &mut W,
+) -> io::Result<u64>
+    requires { M.place moments.old ≡ 0 }
+
+    // Each line is answered as it is defined, or by a fault.
+    ensures served { IfOk result (λ faults. (input : List ℕ) → R.remaining reader.old ≡ Some input →
+        Served (F.standing session.old.front) (M.moment moments.old) 0 input faults
+        (W.contents writer.old) (W.contents writer.new) (F.standing session.new.front)) }
+
+    // Without a fault the bytes and the state are the defined ones.
+    ensures clean { IfOk result (λ faults. faults ≡ 0 → (input : List ℕ) → R.remaining reader.old ≡ Some input →
+        ServedCleanly (F.standing session.old.front).state (M.moment moments.old) 0 input
+        (W.contents writer.old) (W.contents writer.new) (F.standing session.new.front).state) }
+    ensures later { F.leads_to session.old.front session.new.front }
+{
+    let mut faults = 0u64;
+    let mut line = Vec::new(alloc);
+    for _ in 0..u64::MAX {
+        let read = read_line(reader, &mut line)?;
+        if read == LineRead::End {
+            return Ok(faults);
+        }
+        let moment = moments.next();
+        let found = serve_line(alloc, session, moment, read, &line, writer)?;
+        faults += found;
+    }
+    Err(io::Error::from(ErrorKind::Other))
+}

@@ -1,0 +1,126 @@
+ghost use Rattle.std.specs.Prelude.{◌≡◌, ◌++◌, ◌≤◌, List, ℕ, vec_capacity, IfOk, OnOk, OnErr};
+ghost use Rattle.wm_server.specs.Sessions.{Answers, Meets, Way, faults_of, is_fault as is_fault_lem, line_met, met, page};
+
+use crate::front::Front;
+use crate::reply;
+use crate::request::Request;
+use std::alloc::Global;
+use wm_disk::{NoMemory, Refusal};
+use wm_names::RootPath;
+use wm_registry::{Command, Reply};
+
+/// One client's session on a front.
+#[derive(Drop)]
+pub struct Session<F> {
+    pub front: F,
+}
+
+/// Whether a refusal comes where its cause comes, and not by what is defined.
+fn is_fault(refusal: Refusal) -> bool
+    ensures { result ≡ is_fault_lem refusal }
+{
+    matches!(refusal, Refusal::DeviceFailed | Refusal::NoMemory)
+}
+
+impl<F: Front> Session<F> {
+    /// A session that has answered no line yet.
+    pub fn new(front: F) -> Session<F>
+        ensures { result.front ≡ front }
+    {
+        Session { front }
+    }
+
+    /// Watches a path. The reply is written first, so that an accepted command has its reply.
+    fn watch(&mut self, alloc: Global, path: RootPath, out: &mut Vec<u8>) -> Result<(), Refusal>
+        ensures met { Meets (met (F.standing self.old.front).state 0 (Request.Watch path)) (page (F.standing self.old.front) out.old.items) result (page (F.standing self.new.front) out.new.items) }
+        ensures room { vec_capacity out.old ≤ vec_capacity out.new }
+        ensures later { F.leads_to self.old.front self.new.front }
+    {
+        let start = out.len();
+        reply::put_watch(alloc, path.as_str(), out)?;
+        match self.front.submit(alloc, &Command::Watch(path)) {
+            Reply::Changed | Reply::Unchanged => Ok(()),
+            Reply::Refused(refusal) => {
+                out.truncate(start);
+                Err(refusal)
+            }
+        }
+    }
+
+    /// Meets a request: writes its reply, or refuses it and writes nothing.
+    fn meet(
+        &mut self,
+        alloc: Global,
+        moment: u64,
+        request: Request,
+        out: &mut Vec<u8>,
+    ) -> Result<(), Refusal>
+        ensures met { Meets (met (F.standing self.old.front).state moment request) (page (F.standing self.old.front) out.old.items) result (page (F.standing self.new.front) out.new.items) }
+        ensures room { vec_capacity out.old ≤ vec_capacity out.new }
+        ensures later { F.leads_to self.old.front self.new.front }
+    {
+        match request {
+            Request::Version => reply::put_version(alloc, out)?,
+            Request::Watch(path) => self.watch(alloc, path, out)?,
+            Request::WatchList => reply::put_watch_list(alloc, self.front.registry().roots(), out)?,
+        }
+        Ok(())
+    }
+
+    /// Reads a line and meets its request.
+    fn perform(
+        &mut self,
+        alloc: Global,
+        moment: u64,
+        line: &[u8],
+        out: &mut Vec<u8>,
+    ) -> Result<(), Refusal>
+        ensures met { Meets (line_met (F.standing self.old.front).state moment line.now) (page (F.standing self.old.front) out.old.items) result (page (F.standing self.new.front) out.new.items) }
+        ensures room { vec_capacity out.old ≤ vec_capacity out.new }
+        ensures later { F.leads_to self.old.front self.new.front }
+    {
+        let request = Request::read(alloc, line)?;
+        self.meet(alloc, moment, request, out)
+    }
+
+    /// Answers a line, and tells how many faults were met: none or one.
+    pub(crate) fn answer(
+        &mut self,
+        alloc: Global,
+        moment: u64,
+        line: &[u8],
+        out: &mut Vec<u8>,
+    ) -> Result<u64, NoMemory>
+        ensures ok { IfOk result (λ n. (way : Way) × (bytes : List ℕ) × (n ≡ faults_of way) × (out.new.items ≡ out.old.items ++ bytes)
+            × Answers way (F.standing self.old.front) moment line.now bytes (F.standing self.new.front)) }
+        ensures err { OnErr result ((out.new.items ≡ out.old.items) × (self.new ≡ self.old)) }
+        ensures later { F.leads_to self.old.front self.new.front }
+    {
+        out.try_reserve(reply::REFUSAL_ROOM)?;
+        match self.perform(alloc, moment, line, out) {
+            Ok(()) => Ok(0),
+            Err(refusal) => {
+                reply::put_refusal(refusal, out);
+                Ok(if is_fault(refusal) { 1 } else { 0 })
+            }
+        }
+    }
+
+    /// Answers a line, which comes with its newline: appends the reply and a newline. The room of a
+    /// refusal is made before anything changes: an `Err` is want of memory for it, and changes nothing.
+    pub fn line(
+        &mut self,
+        alloc: Global,
+        moment: u64,
+        line: &[u8],
+        out: &mut Vec<u8>,
+    ) -> Result<(), NoMemory>
+        ensures ok { OnOk result ((way : Way) × (bytes : List ℕ) × (out.new.items ≡ out.old.items ++ bytes)
+            × Answers way (F.standing self.old.front) moment line.now bytes (F.standing self.new.front)) }
+        ensures err { OnErr result ((out.new.items ≡ out.old.items) × (self.new ≡ self.old)) }
+        ensures later { F.leads_to self.old.front self.new.front }
+    {
+        self.answer(alloc, moment, line, out)?;
+        Ok(())
+    }
+}
