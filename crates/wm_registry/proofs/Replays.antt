@@ -92,6 +92,28 @@ pub idle : (bytes : List ℕ) (now : State) (command : Command) (size : ℕ) →
     → reply_to now command ≢ Changed → GoesNowhere bytes now
 idle bytes now command size b not_changed new m = not_changed (tail_of bytes now new command size b m).0
 
+-- ---- a file has one meaning
+
+no_command : (bytes : List ℕ) (cs : List Command) → bytes ≡ [] → bytes ≡ flat_map command_spelling cs → cs ≡ []
+no_command bytes [] none e = refl
+no_command bytes (c ∷ cs) none e = absurd (omega (arith, ap length (sym none ∙ e), length-append (command_spelling c) (flat_map command_spelling cs), some_byte c))
+
+ended : (bytes : List ℕ) (s b : State) → bytes ≡ [] → Leads bytes s b → Some s ≡ Some b
+ended bytes s b none m = ap (λ (cs : List Command). replay cs s) (sym (no_command bytes m.commands none m.spelled)) ∙ m.replayed
+
+one_end : (cs : List Command) (bytes : List ℕ) (s a b : State) → AllByRecursion IsCommand cs → bytes ≡ flat_map command_spelling cs → replay cs s ≡ Some a → Leads bytes s b → a ≡ b
+one_end [] bytes s a b fit e r m = let same : Some a ≡ Some b = sym r ∙ ended bytes s b e m in cc
+one_end (c ∷ cs) bytes s a b fit e r m =
+    let size = length (command_spelling c) in
+    let rest : drop size bytes ≡ flat_map command_spelling cs = ap (drop size) e ∙ drop_at (command_spelling c) (flat_map command_spelling cs) size refl in
+    let begins : Begins IsCommand command_spelling bytes c size = record { known = fit.0; parts = e ∙ ap (λ (t : List ℕ). command_spelling c ++ t) (sym rest); whole = refl } in
+    let h = only_changed (reply_to s c) (replay cs (changed s c)) a r in
+    one_end cs (drop size bytes) (changed s c) a b fit.1 rest h.1 (tail_of bytes s b c size begins m).1
+
+-- bytes lead from a state to one state alone
+pub one_meaning : (bytes : List ℕ) (s a b : State) → Leads bytes s a → Leads bytes s b → a ≡ b
+one_meaning bytes s a b p q = one_end p.commands bytes s a b p.fit p.spelled p.replayed q
+
 -- ---- files that grow
 
 pub leads-none : (s : State) → Leads [] s s

@@ -77,7 +77,7 @@ fn accepted(reply: Reply) -> Result<(), Refusal>
 
 impl Registry {
     ghost use Rattle.std.specs.Prelude.{◌<◌, length, IfOk};
-    ghost use Rattle.wm_registry.specs.Registry.{after, fresh, reply_to};
+    ghost use Rattle.wm_registry.specs.Registry.{State, after, fresh, reply_to};
     ghost use Rattle.wm_registry.specs.Meaning.{GoesNowhere, Means, MeansNothing, Steps};
 
     /// The registry of a new file: no roots, incarnation 0, and 1 as the next root number.
@@ -121,6 +121,7 @@ impl Registry {
     /// aren't spellings of commands that follow each other, or where one of these changes nothing.
     pub fn replay(alloc: Global, bytes: &[u8]) -> Result<Registry, Refusal>
         ensures ok { IfOk result (λ r. Means bytes.now r) }
+        ensures alone { IfOk result (λ r. (other : State) → Means bytes.now other → other ≡ r) }
         ensures damaged { IfErr result (λ e. e ≢ Refusal.NoMemory → (e ≡ Refusal.Damaged) × MeansNothing bytes.now) }
     {
         let mut registry = Registry::new(alloc);

@@ -12,7 +12,7 @@ use Rattle.wm_server.specs.Inputs.{lines_of, in_front, max_kept}
 use Rattle.wm_server.specs.Lines.{text_of, max_line, request_of_text}
 use Rattle.wm_server.proofs.Texts.{text_of-cut}
 use Rattle.wm_server.specs.Replies.{line_text, refusal_reply, reply_bytes}
-use Rattle.wm_server.specs.Sessions.{State, Standing, Way, Defined, Device, Memory, Outcome, Answers, faults_of, line_met, met_or_refused, refusal_or, state_or}
+use Rattle.wm_server.specs.Sessions.{State, Standing, Way, Defined, Device, Memory, Outcome, HasCause, Answers, faults_of, line_met, met_or_refused, refusal_or, state_or}
 use Rattle.wm_server.specs.Runs.{Run, Served, ServedCleanly, Serves, output_of, state_after, faults_in}
 use Rattle.wm_server.specs.declared.input.LineRead.{LineRead}
 use Rattle.wm_server.specs.declared.input.LineRead.TheVariants as reads
@@ -70,7 +70,7 @@ stands_kept old new moment n kept whole held holds e s =
       faults_are = s.faults_are;
       appends = s.appends;
       answers = record {
-        cause = s.answers.cause;
+        cause = subst (λ (o : Outcome). HasCause s.way o.accepts old new) same s.answers.cause;
         bytes_are = s.answers.bytes_are ∙ ap (λ (o : Outcome). reply_bytes (refusal_or s.way o.reply)) same;
         state_is = s.answers.state_is ∙ ap (λ (o : Outcome). state_or s.way o.state old.state) same;
       };

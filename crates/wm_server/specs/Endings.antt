@@ -7,11 +7,15 @@ use Rattle.wm_server.specs.Programs.{Kept}
 use Rattle.wm_server.specs.declared.lines.Ending.{Ending}
 use Rattle.wm_server.specs.declared.lines.Ending.TheVariants.{Served, Refused, Broken}
 
--- A refusal has its cause, and has left the file as it says. Where the reader or the writer failed, what was accepted until then is kept, and the file is closed.
+-- what was accepted is kept in a file that is closed
+abbrev pub KeepsAll : {D : Type 0} → Ghosts D → D → D → Type 0
+KeepsAll disk old new = disk.honest new → IsDurable disk new × ((was : registry.State) × (left : registry.State) × Kept (disk.seen old) was left (disk.seen new))
+
+-- A refusal has its cause, and has left the file as it says. In the other endings what was accepted is kept.
 abbrev pub Ends : {D : Type 0} → Ghosts D → Ending → D → D → Type 0
-Ends disk Served old new = Unit {0}
+Ends disk Served old new = KeepsAll disk old new
 Ends disk (Refused refusal) old new = LinesRefused disk refusal old new
-Ends disk Broken old new = disk.honest new → IsDurable disk new × ((was : registry.State) × (left : registry.State) × Kept (disk.seen old) was left (disk.seen new))
+Ends disk Broken old new = KeepsAll disk old new
 
 abbrev pub status_of : Ending → ℕ
 status_of Served = 0

@@ -34,7 +34,7 @@ module _ {D : Type 0} (disk : Ghosts D) where
   later_then a b c p q = record { honest = λ h. p.honest (q.honest h); count = omega (arith, p.count, q.count) }
 
   pub stays : (a : LocalFront D) → LeadsTo disk a a
-  stays a = record { later = later_same a.disk; failed = λ e. e; cause = λ e f. let bad : false ≡ true = sym e ∙ f in absurd cc; grows = λ h e. grows_none (disk.seen a.disk) a.registry; durable = λ h e d. d }
+  stays a = record { later = later_same a.disk; failed = λ e. e; still = λ e. refl; cause = λ e f. let bad : false ≡ true = sym e ∙ f in absurd cc; grows = λ h e. grows_none (disk.seen a.disk) a.registry; durable = λ h e d. d }
 
   not_failed : (b : Bool) → (b ≡ true → ⊥) → b ≡ false
   not_failed true h = absurd (h refl)
@@ -51,6 +51,7 @@ module _ {D : Type 0} (disk : Ghosts D) where
       record {
         later = later_then a.disk b.disk c.disk p.later q.later;
         failed = λ e. q.failed (p.failed e);
+        still = λ e. q.still (p.failed e) ∙ p.still e;
         cause = λ e f. rises a b c p q b.has_failed refl e f;
         grows = λ h e. grows_then (disk.seen a.disk) (disk.seen b.disk) (disk.seen c.disk) a.registry b.registry c.registry (p.grows (q.later.honest h) (middle e)) (q.grows h e);
         durable = λ h e d. q.durable h e (p.durable (q.later.honest h) (middle e) d);

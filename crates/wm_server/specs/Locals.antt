@@ -1,6 +1,6 @@
 -- What a `LocalFront` shows, and what it keeps on its disk.
 use Rattle.std.specs.Prelude.{◌≡◌, ◌≤◌, ℕ, List, [], ◌∷◌, ◌++◌, true, false}
-use Rattle.wm_disk.specs.Contents.{Only, Rose}
+use Rattle.wm_disk.specs.Contents.{NoMore, Only, Rose}
 use Rattle.wm_disk.specs.declared.disk.Disk.{Ghosts}
 use Rattle.wm_disk.specs.declared.refusal.Refusal.{Refusal}
 use Rattle.wm_disk.specs.declared.refusal.Refusal.TheVariants as refusals
@@ -61,16 +61,23 @@ module _ {D : Type 0} where
   pub record LeadsTo (disk : Ghosts D) (old new : LocalFront D) : Type 0 where
     pub later : Later disk old.disk new.disk
     pub failed : old.has_failed ≡ true → new.has_failed ≡ true
+    -- nothing more is asked of a disk that has failed
+    pub still : old.has_failed ≡ true → new.disk ≡ old.disk
     pub cause : old.has_failed ≡ false → new.has_failed ≡ true → Rose (disk.failures old.disk) (disk.failures new.disk)
     pub grows : disk.honest new.disk → new.has_failed ≡ false → Grows (disk.seen old.disk) old.registry (disk.seen new.disk) new.registry
     pub durable : disk.honest new.disk → new.has_failed ≡ false → IsDurable disk old.disk → IsDurable disk new.disk
 
+  -- nothing was written: a read gives what it gave, and a crash leaves nothing more
+  pub record IsUntouched (disk : Ghosts D) (old new : D) : Type 0 where
+    pub seen : disk.seen new ≡ disk.seen old
+    pub crash : NoMore (disk.may_leave old) (disk.may_leave new)
+
   -- why a start was refused, and what it left of the file
   abbrev pub StartRefused : Ghosts D → Refusal → D → D → Type 0
-  StartRefused disk refusals.Damaged old new = disk.honest new → (disk.seen new ≡ disk.seen old) × MeansNothing (disk.seen old)
-  StartRefused disk refusals.Exhausted old new = disk.honest new → (disk.seen new ≡ disk.seen old) × ((was : registry.State) × Means (disk.seen old) was × (registry.reply_to was Begin ≡ Refused refusals.Exhausted))
+  StartRefused disk refusals.Damaged old new = disk.honest new → IsUntouched disk old new × MeansNothing (disk.seen old)
+  StartRefused disk refusals.Exhausted old new = disk.honest new → IsUntouched disk old new × ((was : registry.State) × Means (disk.seen old) was × (registry.reply_to was Begin ≡ Refused refusals.Exhausted))
   StartRefused disk refusals.DeviceFailed old new = Rose (disk.failures old) (disk.failures new)
-  StartRefused disk refusals.NoMemory old new = disk.honest new → disk.seen new ≡ disk.seen old
+  StartRefused disk refusals.NoMemory old new = disk.honest new → IsUntouched disk old new
   StartRefused disk _ old new = ⊥
 
   -- why a close was refused

@@ -20,16 +20,17 @@ pub record State : Type 0 where
   -- the store has failed: each command is refused from then on
   pub has_failed : Bool
 
--- a reply or a refusal, and the state after it
+-- a reply or a refusal, the state after it, and whether a command was accepted
 pub record Outcome : Type 0 where
   pub reply : Result Data Refusal
   pub state : State
+  pub accepts : Bool
 
 abbrev pub refused : Refusal → State → Outcome
-refused r s = record { reply = Err r; state = s }
+refused r s = record { reply = Err r; state = s; accepts = false }
 
 abbrev pub replied : Data → State → Outcome
-replied d s = record { reply = Ok d; state = s }
+replied d s = record { reply = Ok d; state = s; accepts = false }
 
 -- how a command is met by a store that may have failed, and the state after it
 abbrev pub reply_to_command : State → Command → Reply
@@ -39,7 +40,7 @@ abbrev pub state_after_command : State → Command → State
 state_after_command s command = if s.has_failed then s else record s { registry = registry.after s.registry command }
 
 abbrev pub by_reply : Reply → Data → State → Outcome
-by_reply reply.Changed d s = replied d s
+by_reply reply.Changed d s = record { reply = Ok d; state = s; accepts = true }
 by_reply reply.Unchanged d s = replied d s
 by_reply (reply.Refused r) d s = refused r s
 
@@ -74,11 +75,11 @@ pub data Way : Type 0 where
   Device : Way
   Memory : Way
 
--- the way has its cause
-abbrev pub HasCause : Way → Standing → Standing → Type 0
-HasCause Defined old new = old.failures ≤ new.failures
-HasCause Device old new = (old.state.has_failed ≡ false) × (old.failures ≤ new.failures) × Rose old.failures new.failures
-HasCause Memory old new = new.failures ≡ old.failures
+-- the way has its cause; the device is asked only for a command that is to be accepted
+abbrev pub HasCause : Way → Bool → Standing → Standing → Type 0
+HasCause Defined accepts old new = old.failures ≤ new.failures
+HasCause Device accepts old new = (accepts ≡ true) × (old.state.has_failed ≡ false) × (old.failures ≤ new.failures) × Rose old.failures new.failures
+HasCause Memory accepts old new = new.failures ≡ old.failures
 
 -- what is told in place of what is defined, and the state after it
 abbrev pub refusal_or : Way → Result Data Refusal → Result Data Refusal
@@ -96,16 +97,21 @@ state_or Defined defined old = defined
 state_or Device defined old = record old { has_failed = true }
 state_or Memory defined old = old
 
+abbrev pub is_changed : Reply → Bool
+is_changed reply.Changed = true
+is_changed reply.Unchanged = false
+is_changed (reply.Refused r) = false
+
 -- a front met a command
 pub record Submits (old : Standing) (command : Command) (result : Reply) (new : Standing) : Type 0 where
   pub way : Way
-  pub cause : HasCause way old new
+  pub cause : HasCause way (is_changed (reply_to_command old.state command)) old new
   pub reply_is : result ≡ reply_or way (reply_to_command old.state command)
   pub state_is : new.state ≡ state_or way (state_after_command old.state command) old.state
 
 -- the line was answered with these bytes
 pub record Answers (way : Way) (old : Standing) (moment : ℕ) (line bytes : List ℕ) (new : Standing) : Type 0 where
-  pub cause : HasCause way old new
+  pub cause : HasCause way (line_met old.state moment line).accepts old new
   pub bytes_are : bytes ≡ reply_bytes (refusal_or way (line_met old.state moment line).reply)
   pub state_is : new.state ≡ state_or way (line_met old.state moment line).state old.state
 
@@ -133,14 +139,14 @@ page standing bytes = record { standing = standing; bytes = bytes }
 
 -- what is defined came true, and its reply was written
 pub record Grants (defined : Outcome) (old new : Page) : Type 0 where
-  pub cause : HasCause Defined old.standing new.standing
+  pub cause : HasCause Defined defined.accepts old.standing new.standing
   pub bytes_are : new.bytes ≡ old.bytes ++ reply_bytes defined.reply
   pub state_is : new.standing.state ≡ defined.state
 
 -- it was refused, by what is defined or by a fault, and nothing was written
 pub record Refuses (defined : Outcome) (r : Refusal) (old new : Page) : Type 0 where
   pub way : Way
-  pub cause : HasCause way old.standing new.standing
+  pub cause : HasCause way defined.accepts old.standing new.standing
   pub reply_is : refusal_or way defined.reply ≡ Err r
   pub state_is : new.standing.state ≡ state_or way defined.state old.standing.state
   pub bytes_are : new.bytes ≡ old.bytes

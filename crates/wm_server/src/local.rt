@@ -1,6 +1,6 @@
-ghost use Rattle.std.specs.Prelude.{◌≡◌, ◌++◌, ◌+◌, [], ◌∷◌, true, false, replicate, IfOk, IfErr, OnOk, OnErr, MatchResult};
-ghost use Rattle.wm_disk.specs.Contents.{Rose};
-ghost use Rattle.wm_server.specs.Locals.{Begun, CloseRefused, IsDurable, KeepRefused, Later, ReadRefused, StartRefused};
+ghost use Rattle.std.specs.Prelude.{◌≡◌, ◌++◌, ◌+◌, [], ◌∷◌, true, false, length, replicate, IfOk, IfErr, OnOk, OnErr, MatchResult};
+ghost use Rattle.wm_disk.specs.Contents.{Follows, Rose, Torn};
+ghost use Rattle.wm_server.specs.Locals.{Begun, CloseRefused, IsDurable, IsUntouched, KeepRefused, Later, ReadRefused, StartRefused};
 ghost use Rattle.wm_registry.specs.Meaning.{Means};
 ghost use Rattle.wm_registry.specs.Spelling.{command_spelling, IsCommand};
 
@@ -22,7 +22,7 @@ pub struct LocalFront<D> {
 /// The whole content of a disk.
 fn read_whole<D: Disk>(alloc: Global, disk: &mut D) -> Result<Vec<u8>, Refusal>
     ensures content { D.honest disk.new → IfOk result (λ bytes. bytes.items ≡ D.seen disk.old) }
-    ensures same { D.honest disk.new → D.seen disk.new ≡ D.seen disk.old }
+    ensures untouched { D.honest disk.new → IsUntouched D.Disk disk.old disk.new }
     ensures later { Later D.Disk disk.old disk.new }
     ensures err { IfErr result (λ e. ReadRefused D.Disk e disk.old disk.new) }
 {
@@ -36,6 +36,7 @@ fn read_whole<D: Disk>(alloc: Global, disk: &mut D) -> Result<Vec<u8>, Refusal>
 fn append<D: Disk>(disk: &mut D, bytes: &[u8]) -> Result<(), DeviceFailed>
     ensures grown { D.honest disk.new → OnOk result (D.seen disk.new ≡ D.seen disk.old ++ bytes.now) }
     ensures durable { D.honest disk.new → OnOk result (IsDurable D.Disk disk.new) }
+    ensures torn { D.honest disk.new → Follows (Torn (length (D.seen disk.old)) (length bytes.now)) (D.may_leave disk.old) (D.may_leave disk.new) }
     ensures later { Later D.Disk disk.old disk.new }
     ensures err { OnErr result (Rose (D.failures disk.old) (D.failures disk.new)) }
 {
@@ -61,7 +62,7 @@ fn keep<D: Disk>(alloc: Global, disk: &mut D, command: &Command) -> Result<(), R
 /// The registry that the content of a disk means.
 fn take_up<D: Disk>(alloc: Global, disk: &mut D) -> Result<Registry, Refusal>
     ensures means { D.honest disk.new → IfOk result (λ registry. Means (D.seen disk.old) registry) }
-    ensures same { D.honest disk.new → D.seen disk.new ≡ D.seen disk.old }
+    ensures untouched { D.honest disk.new → IsUntouched D.Disk disk.old disk.new }
     ensures later { Later D.Disk disk.old disk.new }
     ensures refused { IfErr result (λ e. StartRefused D.Disk e disk.old disk.new) }
 {

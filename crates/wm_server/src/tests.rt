@@ -1,16 +1,15 @@
 //! Whole sessions, with their lines, replies and files written out byte by byte.
 use crate::lines::lines_on;
 use crate::local::LocalFront;
-use crate::programs::watchmand;
 use crate::run::{LineNumbers, run};
 use crate::session::Session;
 use std::alloc::{AllocError, Global};
-use std::fs::{File, Files};
-use std::io::{BufRead, BufReader, ErrorKind, Read, Write};
+use std::io::{BufRead, BufReader, Write};
 use std::process::Abort;
 use std::test::Fail;
-use std::{fs, io};
 use wm_disk::{Crashed, Disk, MemDisk};
+
+mod failures;
 
 /// A disk that holds these bytes.
 fn disk_of(alloc: Global, content: &[u8]) -> Result<MemDisk, Fail> {
@@ -250,143 +249,6 @@ fn keeps_the_limit_of_roots(rt: HostRuntime) -> Result<(), Fail> {
     Ok(())
 }
 
-/// Contents that no session could leave.
-static DAMAGED: [&[u8]; 5] = [
-    b"\x05",
-    b"\x00\x01\x00\x00\x00\x02/",
-    // the same root twice
-    b"\x00\x01\x00\x00\x00\x02/r\x01\x00\x00\x00\x02/r",
-    b"\x01\x00\x00\x00\x01/",
-    b"\x00\x01\x00\x00\x00\x02/\x00",
-];
-
-#[test]
-fn refuses_damaged_files(rt: HostRuntime) -> Result<(), Fail> {
-    let alloc = rt.alloc();
-    for content in &DAMAGED {
-        let end = end_of(
-            alloc,
-            disk_of(alloc, content)?,
-            &mut b"[\"version\"]\n".as_slice(),
-        )?;
-        assert_ends(
-            &rt,
-            &end,
-            (1, "", "watchmand: 14 Damaged\n", content),
-            "a damaged file",
-        );
-    }
-    Ok(())
-}
-
-const DEVICE_FAILED: &str = "watchmand: 13 DeviceFailed\n";
-
-/// The lines that each failing device gets: two watches and a list.
-const LINES: &str = "[\"watch\",\"/a\"]\n[\"watch\",\"/b\"]\n[\"watch-list\"]\n";
-
-/// The replies to them where the first watch meets the failure.
-const FAILED: &str =
-    "{\"error\":\"13 DeviceFailed\",\"version\":\"w1\"}\n{\"error\":\"12 StoreFailed\",\"version\":\"w1\"}\n{\"roots\":[],\"version\":\"w1\"}\n";
-
-const STORE_FAILED: &str = "watchmand: 12 StoreFailed\n";
-
-/// How many calls pass before each fails, the lines, and how the session ends. A start makes five calls:
-/// length, read, length, write and sync; a watch the last three of these.
-static FAILURES: [(u64, &str, Wanted<'static>); 7] = [
-    (0, LINES, (1, "", DEVICE_FAILED, b"")),
-    (3, LINES, (1, "", DEVICE_FAILED, b"")),
-    (4, LINES, (1, "", DEVICE_FAILED, b"\x00")),
-    (5, LINES, (1, FAILED, STORE_FAILED, b"\x00")),
-    (6, LINES, (1, FAILED, STORE_FAILED, b"\x00")),
-    (
-        7,
-        LINES,
-        (1, FAILED, STORE_FAILED, b"\x00\x01\x00\x00\x00\x02/a"),
-    ),
-    // the last sync fails
-    (5, "", (1, "", DEVICE_FAILED, b"\x00")),
-];
-
-#[test]
-fn tells_a_failing_device(rt: HostRuntime) -> Result<(), Fail> {
-    let alloc = rt.alloc();
-    for (calls, input, wanted) in &FAILURES {
-        let mut disk = MemDisk::new(alloc, 0);
-        disk.arm(*calls);
-        let end = end_of(alloc, disk, &mut input.as_bytes())?;
-        let about = format!(in alloc; "after {calls} calls")?;
-        assert_ends(&rt, &end, *wanted, &about);
-    }
-    Ok(())
-}
-
-/// A reader and writer whose calls fail.
-#[derive(Drop)]
-struct Broken;
-
-impl Read for Broken {
-    fn read(&mut self, _bytes: &mut [u8]) -> io::Result<usize> {
-        Err(io::Error::from(ErrorKind::Other))
-    }
-}
-
-impl Write for Broken {
-    fn write(&mut self, _bytes: &[u8]) -> io::Result<usize> {
-        Err(io::Error::from(ErrorKind::Other))
-    }
-
-    fn flush(&mut self) -> io::Result<()> {
-        Ok(())
-    }
-}
-
-#[test]
-fn tells_a_broken_reader(rt: HostRuntime) -> Result<(), Fail> {
-    let alloc = rt.alloc();
-    let input = b"[\"watch\",\"/a\"]\n[\"watch\",\"/b\"".as_slice();
-    let mut reader = BufReader::new(alloc, input.chain(Broken))?;
-    let end = end_of(alloc, MemDisk::new(alloc, 0), &mut reader)?;
-    let output = "{\"version\":\"w1\",\"watch\":\"/a\"}\n";
-    assert_ends(
-        &rt,
-        &end,
-        (1, output, DEVICE_FAILED, b"\x00\x01\x00\x00\x00\x02/a"),
-        "a broken reader",
-    );
-    Ok(())
-}
-
-#[test]
-fn tells_broken_writers(rt: HostRuntime) -> Result<(), Fail> {
-    let alloc = rt.alloc();
-    let mut faults = Vec::new(alloc);
-    let (status, disk) = lines_on(
-        alloc,
-        MemDisk::new(alloc, 0),
-        &mut LINES.as_bytes(),
-        &mut Broken,
-        &mut faults,
-    );
-    assert_eq!(rt; status, 1);
-    assert_eq!(rt; faults.as_slice(), DEVICE_FAILED.as_bytes());
-    // The first command was accepted, and then its reply couldn't be written.
-    let content = content_of(alloc, disk)?;
-    assert_eq!(rt;
-        content.as_slice(),
-        b"\x00\x01\x00\x00\x00\x02/a".as_slice()
-    );
-    let damaged = disk_of(alloc, b"\x05")?;
-    let (status, _) = lines_on(
-        alloc,
-        damaged,
-        &mut LINES.as_bytes(),
-        &mut Broken,
-        &mut Broken,
-    );
-    assert_eq!(rt; status, 1);
-    Ok(())
-}
-
 #[test]
 fn answers_by_its_parts(rt: HostRuntime) -> Result<(), Fail> {
     let alloc = rt.alloc();
@@ -421,86 +283,5 @@ fn answers_by_its_parts(rt: HostRuntime) -> Result<(), Fail> {
         content.as_slice(),
         b"\x00\x01\x00\x00\x00\x02/r".as_slice()
     );
-    Ok(())
-}
-
-const PATH: &str = "wm_server_program";
-
-/// Words of the program, its input, and its status, replies and faults, one call after the other.
-static CALLS: [(&[&str], &str, u8, &str, &str); 6] = [
-    (&["format", PATH], "", 0, "formatted\n", ""),
-    (&["format", PATH], "", 1, "", DEVICE_FAILED),
-    (
-        &["lines", PATH],
-        "[\"watch\",\"/r\"]\n[\"watch-list\"]\n",
-        0,
-        "{\"version\":\"w1\",\"watch\":\"/r\"}\n{\"roots\":[\"/r\"],\"version\":\"w1\"}\n",
-        "",
-    ),
-    (
-        &["lines", PATH],
-        "[\"watch-list\"]\n",
-        0,
-        "{\"roots\":[\"/r\"],\"version\":\"w1\"}\n",
-        "",
-    ),
-    (
-        &["lines", "wm_server_program_missing"],
-        "[\"version\"]\n",
-        1,
-        "",
-        DEVICE_FAILED,
-    ),
-    (&["lines", "."], "[\"version\"]\n", 1, "", DEVICE_FAILED),
-];
-
-/// Calls the program, and gives its status, replies and faults.
-fn called(
-    alloc: Global,
-    files: &impl Files<File = File>,
-    words: &[&str],
-    input: &str,
-) -> Result<(u8, String, String), Fail> {
-    let mut output = Vec::new(alloc);
-    let mut faults = Vec::new(alloc);
-    let status = watchmand(
-        alloc,
-        files,
-        words,
-        &mut input.as_bytes(),
-        &mut output,
-        &mut faults,
-    );
-    Ok((
-        status,
-        String::from_utf8(output)?,
-        String::from_utf8(faults)?,
-    ))
-}
-
-#[test]
-fn calls_the_program(rt: HostRuntime) -> Result<(), Fail> {
-    let alloc = rt.alloc();
-    let _ = fs::remove_file(&rt, PATH);
-    for (words, input, status, output, faults) in &CALLS {
-        let told = called(alloc, &rt, words, input)?;
-        assert_eq!(rt; told.1.as_str(), *output, "{words:?}");
-        assert_eq!(rt; told.2.as_str(), *faults, "{words:?}");
-        assert_eq!(rt; told.0, *status, "{words:?}");
-    }
-    let content = fs::read(&rt, PATH)?;
-    fs::remove_file(&rt, PATH)?;
-    assert_eq!(rt;
-        content.as_slice(),
-        b"\x00\x01\x00\x00\x00\x02/r\x00".as_slice()
-    );
-    let (status, output, faults) = called(alloc, &rt, &["--help"], "")?;
-    assert!(rt; output.contains("Usage: watchmand <COMMAND>"));
-    assert_eq!(rt; faults.as_str(), "");
-    assert_eq!(rt; status, 0);
-    let (status, output, faults) = called(alloc, &rt, &[], "")?;
-    assert_eq!(rt; output.as_str(), "");
-    assert!(rt; faults.contains("Usage: watchmand <COMMAND>"));
-    assert_eq!(rt; status, 2);
     Ok(())
 }

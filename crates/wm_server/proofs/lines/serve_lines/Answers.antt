@@ -25,3 +25,14 @@ returns-in-Ok-Err-clause-refused g c = λ h.
     let begun = (rw (← c.new-session.ensures) at c.in-Ok.ensures.begun) (leads.later.honest honest_left) in
     let grows = subst (λ (t : List ℕ). Grows (g.D.Disk.seen front.disk) front.registry t left.registry) (sym (c.close-closed.ensures.same h)) (leads.grows honest_left worked) in
     ((rw c.in-Ok-Err.is-0 at c.close-closed.ensures.durable) h, (begun.was, left.registry, kept _ _ _ front.registry left.registry begun grows))
+
+pub returns-in-Ok-Ok-clause-refused : goal.returns-in-Ok-Ok-clause-refused
+returns-in-Ok-Ok-clause-refused g c = λ h.
+    let front = c.new-session.result.front in
+    let left = c.run-ran.new.session.front in
+    let leads = c.run-ran.ensures.later in
+    let worked = rw c.in-Ok-Ok.is-0 at c.close-closed.ensures.ok in
+    let honest_left = c.close-closed.ensures.later.honest h in
+    let begun = (rw (← c.new-session.ensures) at c.in-Ok.ensures.begun) (leads.later.honest honest_left) in
+    let grows = subst (λ (t : List ℕ). Grows (g.D.Disk.seen front.disk) front.registry t left.registry) (sym (c.close-closed.ensures.same h)) (leads.grows honest_left worked) in
+    ((rw c.in-Ok-Ok.is-0 at c.close-closed.ensures.durable) h, (begun.was, left.registry, kept _ _ _ front.registry left.registry begun grows))

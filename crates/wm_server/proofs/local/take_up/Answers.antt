@@ -6,4 +6,4 @@ use Rattle.wm_server.proofs.local.take_up.Goals as goal
 pub returns-in-Err-Damaged-clause-refused : goal.returns-in-Err-Damaged-clause-refused
 returns-in-Err-Damaged-clause-refused g c = λ h.
     let found = c.in-Err-Damaged.ensures.damaged (λ bad. let wrong : Damaged ≡ NoMemory = sym c.in-Err-Damaged.field-0-is ∙ bad in cc) in
-    (c.read_whole.ensures.same h, subst (λ (t : List ℕ). MeansNothing t) (c.deref.ensures.value ∙ c.in_ok-bytes.ensures.content h) found.1)
+    (c.read_whole.ensures.untouched h, subst (λ (t : List ℕ). MeansNothing t) (c.deref.ensures.value ∙ c.in_ok-bytes.ensures.content h) found.1)

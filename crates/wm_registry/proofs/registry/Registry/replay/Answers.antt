@@ -1,5 +1,6 @@
-use Rattle.std.proofs.Common.{arith}
-use Rattle.wm_registry.proofs.Replays.{all_left, stepped, steps_within}
+use Rattle.wm_registry.specs.Registry.{fresh}
+use Rattle.std.proofs.Common.{rules, length, ◌≤◌, arith}
+use Rattle.wm_registry.proofs.Replays.{one_meaning, end_left, all_left, stepped, steps_within}
 use Rattle.wm_registry.proofs.registry.Registry.replay.Goals as goal
 
 pub loop-at-init : goal.loop-at-init
@@ -14,3 +15,8 @@ pub returns-in-Err-clause-damaged : goal.returns-in-Err-clause-damaged
 returns-in-Err-clause-damaged c =
     let d = rw c.split_at.ensures.back at c.in-Err.ensures.damaged in
     λ ne. ((d ne).0, c.loop-at.invariant.1.back (d ne).1)
+
+pub returns-clause-alone : goal.returns-clause-alone
+returns-clause-alone c = λ other m.
+    let past : length c.args.bytes.now ≤ c.loop-at.at = search rules in
+    one_meaning c.args.bytes.now fresh other c.loop-at.registry m (end_left c.args.bytes.now c.loop-at.at c.loop-at.registry c.loop-at.invariant.1 past)

@@ -26,6 +26,7 @@ returns-in-Ok-keep-clause-later g c =
     record {
       later = c.keep.ensures.later;
       failed = λ e. e;
+      still = λ e. let bad : true ≡ false = sym e ∙ c.if-self.false in absurd cc;
       cause = λ e f. let bad : false ≡ true = sym e ∙ f in absurd cc;
       grows = λ h e. record {
         tail = command_spelling c.args.command.now;
