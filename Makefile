@@ -5,7 +5,7 @@ STATE ?= watchmand.state
 PROGRAM := crates/watchmand/out/watchmand
 SOURCES := crates.txt $(shell find crates -name out -prune -o -type f \( -name '*.rt' -o -name '*.antt' \) -print)
 
-.PHONY: test build run install bench
+.PHONY: test build run install bench session
 
 test:
 	rt ci
@@ -24,6 +24,10 @@ run: $(PROGRAM)
 install: $(PROGRAM)
 	install -d $(DESTDIR)$(PREFIX)/bin
 	install -m 755 $(PROGRAM) $(DESTDIR)$(PREFIX)/bin/watchmand
+
+# A session from the first watch of a root to a deleted file that comes back, by the built program.
+session: $(PROGRAM)
+	bench/first_session.sh $(PROGRAM)
 
 bench: $(PROGRAM)
 	bench/watch_list.sh $(PROGRAM)

@@ -1,6 +1,13 @@
--- The rules of paths.
-use Rattle.std.specs.Prelude.{ℕ, List, [], ◌∷◌, Bool, false, not, ◌&&◌, ◌==◌, length, nat_le, nat_lt}
-use Rattle.std.specs.List.{list_all, slice_split}
+-- The rules of paths, and how paths stand to each other.
+use Rattle.std.specs.Prelude.{ℕ, List, [], ◌∷◌, Bool, false, not, ◌&&◌, ◌==◌, length, nat_le, nat_lt, take, slice_index}
+use Rattle.std.specs.List.{after_last, list_all, slice_split}
+use Rattle.std.specs.Ordering.{nat_cmp, eq_by_cmp}
+use Rattle.std.specs.declared.cmp.Ordering.{Ordering}
+use Rattle.std.specs.Cmp.Lexicographic.{slice_cmp}
+
+-- the bytes of a path
+abbrev pub Path : Type 0
+Path = List ℕ
 
 -- empty, `.` or `..`: fewer than three bytes, and each a dot
 abbrev pub is_dots : List ℕ → Bool
@@ -18,3 +25,22 @@ components text = slice_split (λ b. b == 47) text
 abbrev pub is_root_path : List ℕ → Bool
 is_root_path [] = false
 is_root_path (x ∷ rest) = (x == 47) && (nat_le (length (x ∷ rest)) 1024 && list_all is_component (components rest))
+
+-- at most 1,024 bytes: components with slashes between them
+abbrev pub is_rel_path : List ℕ → Bool
+is_rel_path text = nat_le (length text) 1024 && list_all is_component (components text)
+
+-- paths stand in the order of their bytes
+abbrev pub path_cmp : Path → Path → Ordering
+path_cmp = slice_cmp nat_cmp
+
+abbrev pub same_path : Path → Path → Bool
+same_path p q = eq_by_cmp path_cmp p q
+
+-- p stands below the folder top, which is not below itself: it is top, a slash, and more
+abbrev pub is_under : Path → Path → Bool
+is_under top p = nat_lt (length top) (length p) && ((slice_index p (length top) == 47) && same_path (take (length top) p) top)
+
+-- what follows the last slash, and all where there is none
+abbrev pub basename : Path → List ℕ
+basename p = after_last (λ b. b == 47) p

@@ -1,8 +1,16 @@
-//! Names of what is watched: values that keep the rules of paths.
+//! Names of what is watched: values that keep the rules of paths, and what is known of a file.
 //!
-//! A [`RootPath`] is made by [`RootPath::read`] alone, so whoever holds one need not test it again.
+//! A [`RootPath`] or [`RelPath`] is made by its `read` alone, so whoever holds one need not test it
+//! again.
 #![tactic(auto)]
 
+mod components;
+mod entry;
+mod rel_path;
 mod root_path;
+mod subtree;
 
+pub use entry::{Entry, Kind, Meta};
+pub use rel_path::RelPath;
 pub use root_path::RootPath;
+pub use subtree::Subtree;

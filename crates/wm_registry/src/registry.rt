@@ -98,6 +98,13 @@ impl Registry {
         self.incarnation
     }
 
+    /// The number of the next root.
+    pub fn next_root(&self) -> u64
+        ensures { result ≡ self.now.next }
+    {
+        self.next
+    }
+
     /// The roots in order of watching.
     pub fn roots(&self) -> &[Root]
         ensures { result.now ≡ self.now.roots }
@@ -237,6 +244,7 @@ mod tests {
             assert_eq!(rt; watch(&mut registry, rt.alloc(), path)?, reply, "{path}");
         }
         assert_eq!(rt; registry.incarnation(), 1);
+        assert_eq!(rt; registry.next_root(), 4);
         assert!(rt; are_roots(&registry, &["/r", "/a/b", "/R"]));
         let mut copy = registry.copy(rt.alloc())?;
         assert_eq!(rt; copy.apply(rt.alloc(), &Command::Begin), Reply::Changed);

@@ -1,9 +1,15 @@
+pub mod EachLemmas
 pub mod FileExamples
 pub mod FileStart
+pub mod HistoryLemmas
 pub mod InputLemmas
+pub mod ListedLemmas
 pub mod LocalLemmas
+pub mod PlainLemmas
 pub mod ProgramLemmas
 pub mod ReplyTexts
 pub mod RunLemmas
+pub mod SessionLemmas
 pub mod Texts
+pub mod WatchedLemmas
 mod WordLemmas

@@ -1,5 +1,11 @@
 -- The texts of replies.
-use Rattle.std.proofs.Common.{◌≡◌, List, [], ◌∷◌, ◌++◌, false, refl, codes}
+use Rattle.std.proofs.Common.{◌≡◌, ◌<◌, ◌/◌, ◌%◌, ◌==◌, ℕ, zero, suc, cond, List, [], ◌∷◌, ◌++◌, true, false, refl, sym, ap, ◌∙◌, arith, append_assoc, codes, decimal}
+use Rattle.std.specs.Fmt.{digit_glyph, digits, digits_onto}
+use Rattle.std.proofs.lemmas.Bool.Decides.{nat_tests}
+use Rattle.json.specs.Print.{escape, escape_byte}
+use Rattle.wm_clock.specs.Clocks.{clock_text}
+use Rattle.wm_clock.specs.declared.clock_id.ClockId.{ClockId}
+use Rattle.serde_json.specs.Data.{member, no_members, object, string}
 use Rattle.serde_json.specs.View.{items_of}
 use Rattle.serde_json.specs.Written.{has_float, items_have_float}
 use Rattle.serde_json.proofs.OnLiterals.{serde_json_on_literals}
@@ -7,7 +13,7 @@ use Rattle.wm_disk.specs.Refusals.{text_of}
 use Rattle.wm_disk.specs.declared.refusal.Refusal.{Refusal}
 use Rattle.wm_disk.specs.declared.refusal.Refusal.TheVariants.{BadLine, BadCommand, BadArguments, BadPath, NotWatched, NotReady, BadClock, BadExpression, BadField, BadTrigger, Full, StoreFailed, DeviceFailed, Damaged, Exhausted, NoMemory, TooMany, NoPlace, NoQuestion, Retired}
 use Rattle.wm_registry.specs.declared.registry.Root.{Root}
-use Rattle.wm_server.specs.Replies.{paths_of, roots_reply, line_text, refusal_reply}
+use Rattle.wm_server.specs.Replies.{clock_reply, paths_of, roots_reply, line_text, refusal_reply}
 
 paths_no_float : (roots : List Root) → items_have_float (items_of (paths_of roots)) ≡ false
 paths_no_float [] = refl
@@ -39,3 +45,46 @@ refusal_line TooMany = refl
 refusal_line NoPlace = refl
 refusal_line NoQuestion = refl
 refusal_line Retired = refl
+
+-- ---- the line of a clock
+
+plain_glyph : (d : ℕ) → d < 10 → escape_byte (digit_glyph false d) ≡ digit_glyph false d ∷ []
+unfolding escape_byte
+plain_glyph d digit = grind (arith, nat_tests)
+
+plain_onto : (k n : ℕ) (acc : List ℕ) → escape acc ≡ acc → escape (digits_onto k 10 false n acc) ≡ digits_onto k 10 false n acc
+plain_onto zero n acc plain = plain
+plain_onto (suc k) n acc plain =
+    let glyph = digit_glyph false (n % 10) in
+    let more : escape (glyph ∷ acc) ≡ glyph ∷ acc = λ i. plain_glyph (n % 10) (omega arith) i ++ plain i in
+    elim (n / 10 == 0) as (λ b. escape (cond b (glyph ∷ acc) (digits_onto k 10 false (n / 10) (glyph ∷ acc))) ≡ cond b (glyph ∷ acc) (digits_onto k 10 false (n / 10) (glyph ∷ acc))) [
+      | true ↦ more
+      | false ↦ plain_onto k (n / 10) (glyph ∷ acc) more
+    ]
+
+plain_number : (n : ℕ) → escape (decimal n) ≡ decimal n
+unfolding digits
+plain_number n = plain_onto 64 n [] refl
+
+escape_both : (xs ys : List ℕ) → escape (xs ++ ys) ≡ escape xs ++ escape ys
+escape_both [] ys = refl
+escape_both (x ∷ xs) ys = ap (λ (t : List ℕ). escape_byte x ++ t) (escape_both xs ys) ∙ sym (append_assoc (escape_byte x) (escape xs) (escape ys))
+
+plain_clock : (c : ClockId) → escape (clock_text c) ≡ clock_text c
+unfolding escape_byte
+plain_clock c =
+    ap (λ (x : List ℕ). 99 ∷ 58 ∷ x)
+    (escape_both (decimal c.incarnation) (58 ∷ (decimal c.root ++ 58 ∷ decimal c.tick))
+    ∙ (λ j. plain_number c.incarnation j ++ 58 ∷ (escape_both (decimal c.root) (58 ∷ decimal c.tick) ∙ (λ k. plain_number c.root k ++ 58 ∷ plain_number c.tick k)) j))
+
+around : (e r t : List ℕ) → ((e ++ 34 ∷ []) ++ r) ++ t ≡ e ++ 34 ∷ (r ++ t)
+around e r t = append_assoc (e ++ 34 ∷ []) r t ∙ append_assoc e (34 ∷ []) (r ++ t)
+
+-- the line of a clock's text, as it is escaped
+text_line : (s : List ℕ) → line_text (object (member (codes "clock") (string s) (member (codes "version") (string (codes "w1")) no_members))) ≡ (codes "{\"clock\":\"" ++ escape s) ++ codes "\",\"version\":\"w1\"}\n"
+unfolding line_text serde_json_on_literals
+text_line s = ap (λ (t : List ℕ). codes "{\"clock\":\"" ++ t) (around (escape s) (codes ",\"version\":\"w1\"}") (10 ∷ []))
+
+-- the line of a clock, around its text
+pub clock_line : (c : ClockId) → line_text (clock_reply c) ≡ (codes "{\"clock\":\"" ++ clock_text c) ++ codes "\",\"version\":\"w1\"}\n"
+clock_line c = text_line (clock_text c) ∙ ap (λ (s : List ℕ). (codes "{\"clock\":\"" ++ s) ++ codes "\",\"version\":\"w1\"}\n") (plain_clock c)

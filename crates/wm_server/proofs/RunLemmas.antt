@@ -12,7 +12,8 @@ use Rattle.wm_server.specs.Inputs.{lines_of, in_front, max_kept}
 use Rattle.wm_server.specs.Lines.{text_of, max_line, request_of_text}
 use Rattle.wm_server.proofs.Texts.{text_of-cut}
 use Rattle.wm_server.specs.Replies.{line_text, refusal_reply, reply_bytes}
-use Rattle.wm_server.specs.Sessions.{State, Standing, Way, Defined, Device, Memory, Outcome, HasCause, Answers, faults_of, line_met, met_or_refused, refusal_or, state_or}
+use Rattle.wm_server.specs.Sessions.{State, Outcome, line_met, met_or_refused}
+use Rattle.wm_server.specs.Faults.{Standing, Way, Defined, Device, Memory, HasCause, Answers, faults_of, refusal_or, state_or}
 use Rattle.wm_server.specs.Runs.{Run, Served, ServedCleanly, Serves, output_of, state_after, faults_in}
 use Rattle.wm_server.specs.declared.input.LineRead.{LineRead}
 use Rattle.wm_server.specs.declared.input.LineRead.TheVariants as reads

@@ -6,10 +6,13 @@ use Rattle.serde_json.specs.Data.{Data}
 use Rattle.serde_json.specs.Read.{read}
 use Rattle.serde_json.specs.Find.{at, as_str}
 use Rattle.wm_disk.specs.declared.refusal.Refusal.{Refusal}
-use Rattle.wm_disk.specs.declared.refusal.Refusal.TheVariants.{BadLine, BadCommand, BadArguments, BadPath}
-use Rattle.wm_names.specs.Paths.{is_root_path}
+use Rattle.wm_disk.specs.declared.refusal.Refusal.TheVariants.{BadLine, BadCommand, BadArguments}
 use Rattle.wm_server.specs.declared.request.Request.{Request}
-use Rattle.wm_server.specs.declared.request.Request.TheVariants.{Version, Watch, WatchList}
+use Rattle.wm_server.specs.Arguments.{root_alone}
+use Rattle.wm_server.specs.ClockLines.{since_request}
+use Rattle.wm_server.specs.ListingLines.{listing_request}
+use Rattle.wm_server.specs.PairLines.{observe_request}
+use Rattle.wm_server.specs.declared.request.Request.TheVariants.{Version, Watch, WatchList, Clock}
 
 -- the most bytes of a line, its newline among them
 abbrev pub max_line : ℕ
@@ -27,24 +30,25 @@ text_of line = if is_whole_line line && is_utf8 line then read line else None
 abbrev pub plain_request : Data → Request → Result Request Refusal
 plain_request d request = if is_none (at 1 d) then Ok request else Err BadArguments
 
-abbrev pub watch_path : Option (List ℕ) → Result Request Refusal
-watch_path None = Err BadArguments
-watch_path (Some path) = if is_root_path path then Ok (Watch path) else Err BadPath
-
--- `watch` with a root path
-abbrev pub watch_request : Data → Result Request Refusal
-watch_request d = if is_none (at 2 d) then watch_path (option_and_then as_str (at 1 d)) else Err BadArguments
+-- a request with what was read, or why it isn't read
+abbrev pub request_with : (List ℕ → Request) → Result (List ℕ) Refusal → Result Request Refusal
+request_with make (Ok path) = Ok (make path)
+request_with make (Err e) = Err e
 
 -- the table of the commands
 abbrev pub command_named : Data → Option (List ℕ) → Result Request Refusal
 command_named d None = Err BadCommand
 command_named d (Some name) =
     if bytes_eq name (codes "version") then plain_request d Version
-    else (if bytes_eq name (codes "watch") then watch_request d
+    else (if bytes_eq name (codes "watch") then request_with (λ path. Watch path) (root_alone d)
     else (if bytes_eq name (codes "watch-list") then plain_request d WatchList
-    else Err BadCommand))
+    else (if bytes_eq name (codes "observe") then observe_request d
+    else (if bytes_eq name (codes "listing") then listing_request d
+    else (if bytes_eq name (codes "clock") then request_with (λ path. Clock path) (root_alone d)
+    else (if bytes_eq name (codes "since") then since_request d
+    else Err BadCommand))))))
 
-abbrev pub request_of : Data → Result Request Refusal
+unfoldable pub request_of : Data → Result Request Refusal
 request_of d = command_named d (option_and_then as_str (at 0 d))
 
 abbrev pub request_of_text : Option Data → Result Request Refusal

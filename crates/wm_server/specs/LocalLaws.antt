@@ -9,7 +9,7 @@ use Rattle.wm_registry.proofs.Replays.{leads-none, leads-then}
 use Rattle.wm_server.specs.Locals.{Later, Grows, LeadsTo}
 use Rattle.wm_server.specs.declared.local.LocalFront.{LocalFront}
 
-grows_none : (content : List ℕ) (state : registry.State) → Grows content state content state
+pub grows_none : (content : List ℕ) (state : registry.State) → Grows content state content state
 grows_none content state = record { tail = []; grown = sym (append-nil content); leads = leads-none state }
 
 grows_then : (x y z : List ℕ) (a b c : registry.State) → Grows x a y b → Grows y b z c → Grows x a z c

@@ -8,7 +8,8 @@ use Rattle.wm_registry.specs.declared.command.Command.TheVariants.{Begin}
 use Rattle.wm_registry.specs.declared.command.Reply.TheVariants.{Changed, Refused}
 use Rattle.wm_registry.specs.Registry as registry
 use Rattle.wm_registry.specs.Meaning.{Leads, Means, MeansNothing}
-use Rattle.wm_server.specs.Sessions.{State, Standing}
+use Rattle.wm_server.specs.Sessions.{State}
+use Rattle.wm_server.specs.Faults.{Standing}
 use Rattle.wm_server.specs.declared.local.LocalFront.{LocalFront}
 
 -- the content grew by the spellings of accepted commands, which lead from the old registry to the new one
@@ -31,7 +32,7 @@ module _ {D : Type 0} where
 
   -- what lines see of it
   abbrev pub state_of : LocalFront D → State
-  state_of front = record { registry = front.registry; has_failed = front.has_failed }
+  state_of front = record { registry = front.registry; has_failed = front.has_failed; views = front.views.items }
 
   abbrev pub standing_of : Ghosts D → LocalFront D → Standing
   standing_of disk front = record { state = state_of front; failures = disk.failures front.disk }

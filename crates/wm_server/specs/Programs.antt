@@ -9,8 +9,10 @@ use Rattle.wm_registry.specs.declared.command.Reply.TheVariants.{Changed}
 use Rattle.wm_registry.specs.Registry as registry
 use Rattle.wm_registry.specs.Meaning.{Leads, Means}
 use Rattle.wm_server.specs.Inputs.{lines_of}
-use Rattle.wm_server.specs.Sessions.{State, Standing, Way, Defined, Device, Memory}
+use Rattle.wm_server.specs.Sessions.{State}
+use Rattle.wm_server.specs.Faults.{Standing, Way, Defined, Device, Memory}
 use Rattle.wm_server.specs.Runs.{Run}
+use Rattle.wm_server.specs.Watched.{first_views}
 
 -- line k, counted from 1, has the moment k
 abbrev pub line_number : ℕ → ℕ
@@ -24,7 +26,7 @@ IsQuiet Memory = Unit {0}
 
 -- what a session finds that begins on a file with this meaning
 abbrev pub first_state : registry.State → State
-first_state was = record { registry = registry.after was Begin; has_failed = false }
+first_state was = record { registry = registry.after was Begin; has_failed = false; views = first_views (registry.after was Begin) }
 
 -- A session kept this content, which means what it left: the old content, a `Begin` and the accepted commands.
 pub record Kept (old_content : List ℕ) (was left : registry.State) (content : List ℕ) : Type 0 where

@@ -3,7 +3,8 @@ use Rattle.std.specs.Prelude.{◌≡◌, ℕ, ◌+◌, List, [], ◌∷◌, ◌+
 use Rattle.std.specs.Io.KnownBytes.{Appends}
 use Rattle.wm_server.specs.Inputs.{lines_of}
 use Rattle.wm_server.specs.Replies.{reply_bytes}
-use Rattle.wm_server.specs.Sessions.{State, Standing, Way, Answers, faults_of, line_met}
+use Rattle.wm_server.specs.Sessions.{State, line_met}
+use Rattle.wm_server.specs.Faults.{Standing, Way, Answers, faults_of}
 
 -- the bytes written for lines, the first of which comes at the k-th moment
 abbrev pub output_of : State → (ℕ → ℕ) → ℕ → List (List ℕ) → List ℕ

@@ -1,24 +1,34 @@
 -- What a line is answered, and the state after it.
-use Rattle.std.specs.Prelude.{◌≡◌, ◌≤◌, ℕ, List, ◌++◌, Bool, true, false, Result, Ok, Err, if◌then◌else◌}
+use Rattle.std.specs.Prelude.{ℕ, List, [], ◌∷◌, ◌++◌, Bool, true, false, Option, Some, None, Result, Ok, Err, if◌then◌else◌}
 use Rattle.serde_json.specs.Data.{Data}
-use Rattle.wm_disk.specs.Contents.{Rose}
 use Rattle.wm_disk.specs.declared.refusal.Refusal.{Refusal}
-use Rattle.wm_disk.specs.declared.refusal.Refusal.TheVariants.{StoreFailed, DeviceFailed, NoMemory}
+use Rattle.wm_disk.specs.declared.refusal.Refusal.TheVariants.{BadArguments, BadCommand, NotWatched, StoreFailed}
+use Rattle.wm_names.specs.Paths.{Path}
+use Rattle.wm_clock.specs.declared.clock_id.ClockId.{ClockId}
+use Rattle.wm_clock.specs.declared.clock_spec.ClockSpec.{ClockSpec}
+use Rattle.wm_clock.specs.declared.clock_spec.ClockSpec.TheVariants.{Clock as Moment, Another}
+use Rattle.wm_view.specs.declared.op.Op.{Op}
+use Rattle.wm_view.specs.declared.op.Op.TheVariants as op
+use Rattle.wm_view.specs.Summaries.{Summary}
+use Rattle.wm_since.specs.Answers.{Question}
 use Rattle.wm_registry.specs.declared.command.Command.{Command}
 use Rattle.wm_registry.specs.declared.command.Command.TheVariants as command
 use Rattle.wm_registry.specs.declared.command.Reply.{Reply}
 use Rattle.wm_registry.specs.declared.command.Reply.TheVariants as reply
 use Rattle.wm_registry.specs.Registry as registry
 use Rattle.wm_server.specs.declared.request.Request.{Request}
-use Rattle.wm_server.specs.declared.request.Request.TheVariants.{Version, Watch, WatchList}
+use Rattle.wm_server.specs.declared.request.Request.TheVariants.{Version, Watch, WatchList, Observe, Listing, Clock, Since}
 use Rattle.wm_server.specs.Lines.{request_of_line}
-use Rattle.wm_server.specs.Replies.{version_reply, watch_reply, roots_reply, reply_bytes}
+use Rattle.wm_server.specs.Replies.{version_reply, watch_reply, roots_reply, clock_reply, since_reply}
+use Rattle.wm_server.specs.Watched.{answer_of, clock_in, clock_answer, new_view, view_after, view_at, with_view}
 
 -- what lines read and change
 pub record State : Type 0 where
   pub registry : registry.State
   -- the store has failed: each command is refused from then on
   pub has_failed : Bool
+  -- one view a root, in order of watching
+  pub views : List Summary
 
 -- a reply or a refusal, the state after it, and whether a command was accepted
 pub record Outcome : Type 0 where
@@ -32,12 +42,22 @@ refused r s = record { reply = Err r; state = s; accepts = false }
 abbrev pub replied : Data → State → Outcome
 replied d s = record { reply = Ok d; state = s; accepts = false }
 
--- how a command is met by a store that may have failed, and the state after it
+-- ---- commands of the registry
+
+-- how a command is met: a `Begin` is made by a start alone, and a store that has failed takes nothing
 abbrev pub reply_to_command : State → Command → Reply
-reply_to_command s command = if s.has_failed then reply.Refused StoreFailed else registry.reply_to s.registry command
+reply_to_command s command.Begin = reply.Refused BadArguments
+reply_to_command s (command.Watch path) = if s.has_failed then reply.Refused StoreFailed else registry.reply_to s.registry (command.Watch path)
+
+-- a root that begins to be watched has a new view
+abbrev pub watched : Reply → State → Path → State
+watched reply.Changed s path = record s { registry = registry.changed s.registry (command.Watch path); views = s.views ++ new_view s.registry.incarnation s.registry.next ∷ [] }
+watched reply.Unchanged s path = s
+watched (reply.Refused r) s path = s
 
 abbrev pub state_after_command : State → Command → State
-state_after_command s command = if s.has_failed then s else record s { registry = registry.after s.registry command }
+state_after_command s command.Begin = s
+state_after_command s (command.Watch path) = watched (reply_to_command s (command.Watch path)) s path
 
 abbrev pub by_reply : Reply → Data → State → Outcome
 by_reply reply.Changed d s = record { reply = Ok d; state = s; accepts = true }
@@ -48,11 +68,50 @@ by_reply (reply.Refused r) d s = refused r s
 abbrev pub commanded : State → Command → Data → Outcome
 commanded s command d = by_reply (reply_to_command s command) d (state_after_command s command)
 
+-- ---- operations on views, and questions
+
+-- the view of a watched root
+abbrev pub view_of : State → Path → Option Summary
+view_of s root = view_at root s.registry.roots s.views
+
+-- the root has another view
+abbrev pub with_root : State → Path → Summary → State
+with_root s root view = record s { views = with_view root view s.registry.roots s.views }
+
+-- an operation's outcome: the clock after it, or a refusal that changes nothing
+abbrev pub operation_met : State → Path → Result Summary Refusal → Outcome
+operation_met s root (Ok view) = replied (clock_reply (clock_in view)) (with_root s root view)
+operation_met s root (Err r) = refused r s
+
+-- a listing is taken where the view isn't ready; later ones come with recrawls
+abbrev pub listing_met : State → Path → Option Summary → Op → Outcome
+listing_met s root None o = refused NotWatched s
+listing_met s root (Some view) o = if view.ready then refused BadCommand s else operation_met s root (view_after (Some view) o)
+
+-- a question's outcome
+abbrev pub question_met : {A : Type 0} → State → Result A Refusal → (A → Data) → Outcome
+question_met s (Ok a) to_reply = replied (to_reply a) s
+question_met s (Err r) to_reply = refused r s
+
+-- the since point that a text names: none in another instance
+abbrev pub since_point : ClockSpec → Option ClockId
+since_point (Moment c) = Some c
+since_point Another = None
+
+abbrev pub since_question : ClockSpec → Question
+since_question spec = record { since = since_point spec; empty_on_fresh = false }
+
+-- ---- lines
+
 -- a request at a moment
 abbrev pub met : State → ℕ → Request → Outcome
 met s moment Version = replied version_reply s
 met s moment (Watch path) = commanded s (command.Watch path) (watch_reply path)
 met s moment WatchList = replied (roots_reply s.registry.roots) s
+met s moment (Observe root pairs) = operation_met s root (view_after (view_of s root) (op.Observe moment pairs))
+met s moment (Listing root begun_at found) = listing_met s root (view_of s root) (op.Recrawl moment begun_at found)
+met s moment (Clock root) = question_met s (clock_answer (view_of s root)) clock_reply
+met s moment (Since root spec) = question_met s (answer_of (view_of s root) (since_question spec)) since_reply
 
 abbrev pub met_or_refused : State → ℕ → Result Request Refusal → Outcome
 met_or_refused s moment (Ok request) = met s moment request
@@ -61,96 +120,3 @@ met_or_refused s moment (Err r) = refused r s
 -- a line at a moment: what it is answered, and the state after it
 abbrev pub line_met : State → ℕ → List ℕ → Outcome
 line_met s moment line = met_or_refused s moment (request_of_line line)
-
--- ---- faults: what comes where its cause comes, and not by the definition
-
--- the state of a session, and how often the device under it has failed
-pub record Standing : Type 0 where
-  pub state : State
-  pub failures : ℕ
-
--- How a line was met: as it is defined; or the device failed, and then the store has failed; or a growth was refused, and then nothing changed.
-pub data Way : Type 0 where
-  Defined : Way
-  Device : Way
-  Memory : Way
-
--- the way has its cause; the device is asked only for a command that is to be accepted
-abbrev pub HasCause : Way → Bool → Standing → Standing → Type 0
-HasCause Defined accepts old new = old.failures ≤ new.failures
-HasCause Device accepts old new = (accepts ≡ true) × (old.state.has_failed ≡ false) × (old.failures ≤ new.failures) × Rose old.failures new.failures
-HasCause Memory accepts old new = new.failures ≡ old.failures
-
--- what is told in place of what is defined, and the state after it
-abbrev pub refusal_or : Way → Result Data Refusal → Result Data Refusal
-refusal_or Defined defined = defined
-refusal_or Device defined = Err DeviceFailed
-refusal_or Memory defined = Err NoMemory
-
-abbrev pub reply_or : Way → Reply → Reply
-reply_or Defined defined = defined
-reply_or Device defined = reply.Refused DeviceFailed
-reply_or Memory defined = reply.Refused NoMemory
-
-abbrev pub state_or : Way → State → State → State
-state_or Defined defined old = defined
-state_or Device defined old = record old { has_failed = true }
-state_or Memory defined old = old
-
-abbrev pub is_changed : Reply → Bool
-is_changed reply.Changed = true
-is_changed reply.Unchanged = false
-is_changed (reply.Refused r) = false
-
--- a front met a command
-pub record Submits (old : Standing) (command : Command) (result : Reply) (new : Standing) : Type 0 where
-  pub way : Way
-  pub cause : HasCause way (is_changed (reply_to_command old.state command)) old new
-  pub reply_is : result ≡ reply_or way (reply_to_command old.state command)
-  pub state_is : new.state ≡ state_or way (state_after_command old.state command) old.state
-
--- the line was answered with these bytes
-pub record Answers (way : Way) (old : Standing) (moment : ℕ) (line bytes : List ℕ) (new : Standing) : Type 0 where
-  pub cause : HasCause way (line_met old.state moment line).accepts old new
-  pub bytes_are : bytes ≡ reply_bytes (refusal_or way (line_met old.state moment line).reply)
-  pub state_is : new.state ≡ state_or way (line_met old.state moment line).state old.state
-
--- one for a fault
-abbrev pub faults_of : Way → ℕ
-faults_of Defined = 0
-faults_of Device = 1
-faults_of Memory = 1
-
--- a refusal that comes where its cause comes, and not by what is defined
-abbrev pub is_fault : Refusal → Bool
-is_fault DeviceFailed = true
-is_fault NoMemory = true
-is_fault _ = false
-
--- ---- for private clauses
-
--- a front's standing and the bytes written so far
-pub record Page : Type 0 where
-  pub standing : Standing
-  pub bytes : List ℕ
-
-abbrev pub page : Standing → List ℕ → Page
-page standing bytes = record { standing = standing; bytes = bytes }
-
--- what is defined came true, and its reply was written
-pub record Grants (defined : Outcome) (old new : Page) : Type 0 where
-  pub cause : HasCause Defined defined.accepts old.standing new.standing
-  pub bytes_are : new.bytes ≡ old.bytes ++ reply_bytes defined.reply
-  pub state_is : new.standing.state ≡ defined.state
-
--- it was refused, by what is defined or by a fault, and nothing was written
-pub record Refuses (defined : Outcome) (r : Refusal) (old new : Page) : Type 0 where
-  pub way : Way
-  pub cause : HasCause way defined.accepts old.standing new.standing
-  pub reply_is : refusal_or way defined.reply ≡ Err r
-  pub state_is : new.standing.state ≡ state_or way defined.state old.standing.state
-  pub bytes_are : new.bytes ≡ old.bytes
-
-abbrev pub Meets : Outcome → Page → Result (Unit {0}) Refusal → Page → Type 0
-Meets defined old (Ok granted) new = Grants defined old new
-Meets defined old (Err r) new = Refuses defined r old new

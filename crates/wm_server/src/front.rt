@@ -1,26 +1,55 @@
-ghost use Rattle.std.specs.Prelude.{◌≡◌};
-ghost use Rattle.wm_server.specs.Sessions.{Standing, Submits};
+ghost use Rattle.std.specs.Prelude.{◌≡◌, ◌≢◌, Ok, Err, IfOk, IfErr};
+ghost use Rattle.wm_since.specs.Answers.{question};
+ghost use Rattle.wm_server.specs.Faults.{Operates, Standing, Submits};
+ghost use Rattle.wm_server.specs.Sessions.{view_of};
+ghost use Rattle.wm_server.specs.Watched.{answer_of, clock_answer};
 
 use std::alloc::Global;
+use wm_clock::ClockId;
+use wm_disk::Refusal;
+use wm_names::RootPath;
 use wm_registry::{Command, Registry, Reply};
+use wm_since::{Answer, Every, Query};
+use wm_view::Op;
 
-/// What a session stands on: where its commands go, and what it can look at.
+/// What a session stands on: where its commands and operations go, and what it can ask.
 pub trait Front {
     /// What lines read and change, and how often the device under it has failed.
     ghost standing: { Self → Standing };
 
-    /// Holds of an earlier and a later moment of one front: what each command keeps, beyond what lines
-    /// see.
+    /// Holds of an earlier and a later moment of one front: what each call keeps, beyond what lines see.
     ghost leads_to: { Self → Self → Type 0 };
 
-    /// Submits a command. After a failure of the device each later command is refused.
+    /// Submits a command; a `Begin` is refused. After a failure of the device each later command is
+    /// refused.
     fn submit(&mut self, alloc: Global, command: &Command) -> Reply
         ensures met { Submits (standing self.old) command.now result (standing self.new) }
+        ensures later { leads_to self.old self.new };
+
+    /// Performs an operation on the view of a watched root, and gives the root's clock after it.
+    /// `NotWatched`, what the view refuses, and `NoMemory`; a refusal changes nothing.
+    fn operate(&mut self, alloc: Global, root: &RootPath, op: &Op) -> Result<ClockId, Refusal>
+        ensures met { Operates (standing self.old) root.now op.now result (standing self.new) }
         ensures later { leads_to self.old self.new };
 
     /// The registry as it is.
     fn registry(&self) -> &Registry
         ensures { result.now ≡ (standing self.now).state.registry };
+
+    /// The clock of a watched root. `NotWatched`, and `NotReady` before the first whole listing.
+    fn clock(&self, root: &RootPath) -> Result<ClockId, Refusal>
+        ensures { result ≡ clock_answer (view_of (standing self.now).state root.now) };
+
+    /// What changed in a watched root since a clock. `NotWatched`, `NotReady` before the first whole
+    /// listing, and `NoMemory`.
+    fn answer(
+        &self,
+        alloc: Global,
+        root: &RootPath,
+        query: &Query<Every>,
+    ) -> Result<Answer, Refusal>
+        ensures ok { IfOk result (λ a. answer_of (view_of (standing self.now).state root.now) (question query.now) ≡ Ok a) }
+        ensures refused { IfErr result (λ e. e ≢ Refusal.NoMemory → answer_of (view_of (standing self.now).state root.now) (question query.now) ≡ Err e) };
 
     /// A front leads to itself.
     ghost stays: { (a : Self) → leads_to a a };

@@ -5,11 +5,17 @@
 //! answered, and the state after it, is `line_met` of specs/Sessions.antt.
 #![tactic(auto)]
 
+mod arguments;
+mod clock;
 pub mod file;
 mod front;
 mod input;
+mod laws;
 pub mod lines;
+mod listing;
 mod local;
+mod metadata;
+mod pairs;
 pub mod programs;
 mod record;
 mod reply;
@@ -18,9 +24,11 @@ pub mod run;
 mod session;
 #[cfg(test)]
 mod tests;
+mod watched;
 pub mod words;
 
 pub use front::Front;
+pub use laws::every_line;
 pub use local::LocalFront;
 pub use request::{MAX_LINE, Request};
 pub use session::Session;

@@ -1,19 +1,35 @@
-ghost use Rattle.std.specs.Prelude.{◌≡◌, ◌≢◌, Ok, Err, Some, None, IfOk, IfErr, option_map, option_and_then, is_none};
-ghost use Rattle.serde_json.specs.Find.{at, as_str};
+ghost use Rattle.std.specs.Prelude.{◌≡◌, ◌≢◌, Ok, Err, Some, None, IfOk, IfErr};
 ghost use Rattle.serde_json.specs.View.{view};
-ghost use Rattle.wm_server.specs.Lines.{is_whole_line, plain_request, request_of, request_of_line, text_of, watch_request};
+ghost use Rattle.wm_server.specs.Lines.{is_whole_line, plain_request, request_of, request_of_line, text_of};
 
+use crate::arguments::{ends_at, root_alone, text_at};
+use crate::clock::since;
+use crate::listing::listing;
+use crate::pairs::observe;
 use serde_json::Value;
 use std::alloc::Global;
+use wm_clock::ClockSpec;
 use wm_disk::Refusal;
 use wm_names::RootPath;
+use wm_view::{Listing, Pairs};
 
 /// What a line asks.
 #[derive(Drop)]
 pub enum Request {
+    /// Which version of the lines this is.
     Version,
+    /// That a root be watched.
     Watch(RootPath),
+    /// Which roots are watched.
     WatchList,
+    /// What was observed below a root.
+    Observe(RootPath, Pairs),
+    /// What a reading found that began at this tick of a root.
+    Listing(RootPath, u64, Listing),
+    /// The clock of a root.
+    Clock(RootPath),
+    /// What changed in a root since a clock.
+    Since(RootPath, ClockSpec),
 }
 
 /// The most bytes of a line, its newline among them.
@@ -49,23 +65,6 @@ fn text_in(alloc: Global, line: &[u8]) -> Result<Value, Refusal>
     }
 }
 
-/// The text at a place of an array.
-fn text_at(value: &Value, place: usize) -> Option<&str>
-    ensures { option_map (λ s. s.now) result ≡ option_and_then as_str (at place (view value.now)) }
-{
-    match value.get(place) {
-        Some(item) => item.as_str(),
-        None => None,
-    }
-}
-
-/// Whether an array has no item at a place.
-fn ends_at(value: &Value, place: usize) -> bool
-    ensures { result ≡ is_none (at place (view value.now)) }
-{
-    value.get(place).is_none()
-}
-
 /// A command without arguments.
 fn plain(value: &Value, request: Request) -> Result<Request, Refusal>
     ensures { result ≡ plain_request (view value.now) request }
@@ -77,22 +76,8 @@ fn plain(value: &Value, request: Request) -> Result<Request, Refusal>
     }
 }
 
-/// `watch` with a root path.
-fn watch(alloc: Global, value: &Value) -> Result<Request, Refusal>
-    ensures ok { IfOk result (λ r. watch_request (view value.now) ≡ Ok r) }
-    ensures refused { IfErr result (λ e. e ≢ Refusal.NoMemory → watch_request (view value.now) ≡ Err e) }
-{
-    if !ends_at(value, 2) {
-        return Err(Refusal::BadArguments);
-    }
-    let Some(path) = text_at(value, 1) else {
-        return Err(Refusal::BadArguments);
-    };
-    let path = RootPath::read(alloc, path)?;
-    Ok(Request::Watch(path))
-}
-
 /// The request that a JSON value is: the table of the commands.
+#[tactic(auto, unfolding(crate::specs::Lines::request_of))]
 fn request_in(alloc: Global, value: &Value) -> Result<Request, Refusal>
     ensures ok { IfOk result (λ r. request_of (view value.now) ≡ Ok r) }
     ensures refused { IfErr result (λ e. e ≢ Refusal.NoMemory → request_of (view value.now) ≡ Err e) }
@@ -102,16 +87,20 @@ fn request_in(alloc: Global, value: &Value) -> Result<Request, Refusal>
     };
     match name {
         "version" => plain(value, Request::Version),
-        "watch" => watch(alloc, value),
+        "watch" => Ok(Request::Watch(root_alone(alloc, value)?)),
         "watch-list" => plain(value, Request::WatchList),
+        "observe" => observe(alloc, value),
+        "listing" => listing(alloc, value),
+        "clock" => Ok(Request::Clock(root_alone(alloc, value)?)),
+        "since" => since(alloc, value),
         _ => Err(Refusal::BadCommand),
     }
 }
 
 impl Request {
     /// The request that a line, with its newline, is. `BadLine` where it is cut, too long or no JSON
-    /// text, `BadCommand`, `BadArguments` and `BadPath` as the commands have it, in this order; and
-    /// `NoMemory`.
+    /// text, `BadCommand`, `BadArguments`, `BadPath` and `BadClock` as the commands have it, in this
+    /// order; and `NoMemory`.
     pub fn read(alloc: Global, line: &[u8]) -> Result<Request, Refusal>
         ensures ok { IfOk result (λ r. request_of_line line.now ≡ Ok r) }
         ensures refused { IfErr result (λ e. e ≢ Refusal.NoMemory → request_of_line line.now ≡ Err e) }

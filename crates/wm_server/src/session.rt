@@ -1,13 +1,20 @@
 ghost use Rattle.std.specs.Prelude.{◌≡◌, ◌++◌, ◌≤◌, List, ℕ, vec_capacity, IfOk, OnOk, OnErr};
-ghost use Rattle.wm_server.specs.Sessions.{Answers, Meets, Way, faults_of, is_fault as is_fault_lem, line_met, met, page};
+ghost use Rattle.wm_server.specs.Sessions.{question_met, line_met, listing_met, met, operation_met, since_point as since_point_lem, since_question, view_of};
+ghost use Rattle.wm_server.specs.Replies.{clock_reply, since_reply};
+ghost use Rattle.wm_server.specs.Watched.{answer_of, clock_answer, view_after};
+ghost use Rattle.wm_server.specs.Faults.{Answers, Way, faults_of, is_fault as is_fault_lem};
+ghost use Rattle.wm_server.specs.Pages.{Meets, page};
 
 use crate::front::Front;
 use crate::reply;
 use crate::request::Request;
 use std::alloc::Global;
+use wm_clock::{ClockId, ClockSpec};
 use wm_disk::{NoMemory, Refusal};
 use wm_names::RootPath;
 use wm_registry::{Command, Reply};
+use wm_since::{Every, Query};
+use wm_view::Op;
 
 /// One client's session on a front.
 #[derive(Drop)]
@@ -20,6 +27,16 @@ fn is_fault(refusal: Refusal) -> bool
     ensures { result ≡ is_fault_lem refusal }
 {
     matches!(refusal, Refusal::DeviceFailed | Refusal::NoMemory)
+}
+
+/// The since point that a text names: none in another instance.
+fn since_point(spec: ClockSpec) -> Option<ClockId>
+    ensures { result ≡ since_point_lem spec }
+{
+    match spec {
+        ClockSpec::Clock(clock) => Some(clock),
+        ClockSpec::Another => None,
+    }
 }
 
 impl<F: Front> Session<F> {
@@ -47,6 +64,79 @@ impl<F: Front> Session<F> {
         }
     }
 
+    /// Performs an operation on a root's view. The reply's room is made first.
+    fn operate(
+        &mut self,
+        alloc: Global,
+        root: &RootPath,
+        op: &Op,
+        out: &mut Vec<u8>,
+    ) -> Result<(), Refusal>
+        ensures met { let s = (F.standing self.old.front).state in Meets (operation_met s root.now (view_after (view_of s root.now) op.now)) (page (F.standing self.old.front) out.old.items) result (page (F.standing self.new.front) out.new.items) }
+        ensures room { vec_capacity out.old ≤ vec_capacity out.new }
+        ensures later { F.leads_to self.old.front self.new.front }
+    {
+        out.try_reserve(reply::CLOCK_ROOM)?;
+        match self.front.operate(alloc, root, op) {
+            Ok(clock) => {
+                reply::put_clock(clock, out);
+                Ok(())
+            }
+            Err(refusal) => Err(refusal),
+        }
+    }
+
+    /// Takes the first whole listing of a root; later ones come with recrawls.
+    fn listing(
+        &mut self,
+        alloc: Global,
+        root: &RootPath,
+        op: &Op,
+        out: &mut Vec<u8>,
+    ) -> Result<(), Refusal>
+        ensures met { let s = (F.standing self.old.front).state in Meets (listing_met s root.now (view_of s root.now) op.now) (page (F.standing self.old.front) out.old.items) result (page (F.standing self.new.front) out.new.items) }
+        ensures room { vec_capacity out.old ≤ vec_capacity out.new }
+        ensures later { F.leads_to self.old.front self.new.front }
+    {
+        match self.front.clock(root) {
+            Ok(_) => Err(Refusal::BadCommand),
+            Err(Refusal::NotReady) => self.operate(alloc, root, op, out),
+            Err(refusal) => Err(refusal),
+        }
+    }
+
+    /// Tells the clock of a root.
+    fn clock(&self, root: &RootPath, out: &mut Vec<u8>) -> Result<(), Refusal>
+        ensures met { let s = (F.standing self.now.front).state in Meets (question_met s (clock_answer (view_of s root.now)) clock_reply) (page (F.standing self.now.front) out.old.items) result (page (F.standing self.now.front) out.new.items) }
+        ensures room { vec_capacity out.old ≤ vec_capacity out.new }
+    {
+        let clock = self.front.clock(root)?;
+        out.try_reserve(reply::CLOCK_ROOM)?;
+        reply::put_clock(clock, out);
+        Ok(())
+    }
+
+    /// Tells what changed in a root since a clock.
+    fn since(
+        &self,
+        alloc: Global,
+        root: &RootPath,
+        spec: ClockSpec,
+        out: &mut Vec<u8>,
+    ) -> Result<(), Refusal>
+        ensures met { let s = (F.standing self.now.front).state in Meets (question_met s (answer_of (view_of s root.now) (since_question spec)) since_reply) (page (F.standing self.now.front) out.old.items) result (page (F.standing self.now.front) out.new.items) }
+        ensures room { vec_capacity out.old ≤ vec_capacity out.new }
+    {
+        let query = Query {
+            since: since_point(spec),
+            test: Every,
+            empty_on_fresh: false,
+        };
+        let answer = self.front.answer(alloc, root, &query)?;
+        reply::put_since(alloc, &answer, out)?;
+        Ok(())
+    }
+
     /// Meets a request: writes its reply, or refuses it and writes nothing.
     fn meet(
         &mut self,
@@ -63,6 +153,15 @@ impl<F: Front> Session<F> {
             Request::Version => reply::put_version(alloc, out)?,
             Request::Watch(path) => self.watch(alloc, path, out)?,
             Request::WatchList => reply::put_watch_list(alloc, self.front.registry().roots(), out)?,
+            Request::Observe(root, pairs) => {
+                self.operate(alloc, &root, &Op::Observe(moment, pairs), out)?
+            }
+            Request::Listing(root, begun_at, listing) => {
+                let op = Op::Recrawl(moment, begun_at, listing);
+                self.listing(alloc, &root, &op, out)?
+            }
+            Request::Clock(root) => self.clock(&root, out)?,
+            Request::Since(root, spec) => self.since(alloc, &root, spec, out)?,
         }
         Ok(())
     }

@@ -10,6 +10,8 @@ use std::test::Fail;
 use wm_disk::{Crashed, Disk, MemDisk};
 
 mod failures;
+mod requests;
+mod views;
 
 /// A disk that holds these bytes.
 fn disk_of(alloc: Global, content: &[u8]) -> Result<MemDisk, Fail> {

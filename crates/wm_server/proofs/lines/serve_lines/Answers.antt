@@ -12,8 +12,9 @@ returns-in-Ok-Ok-clause-served g c = λ served h input e.
     let honest_left = c.close-closed.ensures.later.honest h in
     let begun = (rw (← c.new-session.ensures) at c.in-Ok.ensures.begun) (leads.later.honest honest_left) in
     let works = rw (← c.new-session.ensures) at c.in-Ok.ensures.working in
+    let views = rw (← c.new-session.ensures) at c.in-Ok.ensures.views in
     let grows = subst (λ (t : List ℕ). Grows (g.D.Disk.seen front.disk) front.registry t left.registry) (sym (c.close-closed.ensures.same h)) (leads.grows honest_left worked) in
-    lines_served _ _ _ (state_of front) _ _ input _ _ _ works worked begun ((rw c.in-Ok-Ok.is-1 at c.run-ran.ensures.served) input e) grows
+    lines_served _ _ _ (state_of front) _ _ input _ _ _ works views worked begun ((rw c.in-Ok-Ok.is-1 at c.run-ran.ensures.served) input e) grows
 
 pub returns-in-Ok-Err-clause-refused : goal.returns-in-Ok-Err-clause-refused
 returns-in-Ok-Err-clause-refused g c = λ h.

@@ -1,0 +1,89 @@
+ghost use Rattle.std.specs.Prelude.{◌≡◌, ◌++◌, ◌+◌, ◌≤◌, vec_len, vec_capacity, string_bytes, IfOk};
+ghost use Rattle.wm_clock.specs.Clocks.{clock_text};
+
+use crate::number::put_number;
+use std::alloc::Global;
+use wm_disk::NoMemory;
+
+/// The most bytes of a clock's text: two, and three numbers with a colon between them.
+pub const MAX_TEXT: usize = 64;
+
+/// A moment of one root in one incarnation.
+#[derive(Clone, Copy, Debug, PartialEq, Eq)]
+pub struct ClockId {
+    /// How often the server had begun on its state file.
+    pub incarnation: u64,
+    /// The number of the root.
+    pub root: u64,
+    /// How many maps the root had had.
+    pub tick: u64,
+}
+
+impl ClockId {
+    /// Appends the clock's text, `c:I:R:T`, for which there is room. It takes no memory.
+    pub fn put(&self, out: &mut Vec<u8>)
+        requires { vec_len out.old + MAX_TEXT ≤ vec_capacity out.old }
+        ensures value { out.new.items ≡ out.old.items ++ clock_text self.now }
+        ensures short { vec_len out.new ≤ vec_len out.old + MAX_TEXT }
+        ensures room { vec_capacity out.old ≤ vec_capacity out.new }
+    {
+        out.extend_from_slice(b"c:").unwrap();
+        put_number(self.incarnation, out);
+        out.extend_from_slice(b":").unwrap();
+        put_number(self.root, out);
+        out.extend_from_slice(b":").unwrap();
+        put_number(self.tick, out);
+    }
+
+    /// The clock's text, `c:I:R:T`.
+    pub fn text(&self, alloc: Global) -> Result<String, NoMemory>
+        ensures { IfOk result (λ t. string_bytes t ≡ clock_text self.now) }
+    {
+        let text = format!(in alloc; "c:{}:{}:{}", self.incarnation, self.root, self.tick)?;
+        Ok(text)
+    }
+}
+
+#[cfg(test)]
+mod tests {
+    use super::*;
+    use crate::number::LIMIT;
+    use std::test::Fail;
+
+    fn clock(incarnation: u64, root: u64, tick: u64) -> ClockId {
+        ClockId {
+            incarnation,
+            root,
+            tick,
+        }
+    }
+
+    #[test]
+    fn has_a_text(rt: HostRuntime) -> Result<(), Fail> {
+        for (clock, want) in [
+            (clock(1, 1, 1), "c:1:1:1"),
+            (clock(12, 340, 5600), "c:12:340:5600"),
+            (clock(1, 1, LIMIT), "c:1:1:9223372036854775807"),
+            (
+                clock(LIMIT, LIMIT, LIMIT),
+                "c:9223372036854775807:9223372036854775807:9223372036854775807",
+            ),
+        ] {
+            assert_eq!(rt; clock.text(rt.alloc())?.as_str(), want);
+            let mut out = Vec::with_capacity(rt.alloc(), MAX_TEXT)?;
+            clock.put(&mut out);
+            assert_eq!(rt; out.as_slice(), want.as_bytes());
+        }
+        Ok(())
+    }
+
+    #[test]
+    fn puts_the_longest_text_behind_others(rt: HostRuntime) -> Result<(), Fail> {
+        let mut out = Vec::with_capacity(rt.alloc(), MAX_TEXT + 1)?;
+        out.push(b'[')?;
+        clock(u64::MAX, u64::MAX, u64::MAX).put(&mut out);
+        let want = b"[c:18446744073709551615:18446744073709551615:18446744073709551615";
+        assert_eq!(rt; out.as_slice(), want.as_slice());
+        Ok(())
+    }
+}

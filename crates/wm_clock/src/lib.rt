@@ -1,0 +1,15 @@
+//! Clock ids: moments of a root, and the texts that name them.
+//!
+//! A [`ClockId`] has one text, `c:I:R:T`. A [`ClockSpec`] is what a client's text names: such a moment,
+//! or the clock of another instance.
+#![tactic(auto)]
+
+mod clock_id;
+mod clock_spec;
+mod laws;
+mod number;
+
+pub use clock_id::{ClockId, MAX_TEXT};
+pub use clock_spec::ClockSpec;
+pub use laws::clock_laws;
+pub use number::LIMIT;

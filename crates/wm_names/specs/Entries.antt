@@ -1,0 +1,34 @@
+-- What is known of the file at a path, and parts of a root.
+use Rattle.std.specs.Prelude.{Bool, true, false, ◌&&◌, ◌==◌, Option, Some, None}
+use Rattle.wm_names.specs.declared.entry.Kind.{Kind}
+use Rattle.wm_names.specs.declared.entry.Kind.TheVariants.{File, Folder, Link, Other}
+use Rattle.wm_names.specs.declared.entry.Meta.{Meta}
+use Rattle.wm_names.specs.declared.subtree.Subtree.{Subtree}
+use Rattle.wm_names.specs.declared.subtree.Subtree.TheVariants.{Whole, Below}
+use Rattle.wm_names.specs.Paths.{Path, is_under}
+
+abbrev pub same_kind : Kind → Kind → Bool
+same_kind File File = true
+same_kind Folder Folder = true
+same_kind Link Link = true
+same_kind Other Other = true
+same_kind _ _ = false
+
+abbrev pub same_meta : Meta → Meta → Bool
+same_meta a b = same_kind a.kind b.kind && ((a.size == b.size) && (a.mtime_ms == b.mtime_ms))
+
+-- two states of a path: there with this metadata, or not there
+abbrev pub same_state : Option Meta → Option Meta → Bool
+same_state None None = true
+same_state None (Some b) = false
+same_state (Some a) None = false
+same_state (Some a) (Some b) = same_meta a b
+
+-- the path stands in this part of a root
+abbrev pub covers : Subtree → Path → Bool
+covers Whole p = true
+covers (Below top) p = is_under top p
+
+abbrev pub is_whole : Subtree → Bool
+is_whole Whole = true
+is_whole (Below top) = false

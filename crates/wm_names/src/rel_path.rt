@@ -1,0 +1,219 @@
+ghost use Rattle.std.specs.Prelude.{◌≡◌, ◌≢◌, ◌↔◌, ℕ, List, true, false, nat_eq, refl, string_bytes, IfOk, IfErr, IsErrOf, IsUtf8};
+ghost use Rattle.std.specs.Ordering.{nat_cmp, as_partial_cmp};
+ghost use Rattle.std.specs.Cmp.{partial_order_from_agreeing_total, partial_equiv_from_equiv};
+ghost use Rattle.std.specs.Cmp.Lexicographic.{slice_cmp, pointwise, nat_list_cmp_total, nat_list_eq_equiv, texts_ties};
+ghost use Rattle.wm_names.specs.Paths.{basename, is_rel_path, is_under, path_cmp, same_path};
+
+use crate::components::are_components;
+use std::alloc::Global;
+use std::cmp::Ordering;
+use std::marker::Model;
+use wm_disk::{NoMemory, Refusal};
+
+/// The most bytes of a relative path.
+pub const MAX_REL_PATH: usize = 1024;
+
+/// The path of a file below a watched root: a text of 1 to 1,024 bytes, whose components between
+/// slashes aren't empty, `.` or `..` and hold no zero byte. Paths stand in the order of their bytes.
+/// Contracts see the bytes.
+#[derive(Drop)]
+pub struct RelPath {
+    text: String,
+}
+
+impl Model for RelPath {
+    ghost Value = { List ℕ };
+
+    ghost view = { λ p. string_bytes p.text };
+
+    ghost invariant = { λ p. is_rel_path (string_bytes p.text) ≡ true };
+}
+
+impl RelPath {
+    /// The path that the text is, with the text's bytes. `BadPath` where the text breaks a rule, and
+    /// `NoMemory` where its copy finds no room.
+    pub fn read(alloc: Global, text: &str) -> Result<RelPath, Refusal>
+        ensures ok { IfOk result (λ p. (p ≡ text.now) × (is_rel_path text.now ≡ true)) }
+        ensures refused { IsErrOf result Refusal.BadPath ↔ (is_rel_path text.now ≡ false) }
+        ensures kinds { IfErr result (λ e. e ≢ Refusal.NoMemory → e ≡ Refusal.BadPath) }
+    {
+        if text.len() > MAX_REL_PATH || !are_components(text.as_bytes()) {
+            return Err(Refusal::BadPath);
+        }
+        let text = String::from_str(alloc, text)?;
+        Ok(RelPath { text })
+    }
+
+    /// The path's text.
+    pub fn as_str(&self) -> &str
+        ensures value { result.now ≡ self.now }
+        ensures rules { is_rel_path self.now ≡ true }
+        ensures utf8 { IsUtf8 self.now }
+    {
+        self.text.as_str()
+    }
+
+    /// The same path again.
+    pub fn copy(&self, alloc: Global) -> Result<RelPath, NoMemory>
+        ensures { IfOk result (λ p. p ≡ self.now) }
+    {
+        let text = String::from_str(alloc, &self.text)?;
+        Ok(RelPath { text })
+    }
+
+    /// How the two paths stand in the order of their bytes.
+    pub fn compare(&self, other: &RelPath) -> Ordering
+        ensures { result ≡ path_cmp self.now other.now }
+    {
+        self.text.as_bytes().cmp(other.text.as_bytes())
+    }
+
+    /// Whether the two are one path.
+    pub fn same(&self, other: &RelPath) -> bool
+        ensures { result ≡ same_path self.now other.now }
+    {
+        self.compare(other).is_eq()
+    }
+
+    /// Whether the path stands below the folder `top`, at any depth. A folder isn't below itself.
+    pub fn under(&self, top: &RelPath) -> bool
+        ensures { result ≡ is_under top.now self.now }
+    {
+        let path = self.text.as_bytes();
+        let top = top.text.as_bytes();
+        let n = top.len();
+        if n < path.len() {
+            path[n] == b'/' && path[..n].cmp(top).is_eq()
+        } else {
+            false
+        }
+    }
+
+    /// The last component: what follows the last slash, and the whole path where there is none.
+    pub fn basename(&self) -> &str
+        ensures { result.now ≡ basename self.now }
+    {
+        let path = self.as_str();
+        match path.rsplit_once('/') {
+            Some((_, name)) => name,
+            None => path,
+        }
+    }
+}
+
+#[cfg(test)]
+mod tests {
+    use super::*;
+    use std::test::Fail;
+
+    // A path of so many bytes.
+    fn long(alloc: Global, len: usize) -> Result<String, NoMemory> {
+        let mut text = String::new(alloc);
+        for _ in 0..len {
+            text.push('a')?;
+        }
+        Ok(text)
+    }
+
+    #[test]
+    fn reads_paths(rt: HostRuntime) -> Result<(), Fail> {
+        let longest = long(rt.alloc(), 1024)?;
+        for text in [
+            "a",
+            "a/b",
+            ".x",
+            "...",
+            "a b",
+            "a/..b/c..",
+            "\u{e9}/x",
+            "a\\b",
+            longest.as_str(),
+        ] {
+            let path = RelPath::read(rt.alloc(), text)?;
+            assert_eq!(rt; path.as_str(), text);
+            assert_eq!(rt; path.copy(rt.alloc())?.as_str(), text);
+        }
+        Ok(())
+    }
+
+    #[test]
+    fn refuses_other_texts(rt: HostRuntime) -> Result<(), Fail> {
+        let too_long = long(rt.alloc(), 1025)?;
+        for text in [
+            "",
+            "/",
+            "/a",
+            "a/",
+            "a//b",
+            ".",
+            "..",
+            "./a",
+            "a/.",
+            "a/./b",
+            "a/..",
+            "a/../b",
+            "a\0b",
+            "\0",
+            too_long.as_str(),
+        ] {
+            match RelPath::read(rt.alloc(), text) {
+                Ok(_) => assert!(rt; false, "read {text:?}"),
+                Err(e) => assert_eq!(rt; e, Refusal::BadPath, "{text:?}"),
+            }
+        }
+        Ok(())
+    }
+
+    #[test]
+    fn stands_below(rt: HostRuntime) -> Result<(), Fail> {
+        for (path, top, want) in [
+            ("x/a", "x", true),
+            ("x/y/z", "x", true),
+            ("x/y/z", "x/y", true),
+            ("x", "x", false),
+            ("xy", "x", false),
+            ("xy/a", "x", false),
+            ("x", "x/a", false),
+            ("y/x/a", "x", false),
+            ("a/b", "x", false),
+        ] {
+            let below = RelPath::read(rt.alloc(), path)?;
+            let folder = RelPath::read(rt.alloc(), top)?;
+            assert_eq!(rt; below.under(&folder), want, "{path} under {top}");
+        }
+        Ok(())
+    }
+
+    #[test]
+    fn has_a_basename(rt: HostRuntime) -> Result<(), Fail> {
+        for (path, want) in [("a.c", "a.c"), ("x/a.c", "a.c"), ("x/y/z", "z")] {
+            let path = RelPath::read(rt.alloc(), path)?;
+            assert_eq!(rt; path.basename(), want);
+        }
+        Ok(())
+    }
+
+    #[test]
+    fn stands_in_the_order_of_bytes(rt: HostRuntime) -> Result<(), Fail> {
+        for (first, second, want) in [
+            ("a", "a", Ordering::Equal),
+            ("a", "b", Ordering::Less),
+            ("b", "a", Ordering::Greater),
+            ("a", "a/b", Ordering::Less),
+            ("a.b", "a/b", Ordering::Less),
+            ("a0", "a/b", Ordering::Greater),
+            ("B", "a", Ordering::Less),
+            ("z", "\u{e9}", Ordering::Less),
+        ] {
+            let path = RelPath::read(rt.alloc(), first)?;
+            let other = RelPath::read(rt.alloc(), second)?;
+            assert_eq!(rt; path.compare(&other), want, "{first} and {second}");
+            assert_eq!(rt;
+                path.same(&other),
+                want == Ordering::Equal,
+                "{first} and {second}"
+            );
+        }
+        Ok(())
+    }
+}

@@ -1,0 +1,117 @@
+-- After a line, each view is of a history that operations made.
+use Rattle.std.proofs.Common.{◌≡◌, ℕ, Bool, true, false, cond, List, [], ◌∷◌, ◌++◌, map, Option, Some, None, Result, Ok, Err, refl, sym, ap, subst, ◌∙◌}
+use Rattle.std.specs.Str.{bytes_eq}
+use Rattle.serde_json.specs.Data.{Data}
+use Rattle.wm_disk.specs.declared.refusal.Refusal.{Refusal}
+use Rattle.wm_disk.specs.declared.refusal.Refusal.TheVariants.{BadCommand}
+use Rattle.wm_names.specs.Paths.{Path}
+use Rattle.wm_view.specs.declared.op.Op.{Op}
+use Rattle.wm_view.specs.declared.op.Op.TheVariants as op
+use Rattle.wm_view.specs.Histories.{History, IsMade, after, begun, refusal}
+use Rattle.wm_view.specs.Summaries.{Summary, summary}
+use Rattle.wm_registry.specs.declared.command.Command.TheVariants as command
+use Rattle.wm_registry.specs.declared.command.Reply.{Reply}
+use Rattle.wm_registry.specs.declared.command.Reply.TheVariants as reply
+use Rattle.wm_registry.specs.declared.registry.Root.{Root}
+use Rattle.wm_registry.specs.Registry as registry
+use Rattle.wm_server.specs.declared.request.Request.{Request}
+use Rattle.wm_server.specs.declared.request.Request.TheVariants.{Version, Watch, WatchList, Observe, Listing, Clock, Since}
+use Rattle.wm_server.specs.Lines.{request_of_line}
+use Rattle.wm_server.specs.Replies.{clock_reply, since_reply, watch_reply}
+use Rattle.wm_server.specs.Sessions.{State, question_met, by_reply, line_met, listing_met, met_or_refused, operation_met, refused, reply_to_command, since_question, state_after_command, view_of, watched}
+use Rattle.wm_server.specs.Watched.{AreOfHistories, IsOfHistory, answer_of, clock_answer, first_views, new_view, unless, view_after, view_at, with_view}
+use Rattle.wm_server.proofs.SessionLemmas.{left_so}
+
+new_is : (incarnation number : ℕ) → IsOfHistory (new_view incarnation number)
+new_is incarnation number = (begun incarnation number, (incarnation, number, [], refl), refl)
+
+first_are : (incarnation : ℕ) (roots : List Root) → AreOfHistories (map (λ root. new_view incarnation root.number) roots)
+first_are incarnation [] = tt
+first_are incarnation (root ∷ roots) = (new_is incarnation root.number, first_are incarnation roots)
+
+pub begun_are : (r : registry.State) → AreOfHistories (first_views r)
+begun_are r = first_are r.incarnation r.roots
+
+one_more : (views : List Summary) (view : Summary) → AreOfHistories views → IsOfHistory view → AreOfHistories (views ++ view ∷ [])
+one_more [] view are is = (is, tt)
+one_more (v ∷ vs) view are is = (are.0, one_more vs view are.1 is)
+
+found_is : (path : Path) (roots : List Root) (views : List Summary) (view : Summary) → AreOfHistories views → view_at path roots views ≡ Some view → IsOfHistory view
+found_is path [] views view are e = absurd cc
+found_is path (root ∷ roots) [] view are e = absurd cc
+found_is path (root ∷ roots) (v ∷ vs) view are e =
+    elim (bytes_eq root.path path) as (λ b. cond b (Some v) (view_at path roots vs) ≡ Some view → IsOfHistory view) [
+      | true ↦ λ f. subst (λ x. IsOfHistory x) (some_is v view f) are.0
+      | false ↦ λ f. found_is path roots vs view are.1 f
+    ] e
+  where
+    some_is : (a b : Summary) → Some a ≡ Some b → a ≡ b
+    some_is a b f = ap (λ o. or_else o) f
+      where
+        or_else : Option Summary → Summary
+        or_else None = a
+        or_else (Some x) = x
+
+with_are : (path : Path) (new : Summary) (roots : List Root) (views : List Summary) → AreOfHistories views → IsOfHistory new → AreOfHistories (with_view path new roots views)
+with_are path new [] views are is = are
+with_are path new (root ∷ roots) [] are is = tt
+with_are path new (root ∷ roots) (v ∷ vs) are is =
+    elim (bytes_eq root.path path) as (λ b. AreOfHistories (cond b (new ∷ vs) (v ∷ with_view path new roots vs))) [
+      | true ↦ (is, are.1)
+      | false ↦ (are.0, with_are path new roots vs are.1 is)
+    ]
+
+watched_are : (r : Reply) (s : State) (path : Path) → AreOfHistories s.views → AreOfHistories (watched r s path).views
+watched_are reply.Changed s path are = one_more s.views (new_view s.registry.incarnation s.registry.next) are (new_is s.registry.incarnation s.registry.next)
+watched_are reply.Unchanged s path are = are
+watched_are (reply.Refused r) s path are = are
+
+asked_are : {A : Type 0} (s : State) (r : Result A Refusal) (to_reply : A → Data) → AreOfHistories s.views → AreOfHistories (question_met s r to_reply).state.views
+asked_are s (Ok a) to_reply are = are
+asked_are s (Err e) to_reply are = are
+
+module _ (operated_so : (h : History) (o : Op) → IsMade h → view_after (Some (summary h)) o ≡ unless (refusal h o) (summary (after h o))) (made_so : (h : History) (o : Op) → IsMade h → IsMade (after h o)) where
+  done_is : (h : History) (o : Op) (new : Summary) → IsMade h → (r : Option Refusal) → unless r (summary (after h o)) ≡ Ok new → IsOfHistory new
+  done_is h o new made None e = (after h o, made_so h o made, sym (ap (λ r. or_else r) e))
+    where
+      or_else : Result Summary Refusal → Summary
+      or_else (Ok x) = x
+      or_else (Err x) = new
+  done_is h o new made (Some r) e = absurd cc
+
+  after_is : (view new : Summary) (o : Op) → IsOfHistory view → view_after (Some view) o ≡ Ok new → IsOfHistory new
+  after_is view new o (h, made, is) e = done_is h o new made (refusal h o) (sym (operated_so h o made) ∙ ap (λ v. view_after (Some v) o) (sym is) ∙ e)
+
+  seen_is : (view : Option Summary) (new : Summary) (o : Op) → ((v : Summary) → view ≡ Some v → IsOfHistory v) → view_after view o ≡ Ok new → IsOfHistory new
+  seen_is None new o is e = absurd cc
+  seen_is (Some view) new o is e = after_is view new o (is view refl) e
+
+  operated_are : (s : State) (root : Path) (r : Result Summary Refusal) → AreOfHistories s.views → ((new : Summary) → r ≡ Ok new → IsOfHistory new) → AreOfHistories (operation_met s root r).state.views
+  operated_are s root (Ok new) are is = with_are root new s.registry.roots s.views are (is new refl)
+  operated_are s root (Err e) are is = are
+
+  viewed_are : (s : State) (root : Path) (view : Option Summary) (o : Op) → AreOfHistories s.views → ((v : Summary) → view ≡ Some v → IsOfHistory v) → AreOfHistories (operation_met s root (view_after view o)).state.views
+  viewed_are s root view o are is = operated_are s root (view_after view o) are (λ new e. seen_is view new o is e)
+
+  listed_are : (s : State) (root : Path) (view : Option Summary) (o : Op) → AreOfHistories s.views → ((v : Summary) → view ≡ Some v → IsOfHistory v) → AreOfHistories (listing_met s root view o).state.views
+  listed_are s root None o are is = are
+  listed_are s root (Some view) o are is =
+      elim view.ready as (λ b. AreOfHistories (cond b (refused BadCommand s) (operation_met s root (view_after (Some view) o))).state.views) [
+        | true ↦ are
+        | false ↦ viewed_are s root (Some view) o are is
+      ]
+
+  met_are : (s : State) (moment : ℕ) (r : Result Request Refusal) → AreOfHistories s.views → AreOfHistories (met_or_refused s moment r).state.views
+  met_are s moment (Ok Version) are = are
+  met_are s moment (Ok (Watch path)) are =
+      let r = reply_to_command s (command.Watch path) in
+      subst (λ t. AreOfHistories t.views) (left_so r (watch_reply path) (state_after_command s (command.Watch path))) (watched_are r s path are)
+  met_are s moment (Ok WatchList) are = are
+  met_are s moment (Ok (Observe root pairs)) are = viewed_are s root (view_of s root) (op.Observe moment pairs) are (λ v e. found_is root s.registry.roots s.views v are e)
+  met_are s moment (Ok (Listing root begun_at found)) are = listed_are s root (view_of s root) (op.Recrawl moment begun_at found) are (λ v e. found_is root s.registry.roots s.views v are e)
+  met_are s moment (Ok (Clock root)) are = asked_are s (clock_answer (view_of s root)) clock_reply are
+  met_are s moment (Ok (Since root spec)) are = asked_are s (answer_of (view_of s root) (since_question spec)) since_reply are
+  met_are s moment (Err e) are = are
+
+  pub line_are : (s : State) (moment : ℕ) (line : List ℕ) → AreOfHistories s.views → AreOfHistories (line_met s moment line).state.views
+  line_are s moment line are = met_are s moment (request_of_line line) are

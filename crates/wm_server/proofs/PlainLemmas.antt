@@ -1,0 +1,209 @@
+-- What is defined is never a fault: so a fault that is told has its cause.
+use Rattle.std.proofs.Common.{◌≡◌, ◌∙◌, ℕ, List, Bool, true, false, not, ◌||◌, ◌==◌, cond, length, nat_lt, refl, sym, ap, true≢false}
+use Rattle.std.specs.Prelude.{Option, Some, None, Result, Ok, Err, ◌&&◌, option_and_then, option_map, unwrap_or, is_none, codes}
+use Rattle.std.specs.Str.{bytes_eq}
+use Rattle.std.specs.List.{list_all}
+use Rattle.serde_json.specs.Data.{Data}
+use Rattle.serde_json.specs.Find.{at, as_str}
+use Rattle.wm_disk.specs.declared.refusal.Refusal.{Refusal}
+use Rattle.wm_names.specs.Paths.{is_root_path, is_rel_path}
+use Rattle.wm_names.specs.Entries.{is_whole}
+use Rattle.wm_names.specs.declared.subtree.Subtree.{Subtree}
+use Rattle.wm_clock.specs.Clocks.{spec_of}
+use Rattle.wm_clock.specs.declared.clock_spec.ClockSpec.{ClockSpec}
+use Rattle.wm_disk.specs.declared.refusal.Refusal.TheVariants.{BadCommand, BadPath, Exhausted, NotReady, StoreFailed, TooMany, BadClock}
+use Rattle.wm_registry.specs.declared.command.Command.TheVariants as command
+use Rattle.wm_registry.specs.declared.command.Reply.{Reply}
+use Rattle.wm_registry.specs.declared.command.Reply.TheVariants as reply
+use Rattle.wm_registry.specs.Registry as registry
+use Rattle.wm_registry.specs.Roots.{is_watched}
+use Rattle.wm_view.specs.Files.{Files}
+use Rattle.wm_view.specs.Histories.{refuse_if, observed}
+use Rattle.wm_view.specs.Steps.{present, recrawled_in, refused_in, spent_in, step}
+use Rattle.wm_view.specs.Summaries.{Summary}
+use Rattle.wm_view.specs.declared.op.Op.{Op}
+use Rattle.wm_view.specs.declared.op.Op.TheVariants as op
+use Rattle.wm_since.specs.Answers.{Question, answer_by}
+use Rattle.wm_server.specs.declared.request.Request.{Request}
+use Rattle.wm_server.specs.declared.request.Request.TheVariants.{Version, Watch, WatchList, Observe, Listing, Clock, Since}
+use Rattle.wm_server.specs.Arguments.{root_alone, root_named, text_at, count_of}
+use Rattle.wm_server.specs.ClockLines.{may_be_clock, since_clock, since_root}
+use Rattle.wm_server.specs.ListingLines.{are_below, files_of, found, listing_with, subtree_of}
+use Rattle.wm_server.specs.PairLines.{Pair, observe_with, pairs_of}
+use Rattle.wm_server.specs.Lines.{command_named, plain_request, request_of, request_of_line, request_of_text, request_with, text_of}
+use Rattle.wm_server.specs.Faults.{Standing, Way, Defined, Device, Memory, Answers, is_fault, faults_of, refusal_or}
+use Rattle.wm_server.specs.Pages.{Refuses, page}
+use Rattle.wm_server.specs.Sessions.{State, question_met, line_met, listing_met, met_or_refused, commanded, by_reply, operation_met, refused, reply_to_command, since_question, state_after_command, view_of}
+use Rattle.wm_server.specs.Watched.{answer_of, clock_in, clock_answer, unless, view_after}
+use Rattle.wm_server.specs.Replies.{clock_reply, line_text, refusal_reply, reply_bytes, since_reply, watch_reply}
+
+-- a result that tells a fault
+abbrev pub tells_fault : {A : Type 0} → Result A Refusal → Bool
+tells_fault (Ok x) = false
+tells_fault (Err e) = is_fault e
+
+either : {A : Type 0} (b : Bool) (x y : Result A Refusal) → tells_fault x ≡ false → tells_fault y ≡ false → tells_fault (cond b x y) ≡ false
+either true x y p q = p
+either false x y p q = q
+
+-- ---- reading
+
+plain_plain : (d : Data) (r : Request) → tells_fault (plain_request d r) ≡ false
+plain_plain d r = either (is_none (at 1 d)) _ _ refl refl
+
+named_plain : (o : Option (List ℕ)) → tells_fault (root_named o) ≡ false
+named_plain None = refl
+named_plain (Some path) = either (is_root_path path) _ _ refl refl
+
+alone_plain : (d : Data) → tells_fault (root_alone d) ≡ false
+alone_plain d = either (is_none (at 2 d)) _ _ (named_plain (text_at 1 d)) refl
+
+with_plain : (make : List ℕ → Request) (r : Result (List ℕ) Refusal) → tells_fault r ≡ false → tells_fault (request_with make r) ≡ false
+with_plain make (Ok path) h = refl
+with_plain make (Err e) h = h
+
+observed_plain : (root : Option (List ℕ)) (pairs : Option (List Pair)) → tells_fault (observe_with root pairs) ≡ false
+observed_plain (Some root) (Some pairs) = either (is_root_path root && list_all (λ p. is_rel_path p.0) pairs) _ _ refl refl
+observed_plain _ _ = refl
+
+found_plain : (root : List ℕ) (begun_at : ℕ) (subtree : Option Subtree) (files : Files) → tells_fault (found root begun_at subtree files) ≡ false
+found_plain root begun_at None files = refl
+found_plain root begun_at (Some subtree) files = either {A = Request} (is_root_path root && are_below subtree files) (Ok (Listing root begun_at (record { subtree = subtree; files = files }))) (Err BadPath) refl refl
+
+listed_plain : (root : Option (List ℕ)) (begun_at : Option ℕ) (top : Option (List ℕ)) (files : Option Files) → tells_fault (listing_with root begun_at top files) ≡ false
+listed_plain (Some root) (Some begun_at) (Some top) (Some files) = found_plain root begun_at (subtree_of top) files
+listed_plain _ _ _ _ = refl
+
+clock_plain : (root : List ℕ) (clock : Option ClockSpec) → tells_fault (since_clock root clock) ≡ false
+clock_plain root None = refl
+clock_plain root (Some clock) = refl
+
+since_plain : (may : Bool) (root : Option (List ℕ)) (clock : Option ClockSpec) → tells_fault (since_root may root clock) ≡ false
+since_plain true (Some root) clock = either (is_root_path root) _ _ (clock_plain root clock) refl
+since_plain _ _ clock = refl
+
+command_plain : (d : Data) (name : Option (List ℕ)) → tells_fault (command_named d name) ≡ false
+command_plain d None = refl
+command_plain d (Some name) =
+    either (bytes_eq name (codes "version")) _ _ (plain_plain d Version)
+    (either (bytes_eq name (codes "watch")) _ _ (with_plain (λ path. Watch path) (root_alone d) (alone_plain d))
+    (either (bytes_eq name (codes "watch-list")) _ _ (plain_plain d WatchList)
+    (either (bytes_eq name (codes "observe")) _ _ (either (is_none (at 3 d)) _ _ (observed_plain (text_at 1 d) (option_and_then pairs_of (at 2 d))) refl)
+    (either (bytes_eq name (codes "listing")) _ _ (either (is_none (at 5 d)) _ _ (listed_plain (text_at 1 d) (option_and_then count_of (at 2 d)) (text_at 3 d) (option_and_then files_of (at 4 d))) refl)
+    (either (bytes_eq name (codes "clock")) _ _ (with_plain (λ path. Clock path) (root_alone d) (alone_plain d))
+    (either (bytes_eq name (codes "since")) _ _ (either (is_none (at 3 d)) _ _ (since_plain (unwrap_or (option_map may_be_clock (at 2 d)) false) (text_at 1 d) (option_and_then spec_of (text_at 2 d))) refl) refl))))))
+
+text_plain : (o : Option Data) → tells_fault (request_of_text o) ≡ false
+unfolding request_of
+text_plain None = refl
+text_plain (Some d) = command_plain d (option_and_then as_str (at 0 d))
+
+line_plain : (line : List ℕ) → tells_fault (request_of_line line) ≡ false
+line_plain line = text_plain (text_of line)
+
+-- ---- meeting
+
+abbrev pub reply_fault : Reply → Bool
+reply_fault reply.Changed = false
+reply_fault reply.Unchanged = false
+reply_fault (reply.Refused r) = is_fault r
+
+either_reply : (b : Bool) (x y : Reply) → reply_fault x ≡ false → reply_fault y ≡ false → reply_fault (cond b x y) ≡ false
+either_reply true x y p q = p
+either_reply false x y p q = q
+
+by_plain : (r : Reply) (d : Data) (s : State) → reply_fault r ≡ false → tells_fault (by_reply r d s).reply ≡ false
+by_plain reply.Changed d s h = refl
+by_plain reply.Unchanged d s h = refl
+by_plain (reply.Refused r) d s h = h
+
+watch_plain : (s : State) (path : List ℕ) → tells_fault (commanded s (command.Watch path) (watch_reply path)).reply ≡ false
+watch_plain s path =
+    by_plain (reply_to_command s (command.Watch path)) (watch_reply path) (state_after_command s (command.Watch path))
+    (either_reply s.has_failed (reply.Refused StoreFailed) (registry.reply_to s.registry (command.Watch path)) refl
+    (either_reply (is_watched path s.registry.roots) _ _ refl
+    (either_reply (nat_lt (length s.registry.roots) 256) _ _ (either_reply (nat_lt s.registry.next registry.last) _ _ refl refl) refl)))
+
+-- a refusal that is a fault
+abbrev pub option_fault : Option Refusal → Bool
+option_fault None = false
+option_fault (Some r) = is_fault r
+
+refuse_plain : (b : Bool) (r : Refusal) (rest : Option Refusal) → is_fault r ≡ false → option_fault rest ≡ false → option_fault (refuse_if b r rest) ≡ false
+refuse_plain true r rest h g = h
+refuse_plain false r rest h g = g
+
+either_refused : (b : Bool) (x y : Option Refusal) → option_fault x ≡ false → option_fault y ≡ false → option_fault (cond b x y) ≡ false
+either_refused true x y p q = p
+either_refused false x y p q = q
+
+view_plain : (view : Summary) (o : Op) → option_fault (refused_in view o) ≡ false
+view_plain view (op.Observe moment pairs) =
+    let spent = spent_in view (observed (present view.known) pairs) in
+    let last = refuse_if spent Exhausted None in
+    let many = nat_lt 65536 (length pairs) in
+    refuse_plain (not view.ready) NotReady (refuse_if many TooMany last) refl (refuse_plain many TooMany last refl (refuse_plain spent Exhausted None refl refl))
+view_plain view (op.Recrawl moment begun_at found) =
+    let spent = spent_in view (recrawled_in view begun_at found.subtree found.files) in
+    let last = refuse_if spent Exhausted None in
+    let outside = nat_lt begun_at view.floor || nat_lt view.tick begun_at in
+    let part = not (is_whole found.subtree && (begun_at == 0)) in
+    either_refused view.ready (refuse_if outside BadClock last) (refuse_if part NotReady None)
+    (refuse_plain outside BadClock last refl (refuse_plain spent Exhausted None refl refl)) (refuse_plain part NotReady None refl refl)
+view_plain view (op.AgeOut time age) = refuse_plain (not view.ready) NotReady None refl refl
+
+unless_plain : (r : Option Refusal) (new : Summary) → option_fault r ≡ false → tells_fault (unless r new) ≡ false
+unless_plain None new h = refl
+unless_plain (Some r) new h = h
+
+after_plain : (view : Option Summary) (o : Op) → tells_fault (view_after view o) ≡ false
+after_plain None o = refl
+after_plain (Some view) o = unless_plain (refused_in view o) (step view o) (view_plain view o)
+
+operated_plain : (s : State) (root : List ℕ) (r : Result Summary Refusal) → tells_fault r ≡ false → tells_fault (operation_met s root r).reply ≡ false
+operated_plain s root (Ok view) h = refl
+operated_plain s root (Err e) h = h
+
+listing_plain : (s : State) (root : List ℕ) (view : Option Summary) (o : Op) → tells_fault (listing_met s root view o).reply ≡ false
+listing_plain s root None o = refl
+listing_plain s root (Some view) o =
+    elim view.ready as (λ b. tells_fault (cond b (refused BadCommand s) (operation_met s root (view_after (Some view) o))).reply ≡ false) [
+      | true ↦ refl
+      | false ↦ operated_plain s root (view_after (Some view) o) (after_plain (Some view) o)
+    ]
+
+asked_plain : {A : Type 0} (s : State) (r : Result A Refusal) (to_reply : A → Data) → tells_fault r ≡ false → tells_fault (question_met s r to_reply).reply ≡ false
+asked_plain s (Ok a) to_reply h = refl
+asked_plain s (Err e) to_reply h = h
+
+clock_told_plain : (view : Option Summary) → tells_fault (clock_answer view) ≡ false
+clock_told_plain None = refl
+clock_told_plain (Some view) = either view.ready (Ok (clock_in view)) (Err NotReady) refl refl
+
+answer_plain : (view : Option Summary) (question : Question) → tells_fault (answer_of view question) ≡ false
+answer_plain None question = refl
+answer_plain (Some view) question = either view.ready (Ok (answer_by (λ entry. true) view question)) (Err NotReady) refl refl
+
+met_plain : (s : State) (moment : ℕ) (r : Result Request Refusal) → tells_fault r ≡ false → tells_fault (met_or_refused s moment r).reply ≡ false
+met_plain s moment (Ok Version) h = refl
+met_plain s moment (Ok (Watch path)) h = watch_plain s path
+met_plain s moment (Ok WatchList) h = refl
+met_plain s moment (Ok (Observe root pairs)) h = operated_plain s root (view_after (view_of s root) (op.Observe moment pairs)) (after_plain (view_of s root) (op.Observe moment pairs))
+met_plain s moment (Ok (Listing root begun_at files)) h = listing_plain s root (view_of s root) (op.Recrawl moment begun_at files)
+met_plain s moment (Ok (Clock root)) h = asked_plain s (clock_answer (view_of s root)) clock_reply (clock_told_plain (view_of s root))
+met_plain s moment (Ok (Since root spec)) h = asked_plain s (answer_of (view_of s root) (since_question spec)) since_reply (answer_plain (view_of s root) (since_question spec))
+met_plain s moment (Err e) h = h
+
+one_fault : (way : Way) (defined : Result Data Refusal) (r : Refusal) → tells_fault defined ≡ false → is_fault r ≡ true → refusal_or way defined ≡ Err r → 1 ≡ faults_of way
+one_fault Defined defined r plain fault e = absurd (true≢false (sym fault ∙ (ap (λ (x : Result Data Refusal). tells_fault x) (sym e) ∙ plain)))
+one_fault Device defined r plain fault e = refl
+one_fault Memory defined r plain fault e = refl
+
+-- a fault that is told is one
+pub fault_told : (old new : Standing) (moment : ℕ) (line before after : List ℕ) (r : Refusal) → is_fault r ≡ true → Refuses (line_met old.state moment line) r (page old before) (page new after)
+    → (way : Way) × (1 ≡ faults_of way) × Answers way old moment line (line_text (refusal_reply r)) new
+fault_told old new moment line before after r fault told = (
+  told.way,
+  one_fault told.way (line_met old.state moment line).reply r (met_plain old.state moment (request_of_line line) (line_plain line)) fault told.reply_is,
+  record { cause = told.cause; bytes_are = ap reply_bytes (sym told.reply_is); state_is = told.state_is },
+)

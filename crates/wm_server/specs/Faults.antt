@@ -1,0 +1,84 @@
+-- How a line was met: as it is defined, or by a fault, which comes where its cause comes.
+use Rattle.std.specs.Prelude.{◌≡◌, ◌≤◌, ℕ, List, Bool, true, false, Result, Err}
+use Rattle.wm_disk.specs.Contents.{Rose}
+use Rattle.wm_disk.specs.declared.refusal.Refusal.{Refusal}
+use Rattle.wm_disk.specs.declared.refusal.Refusal.TheVariants.{DeviceFailed, NoMemory}
+use Rattle.wm_names.specs.Paths.{Path}
+use Rattle.wm_clock.specs.declared.clock_id.ClockId.{ClockId}
+use Rattle.wm_view.specs.declared.op.Op.{Op}
+use Rattle.wm_registry.specs.declared.command.Command.{Command}
+use Rattle.wm_registry.specs.declared.command.Reply.{Reply}
+use Rattle.wm_registry.specs.declared.command.Reply.TheVariants as reply
+use Rattle.wm_server.specs.Replies.{reply_bytes}
+use Rattle.wm_server.specs.Sessions.{State, line_met, operation_met, reply_to_command, state_after_command, view_of}
+use Rattle.wm_server.specs.Watched.{clock_after, view_after}
+
+-- the state of a session, and how often the device under it has failed
+pub record Standing : Type 0 where
+  pub state : State
+  pub failures : ℕ
+
+-- How a line was met: as it is defined; or the device failed, and then the store has failed; or a growth was refused, and then nothing changed.
+pub data Way : Type 0 where
+  Defined : Way
+  Device : Way
+  Memory : Way
+
+-- the way has its cause; the device is asked only for a command that is to be accepted
+abbrev pub HasCause : Way → Bool → Standing → Standing → Type 0
+HasCause Defined accepts old new = old.failures ≤ new.failures
+HasCause Device accepts old new = (accepts ≡ true) × (old.state.has_failed ≡ false) × (old.failures ≤ new.failures) × Rose old.failures new.failures
+HasCause Memory accepts old new = new.failures ≡ old.failures
+
+-- what is told in place of what is defined, and the state after it
+abbrev pub refusal_or : {A : Type 0} → Way → Result A Refusal → Result A Refusal
+refusal_or Defined defined = defined
+refusal_or Device defined = Err DeviceFailed
+refusal_or Memory defined = Err NoMemory
+
+abbrev pub reply_or : Way → Reply → Reply
+reply_or Defined defined = defined
+reply_or Device defined = reply.Refused DeviceFailed
+reply_or Memory defined = reply.Refused NoMemory
+
+abbrev pub state_or : Way → State → State → State
+state_or Defined defined old = defined
+state_or Device defined old = record old { has_failed = true }
+state_or Memory defined old = old
+
+abbrev pub is_changed : Reply → Bool
+is_changed reply.Changed = true
+is_changed reply.Unchanged = false
+is_changed (reply.Refused r) = false
+
+-- a front met a command
+pub record Submits (old : Standing) (command : Command) (result : Reply) (new : Standing) : Type 0 where
+  pub way : Way
+  pub cause : HasCause way (is_changed (reply_to_command old.state command)) old new
+  pub reply_is : result ≡ reply_or way (reply_to_command old.state command)
+  pub state_is : new.state ≡ state_or way (state_after_command old.state command) old.state
+
+-- the line was answered with these bytes
+pub record Answers (way : Way) (old : Standing) (moment : ℕ) (line bytes : List ℕ) (new : Standing) : Type 0 where
+  pub cause : HasCause way (line_met old.state moment line).accepts old new
+  pub bytes_are : bytes ≡ reply_bytes (refusal_or way (line_met old.state moment line).reply)
+  pub state_is : new.state ≡ state_or way (line_met old.state moment line).state old.state
+
+-- one for a fault
+abbrev pub faults_of : Way → ℕ
+faults_of Defined = 0
+faults_of Device = 1
+faults_of Memory = 1
+
+-- a refusal that comes where its cause comes, and not by what is defined
+abbrev pub is_fault : Refusal → Bool
+is_fault DeviceFailed = true
+is_fault NoMemory = true
+is_fault _ = false
+
+-- a front did an operation on a root's view
+pub record Operates (old : Standing) (root : Path) (o : Op) (result : Result ClockId Refusal) (new : Standing) : Type 0 where
+  pub way : Way
+  pub cause : HasCause way false old new
+  pub reply_is : result ≡ refusal_or way (clock_after (view_after (view_of old.state root) o))
+  pub state_is : new.state ≡ state_or way (operation_met old.state root (view_after (view_of old.state root) o)).state old.state

@@ -1,0 +1,108 @@
+-- The answer from the summary is the answer about the history.
+use Rattle.std.proofs.Common.{◌≡◌, ℕ, zero, suc, ◌≤◌, ◌<◌, Bool, true, false, cond, not, ◌&&◌, List, [], ◌∷◌, ◌++◌, map, filter, flat_map, Option, Some, None, is_some, nat_lt, nat_le, ◌==◌, refl, sym, ap, ◌∙◌, arith, true≢false, ltb-true, leb-true}
+use Rattle.wm_clock.specs.declared.clock_id.ClockId.{ClockId}
+use Rattle.wm_names.specs.Paths.{Path}
+use Rattle.wm_names.specs.declared.entry.Entry.{Entry}
+use Rattle.wm_view.specs.declared.known.Known.{Known}
+use Rattle.wm_view.specs.Files.{is_in}
+use Rattle.wm_view.specs.Histories.{History, IsMade, tick_of, ever, last_change, has_changed, exists_now}
+use Rattle.wm_view.specs.Laws.{Low}
+use Rattle.wm_view.specs.Summaries.{Summary, summary, tagged, known_paths, known_of, by_last, changed_since, existing_now}
+use Rattle.wm_view.proofs.PathLaws.{low_made}
+use Rattle.wm_view.proofs.Paths.{both-first, both-second}
+use Rattle.wm_since.specs.declared.listed.Listed.{Listed}
+use Rattle.wm_since.specs.declared.query.Answer.{Answer}
+use Rattle.wm_view.proofs.KnownPaths.{tagged_where, map-tagged}
+use Rattle.wm_since.specs.Answers.{Question, can_tell, is_fresh, since_tick, down_from, matches_now, all_existing, difference, answer_to, told, entry_in, listed_in, listed_all, files_by, answer_by}
+
+filter_filter : {A : Type 0} (f g : A → Bool) (xs : List A) → filter f (filter g xs) ≡ filter (λ x. g x && f x) xs
+filter_filter f g [] = refl
+filter_filter {A} f g (x ∷ xs) =
+    elim (g x) as (λ b. filter f (cond b (x ∷ filter g xs) (filter g xs)) ≡ cond (b && f x) (x ∷ filter (λ x. g x && f x) xs) (filter (λ x. g x && f x) xs)) [
+      | true ↦ ap (λ m. cond (f x) (x ∷ m) m) (filter_filter f g xs)
+      | false ↦ filter_filter f g xs
+    ]
+
+filter-append : {A : Type 0} (f : A → Bool) (xs ys : List A) → filter f (xs ++ ys) ≡ filter f xs ++ filter f ys
+filter-append f [] ys = refl
+filter-append {A} f (x ∷ xs) ys =
+    elim (f x) as (λ b. cond b (x ∷ filter f (xs ++ ys)) (filter f (xs ++ ys)) ≡ cond b (x ∷ filter f xs) (filter f xs) ++ filter f ys) [
+      | true ↦ ap (λ (m : List A). x ∷ m) (filter-append f xs ys)
+      | false ↦ filter-append f xs ys
+    ]
+
+map-append : {A B : Type 0} (f : A → B) (xs ys : List A) → map f (xs ++ ys) ≡ map f xs ++ map f ys
+map-append f [] ys = refl
+map-append {A} {B} f (x ∷ xs) ys = ap (λ (m : List B). f x ∷ m) (map-append f xs ys)
+
+-- the four tests in the one order or the other
+row : (nf keep here m : Bool) → (keep ≡ true → nf ≡ true) → (((nf && keep) && here) && m) ≡ (here && (keep && m))
+row true true true m h = refl
+row true true false m h = refl
+row true false true m h = refl
+row true false false m h = refl
+row false true here m h = absurd (true≢false (sym (h refl)))
+row false false true m h = refl
+row false false false m h = refl
+
+module _ (h : History) (keep : Path → Bool) (m : Path → Bool) (only : (p : Path) → keep p ≡ true → not (is_in p h.forgotten) ≡ true) where
+  one_tick : (kept : Path × Known → Bool) (match : Path × Known → Bool) → ((p : Path) → kept (p, known_of h p) ≡ keep p) → ((p : Path) → match (p, known_of h p) ≡ m p) → (u : ℕ)
+      → filter match (filter (λ e. e.1.last == u) (filter kept (summary h).known)) ≡ tagged (known_of h) (filter (λ p. (last_change h p == u) && (keep p && m p)) (ever h.ticks))
+  one_tick kept match ke me u =
+      ap (λ l. filter match (filter (λ e. e.1.last == u) l)) (tagged_where (known_of h) kept (known_paths h))
+      ∙ ap (filter match) (tagged_where (known_of h) (λ e. e.1.last == u) (filter (λ p. kept (p, known_of h p)) (known_paths h)))
+      ∙ tagged_where (known_of h) match (filter (λ p. last_change h p == u) (filter (λ p. kept (p, known_of h p)) (known_paths h)))
+      ∙ (λ i. tagged (known_of h) (filter (λ p. me p i) (filter (λ p. last_change h p == u) (filter (λ p. ke p i) (known_paths h)))))
+      ∙ ap (λ l. tagged (known_of h) (filter m (filter (λ p. last_change h p == u) l))) (filter_filter keep (λ p. not (is_in p h.forgotten)) (ever h.ticks))
+      ∙ ap (λ l. tagged (known_of h) (filter m l)) (filter_filter (λ p. last_change h p == u) (λ p. not (is_in p h.forgotten) && keep p) (ever h.ticks))
+      ∙ ap (tagged (known_of h)) (filter_filter m (λ p. (not (is_in p h.forgotten) && keep p) && (last_change h p == u)) (ever h.ticks))
+      ∙ (λ i. tagged (known_of h) (filter (λ p. row (not (is_in p h.forgotten)) (keep p) (last_change h p == u) (m p) (only p) i) (ever h.ticks)))
+
+  pub by_ticks : (kept : Path × Known → Bool) (match : Path × Known → Bool) → ((p : Path) → kept (p, known_of h p) ≡ keep p) → ((p : Path) → match (p, known_of h p) ≡ m p)
+      → (L : Path × Known → Listed) (n : ℕ)
+      → map L (filter match (by_last (filter kept (summary h).known) n)) ≡ map (λ p. L (p, known_of h p)) (flat_map (λ u. filter (λ p. (last_change h p == u) && (keep p && m p)) (ever h.ticks)) (down_from n))
+  by_ticks kept match ke me L zero = refl
+  by_ticks kept match ke me L (suc n) =
+      ap (map L) (filter-append match (filter (λ e. e.1.last == suc n) (filter kept (summary h).known)) (by_last (filter kept (summary h).known) n))
+      ∙ map-append L (filter match (filter (λ e. e.1.last == suc n) (filter kept (summary h).known))) (filter match (by_last (filter kept (summary h).known) n))
+      ∙ (λ i. (ap (map L) (one_tick kept match ke me (suc n)) ∙ map-tagged (known_of h) L (filter (λ p. (last_change h p == suc n) && (keep p && m p)) (ever h.ticks))) i ++ by_ticks kept match ke me L n i)
+      ∙ sym (map-append (λ p. L (p, known_of h p)) (filter (λ p. (last_change h p == suc n) && (keep p && m p)) (ever h.ticks)) (flat_map (λ u. filter (λ p. (last_change h p == u) && (keep p && m p)) (ever h.ticks)) (down_from n)))
+
+there : (h : History) → Low h → (p : Path) → exists_now h p ≡ true → not (is_in p h.forgotten) ≡ true
+there h low p e = ap not (elim (is_in p h.forgotten) as (λ b. is_in p h.forgotten ≡ b → b ≡ false) [
+  | true ↦ λ f. absurd (true≢false (sym e ∙ (low p f).0))
+  | false ↦ λ _. refl
+] refl)
+
+later : (h : History) → Low h → (t : ℕ) → h.floor ≤ t → (p : Path) → has_changed h t p ≡ true → not (is_in p h.forgotten) ≡ true
+later h low t high p e = ap not (elim (is_in p h.forgotten) as (λ b. is_in p h.forgotten ≡ b → b ≡ false) [
+  | true ↦ λ f.
+      let a : t < last_change h p = ltb-true t (last_change h p) e in
+      let b : last_change h p ≤ h.floor = (low p f).1 in
+      absurd (omega arith)
+  | false ↦ λ _. refl
+] refl)
+
+existing_agrees : (x : Entry → Bool) (h : History) → Low h → listed_all x None (existing_now (summary h)) ≡ all_existing h x
+existing_agrees x h low = by_ticks h (exists_now h) (matches_now h x) (there h low) (λ e. e.1.exists) (λ e. x (entry_in e)) (λ p. refl) (λ p. refl) (listed_in None) (tick_of h)
+
+changed_agrees : (x : Entry → Bool) (h : History) → Low h → (t : ℕ) → h.floor ≤ t → listed_all x (Some t) (changed_since (summary h) t) ≡ difference h x t
+changed_agrees x h low t high = by_ticks h (has_changed h t) (matches_now h x) (later h low t high) (λ e. nat_lt t e.1.last) (λ e. x (entry_in e)) (λ p. refl) (λ p. refl) (listed_in (Some t)) (tick_of h)
+
+agree : (x : Entry → Bool) (h : History) (q : Question) → Low h → answer_by x (summary h) q ≡ answer_to x h q
+agree x h q low = λ i. record { clock = record { incarnation = h.incarnation; root = h.root; tick = tick_of h }; fresh = (told_so q.since).0 i; files = (told_so q.since).1 i }
+  where
+    told_so : (since : Option ClockId) → (not (is_some (told (summary h) since)) ≡ is_fresh h since)
+        × (files_by x (summary h) q.empty_on_fresh (told (summary h) since) ≡ cond (is_fresh h since) (cond q.empty_on_fresh [] (all_existing h x)) (difference h x (since_tick since)))
+    told_so None = (refl, ap (λ l. cond q.empty_on_fresh [] l) (existing_agrees x h low))
+    told_so (Some c) = elim (can_tell h c) as (λ b. can_tell h c ≡ b → (not (is_some (cond b (Some c.tick) None)) ≡ not b)
+        × (files_by x (summary h) q.empty_on_fresh (cond b (Some c.tick) None) ≡ cond (not b) (cond q.empty_on_fresh [] (all_existing h x)) (difference h x c.tick))) [
+          | true ↦ λ e. (refl, changed_agrees x h low c.tick (floor_low e))
+          | false ↦ λ _. (refl, ap (λ l. cond q.empty_on_fresh [] l) (existing_agrees x h low))
+        ] refl
+      where
+        floor_low : can_tell h c ≡ true → h.floor ≤ c.tick
+        floor_low e = leb-true h.floor c.tick (both-second ((c.incarnation == h.incarnation) && (c.root == h.root)) (nat_le h.floor c.tick) (both-first ((c.incarnation == h.incarnation) && (c.root == h.root) && nat_le h.floor c.tick) (nat_le c.tick (tick_of h)) e))
+
+pub by_summary : (x : Entry → Bool) (h : History) (s : Summary) (q : Question) (a : Answer) → a ≡ answer_by x s q → IsMade h → summary h ≡ s → a ≡ answer_to x h q
+by_summary x h s q a e made same = e ∙ ap (λ s. answer_by x s q) (sym same) ∙ agree x h q (low_made h made)

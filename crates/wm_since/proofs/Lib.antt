@@ -1,0 +1,5 @@
+pub mod Agree
+pub mod Applies
+pub mod Goings
+pub mod Renders
+pub mod Turns

@@ -1,0 +1,105 @@
+-- Answers about a history since a clock.
+use Rattle.std.specs.Prelude.{ℕ, zero, suc, Bool, true, not, ◌&&◌, cond, List, [], ◌∷◌, map, nat_lt, nat_le, ◌==◌, Option, Some, None, is_some}
+use Rattle.std.specs.List.{filter, flat_map}
+use Rattle.wm_names.specs.Paths.{Path}
+use Rattle.wm_names.specs.declared.entry.Entry.{Entry}
+use Rattle.wm_clock.specs.declared.clock_id.ClockId.{ClockId}
+use Rattle.wm_view.specs.declared.known.Known.{Known}
+use Rattle.wm_view.specs.Files.{Paths}
+use Rattle.wm_view.specs.Histories.{History, tick_of, last_change, creation, has_changed, exists_now, last_meta, ever}
+use Rattle.wm_view.specs.Summaries.{Knowns, Summary, changed_since, existing_now}
+use Rattle.wm_since.specs.declared.listed.Listed.{Listed}
+use Rattle.wm_since.specs.declared.query.Query.{Query}
+use Rattle.wm_since.specs.declared.query.Answer.{Answer}
+
+-- a query without its test
+pub record Question : Type 0 where
+  pub since : Option ClockId
+  pub empty_on_fresh : Bool
+
+abbrev pub question : {T : Type 0} → Query T → Question
+question q = record { since = q.since; empty_on_fresh = q.empty_on_fresh }
+
+-- the present clock
+abbrev pub clock_of : History → ClockId
+clock_of h = record { incarnation = h.incarnation; root = h.root; tick = tick_of h }
+
+-- the history can tell what changed since the clock
+abbrev pub can_tell : History → ClockId → Bool
+can_tell h c = (c.incarnation == h.incarnation) && (c.root == h.root) && nat_le h.floor c.tick && nat_le c.tick (tick_of h)
+
+abbrev pub is_fresh : History → Option ClockId → Bool
+is_fresh h None = true
+is_fresh h (Some c) = not (can_tell h c)
+
+abbrev pub since_tick : Option ClockId → ℕ
+since_tick None = 0
+since_tick (Some c) = c.tick
+
+-- ---- what an answer lists
+
+abbrev pub entry_of : History → Path → Entry
+entry_of h p = record { path = p; exists = exists_now h p; meta = last_meta h.ticks p }
+
+abbrev pub matches_now : History → (Entry → Bool) → Path → Bool
+matches_now h passes p = passes (entry_of h p)
+
+-- n down to 1
+abbrev pub down_from : ℕ → List ℕ
+down_from zero = []
+down_from (suc n) = suc n ∷ down_from n
+
+-- the paths that pass, by their last change, the latest first, and at one tick in the order of the paths
+abbrev pub by_change : History → (Path → Bool) → Paths
+by_change h test = flat_map (λ u. filter (λ p. (last_change h p == u) && test p) (ever h.ticks)) (down_from (tick_of h))
+
+abbrev pub listed : History → (Path → Bool) → Path → Listed
+listed h is_new p = record { entry = entry_of h p; is_new = is_new p; last = last_change h p; created = creation h p }
+
+-- what exists and matches, all new
+abbrev pub all_existing : History → (Entry → Bool) → List Listed
+all_existing h passes = map (listed h (λ p. true)) (by_change h (λ p. exists_now h p && matches_now h passes p))
+
+-- what changed after tick t and matches now, and is new where it came into being after t
+abbrev pub difference : History → (Entry → Bool) → ℕ → List Listed
+difference h passes t = map (listed h (λ p. nat_lt t (creation h p))) (by_change h (λ p. has_changed h t p && matches_now h passes p))
+
+abbrev pub answer_to : (Entry → Bool) → History → Question → Answer
+answer_to passes h q =
+    record {
+      clock = clock_of h;
+      fresh = is_fresh h q.since;
+      files = cond (is_fresh h q.since) (cond q.empty_on_fresh [] (all_existing h passes)) (difference h passes (since_tick q.since));
+    }
+
+-- ---- the same from the summary alone
+
+-- the tick of the clock, where what changed since it can be told
+abbrev pub told : Summary → Option ClockId → Option ℕ
+told s None = None
+told s (Some c) = cond ((c.incarnation == s.incarnation) && (c.root == s.root) && nat_le s.floor c.tick && nat_le c.tick s.tick) (Some c.tick) None
+
+abbrev pub is_new : Option ℕ → ℕ → Bool
+is_new None created = true
+is_new (Some t) created = nat_lt t created
+
+abbrev pub entry_in : Path × Known → Entry
+entry_in e = record { path = e.0; exists = e.1.exists; meta = e.1.meta }
+
+abbrev pub listed_in : Option ℕ → Path × Known → Listed
+listed_in since e = record { entry = entry_in e; is_new = is_new since e.1.created; last = e.1.last; created = e.1.created }
+
+abbrev pub listed_all : (Entry → Bool) → Option ℕ → Knowns → List Listed
+listed_all passes since known = map (listed_in since) (filter (λ e. passes (entry_in e)) known)
+
+abbrev pub files_by : (Entry → Bool) → Summary → Bool → Option ℕ → List Listed
+files_by passes s empty_on_fresh None = cond empty_on_fresh [] (listed_all passes None (existing_now s))
+files_by passes s empty_on_fresh (Some t) = listed_all passes (Some t) (changed_since s t)
+
+abbrev pub answer_by : (Entry → Bool) → Summary → Question → Answer
+answer_by passes s q =
+    record {
+      clock = record { incarnation = s.incarnation; root = s.root; tick = s.tick };
+      fresh = not (is_some (told s q.since));
+      files = files_by passes s q.empty_on_fresh (told s q.since);
+    }

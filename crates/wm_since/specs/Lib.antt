@@ -1,0 +1,5 @@
+pub mod Answers
+pub mod Clients
+pub mod Follows
+pub mod Rendered
+pub mod Tests

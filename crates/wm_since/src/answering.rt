@@ -1,0 +1,117 @@
+ghost use Rattle.std.specs.Prelude.{◌≡◌, ◌≢◌, ◌↔◌, ℕ, true, false, IfOk, IfErr, IsErrOf};
+ghost use Rattle.wm_view.specs.Histories.{History, IsMade};
+ghost use Rattle.wm_view.specs.Summaries.{summary};
+ghost use Rattle.wm_since.specs.Answers.{answer_by, answer_to, files_by, is_new, listed_all, listed_in, question, told};
+
+use crate::listed::{Listed, ListedFiles};
+use crate::query::{Answer, Query};
+use crate::test::Test;
+use std::alloc::Global;
+use wm_clock::ClockId;
+use wm_disk::{NoMemory, Refusal};
+use wm_names::{Entry, RelPath};
+use wm_view::{Known, View};
+
+fn is_new(since: Option<u64>, created: u64) -> bool
+    ensures { result ≡ is_new since created }
+{
+    match since {
+        Some(tick) => tick < created,
+        None => true,
+    }
+}
+
+/// What is known of a path, as an answer lists it.
+fn listed_in(since: Option<u64>, path: RelPath, known: Known) -> Listed
+    ensures { result ≡ listed_in since (path, known) }
+{
+    Listed {
+        entry: Entry {
+            path,
+            exists: known.exists,
+            meta: known.meta,
+        },
+        is_new: is_new(since, known.created),
+        last: known.last,
+        created: known.created,
+    }
+}
+
+/// What is known of some paths, as an answer lists those that pass.
+fn listed_all<T: Test>(
+    alloc: Global,
+    test: &T,
+    since: Option<u64>,
+    known: Vec<(RelPath, Known)>,
+) -> Result<Vec<Listed>, NoMemory>
+    ensures { IfOk result (λ v. v.items ≡ listed_all (T.passes test.now) since known.items) }
+{
+    let mut files = Vec::new(alloc);
+    for (path, known) in known {
+        let file = listed_in(since, path, known);
+        if test.holds(&file.entry) {
+            files.push(file)?;
+        }
+    }
+    Ok(files)
+}
+
+/// The tick from which on the view can tell what changed since the clock.
+fn told(view: &View, since: Option<ClockId>) -> Option<u64>
+    ensures { result ≡ told view.now since }
+{
+    match since {
+        Some(clock) => {
+            if clock.incarnation == view.incarnation()
+                && clock.root == view.root()
+                && view.floor() <= clock.tick
+                && clock.tick <= view.tick()
+            {
+                Some(clock.tick)
+            } else {
+                None
+            }
+        }
+        None => None,
+    }
+}
+
+/// The files of an answer.
+fn files_by<T: Test>(
+    alloc: Global,
+    view: &View,
+    query: &Query<T>,
+    since: Option<u64>,
+) -> Result<Vec<Listed>, NoMemory>
+    ensures { IfOk result (λ v. v.items ≡ files_by (T.passes query.now.test) view.now query.now.empty_on_fresh since) }
+{
+    match since {
+        Some(tick) => listed_all(alloc, &query.test, since, view.changed_after(alloc, tick)?),
+        None if query.empty_on_fresh => Ok(Vec::new(alloc)),
+        None => listed_all(alloc, &query.test, since, view.existing(alloc)?),
+    }
+}
+
+/// What changed since the query's clock. `NotReady` exactly where the view isn't ready, and
+/// `NoMemory`.
+pub fn answer<T: Test>(alloc: Global, view: &View, query: &Query<T>) -> Result<Answer, Refusal>
+    ensures histories { IfOk result (λ a. (h : History) → IsMade h → summary h ≡ view.now → a ≡ answer_to (T.passes query.now.test) h (question query.now)) }
+    ensures by_summary { IfOk result (λ a. a ≡ answer_by (T.passes query.now.test) view.now (question query.now)) }
+    ensures refused { IsErrOf result Refusal.NotReady ↔ (view.now.ready ≡ false) }
+    ensures kinds { IfErr result (λ e. e ≢ Refusal.NoMemory → e ≡ Refusal.NotReady) }
+{
+    if !view.ready() {
+        return Err(Refusal::NotReady);
+    }
+    let since = told(view, query.since);
+    let files = files_by(alloc, view, query, since)?;
+    Ok(Answer {
+        clock: ClockId {
+            incarnation: view.incarnation(),
+            root: view.root(),
+            tick: view.tick(),
+        },
+        fresh: since.is_none(),
+        files: ListedFiles::new(files),
+    })
+}

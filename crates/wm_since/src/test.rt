@@ -1,0 +1,55 @@
+ghost use Rattle.std.specs.Prelude.{◌≡◌, Bool, true, refl, IfOk};
+ghost use Rattle.wm_names.specs.declared.entry.Entry.{Entry};
+ghost use Rattle.wm_since.specs.Tests.{PathOnly};
+
+use std::alloc::Global;
+use wm_disk::NoMemory;
+use wm_names::Entry;
+
+/// A test on files, as an expression of a query is one.
+pub trait Test: Drop {
+    /// Whether it holds of an entry.
+    ghost passes: { Self → Entry → Bool };
+
+    /// Whether it is known to read nothing of an entry but its path.
+    ghost path_only: { Self → Bool };
+
+    /// Whether the entry passes.
+    fn holds(&self, entry: &Entry) -> bool
+        ensures { result ≡ passes self.now entry.now };
+
+    /// Whether the path alone decides. The answer may be `false` where it does too.
+    fn is_path_only(&self) -> bool
+        ensures { result ≡ path_only self.now };
+
+    /// The same test again.
+    fn copy(&self, alloc: Global) -> Result<Self, NoMemory>
+        ensures { IfOk result (λ test. test ≡ self.now) };
+
+    /// A test of paths alone has one value for any two entries of one path.
+    ghost by_path: { (test : Self) → path_only test ≡ true → PathOnly (passes test) };
+}
+
+/// The test that each file passes.
+#[derive(Clone, Copy, Debug)]
+pub struct Every;
+
+impl Test for Every {
+    ghost passes = { λ test entry. true };
+
+    ghost path_only = { λ test. true };
+
+    ghost by_path = { λ test is a b same. refl };
+
+    fn holds(&self, _entry: &Entry) -> bool {
+        true
+    }
+
+    fn is_path_only(&self) -> bool {
+        true
+    }
+
+    fn copy(&self, _alloc: Global) -> Result<Every, NoMemory> {
+        Ok(Every)
+    }
+}

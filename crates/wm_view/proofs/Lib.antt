@@ -1,0 +1,12 @@
+pub mod Paths
+pub mod PathLaws
+pub mod KnownPaths
+pub mod Kept
+pub mod Functions
+pub mod Done
+pub mod Lists
+pub mod Maps
+pub mod Merges
+pub mod Orders
+pub mod TickLaws
+pub mod Turns

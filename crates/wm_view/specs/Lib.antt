@@ -1,0 +1,9 @@
+pub mod Files
+pub mod Histories
+pub mod Laws
+pub mod Listings
+pub mod Pasts
+pub mod Places
+pub mod Steps
+pub mod Summaries
+pub mod Views

@@ -1,0 +1,24 @@
+//! A view of one root in one incarnation: what is there, when each path last changed and came into
+//! being, and from which tick on it can tell what changed.
+//!
+//! The definition is the history of the root (specs/Histories.antt): a list of operations makes a list
+//! of maps, one a tick. A contract sees a [`View`] as its history's summary (specs/Summaries.antt), and
+//! says of each operation what every history with this summary makes of it, and the same as a function
+//! of the summary (specs/Steps.antt). [`every_operation`] ties the two.
+#![tactic(auto)]
+
+mod files;
+mod known;
+mod laws;
+mod listing;
+mod op;
+mod past;
+#[cfg(test)]
+mod tests;
+mod view;
+
+pub use known::Known;
+pub use laws::every_operation;
+pub use listing::Listing;
+pub use op::{Op, Pairs};
+pub use view::View;
