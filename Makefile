@@ -3,9 +3,10 @@
 PREFIX ?= $(HOME)/.local
 STATE ?= watchmand.state
 PROGRAM := crates/watchmand/out/watchmand
+JOURNAL_BENCH := crates/journal_bench/out/journal_bench
 SOURCES := crates.txt $(shell find crates -name out -prune -o -type f \( -name '*.rt' -o -name '*.antt' \) -print)
 
-.PHONY: test build run install bench session
+.PHONY: test build run install bench bench-journal session
 
 test:
 	rt ci
@@ -31,3 +32,12 @@ session: $(PROGRAM)
 
 bench: $(PROGRAM)
 	bench/watch_list.sh $(PROGRAM)
+
+$(JOURNAL_BENCH): $(SOURCES)
+	@rm -f crates/journal_bench/out/journal.bench
+	cd crates/journal_bench && rt run -- out/journal.bench 3 </dev/null >&2
+	@rm -f crates/journal_bench/out/journal.bench
+	@touch $@
+
+bench-journal: $(JOURNAL_BENCH)
+	bench/journal.sh $(JOURNAL_BENCH)

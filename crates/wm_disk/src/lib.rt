@@ -2,13 +2,15 @@
 //!
 //! A [`Disk`] tells what a read gives, what a crash may leave, and how often it has failed. Its laws on
 //! reads and crashes bind only while it is honest; the law on the count of failures binds always.
-//! [`MemDisk`] is a disk in memory that is honest always.
+//! [`MemDisk`] is a disk in memory that is honest always, and [`OneFault`] a disk of which one call fails.
 #![tactic(auto)]
 
 mod disk;
+mod fault;
 mod memory;
 mod refusal;
 
 pub use disk::{Crashed, Disk};
+pub use fault::OneFault;
 pub use memory::MemDisk;
 pub use refusal::{DeviceFailed, NoMemory, Refusal};

@@ -26,6 +26,14 @@ pub enum Call {
     Synced,
 }
 
+/// How many calls of each kind a disk had, those that failed among them.
+#[derive(Clone, Copy, Debug)]
+pub(crate) struct Made {
+    pub writes: u64,
+    pub syncs: u64,
+    pub others: u64,
+}
+
 /// A disk in memory. A growth that is refused in it is a failure of the disk, and counted.
 #[derive(Drop)]
 pub struct MemDisk {
@@ -43,12 +51,17 @@ pub struct MemDisk {
     // how many calls pass before each fails
     passes: Option<u64>,
     failures: u64,
+    made: Made,
     ghost seen_is: { (reached (begun first.items) calls.items).seen ≡ bytes.items },
     ghost durable_is: { (reached (begun first.items) calls.items).durable ≡ durable.items },
     ghost writes_is: { (reached (begun first.items) calls.items).writes ≡ writes.items },
     ghost grown: { vec_len durable ≤ vec_len bytes },
     ghost room: { vec_len bytes ≤ vec_capacity durable },
     ghost first_room: { vec_len bytes ≤ vec_capacity first },
+}
+
+fn count(calls: &mut u64) {
+    *calls = calls.saturating_add(1);
 }
 
 const LAST_COUNT: u64 = 9_223_372_036_854_775_807;
@@ -150,7 +163,7 @@ fn replace(into: &mut Vec<u8>, from: &[u8])
 }
 
 impl MemDisk {
-    ghost use Rattle.wm_disk.specs.MemDisks.{memory_bytes, memory_failures};
+    ghost use Rattle.wm_disk.specs.MemDisks.{memory_bytes, memory_failures, memory_calls};
 
     /// An empty disk. The choice says what a crash will leave: 0 the bytes and the length at the last good
     /// sync. Every other choice leaves the length that a read tells, and at a written place 1 what a read
@@ -159,6 +172,7 @@ impl MemDisk {
     pub fn new(alloc: Global, choice: u64) -> Self
         ensures empty { memory_bytes result ≡ [] }
         ensures count { memory_failures result ≡ 0 }
+        ensures calls { memory_calls result ≡ (0, 0, 0) }
     {
         MemDisk {
             alloc,
@@ -170,7 +184,20 @@ impl MemDisk {
             calls: Vec::new(alloc),
             passes: None,
             failures: 0,
+            made: Made {
+                writes: 0,
+                syncs: 0,
+                others: 0,
+            },
         }
+    }
+
+    /// How many writes, syncs and other calls of [`Disk`] the disk had since `new`, those that failed
+    /// among them. A crash and a stop keep the numbers.
+    pub fn calls(&self) -> (u64, u64, u64)
+        ensures { result ≡ memory_calls self.now }
+    {
+        (self.made.writes, self.made.syncs, self.made.others)
     }
 
     // Room for this many bytes in the copies that a crash fills.
@@ -251,11 +278,13 @@ impl Disk for MemDisk {
     ghost only_now = { λ m c h left. left_last (begun m.first.items) m.calls.items c left };
 
     fn len(&mut self) -> Result<u64, DeviceFailed> {
+        count(&mut self.made.others);
         admit(&mut self.passes, &mut self.failures)?;
         Ok(self.bytes.len() as u64)
     }
 
     fn read_at(&mut self, at: u64, bytes: &mut [u8]) -> Result<(), DeviceFailed> {
+        count(&mut self.made.others);
         admit(&mut self.passes, &mut self.failures)?;
         let at = at as usize;
         bytes.copy_from_slice(&self.bytes[at..at + bytes.len()]);
@@ -263,6 +292,7 @@ impl Disk for MemDisk {
     }
 
     fn write_at(&mut self, at: u64, bytes: &[u8]) -> Result<(), DeviceFailed> {
+        count(&mut self.made.writes);
         admit(&mut self.passes, &mut self.failures)?;
         match self.write(at as usize, bytes) {
             Ok(()) => Ok(()),
@@ -271,6 +301,7 @@ impl Disk for MemDisk {
     }
 
     fn sync(&mut self) -> Result<(), DeviceFailed> {
+        count(&mut self.made.syncs);
         admit(&mut self.passes, &mut self.failures)?;
         match self.settle() {
             Ok(()) => Ok(()),
@@ -295,6 +326,7 @@ impl Crashed for MemDisk {
             mut calls,
             passes: _,
             failures,
+            made,
         } = self;
         tear_all(&mut durable, &writes, &bytes, choice);
         replace(&mut bytes, &durable);
@@ -311,6 +343,7 @@ impl Crashed for MemDisk {
             calls,
             passes: None,
             failures,
+            made,
         }
     }
 

@@ -1,5 +1,5 @@
 -- After a line, each view is of a history that operations made.
-use Rattle.std.proofs.Common.{◌≡◌, ℕ, Bool, true, false, cond, List, [], ◌∷◌, ◌++◌, map, Option, Some, None, Result, Ok, Err, refl, sym, ap, subst, ◌∙◌}
+use Rattle.std.proofs.Common.{◌≡◌, ℕ, true, false, cond, List, [], ◌∷◌, ◌++◌, map, Option, Some, None, Result, Ok, Err, refl, sym, ap, subst, ◌∙◌}
 use Rattle.std.specs.Str.{bytes_eq}
 use Rattle.serde_json.specs.Data.{Data}
 use Rattle.wm_disk.specs.declared.refusal.Refusal.{Refusal}
@@ -18,7 +18,7 @@ use Rattle.wm_server.specs.declared.request.Request.{Request}
 use Rattle.wm_server.specs.declared.request.Request.TheVariants.{Version, Watch, WatchList, Observe, Listing, Clock, Since}
 use Rattle.wm_server.specs.Lines.{request_of_line}
 use Rattle.wm_server.specs.Replies.{clock_reply, since_reply, watch_reply}
-use Rattle.wm_server.specs.Sessions.{State, question_met, by_reply, line_met, listing_met, met_or_refused, operation_met, refused, reply_to_command, since_question, state_after_command, view_of, watched}
+use Rattle.wm_server.specs.Sessions.{State, question_met, line_met, listing_met, met_or_refused, operation_met, refused, reply_to_command, since_question, state_after_command, view_of, watched}
 use Rattle.wm_server.specs.Watched.{AreOfHistories, IsOfHistory, answer_of, clock_answer, first_views, new_view, unless, view_after, view_at, with_view}
 use Rattle.wm_server.proofs.SessionLemmas.{left_so}
 

@@ -5,6 +5,7 @@ pub mod HistoryLemmas
 pub mod InputLemmas
 pub mod ListedLemmas
 pub mod LocalLemmas
+mod OneWordLemmas
 pub mod PlainLemmas
 pub mod ProgramLemmas
 pub mod ReplyTexts

@@ -30,5 +30,6 @@ pub mod words;
 pub use front::Front;
 pub use laws::every_line;
 pub use local::LocalFront;
+pub use reply::REFUSAL_ROOM;
 pub use request::{MAX_LINE, Request};
 pub use session::Session;

@@ -11,7 +11,7 @@ use wm_registry::Root;
 use wm_since::{Answer, render};
 
 /// The most bytes of a refusal's line.
-pub(crate) const REFUSAL_ROOM: usize = 64;
+pub const REFUSAL_ROOM: usize = 64;
 
 /// Appends the line of a refusal, for which there is room.
 pub(crate) fn put_refusal(refusal: Refusal, out: &mut Vec<u8>)

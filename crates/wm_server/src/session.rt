@@ -1,4 +1,4 @@
-ghost use Rattle.std.specs.Prelude.{◌≡◌, ◌++◌, ◌≤◌, List, ℕ, vec_capacity, IfOk, OnOk, OnErr};
+ghost use Rattle.std.specs.Prelude.{◌≡◌, ◌++◌, ◌+◌, ◌≤◌, ◌<◌, List, ℕ, vec_len, vec_capacity, IfOk, OnOk, OnErr};
 ghost use Rattle.wm_server.specs.Sessions.{question_met, line_met, listing_met, met, operation_met, since_point as since_point_lem, since_question, view_of};
 ghost use Rattle.wm_server.specs.Replies.{clock_reply, since_reply};
 ghost use Rattle.wm_server.specs.Watched.{answer_of, clock_answer, view_after};
@@ -7,6 +7,7 @@ ghost use Rattle.wm_server.specs.Pages.{Meets, page};
 
 use crate::front::Front;
 use crate::reply;
+use crate::reply::REFUSAL_ROOM;
 use crate::request::Request;
 use std::alloc::Global;
 use wm_clock::{ClockId, ClockSpec};
@@ -193,9 +194,10 @@ impl<F: Front> Session<F> {
         ensures ok { IfOk result (λ n. (way : Way) × (bytes : List ℕ) × (n ≡ faults_of way) × (out.new.items ≡ out.old.items ++ bytes)
             × Answers way (F.standing self.old.front) moment line.now bytes (F.standing self.new.front)) }
         ensures err { OnErr result ((out.new.items ≡ out.old.items) × (self.new ≡ self.old)) }
+        ensures full { OnErr result (vec_capacity out.old < vec_len out.old + REFUSAL_ROOM) }
         ensures later { F.leads_to self.old.front self.new.front }
     {
-        out.try_reserve(reply::REFUSAL_ROOM)?;
+        out.try_reserve(REFUSAL_ROOM)?;
         match self.perform(alloc, moment, line, out) {
             Ok(()) => Ok(0),
             Err(refusal) => {
@@ -206,7 +208,8 @@ impl<F: Front> Session<F> {
     }
 
     /// Answers a line, which comes with its newline: appends the reply and a newline. The room of a
-    /// refusal is made before anything changes: an `Err` is want of memory for it, and changes nothing.
+    /// refusal is made before anything changes: an `Err` is want of memory for it, comes only where `out`
+    /// has no such room yet, and changes nothing.
     pub fn line(
         &mut self,
         alloc: Global,
@@ -217,6 +220,7 @@ impl<F: Front> Session<F> {
         ensures ok { OnOk result ((way : Way) × (bytes : List ℕ) × (out.new.items ≡ out.old.items ++ bytes)
             × Answers way (F.standing self.old.front) moment line.now bytes (F.standing self.new.front)) }
         ensures err { OnErr result ((out.new.items ≡ out.old.items) × (self.new ≡ self.old)) }
+        ensures full { OnErr result (vec_capacity out.old < vec_len out.old + REFUSAL_ROOM) }
         ensures later { F.leads_to self.old.front self.new.front }
     {
         self.answer(alloc, moment, line, out)?;

@@ -4,6 +4,9 @@ ghost use Rattle.wm_wire.specs.Spelling.{Takes};
 use std::alloc::Global;
 use wm_disk::NoMemory;
 
+/// The number of bytes that each spelling is shorter than.
+pub(crate) const TOO_LONG: u64 = 0x1_0000_0000;
+
 /// A type whose values have one spelling each, and in which no spelling begins another.
 pub trait Wire {
     /// Holds of each value of the type: its limits, as a fact.
@@ -35,14 +38,18 @@ pub trait Wire {
 }
 
 #[cfg(test)]
-mod tests {
+pub(crate) mod tests {
     use super::*;
     use crate::Text;
     use std::test::Fail;
 
     // Puts a value behind a byte, and takes it back from in front of two others. `None` where the
     // spelling or its size isn't what is wanted.
-    fn again<W: Wire + Drop>(alloc: Global, value: &W, want: &[u8]) -> Result<Option<W>, NoMemory> {
+    pub(crate) fn again<W: Wire + Drop>(
+        alloc: Global,
+        value: &W,
+        want: &[u8],
+    ) -> Result<Option<W>, NoMemory> {
         let mut out = vec![in alloc; 7u8]?;
         value.put(&mut out)?;
         let spelled = match out.as_slice() {

@@ -123,3 +123,22 @@ fn takes_the_bit_of_the_place_modulo_64(rt: HostRuntime) -> Result<(), Fail> {
     }
     Ok(())
 }
+
+#[test]
+fn counts_its_calls(rt: HostRuntime) -> Result<(), Fail> {
+    let mut disk = MemDisk::new(rt.alloc(), 1);
+    assert_eq!(rt; disk.calls(), (0, 0, 0));
+    put(&mut disk, 0, b"abcd")?;
+    put(&mut disk, 1, b"Z")?;
+    disk.sync()?;
+    content(&mut disk, rt.alloc())?;
+    // three lengths and a reading beside the writes and the sync
+    assert_eq!(rt; disk.calls(), (2, 1, 4));
+    // A call that fails is counted, and neither a crash nor a stop is a call.
+    disk.arm(0);
+    assert!(rt; disk.write_at(0, b"X").is_err());
+    assert!(rt; disk.sync().is_err());
+    let disk = disk.stop().crash();
+    assert_eq!(rt; disk.calls(), (3, 2, 4));
+    Ok(())
+}

@@ -1,0 +1,146 @@
+-- A content has one meaning, and where the readers find none it has none.
+use Rattle.std.proofs.Common.{◌≡◌, ◌≢◌, ℕ, ◌+◌, ◌<◌, ◌≤◌, ◌^◌, List, ◌∷◌, ◌++◌, length, take, drop, get_or, refl, sym, ◌∙◌, ap, subst, arith, length-append}
+use Rattle.std.specs.Prelude.{Result, Ok, Err, IfOk, IsErrOf}
+use Rattle.std.proofs.lemmas.List.{take-take, drop-take, length-take-le, length-take}
+use Rattle.wm_journal.specs.Areas.{area}
+use Rattle.wm_journal.specs.Records.{Holds, taken, gated, opened}
+use Rattle.wm_journal.proofs.Laying.{length-opened}
+use Rattle.wm_journal.proofs.Reading.{one_list}
+use Rattle.wm_checkpoint.specs.Machines.{Meaning, Accepts, replay_on}
+use Rattle.wm_checkpoint.specs.Layout.{slot_place, journal_place, other_slot, journal_len}
+use Rattle.wm_checkpoint.specs.Meanings.{Means, MeansState, IsDamaged, IsHeader, IsHeaderWith, IsRetired, IsNumbered, IsOutranked, IsOpenSlot}
+use Rattle.wm_checkpoint.specs.Found.{IsFound, IsChosen}
+use Rattle.wm_checkpoint.specs.declared.layout.Slot.{Slot}
+use Rattle.wm_checkpoint.specs.declared.layout.Slot.TheVariants.{A, B}
+use Rattle.wm_checkpoint.proofs.Reading.{outranked_below, one_state}
+use Rattle.wm_checkpoint.proofs.Switching.{slot_bounds, number_of_slot}
+
+pub one_header : (b : List ℕ) (m n : ℕ) → IsHeaderWith m b → IsHeaderWith n b → m ≡ n
+one_header b m n h k = sym (ap (λ (l : List ℕ). get_or l 12 0) h.1) ∙ ap (λ (l : List ℕ). get_or l 12 0) k.1
+
+clash : (a b : List ℕ) (m n : ℕ) → m < 2 ^ 64 → n < 2 ^ 64 → IsNumbered m a → IsOutranked m b → IsNumbered n b → IsOutranked n a → ⊥
+clash a b m n lm ln h low k high =
+    let x : m < n = outranked_below a m n lm ln h high in
+    let y : n < m = outranked_below b n m ln lm k low in
+    omega (arith, x, y)
+
+pub one_slot : (c : List ℕ) (s t : Slot) (m n : ℕ) → IsChosen c s m → IsChosen c t n → s ≡ t
+one_slot c A A m n h k = refl
+one_slot c B B m n h k = refl
+one_slot c A B m n h k = absurd (clash _ _ m n h.0 k.0 h.1 h.2 k.1 k.2)
+one_slot c B A m n h k = absurd (clash _ _ m n h.0 k.0 h.1 h.2 k.1 k.2)
+
+-- No spelling of a machine's begins another, and its commands make no state that is too long for a slot.
+pub record IsLawful {S C : Type 0} (m : Meaning S C) : Type 0 where
+  pub state_alone : (v w : S) (x y : List ℕ) → m.state.fits v → m.state.fits w → m.state.spelling v ++ x ≡ m.state.spelling w ++ y → v ≡ w
+  pub command_alone : (v w : C) (x y : List ℕ) → m.command.fits v → m.command.fits w → m.command.spelling v ++ x ≡ m.command.spelling w ++ y → v ≡ w
+
+module _ {S C : Type 0} (m : Meaning S C) (c : List ℕ) where
+  pub chosen_of : (slot : Slot) (n : ℕ) (base : S) (cs : List C) → Means m c slot n base cs → IsChosen c slot n
+  chosen_of slot n base cs means = (means.bounded, number_of_slot m.state n base _ means.chosen, means.outranked)
+
+  pub no_header : ((retired : ℕ) → IsHeaderWith retired (area 0 4096 c) → ⊥) → IsDamaged m c
+  no_header none = ((λ s k. none k.means.header.0 k.means.header.2), (λ r. none 165 r.1))
+
+  pub not_retired : (r : ℕ) → IsHeaderWith r (area 0 4096 c) → r ≢ 165 → IsRetired c → ⊥
+  not_retired r h ne old = ne (one_header _ r 165 h old.1)
+
+  pub no_slot : ((slot : Slot) (n : ℕ) → n < 2 ^ 64 → IsNumbered n (area (slot_place slot) 1048576 c) → IsOutranked n (area (slot_place (other_slot slot)) 1048576 c) → ⊥) → (s : S) → MeansState m s c → ⊥
+  no_slot none s k = let h = chosen_of k.slot k.number k.base k.commands k.means in none k.slot k.number h.0 h.1 h.2
+
+  pub in_slot : (slot : Slot) (n : ℕ) → IsChosen c slot n → (s : S) (k : MeansState m s c) → k.slot ≡ slot
+  in_slot slot n h s k = one_slot c k.slot slot k.number n (chosen_of k.slot k.number k.base k.commands k.means) h
+
+  pub open_there : (slot : Slot) (n : ℕ) → IsChosen c slot n → (s : S) (k : MeansState m s c) → IsOpenSlot m.state k.number k.base (area (slot_place slot) 1048576 c)
+  open_there slot n h s k = subst (λ (t : Slot). IsOpenSlot m.state k.number k.base (area (slot_place t) 1048576 c)) (in_slot slot n h s k) k.means.chosen
+
+  pub journal_there : (slot : Slot) (n : ℕ) → IsChosen c slot n → (s : S) (k : MeansState m s c) → Holds m.command k.commands (area (journal_place slot) journal_len c)
+  journal_there slot n h s k = subst (λ (t : Slot). Holds m.command k.commands (area (journal_place t) journal_len c)) (in_slot slot n h s k) k.means.journal
+
+  pub no_state : (slot : Slot) (n : ℕ) → IsChosen c slot n → ((number : ℕ) (s : S) → IsOpenSlot m.state number s (area (slot_place slot) 1048576 c) → ⊥) → (s : S) → MeansState m s c → ⊥
+  no_state slot n h none s k = none k.number k.base (open_there slot n h s k)
+
+  pub no_journal : (slot : Slot) (n : ℕ) → IsChosen c slot n → ((cs : List C) → Holds m.command cs (area (journal_place slot) journal_len c) → ⊥) → (s : S) → MeansState m s c → ⊥
+  no_journal slot n h none s k = none k.commands (journal_there slot n h s k)
+
+  module _ (law : IsLawful m) where
+    pub base_there : (slot : Slot) (n : ℕ) → IsChosen c slot n → (base : S) → IsOpenSlot m.state n base (area (slot_place slot) 1048576 c) → (s : S) (k : MeansState m s c) → k.base ≡ base
+    base_there slot n h base o s k = one_state m.state law.state_alone _ k.number n k.base base (open_there slot n h s k) o
+
+    pub commands_there : (slot : Slot) (n : ℕ) → IsChosen c slot n → (cs : List C) → Holds m.command cs (area (journal_place slot) journal_len c) → (s : S) (k : MeansState m s c) → k.commands ≡ cs
+    commands_there slot n h cs o s k = one_list m.command law.command_alone k.commands cs _ (journal_there slot n h s k) o
+
+    pub no_replay : (slot : Slot) (n : ℕ) → IsChosen c slot n → (base : S) → IsOpenSlot m.state n base (area (slot_place slot) 1048576 c) → (cs : List C) → Holds m.command cs (area (journal_place slot) journal_len c) → (Accepts m base cs → ⊥) → (s : S) → MeansState m s c → ⊥
+    no_replay slot n h base o cs j none s k = none (subst (λ (b : S). Accepts m b cs) (base_there slot n h base o s k) (subst (λ (l : List C). Accepts m k.base l) (commands_there slot n h cs j s k) k.means.accepted))
+
+    -- the meaning
+    pub one_meaning : (s t : S) → MeansState m s c → MeansState m t c → s ≡ t
+    one_meaning s t h k =
+        let there = chosen_of k.slot k.number k.base k.commands k.means in
+        let b = base_there k.slot k.number there k.base k.means.chosen s h in
+        let l = commands_there k.slot k.number there k.commands k.means.journal s h in
+        sym h.is ∙ ap (λ (x : S). replay_on m x h.commands) b ∙ ap (λ (x : List C). replay_on m k.base x) l ∙ k.is
+
+-- Bytes behind the file's end count for nothing.
+pub area_front : (at n : ℕ) (c : List ℕ) → at + n ≤ 2625536 → area at n (take 2625536 c) ≡ area at n c
+area_front at n c le = sym (drop-take at n (take 2625536 c)) ∙ ap (λ (l : List ℕ). drop at l) (take-take (at + n) 2625536 c le) ∙ drop-take at n c
+
+module _ {S C : Type 0} (m : Meaning S C) where
+  means_like : (c d : List ℕ) → 2625536 ≤ length d → ((at n : ℕ) → at + n ≤ 2625536 → area at n d ≡ area at n c) → (slot : Slot) (n : ℕ) (base : S) (cs : List C) → Means m c slot n base cs → Means m d slot n base cs
+  means_like c d le same slot n base cs means = record {
+    long = le;
+    bounded = means.bounded;
+    header = subst (λ (l : List ℕ). IsHeader l) (sym (same 0 4096 (omega arith))) means.header;
+    chosen = subst (λ (l : List ℕ). IsOpenSlot m.state n base l) (sym (same (slot_place slot) 1048576 (omega (arith, (slot_bounds slot).0)))) means.chosen;
+    outranked = subst (λ (l : List ℕ). IsOutranked n l) (sym (same (slot_place (other_slot slot)) 1048576 (omega (arith, (slot_bounds (other_slot slot)).0)))) means.outranked;
+    journal = subst (λ (l : List ℕ). Holds m.command cs l) (sym (same (journal_place slot) journal_len (omega (arith, (slot_bounds slot).1)))) means.journal;
+    accepted = means.accepted;
+  }
+
+  pub means_whole : (c : List ℕ) → 2625536 ≤ length c → (slot : Slot) (n : ℕ) (base : S) (cs : List C) → Means m (take 2625536 c) slot n base cs → Means m c slot n base cs
+  means_whole c le slot n base cs means = means_like (take 2625536 c) c le (λ at k lt. sym (area_front at k c lt)) slot n base cs means
+
+  pub state_front : (c : List ℕ) (s : S) → MeansState m s c → MeansState m s (take 2625536 c)
+  state_front c s k = record {
+    slot = k.slot;
+    number = k.number;
+    base = k.base;
+    commands = k.commands;
+    means = means_like c (take 2625536 c) (omega (arith, length-take-le 2625536 c k.means.long)) (λ at n lt. area_front at n c lt) k.slot k.number k.base k.commands k.means;
+    is = k.is;
+  }
+
+  pub damaged_whole : (c : List ℕ) → IsDamaged m (take 2625536 c) → IsDamaged m c
+  damaged_whole c none = ((λ s k. none.0 s (state_front c s k)), (λ r. none.1 (omega (arith, length-take-le 2625536 c r.0), subst (λ (l : List ℕ). IsHeaderWith 165 l) (sym (area_front 0 4096 c (omega arith))) r.1)))
+
+  pub too_short : (c : List ℕ) → length c < 2625536 → IsDamaged m c
+  too_short c lt = ((λ s k. omega (arith, k.means.long, lt)), (λ r. omega (arith, r.0, lt)))
+
+pub retired_whole : (c : List ℕ) → 2625536 ≤ length c → IsRetired (take 2625536 c) → IsRetired c
+retired_whole c le r = (le, subst (λ (l : List ℕ). IsHeaderWith 165 l) (area_front 0 4096 c (omega arith)) r.1)
+
+pub found_here : {S C : Type 0} (m : Meaning S C) (c : List ℕ) (slot : Slot) (n : ℕ) (base state : S) (cs : List C) (end : ℕ) → length c ≡ 2625536 → IsHeader (area 0 4096 c) → IsChosen c slot n → IsOpenSlot m.state n base (area (slot_place slot) 1048576 c) → Holds m.command cs (area (journal_place slot) journal_len c) → Accepts m base cs → state ≡ replay_on m base cs → end ≡ taken m.command.spelling cs → IsFound m c slot n state end
+found_here m c slot n base state cs end size header chosen o j all is ends = record {
+  base = base;
+  commands = cs;
+  means = record { long = omega (arith, size); bounded = chosen.0; header = header; chosen = o; outranked = chosen.2; journal = j; accepted = all };
+  is = sym is;
+  ends = ends;
+}
+
+pub if_ok : {T E : Type 0} {P Q : T → Type 0} (r : Result T E) → ((x : T) → P x → Q x) → IfOk r P → IfOk r Q
+if_ok (Ok x) f h = f x h
+if_ok (Err e) f h = tt
+
+pub found_whole : {S C : Type 0} (m : Meaning S C) (c : List ℕ) (slot : Slot) (n : ℕ) (s : S) (end : ℕ) → 2625536 ≤ length c → IsFound m (take 2625536 c) slot n s end → IsFound m c slot n s end
+found_whole m c slot n s end le f = record { base = f.base; commands = f.commands; means = means_whole m c le slot n f.base f.commands f.means; is = f.is; ends = f.ends }
+
+pub same_err : {T U E : Type 0} (e x : E) → IsErrOf {T = T} (Err e) x → IsErrOf {T = U} (Err e) x
+same_err e x h = let k : e ≡ x = cc in ap (λ y. Err y) k
+
+-- the end of a journal lies in it
+pub found_within : {S C : Type 0} (m : Meaning S C) (c : List ℕ) (slot : Slot) (n : ℕ) (s : S) (end : ℕ) → IsFound m c slot n s end → end < 262144
+found_within m c slot n s end f =
+    let h = f.means.journal in
+    let text = gated m.command.spelling (opened f.commands) in
+    omega (arith, f.ends, ap length h.parts, length-append text (h.gate ∷ h.behind), length-opened m.command.spelling f.commands, length-take 262144 (drop (journal_place slot) c))

@@ -1,0 +1,16 @@
+use Rattle.std.proofs.Common.{[], List, ℕ, sym, subst, ap, length, ◌≤◌, arith}
+use Rattle.wm_checkpoint.specs.Machines.{meaning}
+use Rattle.wm_checkpoint.specs.Meanings.{Means, IsSlotText}
+use Rattle.wm_checkpoint.specs.declared.layout.Slot.TheVariants.{A}
+use Rattle.wm_checkpoint.proofs.Formatted.{formatted}
+use Rattle.wm_checkpoint.proofs.keeper.Keeper.format.Goals as goal
+
+pub returns-clause-formatted : goal.returns-clause-formatted
+returns-clause-formatted g c = λ h.
+    let m = meaning g.M.Machine g.M.State.Wire g.M.Command.Wire in
+    let first = c.args.first.now in
+    let bytes = c.deref.result.now in
+    let s : IsSlotText m 1 first bytes = subst (λ (l : List ℕ). IsSlotText m 1 first l) (sym c.deref.ensures.value) c.in_ok-bytes.ensures.text in
+    let laid = c.in_ok-format_with.ensures.laid h in
+    let short : length bytes ≤ 1048575 = omega (arith, ap length c.deref.ensures.value, c.in_ok-bytes.ensures.short) in
+    subst (λ (x : List ℕ). Means m x A 1 first []) (sym laid.2) (formatted bytes laid.0 laid.1 short m first s)

@@ -1,0 +1,8 @@
+pub mod Machines
+pub mod Layout
+pub mod Meanings
+pub mod Found
+pub mod Formatting
+pub mod Halves
+pub mod Kept
+pub mod Registers

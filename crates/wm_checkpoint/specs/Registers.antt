@@ -1,0 +1,15 @@
+-- For tests: the laws of a register, whose commands set it, and of a switch.
+use Rattle.std.proofs.Common.{◌≡◌, ℕ, Bool, true, false, not, ◌==◌, sym, eqb-true}
+use Rattle.std.proofs.lemmas.Bool.{not-false}
+
+-- the command changes the state
+abbrev pub differs : ℕ → ℕ → Bool
+differs state command = not (state == command)
+
+pub idle_register : (s c : ℕ) → differs s c ≡ false → c ≡ s
+idle_register s c h = sym (eqb-true s c (not-false (s == c) h))
+
+-- where a command puts a switch
+abbrev pub position : Bool → ℕ
+position true = 1
+position false = 0

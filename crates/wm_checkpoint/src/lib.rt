@@ -1,0 +1,23 @@
+//! A machine's state in a file of fixed size, whose meaning is always a replay, whatever a crash left.
+//!
+//! The file has two slots, each with a journal behind it. The open slot with the greater number holds a
+//! state, and its journal the commands since then. [`Keeper::commit`] writes a group of commands into the
+//! journal; [`Keeper::checkpoint`] puts the state into the other slot, under the next number, and opens its
+//! gate last. A crash at any moment leaves a content that means the state after a beginning of the commands
+//! in flight, and [`Keeper::open`] finds it.
+#![tactic(auto)]
+
+mod commit;
+mod format;
+mod keeper;
+mod laws;
+mod layout;
+mod machine;
+mod read;
+mod slot_text;
+mod write;
+
+pub use keeper::Keeper;
+pub use laws::every_content;
+pub use layout::Slot;
+pub use machine::Machine;

@@ -1,0 +1,44 @@
+//! A machine whose commands are kept in a journal.
+ghost use Rattle.std.specs.Prelude.{◌≡◌, ◌≤◌, Bool, false, length, IfOk, OnErr};
+
+use std::alloc::Global;
+use wm_disk::NoMemory;
+use wm_wire::Wire;
+
+/// States, commands and replies. What a command does is a function of the state and the command alone.
+pub trait Machine {
+    type State: Wire + Drop;
+
+    type Command: Wire + Drop;
+
+    type Reply: Drop;
+
+    /// The state after a command.
+    ghost after: { Self.State → Self.Command → Self.State };
+
+    /// Whether the command changes the state.
+    ghost changes: { Self.State → Self.Command → Bool };
+
+    /// The reply to a command.
+    ghost reply: { Self.State → Self.Command → Self.Reply };
+
+    /// Applies a command, and tells the reply and whether the state changed. Its error is want of memory,
+    /// and then the state is as it was.
+    fn apply(
+        alloc: Global,
+        state: &mut Self::State,
+        command: &Self::Command,
+    ) -> Result<(Self::Reply, bool), NoMemory>
+        ensures ok { IfOk result (λ r. (r.0 ≡ reply state.old command.now) × (r.1 ≡ changes state.old command.now) × (state.new ≡ after state.old command.now)) }
+        ensures err { OnErr result (state.new ≡ state.old) };
+
+    /// An equal state, or want of memory.
+    fn copy(alloc: Global, state: &Self::State) -> Result<Self::State, NoMemory>
+        ensures { IfOk result (λ s. s ≡ state.now) };
+
+    /// What changes nothing leaves the state.
+    ghost idle: { (s : Self.State) (c : Self.Command) → changes s c ≡ false → after s c ≡ s };
+
+    /// A state's limits bound its spelling: it has at most 1,048,563 bytes, as a slot's body.
+    ghost small: { (s : Self.State) → Self.State.fits s → length (Self.State.spelling s) ≤ 1048563 };
+}

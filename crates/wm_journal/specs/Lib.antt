@@ -1,0 +1,4 @@
+pub mod Areas
+pub mod Gates
+pub mod Records
+pub mod Regions

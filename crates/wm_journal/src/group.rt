@@ -1,0 +1,35 @@
+//! Lays a group out.
+ghost use Rattle.std.specs.Prelude.{◌≡◌, ◌≤◌, ◌<◌, ◌+◌, ◌^◌, ℕ, List, length, slice_index, EachIndex, IfOk, OnOk};
+ghost use Rattle.std.specs.List.{AllByRecursion};
+ghost use Rattle.wm_journal.specs.Records.{taken, gate_places, group as group_lem};
+
+use std::alloc::Global;
+use wm_disk::NoMemory;
+use wm_wire::Wire;
+
+const CLOSED: u8 = 0;
+
+/// A group as it is written behind its first gate, and the places of its gates from that gate on.
+#[derive(Drop)]
+pub(crate) struct Group {
+    pub bytes: Vec<u8>,
+    pub gates: Vec<u64>,
+}
+
+/// The group of these records behind the gate at this place.
+pub(crate) fn laid_out<W: Wire>(alloc: Global, place: u64, records: &[W]) -> Result<Group, NoMemory>
+    requires { place + taken W.spelling records.now < 2 ^ 62 }
+    ensures gates { IfOk result (λ g. g.gates.items ≡ gate_places W.spelling place records.now) }
+    ensures bytes { IfOk result (λ g. g.bytes.items ≡ group_lem W.spelling records.now) }
+    ensures fit { IfOk result (λ g. AllByRecursion W.fits records.now) }
+{
+    let mut bytes = Vec::new(alloc);
+    let mut gates = Vec::new(alloc);
+    for record in records {
+        gates.push(place + bytes.len() as u64)?;
+        bytes.reserve(record.size() as usize + 1)?;
+        record.put(&mut bytes)?;
+        bytes.push(CLOSED)?;
+    }
+    Ok(Group { bytes, gates })
+}
