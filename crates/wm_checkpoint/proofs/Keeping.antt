@@ -1,9 +1,9 @@
--- What a crash leaves while a keeper commits, or makes a checkpoint.
+-- What a crash leaves while a keeper commits, makes a checkpoint, or has a call of its disk that writes nothing.
 use Rattle.std.proofs.Common.{◌≡◌, ℕ, ◌+◌, ◌<◌, List, [], ◌++◌, take, sym, ◌∙◌, ap, subst, arith}
-use Rattle.wm_disk.specs.Moments.{LeavesOnly, started}
+use Rattle.wm_disk.specs.Moments.{Elapses, LeavesOnly, started, goes_on}
 use Rattle.wm_disk.specs.declared.disk.Disk as disks
 use Rattle.wm_journal.specs.Areas as areas
-use Rattle.wm_disk.specs.Contents.{Only}
+use Rattle.wm_disk.specs.Contents.{Only, NoMore}
 use Rattle.wm_journal.specs.Records.{Holds, taken}
 use Rattle.wm_journal.specs.Regions.{IsAt, InSamePlace, SameOutside, IsAtRest, HoldsBeginning}
 use Rattle.wm_journal.specs.declared.region.Region.{Region}
@@ -78,3 +78,21 @@ journal_at_rest disk m region slot number base commands place end none means dur
       read = record { holds = subst (λ (l : List ℕ). Holds m.command commands l) (sym at) means.journal; end = end; none_staged = none };
       durable = durable;
     }
+
+-- ---- a call of the disk that writes nothing
+
+module _ {D M S C R : Type 0} (disk : disks.Ghosts D) (m : Meaning S C) (keeper : Keeper D M S C R disk) (k : IsKept m keeper) where
+  -- the moments of the call
+  pub call_leaves : (new : D) → ((c : List ℕ) → disk.left_since keeper.region.disk (disk.moment keeper.region.disk) c → disk.may_leave keeper.region.disk c) → NoMore (disk.may_leave keeper.region.disk) (disk.may_leave new) → Elapses (disk.moment keeper.region.disk) (disk.moment new) (disk.left_since keeper.region.disk) (disk.left_since new) (disk.may_leave new) → LeavesOnly disk.moment disk.left_since keeper.region.disk new (MeansState m keeper.state)
+  call_leaves new only_now no_more time =
+      goes_on disk.moment disk.left_since keeper.region.disk keeper.region.disk new (MeansState m keeper.state) (disk.may_leave new) (untouched disk m keeper k only_now) time
+      (λ c left. kept_means disk m keeper k c (no_more c left))
+
+  -- the keeper after it
+  pub still_means : (new : D) → disk.seen new ≡ disk.seen keeper.region.disk → Means m (disk.seen new) keeper.slot keeper.number k.base k.commands
+  still_means new seen = subst (λ (x : List ℕ). Means m x keeper.slot keeper.number k.base k.commands) (sym seen) k.means
+
+  pub still_at_rest : (region : Region D disk) → IsAt region (journal_place keeper.slot) journal_len → region.end ≡ keeper.region.end → region.gates.items ≡ keeper.region.gates.items → disk.seen region.disk ≡ disk.seen keeper.region.disk → NoMore (disk.may_leave keeper.region.disk) (disk.may_leave region.disk) → IsAtRest m.command region k.commands
+  still_at_rest region place end gates seen no_more =
+      journal_at_rest disk m region keeper.slot keeper.number k.base k.commands place (end ∙ k.at_rest.read.end) (gates ∙ k.at_rest.read.none_staged) (still_means region.disk seen)
+      (λ c left. k.at_rest.durable c (no_more c left) ∙ sym seen)

@@ -1,7 +1,7 @@
 //! A machine's state on a disk.
 ghost use Rattle.std.specs.Prelude.{true, false, ◌≡◌, ◌≤◌, ◌<◌, ◌+◌, ◌⊎◌, [], List, ℕ, length, IfOk, IfErr, OnOk, OnErr, IsErrOf};
-ghost use Rattle.wm_disk.specs.Contents.{Only, Rose};
-ghost use Rattle.wm_disk.specs.Moments.{LeavesOnly};
+ghost use Rattle.wm_disk.specs.Contents.{NoMore, Only, Rose};
+ghost use Rattle.wm_disk.specs.Moments.{Elapses, LeavesOnly};
 ghost use Rattle.wm_journal.specs.Records.{taken};
 ghost use Rattle.wm_checkpoint.specs.Machines.{meaning, Accepts, replay_on};
 
@@ -13,7 +13,7 @@ use crate::read::find;
 use crate::slot_text::slot_text;
 use crate::write::switch_half;
 use std::alloc::Global;
-use wm_disk::{Disk, Refusal};
+use wm_disk::{Crashed, Disk, Refusal};
 use wm_journal::Region;
 
 #[cfg(test)]
@@ -117,6 +117,14 @@ impl<D: Disk + Drop, M: Machine> Keeper<D, M> {
         self.region.room()
     }
 
+    /// Whether a call was answered `13 DeviceFailed`, since when every call that would write is answered
+    /// `12 StoreFailed`.
+    pub fn has_failed(&self) -> bool
+        ensures { result ≡ has_failed self.now }
+    {
+        self.failed
+    }
+
     /// Commits a group of commands, which lead to the next state. After an `Ok` they are durable.
     /// `12 StoreFailed` where a call before it was answered `13`, with no call of the disk; `13
     /// DeviceFailed` where the device failed, and then the disk means the state after a beginning of the
@@ -179,6 +187,7 @@ impl<D: Disk + Drop, M: Machine> Keeper<D, M> {
         ensures means { D.honest (disk_of self.new) → OnOk result ((c : List ℕ) → D.may_leave (disk_of self.new) c → MeansState (meaning M.Machine M.State.Wire M.Command.Wire) (state_of self.new) c) }
         ensures fresh { D.honest (disk_of self.new) → OnOk result (Means (meaning M.Machine M.State.Wire M.Command.Wire) (D.seen (disk_of self.new)) (slot_of self.new) (number_of self.new) (state_of self.old) []) }
         ensures slot { OnOk result ((slot_of self.new ≡ other_slot (slot_of self.old)) × (number_of self.new ≡ number_of self.old + 1) × (room_left self.new ≡ 262143) × (has_failed self.new ≡ false)) }
+        ensures stays { OnErr result ((slot_of self.new ≡ slot_of self.old) × (number_of self.new ≡ number_of self.old)) }
         ensures state { state_of self.new ≡ state_of self.old }
         // A crash at any moment of the call leaves the state.
         ensures any_moment { has_failed self.old ≡ false → D.honest (disk_of self.new) → LeavesOnly D.moment D.left_since (disk_of self.old) (disk_of self.new) (MeansState (meaning M.Machine M.State.Wire M.Command.Wire) (state_of self.old)) }
@@ -214,5 +223,60 @@ impl<D: Disk + Drop, M: Machine> Keeper<D, M> {
                 Err(Refusal::DeviceFailed)
             }
         }
+    }
+
+    /// Makes what the disk holds durable, by one sync and no other call of the disk. `12 StoreFailed` as in
+    /// [`Keeper::commit`]; `13 DeviceFailed` where the sync failed, and then the disk means the same state.
+    pub fn sync(&mut self) -> Result<(), Refusal>
+        requires kept { Keeps (meaning M.Machine M.State.Wire M.Command.Wire) self.old }
+        ensures kept { Keeps (meaning M.Machine M.State.Wire M.Command.Wire) self.new }
+        // Every content that a crash may leave then means the state.
+        ensures means { D.honest (disk_of self.new) → OnOk result ((c : List ℕ) → D.may_leave (disk_of self.new) c → MeansState (meaning M.Machine M.State.Wire M.Command.Wire) (state_of self.new) c) }
+        ensures ok { OnOk result (has_failed self.new ≡ false) }
+        ensures state { state_of self.new ≡ state_of self.old }
+        ensures slot { (slot_of self.new ≡ slot_of self.old) × (number_of self.new ≡ number_of self.old) × (room_left self.new ≡ room_left self.old) }
+        ensures seen { D.honest (disk_of self.new) → D.seen (disk_of self.new) ≡ D.seen (disk_of self.old) }
+        // A crash at any moment of the call leaves the state.
+        ensures any_moment { has_failed self.old ≡ false → D.honest (disk_of self.new) → LeavesOnly D.moment D.left_since (disk_of self.old) (disk_of self.new) (MeansState (meaning M.Machine M.State.Wire M.Command.Wire) (state_of self.old)) }
+        ensures down { IsErrOf result store_failed → (has_failed self.old ≡ true) × (self.new ≡ self.old) }
+        ensures stays_down { has_failed self.old ≡ true → IsErrOf result store_failed }
+        ensures honest { D.honest (disk_of self.new) → D.honest (disk_of self.old) }
+        ensures later { D.failures (disk_of self.old) ≤ D.failures (disk_of self.new) }
+        ensures whole { OnOk result (D.failures (disk_of self.new) ≡ D.failures (disk_of self.old)) }
+        ensures failed { IsErrOf result device_failed → Rose (D.failures (disk_of self.old)) (D.failures (disk_of self.new)) × (has_failed self.new ≡ true) }
+        ensures kinds { IfErr result (λ e. (e ≡ device_failed) ⊎ (e ≡ store_failed)) }
+    {
+        if self.failed {
+            return Err(Refusal::StoreFailed);
+        }
+        match self.region.disk.sync() {
+            Ok(()) => Ok(()),
+            Err(_) => {
+                self.failed = true;
+                Err(Refusal::DeviceFailed)
+            }
+        }
+    }
+}
+
+impl<D: Crashed + Drop, M: Machine> Keeper<D, M> {
+    ghost use Rattle.wm_checkpoint.specs.Meanings.{MeansState};
+    ghost use Rattle.wm_checkpoint.specs.Kept.{disk_of, state_of, slot_of, number_of, has_failed, room_left, Keeps};
+
+    /// For tests: so many calls of the disk pass, and then each call fails and has no effect.
+    pub fn arm(&mut self, calls: u64)
+        requires kept { Keeps (meaning M.Machine M.State.Wire M.Command.Wire) self.old }
+        ensures kept { Keeps (meaning M.Machine M.State.Wire M.Command.Wire) self.new }
+        ensures state { (state_of self.new ≡ state_of self.old) × (has_failed self.new ≡ has_failed self.old) }
+        ensures slot { (slot_of self.new ≡ slot_of self.old) × (number_of self.new ≡ number_of self.old) × (room_left self.new ≡ room_left self.old) }
+        ensures seen { D.honest (disk_of self.new) → D.seen (disk_of self.new) ≡ D.seen (disk_of self.old) }
+        ensures crash { D.honest (disk_of self.new) → NoMore (D.may_leave (disk_of self.old)) (D.may_leave (disk_of self.new)) }
+        ensures time { D.honest (disk_of self.new) → Elapses (D.moment (disk_of self.old)) (D.moment (disk_of self.new)) (D.left_since (disk_of self.old)) (D.left_since (disk_of self.new)) (D.may_leave (disk_of self.new)) }
+        // A crash at any moment of the call leaves the state.
+        ensures any_moment { has_failed self.old ≡ false → D.honest (disk_of self.new) → LeavesOnly D.moment D.left_since (disk_of self.old) (disk_of self.new) (MeansState (meaning M.Machine M.State.Wire M.Command.Wire) (state_of self.old)) }
+        ensures honest { D.honest (disk_of self.new) → D.honest (disk_of self.old) }
+        ensures count { D.failures (disk_of self.new) ≡ D.failures (disk_of self.old) }
+    {
+        self.region.disk.arm(calls);
     }
 }

@@ -1,8 +1,15 @@
 ghost use Rattle.std.specs.Prelude.{◌≡◌, ◌≢◌, ℕ, List, true, false, string_bytes, IfOk, IfErr, IsErrOf, IsUtf8, ◌↔◌, ◌==◌, not};
+ghost use Rattle.std.proofs.Common.{rules};
+ghost use Rattle.std.specs.Cmp.{partial_equiv_from_equiv};
+ghost use Rattle.std.specs.Cmp.Lexicographic.{nat_list_eq_equiv};
+ghost use Rattle.std.specs.Cmp.Rules.{hashing};
+ghost use Rattle.std.specs.Hash as fed;
+ghost use Rattle.std.specs.Str.{bytes_eq};
 ghost use Rattle.wm_names.specs.Paths.{is_root_path};
 
 use crate::components::are_components;
 use std::alloc::Global;
+use std::hash::{Hash, Hasher};
 use std::marker::Model;
 use wm_disk::{NoMemory, Refusal};
 
@@ -67,6 +74,30 @@ impl RootPath {
     }
 }
 
+impl PartialEq for RootPath {
+    ghost eq = { bytes_eq };
+
+    ghost laws = { partial_equiv_from_equiv nat_list_eq_equiv };
+
+    fn eq(&self, other: &RootPath) -> bool {
+        self.text == other.text
+    }
+}
+
+impl Eq for RootPath {
+    ghost laws = { nat_list_eq_equiv };
+}
+
+impl Hash for RootPath {
+    ghost hash_input = { fed.str };
+
+    ghost respects_eq = { Prim.search (hashing, rules) };
+
+    fn hash<H: Hasher>(&self, state: &mut H) {
+        self.text.hash(state);
+    }
+}
+
 #[cfg(test)]
 mod tests {
     use super::*;
@@ -126,6 +157,23 @@ mod tests {
                 Ok(_) => assert!(rt; false, "read {text:?}"),
                 Err(e) => assert_eq!(rt; e, Refusal::BadPath, "{text:?}"),
             }
+        }
+        Ok(())
+    }
+
+    #[test]
+    fn compares_paths(rt: HostRuntime) -> Result<(), Fail> {
+        for (first, second, want) in [
+            ("/r", "/r", true),
+            ("/r", "/s", false),
+            ("/r", "/R", false),
+            ("/r", "/r/s", false),
+            ("/a/b", "/a/b", true),
+        ] {
+            let path = RootPath::read(rt.alloc(), first)?;
+            let other = RootPath::read(rt.alloc(), second)?;
+            assert_eq!(rt; path == other, want, "{first} and {second}");
+            assert_eq!(rt; other == path, want, "{second} and {first}");
         }
         Ok(())
     }

@@ -1,4 +1,5 @@
-ghost use Rattle.std.specs.Prelude.{◌≡◌, ◌++◌, ◌∷◌, [], IfErr, OnOk, OnErr};
+ghost use Rattle.std.specs.Prelude.{◌≡◌, ◌<◌, ◌≤◌, ◌^◌, ◌++◌, ◌∷◌, [], length, slice_index_or, slice_set, IfErr, OnOk, OnErr};
+ghost use Rattle.std.specs.List.{remove};
 ghost use Rattle.wm_wire.specs.Spelling.{IsList, list_spelling};
 ghost use Rattle.wm_wire.specs.ListLaws.{alone_list, short_list};
 
@@ -60,6 +61,13 @@ impl<W: Wire, const MAX: u16> List<W, MAX> {
     {
         self.values.as_slice()
     }
+
+    /// How many values there are.
+    pub fn len(&self) -> usize
+        ensures { result ≡ length self.now }
+    {
+        self.as_slice().len()
+    }
 }
 
 impl<W: Wire + Drop, const MAX: u16> List<W, MAX> {
@@ -82,6 +90,46 @@ impl<W: Wire + Drop, const MAX: u16> List<W, MAX> {
         if self.values.push(value).is_err() {
             return Err(NotPushed::NoMemory);
         }
+        self.bytes = bytes;
+        Ok(())
+    }
+
+    /// The values themselves.
+    pub fn into_vec(self) -> Vec<W>
+        ensures value { result.items ≡ self }
+        ensures fits { IsList MAX W.fits W.spelling self }
+    {
+        let List { values, bytes: _ } = self;
+        values
+    }
+
+    /// Takes the value at the index out of the list, and those behind it move down by one.
+    pub fn remove(&mut self, index: usize) -> W
+        requires { index < length self.old }
+        ensures value { result ≡ slice_index_or self.old index result }
+        ensures items { self.new ≡ remove self.old index }
+        ensures fits { IsList MAX W.fits W.spelling self.new }
+    {
+        let value = self.values.remove(index);
+        self.bytes -= value.size();
+        value
+    }
+
+    /// Puts the value in the place of the one at the index; or hands it back where the list's spelling
+    /// would have 2^32 bytes or more with it, and then the list is as it was. It takes no memory.
+    pub fn set(&mut self, index: usize, value: W) -> Result<(), W>
+        requires { index < length self.old }
+        ensures ok { OnOk result (self.new ≡ slice_set self.old index value) }
+        ensures fits { IsList MAX W.fits W.spelling self.new }
+        ensures err { OnErr result (self.new ≡ self.old) }
+        ensures returned { IfErr result (λ v. v ≡ value) }
+        ensures too_long { OnErr result (2 ^ 32 ≤ length (list_spelling W.spelling (slice_set self.old index value))) }
+    {
+        let bytes = self.bytes - self.values[index].size() + value.size();
+        if bytes >= TOO_LONG {
+            return Err(value);
+        }
+        self.values[index] = value;
         self.bytes = bytes;
         Ok(())
     }
@@ -164,6 +212,7 @@ mod tests {
             assert_eq!(rt; list.as_slice(), values);
             let back = again(rt.alloc(), &list, want)?.ok_or("other bytes")?;
             assert_eq!(rt; back.as_slice(), values);
+            assert_eq!(rt; back.into_vec().as_slice(), values);
         }
         Ok(())
     }
@@ -217,6 +266,97 @@ mod tests {
         // a second item that is no spelling
         assert!(rt; List::<bool, 3>::take(rt.alloc(), b"\0\0\0\x03\x01\x02\0")?.is_none());
         assert!(rt; List::<bool, 0>::take(rt.alloc(), b"\0\0\0\x01\x01")?.is_none());
+        Ok(())
+    }
+
+    #[test]
+    fn removes_values(rt: HostRuntime) -> Result<(), Fail> {
+        for (values, index, want, left, bytes) in [
+            ([7].as_slice(), 0, 7, [].as_slice(), b"\0\0\0\0".as_slice()),
+            (
+                [7, 5, 9].as_slice(),
+                0,
+                7,
+                [5, 9].as_slice(),
+                b"\0\0\0\x02\0\0\0\x05\0\0\0\x09".as_slice(),
+            ),
+            (
+                [7, 5, 9].as_slice(),
+                1,
+                5,
+                [7, 9].as_slice(),
+                b"\0\0\0\x02\0\0\0\x07\0\0\0\x09".as_slice(),
+            ),
+            (
+                [7, 5, 9].as_slice(),
+                2,
+                9,
+                [7, 5].as_slice(),
+                b"\0\0\0\x02\0\0\0\x07\0\0\0\x05".as_slice(),
+            ),
+        ] {
+            let mut list = numbers(rt.alloc(), values)?;
+            assert!(rt; index < list.len(), "{index}");
+            assert_eq!(rt; list.remove(index), want, "at {index}");
+            assert_eq!(rt; list.as_slice(), left, "at {index}");
+            assert_eq!(rt; list.len(), left.len(), "at {index}");
+            let back = again(rt.alloc(), &list, bytes)?.ok_or("other bytes")?;
+            assert_eq!(rt; back.as_slice(), left, "at {index}");
+        }
+        Ok(())
+    }
+
+    #[test]
+    fn puts_values_in_the_place_of_others(rt: HostRuntime) -> Result<(), Fail> {
+        for (index, want, bytes) in [
+            (
+                0,
+                [258, 5, 9].as_slice(),
+                b"\0\0\0\x03\0\0\x01\x02\0\0\0\x05\0\0\0\x09".as_slice(),
+            ),
+            (
+                1,
+                [7, 258, 9].as_slice(),
+                b"\0\0\0\x03\0\0\0\x07\0\0\x01\x02\0\0\0\x09".as_slice(),
+            ),
+            (
+                2,
+                [7, 5, 258].as_slice(),
+                b"\0\0\0\x03\0\0\0\x07\0\0\0\x05\0\0\x01\x02".as_slice(),
+            ),
+        ] {
+            let mut list = numbers(rt.alloc(), &[7, 5, 9])?;
+            assert!(rt; index < list.len(), "{index}");
+            assert_eq!(rt; list.set(index, 258), Ok(()), "at {index}");
+            assert_eq!(rt; list.as_slice(), want, "at {index}");
+            let back = again(rt.alloc(), &list, bytes)?.ok_or("other bytes")?;
+            assert_eq!(rt; back.as_slice(), want, "at {index}");
+        }
+        Ok(())
+    }
+
+    #[test]
+    fn keeps_the_length_of_items_of_several_lengths(rt: HostRuntime) -> Result<(), Fail> {
+        let mut list = List::<Text<3>, 2>::new(rt.alloc());
+        list.push(Text::new(rt.alloc(), "ab")?)?;
+        list.push(Text::new(rt.alloc(), "/r")?)?;
+        for (value, bytes) in [
+            ("", b"\0\0\0\x02\0\0\0\0\0\0\0\x02\x2f\x72".as_slice()),
+            (
+                "abc",
+                b"\0\0\0\x02\0\0\0\x03\x61\x62\x63\0\0\0\x02\x2f\x72".as_slice(),
+            ),
+        ] {
+            assert!(rt; value.len() <= 3 && list.len() == 2, "{value}");
+            let text = Text::new(rt.alloc(), value)?;
+            assert!(rt; list.set(0, text).is_ok(), "{value}");
+            assert!(rt; again(rt.alloc(), &list, bytes)?.is_some(), "{value}");
+        }
+        assert!(rt; list.len() == 2, "another length");
+        let text = list.remove(0);
+        assert_eq!(rt; text.as_str(), "abc");
+        let want = b"\0\0\0\x01\0\0\0\x02\x2f\x72";
+        assert!(rt; again(rt.alloc(), &list, want)?.is_some(), "other bytes");
         Ok(())
     }
 }

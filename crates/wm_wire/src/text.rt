@@ -1,4 +1,7 @@
 ghost use Rattle.std.specs.Prelude.{◌≡◌, ◌≤◌, ◌<◌, ◌^◌, ◌++◌, ℕ, List, length, string_bytes, option_map, IfOk, OnOk, OnErr};
+ghost use Rattle.std.specs.Cmp.{partial_equiv_from_equiv};
+ghost use Rattle.std.specs.Cmp.Lexicographic.{nat_list_eq_equiv};
+ghost use Rattle.std.specs.Str.{bytes_eq};
 ghost use Rattle.wm_wire.specs.Spelling.{text as text_lem, IsText, Takes};
 ghost use Rattle.wm_wire.specs.Laws.{alone_text, short_text};
 
@@ -72,6 +75,27 @@ impl<const MAX: u16> Text<MAX> {
     {
         self.text.as_str()
     }
+
+    /// The same text again.
+    pub fn copy(&self, alloc: Global) -> Result<Self, NoMemory>
+        ensures { IfOk result (λ t. t ≡ self.now) }
+    {
+        Text::new(alloc, self.as_str())
+    }
+}
+
+impl<const MAX: u16> PartialEq for Text<MAX> {
+    ghost eq = { bytes_eq };
+
+    ghost laws = { partial_equiv_from_equiv nat_list_eq_equiv };
+
+    fn eq(&self, other: &Self) -> bool {
+        self.text == other.text
+    }
+}
+
+impl<const MAX: u16> Eq for Text<MAX> {
+    ghost laws = { nat_list_eq_equiv };
 }
 
 impl<const MAX: u16> Wire for Text<MAX> {
@@ -113,6 +137,31 @@ mod tests {
         assert_eq!(rt; take_text(b"\0\0\0\x02\x2f\x72\xff", 2), Some(("/r", 6)));
         assert_eq!(rt; take_text(b"\0\0\0\x02\x2f\x72\xff", 1), None);
         assert_eq!(rt; take_text(b"\0\0\0\0", 0), Some(("", 4)));
+        Ok(())
+    }
+
+    #[test]
+    fn copies_and_compares_texts(rt: HostRuntime) -> Result<(), Fail> {
+        for (first, second, want) in [
+            ("", "", true),
+            ("/r", "/r", true),
+            ("/r", "/s", false),
+            ("/r", "/R", false),
+            ("/r", "/", false),
+            ("", "/r", false),
+        ] {
+            assert!(rt;
+                first.len() <= 3 && second.len() <= 3,
+                "{first} and {second}"
+            );
+            let text = Text::<3>::new(rt.alloc(), first)?;
+            let other = Text::<3>::new(rt.alloc(), second)?;
+            let again = text.copy(rt.alloc())?;
+            assert_eq!(rt; again.as_str(), first);
+            assert!(rt; again == text, "a copy of {first}");
+            assert_eq!(rt; text == other, want, "{first} and {second}");
+            assert_eq!(rt; other == text, want, "{second} and {first}");
+        }
         Ok(())
     }
 }

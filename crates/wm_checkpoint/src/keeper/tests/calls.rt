@@ -38,41 +38,100 @@ fn counts_its_calls(rt: HostRuntime) -> Result<(), Fail> {
     Ok(())
 }
 
-/// A commit or a checkpoint, which meets a failure.
-fn fails(alloc: Global, store: &mut Store, commits: bool) -> Result<(), Refusal>
+#[test]
+fn syncs_by_one_call(rt: HostRuntime) -> Result<(), Fail> {
+    let alloc = rt.alloc();
+    // the checkpoints of the file, and its state
+    for (checkpoints, state) in [(0, 6), (1, 11), (2, 12)] {
+        let content = kept_content(alloc, checkpoints)?;
+        let mut store = open(alloc, disk_of(alloc, 0, &content)?)?;
+        assert_eq!(rt; store.region.disk.calls(), (1, 2, 2), "in {state}");
+        store.sync()?;
+        assert_eq!(rt; store.region.disk.calls(), (1, 3, 2), "in {state}");
+        set(alloc, &mut store, 20)?;
+        assert_eq!(rt; store.region.disk.calls(), (3, 5, 2), "in {state}");
+        // One more passes, and then each call fails.
+        store.arm(1);
+        store.sync()?;
+        assert_eq!(rt; store.region.disk.calls(), (3, 6, 2), "in {state}");
+        assert!(rt; !store.has_failed(), "in {state}");
+        assert_eq!(rt; store.sync(), Err(Refusal::DeviceFailed), "in {state}");
+        assert_eq!(rt; store.region.disk.calls(), (3, 7, 2), "in {state}");
+        assert!(rt; store.has_failed(), "in {state}");
+        assert_eq!(rt; *store.state(), 20, "in {state}");
+        let store = open(alloc, store.into_disk().crash())?;
+        assert!(rt; !store.has_failed(), "in {state}");
+        assert_eq!(rt; *store.state(), 20, "in {state}");
+    }
+    Ok(())
+}
+
+/// A call that meets a failure.
+#[derive(Clone, Copy, Debug)]
+enum Writing {
+    Commit,
+    Checkpoint,
+    Sync,
+}
+
+fn fails(alloc: Global, store: &mut Store, writing: Writing) -> Result<(), Refusal>
     requires kept { Keeps (meaning ⟦<Register as Machine>⟧ ⟦<u64 as Wire>⟧ ⟦<u64 as Wire>⟧) store.old }
     ensures kept { Keeps (meaning ⟦<Register as Machine>⟧ ⟦<u64 as Wire>⟧ ⟦<u64 as Wire>⟧) store.new }
 {
-    if commits {
-        return set_three(alloc, store, 7, 8, 9);
+    match writing {
+        Writing::Commit => set_three(alloc, store, 7, 8, 9),
+        Writing::Checkpoint => store.checkpoint(alloc),
+        Writing::Sync => store.sync(),
     }
-    store.checkpoint(alloc)
 }
 
 #[test]
 fn stays_down_after_a_failure(rt: HostRuntime) -> Result<(), Fail> {
     let alloc = rt.alloc();
     let content = kept_content(alloc, 0)?;
-    // how many calls pass, the three of the opening among them, and whether a commit meets the failure
-    for (calls, commits) in [(3, true), (8, true), (3, false), (9, false)] {
-        let mut disk = disk_of(alloc, 0, &content)?;
-        disk.arm(calls);
-        let mut store = open(alloc, disk)?;
-        let answer = fails(alloc, &mut store, commits);
-        assert_eq!(rt; answer, Err(Refusal::DeviceFailed), "after {calls}");
+    // how many calls of the disk pass, and what meets the failure
+    for (calls, writing) in [
+        (0, Writing::Commit),
+        (5, Writing::Commit),
+        (0, Writing::Checkpoint),
+        (6, Writing::Checkpoint),
+        (0, Writing::Sync),
+    ] {
+        let mut store = open(alloc, disk_of(alloc, 0, &content)?)?;
+        store.arm(calls);
+        assert!(rt; !store.has_failed(), "{writing:?} after {calls}");
+        let answer = fails(alloc, &mut store, writing);
+        assert_eq!(rt;
+            answer,
+            Err(Refusal::DeviceFailed),
+            "{writing:?} after {calls}"
+        );
+        assert!(rt; store.has_failed(), "{writing:?} after {calls}");
         let before = store.region.disk.calls();
         assert_eq!(rt;
             set(alloc, &mut store, 10),
             Err(Refusal::StoreFailed),
-            "after {calls}"
+            "{writing:?} after {calls}"
         );
         assert_eq!(rt;
             store.checkpoint(alloc),
             Err(Refusal::StoreFailed),
-            "after {calls}"
+            "{writing:?} after {calls}"
         );
-        assert_eq!(rt; *store.state(), 6, "after {calls}");
-        assert_eq!(rt; store.region.disk.calls(), before, "after {calls}");
+        assert_eq!(rt;
+            store.sync(),
+            Err(Refusal::StoreFailed),
+            "{writing:?} after {calls}"
+        );
+        assert_eq!(rt; *store.state(), 6, "{writing:?} after {calls}");
+        assert_eq!(rt;
+            store.region.disk.calls(),
+            before,
+            "{writing:?} after {calls}"
+        );
+        // The crash leaves what was durable.
+        let store = open(alloc, store.into_disk().crash())?;
+        assert_eq!(rt; *store.state(), 6, "{writing:?} after {calls}");
     }
     Ok(())
 }
