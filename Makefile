@@ -4,9 +4,10 @@ PREFIX ?= $(HOME)/.local
 STATE ?= watchmand.state
 PROGRAM := crates/watchmand/out/watchmand
 JOURNAL_BENCH := crates/journal_bench/out/journal_bench
+STORE_BENCH := crates/store_bench/out/store_bench
 SOURCES := crates.txt $(shell find crates -name out -prune -o -type f \( -name '*.rt' -o -name '*.antt' \) -print)
 
-.PHONY: test build run install bench bench-journal session
+.PHONY: test build run install bench bench-journal bench-store session kill
 
 test:
 	rt ci
@@ -30,6 +31,10 @@ install: $(PROGRAM)
 session: $(PROGRAM)
 	bench/first_session.sh $(PROGRAM)
 
+# Kills the built program in the midst of commands, again and again, and looks for what it answered.
+kill: $(PROGRAM)
+	tools/kill_loop.py $(PROGRAM)
+
 bench: $(PROGRAM)
 	bench/watch_list.sh $(PROGRAM)
 
@@ -41,3 +46,12 @@ $(JOURNAL_BENCH): $(SOURCES)
 
 bench-journal: $(JOURNAL_BENCH)
 	bench/journal.sh $(JOURNAL_BENCH)
+
+$(STORE_BENCH): $(SOURCES)
+	@rm -f crates/store_bench/out/store.bench crates/store_bench/out/store.bench.by_hand
+	cd crates/store_bench && rt run -- out/store.bench 3 </dev/null >&2
+	@rm -f crates/store_bench/out/store.bench crates/store_bench/out/store.bench.by_hand
+	@touch $@
+
+bench-store: $(STORE_BENCH)
+	bench/store.sh $(STORE_BENCH)

@@ -2,7 +2,7 @@
 ghost use Rattle.std.specs.Prelude.{◌+◌, ◌<◌, ◌≤◌, ◌^◌, length};
 ghost use Rattle.wm_journal.specs.Records.{taken};
 ghost use Rattle.wm_journal.specs.Regions.{IsAt, LiesOn, InSamePlace, room_of};
-ghost use Rattle.wm_registry.specs.Spelling.{command_spelling};
+ghost use Rattle.wm_registry.specs.Commands.{command_spelling};
 
 use crate::by_hand::put_by_hand;
 use crate::group::{Group, PATH};
@@ -136,8 +136,8 @@ impl<D: Disk + Drop> Areas<D> {
 /// Whether it is the command of which all groups are made.
 fn is_watch(command: &Command) -> bool {
     match command {
-        Command::Begin => false,
         Command::Watch(path) => path.as_str() == PATH,
+        _ => false,
     }
 }
 

@@ -1,5 +1,5 @@
 //! A machine's state on a disk.
-ghost use Rattle.std.specs.Prelude.{true, false, ◌≡◌, ◌≤◌, ◌<◌, ◌+◌, ◌⊎◌, [], List, ℕ, length, IfOk, IfErr, OnOk, OnErr, IsErrOf};
+ghost use Rattle.std.specs.Prelude.{true, false, ◌≡◌, ◌≢◌, ◌≤◌, ◌<◌, ◌+◌, ◌⊎◌, [], List, ℕ, length, IfOk, IfErr, OnOk, OnErr, IsErrOf};
 ghost use Rattle.wm_disk.specs.Contents.{NoMore, Only, Rose};
 ghost use Rattle.wm_disk.specs.Moments.{Elapses, LeavesOnly};
 ghost use Rattle.wm_journal.specs.Records.{taken};
@@ -77,6 +77,7 @@ impl<D: Disk + Drop, M: Machine> Keeper<D, M> {
         ensures later { IfOk result (λ k. D.failures disk ≤ D.failures (disk_of k)) × IfErr result (λ e. D.failures disk ≤ D.failures e.1) }
         ensures whole { IfOk result (λ k. D.failures (disk_of k) ≡ D.failures disk) }
         ensures failed { IfErr result (λ e. e.0 ≡ device_failed → Rose (D.failures disk) (D.failures e.1)) }
+        ensures stood { IfErr result (λ e. e.0 ≢ device_failed → D.failures e.1 ≡ D.failures disk) }
         ensures kinds { IfErr result (λ e. (e.0 ≡ device_failed) ⊎ (e.0 ≡ no_memory) ⊎ (e.0 ≡ damaged) ⊎ (e.0 ≡ retired)) }
     {
         let mut disk = disk;

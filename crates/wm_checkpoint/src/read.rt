@@ -217,6 +217,7 @@ fn read_whole<D: Disk>(alloc: Global, disk: &mut D) -> Result<Vec<u8>, Refusal>
     ensures later { D.failures disk.old ≤ D.failures disk.new }
     ensures whole { OnOk result (D.failures disk.new ≡ D.failures disk.old) }
     ensures failed { IsErrOf result device_failed → Rose (D.failures disk.old) (D.failures disk.new) }
+    ensures stood { IfErr result (λ e. e ≢ device_failed → D.failures disk.new ≡ D.failures disk.old) }
     ensures kinds { IfErr result (λ e. (e ≡ device_failed) ⊎ (e ≡ no_memory) ⊎ (e ≡ damaged)) }
 {
     let mut bytes = Vec::new(alloc);
@@ -246,6 +247,7 @@ pub(crate) fn find<D: Disk, M: Machine>(
     ensures later { D.failures disk.old ≤ D.failures disk.new }
     ensures whole { OnOk result (D.failures disk.new ≡ D.failures disk.old) }
     ensures failed { IsErrOf result device_failed → Rose (D.failures disk.old) (D.failures disk.new) }
+    ensures stood { IfErr result (λ e. e ≢ device_failed → D.failures disk.new ≡ D.failures disk.old) }
     ensures kinds { IfErr result (λ e. (e ≡ device_failed) ⊎ (e ≡ no_memory) ⊎ (e ≡ damaged) ⊎ (e ≡ retired)) }
 {
     match read_whole(alloc, disk) {

@@ -23,8 +23,9 @@ pub(crate) fn laid_out<W: Wire>(alloc: Global, place: u64, records: &[W]) -> Res
     ensures bytes { IfOk result (λ g. g.bytes.items ≡ group_lem W.spelling records.now) }
     ensures fit { IfOk result (λ g. AllByRecursion W.fits records.now) }
 {
-    let mut bytes = Vec::new(alloc);
-    let mut gates = Vec::new(alloc);
+    // a record of a usual length takes less
+    let mut bytes = Vec::with_capacity(alloc, records.len().saturating_mul(40))?;
+    let mut gates = Vec::with_capacity(alloc, records.len())?;
     for record in records {
         gates.push(place + bytes.len() as u64)?;
         bytes.reserve(record.size() as usize + 1)?;

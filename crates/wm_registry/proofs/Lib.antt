@@ -1,1 +1,12 @@
-pub mod Replays
+pub mod Branches
+pub mod Changing
+pub mod Entries
+pub mod Keys
+pub mod Lengths
+pub mod Named
+pub mod Names
+pub mod Parts
+pub mod Sizes
+pub mod States
+pub mod TriggerParts
+pub mod Words

@@ -1,5 +1,10 @@
-pub mod Meaning
+pub mod CommandLaws
+pub mod Commands
+pub mod MachineLaws
 pub mod PathSpelling
 pub mod Registry
 pub mod Roots
 pub mod Spelling
+pub mod StateLaws
+pub mod TriggerLaws
+pub mod Triggers

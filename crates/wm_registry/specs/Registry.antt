@@ -1,18 +1,16 @@
--- The registry: a state, what a command does to it, and the replay of commands.
-use Rattle.std.specs.Prelude.{ℕ, ◌+◌, ◌-◌, ◌^◌, List, [], ◌∷◌, ◌++◌, length, nat_lt, if◌then◌else◌, Option, Some, None}
-use Rattle.wm_disk.specs.declared.refusal.Refusal.TheVariants.{Exhausted, TooMany}
+-- The registry: a state, what a command does to it, and how it is answered.
+use Rattle.std.specs.Prelude.{ℕ, ◌+◌, ◌-◌, ◌^◌, Bool, true, false, List, [], ◌∷◌, ◌++◌, length, nat_lt, if◌then◌else◌}
+use Rattle.std.specs.List.{list_any}
+use Rattle.std.specs.Option.{option_map_or}
+use Rattle.wm_disk.specs.declared.refusal.Refusal.TheVariants.{NotWatched, Full, Exhausted, TooMany}
 use Rattle.wm_registry.specs.declared.command.Command.{Command}
-use Rattle.wm_registry.specs.declared.command.Command.TheVariants.{Begin, Watch}
-use Rattle.wm_registry.specs.declared.command.Reply.{Reply}
-use Rattle.wm_registry.specs.declared.command.Reply.TheVariants.{Changed, Unchanged, Refused}
-use Rattle.wm_registry.specs.declared.registry.Root.{Root}
-use Rattle.wm_registry.specs.Roots.{is_watched}
-
--- the incarnation, the next root number, and the roots in order of watching
-pub record State : Type 0 where
-  pub incarnation : ℕ
-  pub next : ℕ
-  pub roots : List Root
+use Rattle.wm_registry.specs.declared.command.Command.TheVariants.{Begin, Watch, WatchDel, Trigger, TriggerDel}
+use Rattle.wm_registry.specs.declared.reply.Reply.{Reply}
+use Rattle.wm_registry.specs.declared.reply.Reply.TheVariants.{Changed, Replaced, Unchanged, Refused}
+use Rattle.wm_registry.specs.declared.root.Root.{Root}
+use Rattle.wm_registry.specs.Roots.{State, root_at, is_watched, with_triggers, without_root}
+use Rattle.wm_registry.specs.Spelling.{state_spelling}
+use Rattle.wm_registry.specs.Triggers.{Definition, same_definition, has_trigger, defined, without}
 
 -- that of a new file
 abbrev pub fresh : State
@@ -22,33 +20,52 @@ fresh = record { incarnation = 0; next = 1; roots = [] }
 abbrev pub last : ℕ
 last = 2 ^ 63 - 1
 
--- how a command is met: one that changes nothing is no fault, and of two refusals the first is given
+-- the reply, where the spelling of the new state has at most 1,048,563 bytes
+abbrev pub unless_full : State → Reply → Reply
+unless_full new reply = if nat_lt 1048563 (length (state_spelling new)) then Refused Full else reply
+
+-- the state with one root more
+abbrev pub watched : State → List ℕ → State
+watched s path = record s { next = s.next + 1; roots = s.roots ++ (path, record { number = s.next; triggers = [] }) ∷ [] }
+
+-- how a trigger for the root at the path is met
+abbrev pub reply_to_trigger : State → List ℕ → Definition → Root → Reply
+reply_to_trigger s path trigger root =
+    let new = with_triggers s path root (defined trigger root.triggers) in
+    if list_any (same_definition trigger) root.triggers then Unchanged
+    else (if has_trigger trigger.name root.triggers then unless_full new Replaced
+    else (if nat_lt (length root.triggers) 64 then unless_full new Changed else Refused TooMany))
+
+-- how a command is met: one that changes nothing is no fault, and of several refusals the first is given
 abbrev pub reply_to : State → Command → Reply
 reply_to s Begin = if nat_lt s.incarnation last then Changed else Refused Exhausted
 reply_to s (Watch path) =
-    if is_watched path s.roots then Unchanged
-    else (if nat_lt (length s.roots) 256 then (if nat_lt s.next last then Changed else Refused Exhausted) else Refused TooMany)
+    if is_watched path s then Unchanged
+    else (if nat_lt (length s.roots) 256 then (if nat_lt s.next last then unless_full (watched s path) Changed else Refused Exhausted) else Refused TooMany)
+reply_to s (WatchDel path) = if is_watched path s then Changed else Refused NotWatched
+reply_to s (Trigger path trigger) = option_map_or (reply_to_trigger s path trigger) (root_at path s) (Refused NotWatched)
+reply_to s (TriggerDel path name) =
+    option_map_or (λ root. if has_trigger name root.triggers then Changed else Unchanged) (root_at path s) (Refused NotWatched)
+
+-- the command is accepted
+abbrev pub is_change : Reply → Bool
+is_change Changed = true
+is_change Replaced = true
+is_change Unchanged = false
+is_change (Refused r) = false
 
 -- what a command that is accepted makes of the state
 abbrev pub changed : State → Command → State
 changed s Begin = record s { incarnation = s.incarnation + 1 }
-changed s (Watch path) = record s { next = s.next + 1; roots = s.roots ++ record { path = path; number = s.next } ∷ [] }
-
-abbrev pub if_changed : Reply → State → State → State
-if_changed Changed old new = new
-if_changed Unchanged old new = old
-if_changed (Refused r) old new = old
+changed s (Watch path) = watched s path
+changed s (WatchDel path) = without_root s path
+changed s (Trigger path trigger) = option_map_or (λ root. with_triggers s path root (defined trigger root.triggers)) (root_at path s) s
+changed s (TriggerDel path name) = option_map_or (λ root. with_triggers s path root (without name root.triggers)) (root_at path s) s
 
 -- the state after a command
 abbrev pub after : State → Command → State
-after s command = if_changed (reply_to s command) s (changed s command)
+after s command = if is_change (reply_to s command) then changed s command else s
 
-abbrev pub go_on : Reply → Option State → Option State
-go_on Changed rest = rest
-go_on Unchanged rest = None
-go_on (Refused r) rest = None
-
--- the state after commands, each of which has to be accepted
-abbrev pub replay : List Command → State → Option State
-replay [] s = Some s
-replay (command ∷ commands) s = go_on (reply_to s command) (replay commands (changed s command))
+-- whether the command changes the state
+abbrev pub changes : State → Command → Bool
+changes s command = is_change (reply_to s command)

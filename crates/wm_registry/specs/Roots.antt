@@ -1,9 +1,28 @@
--- The watched roots, in order of watching.
-use Rattle.std.specs.Prelude.{ℕ, List, Bool}
-use Rattle.std.specs.List.{list_any}
+-- A registry's state, and its roots by path.
+use Rattle.std.specs.Prelude.{ℕ, Bool, List, Option, is_some}
+use Rattle.std.specs.Map.{lookup, set_value, remove_entry}
 use Rattle.std.specs.Str.{bytes_eq}
-use Rattle.wm_registry.specs.declared.registry.Root.{Root}
+use Rattle.wm_registry.specs.declared.root.Root.{Root}
+use Rattle.wm_registry.specs.Triggers.{Definition}
+
+-- the incarnation, the next root number, and the roots by their paths, in order of watching
+pub record State : Type 0 where
+  pub incarnation : ℕ
+  pub next : ℕ
+  pub roots : List (List ℕ × Root)
+
+-- the root at the path
+abbrev pub root_at : List ℕ → State → Option Root
+root_at path s = lookup (bytes_eq path) s.roots
 
 -- the path is that of a root
-abbrev pub is_watched : List ℕ → List Root → Bool
-is_watched path roots = list_any (λ root. bytes_eq root.path path) roots
+abbrev pub is_watched : List ℕ → State → Bool
+is_watched path s = is_some (root_at path s)
+
+-- the state with other triggers for the root at the path
+abbrev pub with_triggers : State → List ℕ → Root → List Definition → State
+with_triggers s path root triggers = record s { roots = set_value (bytes_eq path) s.roots (record root { triggers = triggers }) }
+
+-- the state without the root at the path
+abbrev pub without_root : State → List ℕ → State
+without_root s path = record s { roots = remove_entry (bytes_eq path) s.roots }

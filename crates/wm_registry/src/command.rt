@@ -1,12 +1,15 @@
-ghost use Rattle.std.specs.Prelude.{◌≡◌, ◌++◌, ◌∷◌, OnOk, OnErr};
+ghost use Rattle.std.specs.Prelude.{◌≡◌, ◌++◌, ◌∷◌, take, length, OnOk, OnErr};
 ghost use Rattle.wm_wire.specs.Spelling.{text};
-ghost use Rattle.wm_registry.specs.Spelling.{IsCommand, alone_command, command_spelling, short_command};
+ghost use Rattle.wm_registry.specs.Commands.{IsCommand, command_spelling};
+ghost use Rattle.wm_registry.specs.CommandLaws.{alone_command, short_command};
 
-use crate::path_spelling::{path_size, put_path, take_path};
+use crate::path_spelling::{SpelledPath, path_size, put_path, take_path};
+use crate::trigger::Trigger;
+use crate::trigger_name::TriggerName;
 use std::alloc::Global;
-use wm_disk::{NoMemory, Refusal};
+use wm_disk::NoMemory;
 use wm_names::RootPath;
-use wm_wire::Wire;
+use wm_wire::{Pair, Wire};
 
 /// What changes a registry.
 #[derive(Drop)]
@@ -15,31 +18,44 @@ pub enum Command {
     Begin,
     /// The path is to be watched.
     Watch(RootPath),
+    /// The root isn't to be watched any longer, and its triggers go.
+    WatchDel(RootPath),
+    /// The root is to have the trigger, in the place of one of its name.
+    Trigger(RootPath, Trigger),
+    /// The root's trigger of that name goes.
+    TriggerDel(RootPath, TriggerName),
 }
 
-/// How a command was met.
-#[derive(Clone, Copy, Debug, PartialEq, Eq)]
-pub enum Reply {
-    /// It changed the registry: it is accepted.
-    Changed,
-    /// It changes nothing.
-    Unchanged,
-    /// It was refused, and changed nothing.
-    Refused(Refusal),
+/// Appends the parts of a command one after another, and may stop between two.
+fn put_parts(command: &Command, out: &mut Vec<u8>) -> Result<(), NoMemory>
+    ensures ok { OnOk result (out.new.items ≡ out.old.items ++ command_spelling command.now) }
+    ensures err { OnErr result (take (length out.old.items) out.new.items ≡ out.old.items) }
+{
+    match command {
+        Command::Begin => {
+            out.push(0)?;
+            Ok(())
+        }
+        Command::Watch(path) => put_tagged(1, path, out),
+        Command::WatchDel(path) => put_tagged(2, path, out),
+        Command::Trigger(path, trigger) => {
+            put_tagged(3, path, out)?;
+            trigger.put(out)
+        }
+        Command::TriggerDel(path, name) => {
+            put_tagged(4, path, out)?;
+            name.put(out)
+        }
+    }
 }
 
-/// Appends the tag of a command and its path.
+/// Appends the tag of a command and its path, and may stop between the two.
 fn put_tagged(tag: u8, path: &RootPath, out: &mut Vec<u8>) -> Result<(), NoMemory>
     ensures ok { OnOk result (out.new.items ≡ out.old.items ++ (tag ∷ text path.now)) }
-    ensures err { OnErr result (out.new.items ≡ out.old.items) }
+    ensures err { OnErr result (take (length out.old.items) out.new.items ≡ out.old.items) }
 {
-    let start = out.len();
     out.push(tag)?;
-    if put_path(path, out).is_err() {
-        out.truncate(start);
-        return Err(NoMemory);
-    }
-    Ok(())
+    put_path(path, out)
 }
 
 impl Wire for Command {
@@ -48,19 +64,20 @@ impl Wire for Command {
     ghost spelling = { command_spelling };
 
     fn put(&self, out: &mut Vec<u8>) -> Result<(), NoMemory> {
-        match self {
-            Command::Begin => {
-                out.push(0)?;
-                Ok(())
-            }
-            Command::Watch(path) => put_tagged(1, path, out),
+        let start = out.len();
+        if put_parts(self, out).is_err() {
+            out.truncate(start);
+            return Err(NoMemory);
         }
+        Ok(())
     }
 
     fn size(&self) -> u64 {
         match self {
             Command::Begin => 1,
-            Command::Watch(path) => path_size(path) + 1,
+            Command::Watch(path) | Command::WatchDel(path) => path_size(path) + 1,
+            Command::Trigger(path, trigger) => path_size(path) + trigger.size() + 1,
+            Command::TriggerDel(path, name) => path_size(path) + name.size() + 1,
         }
     }
 
@@ -69,6 +86,24 @@ impl Wire for Command {
             [0, ..] => Ok(Some((Command::Begin, 1))),
             [1, rest @ ..] => match take_path(alloc, rest)? {
                 Some((path, size)) => Ok(Some((Command::Watch(path), size + 1))),
+                None => Ok(None),
+            },
+            [2, rest @ ..] => match take_path(alloc, rest)? {
+                Some((path, size)) => Ok(Some((Command::WatchDel(path), size + 1))),
+                None => Ok(None),
+            },
+            [3, rest @ ..] => match Pair::<SpelledPath, Trigger>::take(alloc, rest)? {
+                Some((pair, size)) => {
+                    let (path, trigger) = pair.into_parts();
+                    Ok(Some((Command::Trigger(path.path, trigger), size + 1)))
+                }
+                None => Ok(None),
+            },
+            [4, rest @ ..] => match Pair::<SpelledPath, TriggerName>::take(alloc, rest)? {
+                Some((pair, size)) => {
+                    let (path, name) = pair.into_parts();
+                    Ok(Some((Command::TriggerDel(path.path, name), size + 1)))
+                }
                 None => Ok(None),
             },
             _ => Ok(None),
@@ -83,48 +118,81 @@ impl Wire for Command {
 #[cfg(test)]
 mod tests {
     use super::*;
+    use crate::stdin::Stdin;
+    use crate::trigger::tests::{again, has_no_cut};
     use std::test::Fail;
 
-    #[test]
-    fn spells_commands(rt: HostRuntime) -> Result<(), Fail> {
-        let path = RootPath::read(rt.alloc(), "/r")?;
-        for (command, want) in [
-            (Command::Begin, b"\0".as_slice()),
-            (Command::Watch(path), b"\x01\0\0\0\x02\x2f\x72".as_slice()),
-        ] {
-            let mut out = vec![in rt.alloc(); 7u8]?;
-            command.put(&mut out)?;
-            assert_eq!(rt; out.first(), Some(&7));
-            assert_eq!(rt; &out[1..], want);
-            assert_eq!(rt; command.size(), want.len() as u64);
-            out.push(5)?;
-            let (back, size) = Command::take(rt.alloc(), &out[1..])?.ok_or("no command")?;
-            assert_eq!(rt; size, want.len());
-            match (command, back) {
-                (Command::Begin, Command::Begin) => {}
-                (Command::Watch(a), Command::Watch(b)) => {
-                    assert_eq!(rt; a.as_str(), b.as_str());
-                }
-                _ => assert!(rt; false, "another command"),
+    // Whether the two are one command.
+    fn is_same(first: &Command, second: &Command) -> bool {
+        match (first, second) {
+            (Command::Begin, Command::Begin) => true,
+            (Command::Watch(a), Command::Watch(b)) => a == b,
+            (Command::WatchDel(a), Command::WatchDel(b)) => a == b,
+            (Command::Trigger(a, t), Command::Trigger(b, u)) => a == b && t.is_same(u),
+            (Command::TriggerDel(a, n), Command::TriggerDel(b, m)) => {
+                a == b && n.as_str() == m.as_str()
             }
+            _ => false,
         }
+    }
+
+    // Whether the command is spelled so, and taken back so, and no cut of its spelling is one.
+    fn is_kept(alloc: Global, command: &Command, want: &[u8]) -> Result<bool, NoMemory> {
+        match again(alloc, command, want)? {
+            Some(back) => Ok(is_same(command, &back) && has_no_cut::<Command>(alloc, want)?),
+            None => Ok(false),
+        }
+    }
+
+    #[test]
+    fn spells_commands_of_roots(rt: HostRuntime) -> Result<(), Fail> {
+        assert!(rt; is_kept(rt.alloc(), &Command::Begin, b"\0")?);
+        let watch = Command::Watch(RootPath::read(rt.alloc(), "/r")?);
+        assert!(rt; is_kept(rt.alloc(), &watch, b"\x01\0\0\0\x02/r")?);
+        let watch_del = Command::WatchDel(RootPath::read(rt.alloc(), "/a b")?);
+        assert!(rt; is_kept(rt.alloc(), &watch_del, b"\x02\0\0\0\x04/a b")?);
+        Ok(())
+    }
+
+    #[test]
+    fn spells_commands_of_triggers(rt: HostRuntime) -> Result<(), Fail> {
+        let path = RootPath::read(rt.alloc(), "/r")?;
+        let trigger = Trigger::new(rt.alloc(), "t", &["true"], None, false, Stdin::DevNull)?;
+        let command = Command::Trigger(path, trigger);
+        let want = b"\x03\0\0\0\x02/r\0\0\0\x01t\0\0\0\x01\0\0\0\x04true\0\0\0";
+        assert!(rt; is_kept(rt.alloc(), &command, want)?);
+        Ok(())
+    }
+
+    #[test]
+    fn spells_commands_of_names(rt: HostRuntime) -> Result<(), Fail> {
+        let path = RootPath::read(rt.alloc(), "/r")?;
+        let name = TriggerName::read(rt.alloc(), "t")?;
+        let command = Command::TriggerDel(path, name);
+        let want = b"\x04\0\0\0\x02/r\0\0\0\x01t";
+        assert!(rt; is_kept(rt.alloc(), &command, want)?);
         Ok(())
     }
 
     #[test]
     fn takes_no_other_bytes(rt: HostRuntime) -> Result<(), Fail> {
         for bytes in [
-            b"".as_slice(),
-            b"\x02".as_slice(),
+            // tags that no command has
             b"\x05".as_slice(),
-            b"\x01".as_slice(),
-            b"\x01\0\0\0\x02\x2f".as_slice(),
+            b"\x05\0\0\0\x02/r".as_slice(),
+            b"\xff\0\0\0\x02/r".as_slice(),
             // paths against the rules
             b"\x01\0\0\0\0".as_slice(),
-            b"\x01\0\0\0\x01\x2f".as_slice(),
-            b"\x01\0\0\0\x02\x2f\0".as_slice(),
-            b"\x01\0\0\0\x02\x2f\xff".as_slice(),
-            b"\x01\0\0\x04\x01\x2f".as_slice(),
+            b"\x01\0\0\0\x01/".as_slice(),
+            b"\x01\0\0\0\x02/\0".as_slice(),
+            b"\x01\0\0\0\x02/\xff".as_slice(),
+            b"\x01\0\0\x04\x01/".as_slice(),
+            b"\x02\0\0\0\x01r".as_slice(),
+            b"\x03\0\0\0\x01r\0\0\0\x01t\0\0\0\x01\0\0\0\x04true\0\0\0".as_slice(),
+            b"\x04\0\0\0\x01r\0\0\0\x01t".as_slice(),
+            // a trigger with no program, and a name with no bytes
+            b"\x03\0\0\0\x02/r\0\0\0\x01t\0\0\0\x01\0\0\0\0\0\0\0".as_slice(),
+            b"\x04\0\0\0\x02/r\0\0\0\0".as_slice(),
         ] {
             assert!(rt; Command::take(rt.alloc(), bytes)?.is_none(), "{bytes:?}");
         }

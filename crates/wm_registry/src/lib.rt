@@ -1,13 +1,28 @@
-//! The watched roots, the commands that change them, and what a file of commands means.
+//! The watched roots with their triggers, and the commands that change them.
 //!
 //! A [`Registry`] changes by [`Registry::apply`] alone. A command that changes it is *accepted*: the
-//! spellings of the accepted commands are what a state file keeps, and [`Registry::replay`] takes them
-//! up again.
+//! spellings of the accepted commands are what a state file keeps, and their replay is the registry
+//! again.
 #![tactic(auto)]
 
+mod changes;
 mod command;
+mod entry;
+mod machine;
 mod path_spelling;
 mod registry;
+mod replies;
+mod reply;
+mod root;
+mod stdin;
+mod trigger;
+mod trigger_name;
+mod wire;
 
-pub use command::{Command, Reply};
-pub use registry::{Registry, Root};
+pub use command::Command;
+pub use registry::Registry;
+pub use reply::Reply;
+pub use root::Root;
+pub use stdin::Stdin;
+pub use trigger::{Trigger, Word};
+pub use trigger_name::TriggerName;

@@ -1,11 +1,12 @@
 ghost use Rattle.std.specs.Prelude.{◌≡◌, ◌++◌, length, IfOk, OnOk, OnErr};
 ghost use Rattle.wm_wire.specs.Spelling.{text, Takes};
-ghost use Rattle.wm_registry.specs.PathSpelling.{IsPath};
+ghost use Rattle.wm_registry.specs.PathSpelling.{IsPath, alone_path, short_path};
 
 use std::alloc::Global;
+use std::marker::Model;
 use wm_disk::{NoMemory, Refusal};
 use wm_names::RootPath;
-use wm_wire::{put_text, take_text};
+use wm_wire::{Wire, put_text, take_text};
 
 /// Appends the spelling of a path: that of its text.
 pub(crate) fn put_path(path: &RootPath, out: &mut Vec<u8>) -> Result<(), NoMemory>
@@ -36,4 +37,43 @@ pub(crate) fn take_path(alloc: Global, bytes: &[u8]) -> Result<Option<(RootPath,
         Err(Refusal::BadPath) => Ok(None),
         Err(_) => Err(NoMemory),
     }
+}
+
+/// A root path, as it is spelled. Contracts see its bytes.
+#[derive(Drop)]
+pub(crate) struct SpelledPath {
+    pub(crate) path: RootPath,
+}
+
+impl Model for SpelledPath {
+    ghost use Rattle.std.specs.Prelude.{List, ℕ};
+
+    ghost Value = { List ℕ };
+
+    ghost view = { λ p. p.path };
+}
+
+impl Wire for SpelledPath {
+    ghost fits = { IsPath };
+
+    ghost spelling = { text };
+
+    fn put(&self, out: &mut Vec<u8>) -> Result<(), NoMemory> {
+        put_path(&self.path, out)
+    }
+
+    fn size(&self) -> u64 {
+        path_size(&self.path)
+    }
+
+    fn take(alloc: Global, bytes: &[u8]) -> Result<Option<(Self, usize)>, NoMemory> {
+        match take_path(alloc, bytes)? {
+            Some((path, size)) => Ok(Some((SpelledPath { path }, size))),
+            None => Ok(None),
+        }
+    }
+
+    ghost alone = { alone_path };
+
+    ghost short = { short_path };
 }

@@ -1,84 +1,62 @@
-ghost use Rattle.std.specs.Prelude.{◌≡◌, ◌≢◌, OnOk, IfOk, IfErr};
-ghost use Rattle.wm_registry.specs.Roots.{is_watched as is_watched_lem};
+ghost use Rattle.std.specs.Prelude.{◌≡◌, ◌≢◌, IfOk};
 
-use crate::command::{Command, Reply};
+use crate::command::Command;
+use crate::reply::Reply;
+use crate::root::Root;
+use indexmap::IndexMap;
 use std::alloc::Global;
 use std::marker::Model;
 use wm_disk::{NoMemory, Refusal};
 use wm_names::RootPath;
-use wm_wire::Wire;
-
-/// The most roots that may be watched at once.
-const MAX_ROOTS: usize = 256;
 
 /// The last value of a counter.
-const LAST: u64 = 0x7fff_ffff_ffff_ffff;
+pub(crate) const LAST: u64 = 0x7fff_ffff_ffff_ffff;
 
-/// A watched root. No other root of the state file has had or will have its number.
-#[derive(Drop)]
-pub struct Root {
-    pub path: RootPath,
-    pub number: u64,
-}
+/// The most bytes of a registry's spelling.
+pub(crate) const MAX_SIZE: u64 = 1_048_563;
 
-/// The watched roots in order of watching, the next root number, and the incarnation: how often the
-/// server has begun. Contracts see these three as a `State`.
+/// The watched roots in order of watching, each with its triggers, the next root number, and the
+/// incarnation: how often the server has begun. Contracts see it as a `State`.
 #[derive(Drop)]
 pub struct Registry {
-    incarnation: u64,
-    next: u64,
-    roots: Vec<Root>,
+    pub(crate) incarnation: u64,
+    pub(crate) next: u64,
+    pub(crate) roots: IndexMap<RootPath, Root>,
+    // how many bytes the spelling has
+    pub(crate) size: u64,
 }
 
 impl Model for Registry {
-    ghost use Rattle.std.specs.Prelude.{◌<◌, ◌^◌};
-    ghost use Rattle.wm_registry.specs.Registry.{State};
+    ghost use Rattle.std.specs.Prelude.{◌≡◌, length};
+    ghost use Rattle.wm_registry.specs.Roots.{State};
+    ghost use Rattle.wm_registry.specs.Spelling.{IsState, state_spelling};
 
     ghost Value = { State };
 
-    ghost view = { λ r. record { incarnation = r.incarnation; next = r.next; roots = r.roots.items } };
+    ghost view = { λ r. record { incarnation = r.incarnation; next = r.next; roots = r.roots.entries } };
 
-    ghost invariant = { λ r. (r.incarnation < 2 ^ 63) × (r.next < 2 ^ 63) };
+    ghost invariant = { λ r. IsState (record { incarnation = r.incarnation; next = r.next; roots = r.roots.entries }) × (r.size ≡ length (state_spelling (record { incarnation = r.incarnation; next = r.next; roots = r.roots.entries }))) };
 }
 
 /// The same roots again.
-fn copied(alloc: Global, roots: &[Root]) -> Result<Vec<Root>, NoMemory>
-    ensures { IfOk result (λ v. v.items ≡ roots.now) }
+fn copied(
+    alloc: Global,
+    roots: &IndexMap<RootPath, Root>,
+) -> Result<IndexMap<RootPath, Root>, NoMemory>
+    ensures { IfOk result (λ m. m.entries ≡ roots.now.entries) }
 {
-    let mut list = Vec::with_capacity(alloc, roots.len())?;
-    for root in roots {
-        let path = root.path.copy(alloc)?;
-        list.push(Root {
-            path,
-            number: root.number,
-        })?;
+    // a batch's new roots fit too
+    let mut copy = IndexMap::with_capacity(alloc, roots.len().saturating_add(64))?;
+    for (path, root) in roots.iter() {
+        let path = path.copy(alloc)?;
+        let root = root.copy(alloc)?;
+        copy.insert(path, root)?;
     }
-    Ok(list)
-}
-
-/// Whether the path is that of a root.
-fn is_watched(roots: &[Root], path: &str) -> bool
-    ensures { result ≡ is_watched_lem path.now roots.now }
-{
-    roots.iter().any(|root| root.path.as_str() == path)
-}
-
-/// Whether a command was accepted; a replayed one that wasn't is damage.
-fn accepted(reply: Reply) -> Result<(), Refusal>
-    ensures ok { OnOk result (reply ≡ Reply.Changed) }
-    ensures err { IfErr result (λ e. (reply ≢ Reply.Changed) × (e ≢ Refusal.NoMemory → (e ≡ Refusal.Damaged) × (reply ≢ Reply.Refused Refusal.NoMemory))) }
-{
-    match reply {
-        Reply::Changed => Ok(()),
-        Reply::Refused(Refusal::NoMemory) => Err(Refusal::NoMemory),
-        _ => Err(Refusal::Damaged),
-    }
+    Ok(copy)
 }
 
 impl Registry {
-    ghost use Rattle.std.specs.Prelude.{◌<◌, length, IfOk};
-    ghost use Rattle.wm_registry.specs.Registry.{State, after, fresh, reply_to};
-    ghost use Rattle.wm_registry.specs.Meaning.{GoesNowhere, Means, MeansNothing, Steps};
+    ghost use Rattle.wm_registry.specs.Registry.{after, fresh, reply_to};
 
     /// The registry of a new file: no roots, incarnation 0, and 1 as the next root number.
     pub fn new(alloc: Global) -> Registry
@@ -87,7 +65,8 @@ impl Registry {
         Registry {
             incarnation: 0,
             next: 1,
-            roots: Vec::new(alloc),
+            roots: IndexMap::new(alloc),
+            size: 20,
         }
     }
 
@@ -105,11 +84,11 @@ impl Registry {
         self.next
     }
 
-    /// The roots in order of watching.
-    pub fn roots(&self) -> &[Root]
-        ensures { result.now ≡ self.now.roots }
+    /// The roots by their paths, in order of watching.
+    pub fn roots(&self) -> &IndexMap<RootPath, Root>
+        ensures { result.now.entries ≡ self.now.roots }
     {
-        self.roots.as_slice()
+        &self.roots
     }
 
     /// The same registry again.
@@ -121,137 +100,148 @@ impl Registry {
             incarnation: self.incarnation,
             next: self.next,
             roots,
+            size: self.size,
         })
     }
 
-    /// The registry that a file of accepted commands makes of a new one. `Damaged` where the bytes
-    /// aren't spellings of commands that follow each other, or where one of these changes nothing.
-    pub fn replay(alloc: Global, bytes: &[u8]) -> Result<Registry, Refusal>
-        ensures ok { IfOk result (λ r. Means bytes.now r) }
-        ensures alone { IfOk result (λ r. (other : State) → Means bytes.now other → other ≡ r) }
-        ensures damaged { IfErr result (λ e. e ≢ Refusal.NoMemory → (e ≡ Refusal.Damaged) × MeansNothing bytes.now) }
-    {
-        let mut registry = Registry::new(alloc);
-        let mut at = 0usize;
-        while at < bytes.len() {
-            let (_, rest) = bytes.split_at(at);
-            match registry.take_up(alloc, rest) {
-                Ok(size) => at += size,
-                Err(e) => return Err(e),
-            }
-        }
-        Ok(registry)
-    }
-
-    /// Takes up the accepted command whose spelling begins the bytes, and tells its length.
-    fn take_up(&mut self, alloc: Global, bytes: &[u8]) -> Result<usize, Refusal>
-        requires { 0 < length bytes.now }
-        ensures ok { IfOk result (λ size. Steps bytes.now self.old size self.new) }
-        ensures damaged { IfErr result (λ e. e ≢ Refusal.NoMemory → (e ≡ Refusal.Damaged) × GoesNowhere bytes.now self.old) }
-    {
-        let Some((command, size)) = Command::take(alloc, bytes)? else {
-            return Err(Refusal::Damaged);
-        };
-        let reply = self.apply(alloc, &command);
-        match accepted(reply) {
-            Ok(()) => Ok(size),
-            Err(e) => Err(e),
-        }
-    }
-
-    /// Applies a command. A refusal changes nothing: `Exhausted` where the incarnation or the next
-    /// root number is spent, `TooMany` where 256 roots are watched, `NoMemory` for want of memory.
+    /// Applies a command, and tells how it was met: as [`Registry::reply_to`] tells before, or
+    /// `NoMemory` for want of memory. A refusal changes nothing.
     pub fn apply(&mut self, alloc: Global, command: &Command) -> Reply
         ensures reply { result ≢ Reply.Refused Refusal.NoMemory → result ≡ reply_to self.old command.now }
         ensures state { result ≢ Reply.Refused Refusal.NoMemory → self.new ≡ after self.old command.now }
         ensures memory { result ≡ Reply.Refused Refusal.NoMemory → self.new ≡ self.old }
     {
-        match command {
-            Command::Begin => self.begin(),
-            Command::Watch(path) => self.watch(alloc, path),
+        let reply = self.reply_to(command);
+        if !reply.is_change() {
+            return reply;
         }
-    }
-
-    fn begin(&mut self) -> Reply
-        ensures reply { result ≡ reply_to self.old Command.Begin }
-        ensures state { self.new ≡ after self.old Command.Begin }
-    {
-        if self.incarnation >= LAST {
-            return Reply::Refused(Refusal::Exhausted);
+        match self.change(alloc, command) {
+            Ok(()) => reply,
+            Err(NoMemory) => Reply::Refused(Refusal::NoMemory),
         }
-        self.incarnation += 1;
-        Reply::Changed
-    }
-
-    fn watch(&mut self, alloc: Global, path: &RootPath) -> Reply
-        ensures reply { result ≢ Reply.Refused Refusal.NoMemory → result ≡ reply_to self.old (Command.Watch path.now) }
-        ensures state { result ≢ Reply.Refused Refusal.NoMemory → self.new ≡ after self.old (Command.Watch path.now) }
-        ensures memory { result ≡ Reply.Refused Refusal.NoMemory → self.new ≡ self.old }
-    {
-        if is_watched(&self.roots, path.as_str()) {
-            return Reply::Unchanged;
-        }
-        if self.roots.len() >= MAX_ROOTS {
-            return Reply::Refused(Refusal::TooMany);
-        }
-        if self.next >= LAST {
-            return Reply::Refused(Refusal::Exhausted);
-        }
-        let Ok(path) = path.copy(alloc) else {
-            return Reply::Refused(Refusal::NoMemory);
-        };
-        let number = self.next;
-        if self.roots.push(Root { path, number }).is_err() {
-            return Reply::Refused(Refusal::NoMemory);
-        }
-        self.next += 1;
-        Reply::Changed
     }
 }
 
 #[cfg(test)]
-mod tests {
+pub(crate) mod tests {
     use super::*;
+    use crate::stdin::Stdin;
+    use crate::trigger::Trigger;
+    use crate::trigger_name::TriggerName;
+    use std::alloc::AllocError;
     use std::test::Fail;
+    use wm_wire::Wire;
 
-    // Whether these are the paths of the roots, with the numbers from 1 on.
-    fn are_roots(registry: &Registry, paths: &[&str]) -> bool {
-        let roots = registry.roots();
-        roots.len() == paths.len()
-            && roots.iter().zip(paths).zip(1u64..).all(|((root, path), number)| root.path.as_str()
-                == *path
-                && root.number == number)
+    // The command that a line names: a verb, the path, the trigger's name and its program.
+    pub(crate) fn command(alloc: Global, line: &str) -> Result<Command, Refusal> {
+        let mut words = line.split(' ');
+        let verb = words.next().unwrap_or("");
+        if verb == "begin" {
+            return Ok(Command::Begin);
+        }
+        let path = RootPath::read(alloc, words.next().unwrap_or(""))?;
+        let name = words.next().unwrap_or("");
+        let program = words.next().unwrap_or("");
+        match verb {
+            "watch" => Ok(Command::Watch(path)),
+            "watch-del" => Ok(Command::WatchDel(path)),
+            "trigger" => {
+                let trigger = Trigger::new(alloc, name, &[program], None, false, Stdin::DevNull)?;
+                Ok(Command::Trigger(path, trigger))
+            }
+            _ => Ok(Command::TriggerDel(path, TriggerName::read(alloc, name)?)),
+        }
     }
 
-    fn watch(registry: &mut Registry, alloc: Global, path: &str) -> Result<Reply, Refusal> {
-        let path = RootPath::read(alloc, path)?;
-        Ok(registry.apply(alloc, &Command::Watch(path)))
+    // The incarnation and the next root number, and each root's path, number and triggers.
+    fn shown(alloc: Global, registry: &Registry) -> Result<String, AllocError> {
+        let mut text = format!(in alloc; "{} {}", registry.incarnation(), registry.next_root())?;
+        for (path, root) in registry.roots().iter() {
+            let part = format!(in alloc; "; {} {}", path.as_str(), root.number)?;
+            text.push_str(part.as_str())?;
+            for trigger in root.triggers.as_slice() {
+                let part = format!(in alloc; " {}", trigger.name().as_str())?;
+                text.push_str(part.as_str())?;
+                for word in trigger.command() {
+                    let part = format!(in alloc; "={}", word.as_str())?;
+                    text.push_str(part.as_str())?;
+                }
+            }
+        }
+        Ok(text)
+    }
+
+    // Whether the registry's size is that of what it is spelled as.
+    fn knows_its_size(alloc: Global, registry: &Registry) -> Result<bool, Refusal> {
+        let mut out = Vec::new(alloc);
+        registry.put(&mut out)?;
+        Ok(registry.size() == out.len() as u64)
     }
 
     #[test]
     fn applies_commands(rt: HostRuntime) -> Result<(), Fail> {
+        let (changed, replaced, unchanged) = (Reply::Changed, Reply::Replaced, Reply::Unchanged);
+        let unknown = Reply::Refused(Refusal::NotWatched);
         let mut registry = Registry::new(rt.alloc());
-        assert_eq!(rt; registry.incarnation(), 0);
-        assert!(rt; are_roots(&registry, &[]));
-        assert_eq!(rt; registry.apply(rt.alloc(), &Command::Begin), Reply::Changed);
-        for (path, reply) in [
-            ("/r", Reply::Changed),
-            ("/r", Reply::Unchanged),
-            ("/a/b", Reply::Changed),
-            ("/r", Reply::Unchanged),
-            ("/R", Reply::Changed),
+        for (line, reply, state) in [
+            ("watch /r", changed, "0 2; /r 1"),
+            ("watch /r", unchanged, "0 2; /r 1"),
+            ("begin", changed, "1 2; /r 1"),
+            ("watch /a", changed, "1 3; /r 1; /a 2"),
+            ("trigger /r js x", changed, "1 3; /r 1 js=x; /a 2"),
+            ("trigger /r c x", changed, "1 3; /r 1 js=x c=x; /a 2"),
+            ("trigger /r js x", unchanged, "1 3; /r 1 js=x c=x; /a 2"),
+            ("trigger /r js y", replaced, "1 3; /r 1 js=y c=x; /a 2"),
+            ("trigger /R js y", unknown, "1 3; /r 1 js=y c=x; /a 2"),
+            ("trigger-del /r d", unchanged, "1 3; /r 1 js=y c=x; /a 2"),
+            ("trigger-del /R js", unknown, "1 3; /r 1 js=y c=x; /a 2"),
+            ("trigger-del /r js", changed, "1 3; /r 1 c=x; /a 2"),
+            ("trigger /a js z", changed, "1 3; /r 1 c=x; /a 2 js=z"),
+            ("watch-del /b", unknown, "1 3; /r 1 c=x; /a 2 js=z"),
+            ("watch-del /r", changed, "1 3; /a 2 js=z"),
+            ("trigger /r c x", unknown, "1 3; /a 2 js=z"),
+            ("watch /r", changed, "1 4; /a 2 js=z; /r 3"),
+            ("begin", changed, "2 4; /a 2 js=z; /r 3"),
         ] {
-            assert_eq!(rt; watch(&mut registry, rt.alloc(), path)?, reply, "{path}");
+            let command = command(rt.alloc(), line)?;
+            assert_eq!(rt; registry.apply(rt.alloc(), &command), reply, "{line}");
+            assert_eq!(rt; shown(rt.alloc(), &registry)?.as_str(), state, "{line}");
+            assert!(rt; knows_its_size(rt.alloc(), &registry)?, "{line}");
         }
-        assert_eq!(rt; registry.incarnation(), 1);
-        assert_eq!(rt; registry.next_root(), 4);
-        assert!(rt; are_roots(&registry, &["/r", "/a/b", "/R"]));
+        Ok(())
+    }
+
+    #[test]
+    fn numbers_a_root_anew(rt: HostRuntime) -> Result<(), Fail> {
+        let mut registry = Registry::new(rt.alloc());
+        for (line, state) in [
+            ("watch /r", "0 2; /r 1"),
+            ("watch-del /r", "0 2"),
+            ("watch /r", "0 3; /r 2"),
+        ] {
+            let command = command(rt.alloc(), line)?;
+            assert_eq!(rt; registry.apply(rt.alloc(), &command), Reply::Changed);
+            assert_eq!(rt; shown(rt.alloc(), &registry)?.as_str(), state);
+        }
+        Ok(())
+    }
+
+    #[test]
+    fn copies_a_registry(rt: HostRuntime) -> Result<(), Fail> {
+        let mut registry = Registry::new(rt.alloc());
+        assert_eq!(rt; registry.size(), 20);
+        for line in ["begin", "watch /r", "watch /a/b", "trigger /r js x"] {
+            let command = command(rt.alloc(), line)?;
+            assert_eq!(rt; registry.apply(rt.alloc(), &command), Reply::Changed);
+        }
+        let state = "1 3; /r 1 js=x; /a/b 2";
         let mut copy = registry.copy(rt.alloc())?;
-        assert_eq!(rt; copy.apply(rt.alloc(), &Command::Begin), Reply::Changed);
-        assert_eq!(rt; watch(&mut copy, rt.alloc(), "/c")?, Reply::Changed);
-        assert_eq!(rt; copy.incarnation(), 2);
-        assert!(rt; are_roots(&copy, &["/r", "/a/b", "/R", "/c"]));
-        assert!(rt; are_roots(&registry, &["/r", "/a/b", "/R"]));
+        assert_eq!(rt; shown(rt.alloc(), &copy)?.as_str(), state);
+        assert_eq!(rt; copy.size(), registry.size());
+        let command = command(rt.alloc(), "watch-del /r")?;
+        assert_eq!(rt; copy.apply(rt.alloc(), &command), Reply::Changed);
+        assert_eq!(rt; shown(rt.alloc(), &copy)?.as_str(), "1 3; /a/b 2");
+        assert_eq!(rt; shown(rt.alloc(), &registry)?.as_str(), state);
         Ok(())
     }
 
@@ -259,58 +249,23 @@ mod tests {
     fn refuses_one_root_too_many(rt: HostRuntime) -> Result<(), Fail> {
         let mut registry = Registry::new(rt.alloc());
         for i in 0..256u32 {
-            let path = format!(in rt.alloc(); "/{i}")?;
-            let reply = watch(&mut registry, rt.alloc(), path.as_str())?;
-            assert_eq!(rt; reply, Reply::Changed, "at {i}");
+            let line = format!(in rt.alloc(); "watch /{i}")?;
+            let command = command(rt.alloc(), line.as_str())?;
+            let reply = registry.apply(rt.alloc(), &command);
+            assert_eq!(rt; reply, Reply::Changed, "{line}");
         }
-        let reply = watch(&mut registry, rt.alloc(), "/256")?;
-        assert_eq!(rt; reply, Reply::Refused(Refusal::TooMany));
-        assert_eq!(rt; watch(&mut registry, rt.alloc(), "/255")?, Reply::Unchanged);
-        assert_eq!(rt; registry.roots().len(), 256);
-        for (root, number) in registry.roots().iter().zip(1u64..) {
-            assert_eq!(rt; root.number, number);
-        }
-        Ok(())
-    }
-
-    #[test]
-    fn refuses_a_spent_counter(rt: HostRuntime) -> Result<(), Fail> {
-        let mut registry = Registry {
-            incarnation: LAST,
-            next: LAST,
-            roots: Vec::new(rt.alloc()),
-        };
-        let exhausted = Reply::Refused(Refusal::Exhausted);
-        assert_eq!(rt; registry.apply(rt.alloc(), &Command::Begin), exhausted);
-        assert_eq!(rt; watch(&mut registry, rt.alloc(), "/r")?, exhausted);
-        assert_eq!(rt; registry.incarnation(), 0x7fff_ffff_ffff_ffff);
-        Ok(())
-    }
-
-    #[test]
-    fn replays_files(rt: HostRuntime) -> Result<(), Fail> {
-        let empty = Registry::replay(rt.alloc(), b"")?;
-        assert_eq!(rt; empty.incarnation(), 0);
-        assert!(rt; are_roots(&empty, &[]));
-        let registry = Registry::replay(rt.alloc(), b"\0\x01\0\0\0\x02\x2f\x72")?;
-        assert_eq!(rt; registry.incarnation(), 1);
-        assert!(rt; are_roots(&registry, &["/r"]));
-        let registry = Registry::replay(rt.alloc(), b"\x01\0\0\0\x02/r\0\x01\0\0\0\x04/a/b\0")?;
-        assert_eq!(rt; registry.incarnation(), 2);
-        assert!(rt; are_roots(&registry, &["/r", "/a/b"]));
-        for bytes in [
-            b"\x07".as_slice(),
-            b"\0\x07".as_slice(),
-            b"\0\x01".as_slice(),
-            b"\0\x01\0\0\0\x02\x2f".as_slice(),
-            b"\0\x01\0\0\0\x02\x2f\x72\x72".as_slice(),
-            // a command that changes nothing
-            b"\0\x01\0\0\0\x02\x2f\x72\x01\0\0\0\x02\x2f\x72".as_slice(),
+        for (line, reply) in [
+            ("watch /256", Reply::Refused(Refusal::TooMany)),
+            ("watch /255", Reply::Unchanged),
+            ("watch-del /0", Reply::Changed),
+            ("watch /256", Reply::Changed),
         ] {
-            match Registry::replay(rt.alloc(), bytes) {
-                Ok(_) => assert!(rt; false, "replayed {bytes:?}"),
-                Err(e) => assert_eq!(rt; e, Refusal::Damaged, "{bytes:?}"),
-            }
+            let command = command(rt.alloc(), line)?;
+            assert_eq!(rt; registry.apply(rt.alloc(), &command), reply, "{line}");
+        }
+        assert_eq!(rt; registry.roots().len(), 256);
+        for ((_, root), number) in registry.roots().iter().zip(2u64..) {
+            assert_eq!(rt; root.number, number);
         }
         Ok(())
     }

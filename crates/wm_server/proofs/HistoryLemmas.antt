@@ -9,40 +9,40 @@ use Rattle.wm_view.specs.declared.op.Op.{Op}
 use Rattle.wm_view.specs.declared.op.Op.TheVariants as op
 use Rattle.wm_view.specs.Histories.{History, IsMade, after, begun, refusal}
 use Rattle.wm_view.specs.Summaries.{Summary, summary}
+use Rattle.wm_registry.specs.declared.command.Command.{Command}
 use Rattle.wm_registry.specs.declared.command.Command.TheVariants as command
-use Rattle.wm_registry.specs.declared.command.Reply.{Reply}
-use Rattle.wm_registry.specs.declared.command.Reply.TheVariants as reply
-use Rattle.wm_registry.specs.declared.registry.Root.{Root}
-use Rattle.wm_registry.specs.Registry as registry
+use Rattle.wm_registry.specs.declared.root.Root.{Root}
+use Rattle.wm_registry.specs.Registry.{is_change}
+use Rattle.wm_registry.specs.Roots as roots
 use Rattle.wm_server.specs.declared.request.Request.{Request}
-use Rattle.wm_server.specs.declared.request.Request.TheVariants.{Version, Watch, WatchList, Observe, Listing, Clock, Since}
+use Rattle.wm_server.specs.declared.request.Request.TheVariants.{Version, Watch, WatchDel, WatchList, Trigger, TriggerList, TriggerDel, Observe, Listing, Clock, Since}
 use Rattle.wm_server.specs.Lines.{request_of_line}
-use Rattle.wm_server.specs.Replies.{clock_reply, since_reply, watch_reply}
-use Rattle.wm_server.specs.Sessions.{State, question_met, line_met, listing_met, met_or_refused, operation_met, refused, reply_to_command, since_question, state_after_command, view_of, watched}
-use Rattle.wm_server.specs.Watched.{AreOfHistories, IsOfHistory, answer_of, clock_answer, first_views, new_view, unless, view_after, view_at, with_view}
+use Rattle.wm_server.specs.Replies.{clock_reply, command_reply, since_reply}
+use Rattle.wm_server.specs.Sessions.{State, accepted, commanded, question_met, line_met, listing_met, met_or_refused, operation_met, refused, reply_to_command, since_question, state_after_command, triggers_met, view_of, views_after}
+use Rattle.wm_server.specs.Watched.{AreOfHistories, IsOfHistory, answer_of, clock_answer, first_views, new_view, unless, view_after, view_at, with_view, without_view}
 use Rattle.wm_server.proofs.SessionLemmas.{left_so}
 
 new_is : (incarnation number : ℕ) → IsOfHistory (new_view incarnation number)
 new_is incarnation number = (begun incarnation number, (incarnation, number, [], refl), refl)
 
-first_are : (incarnation : ℕ) (roots : List Root) → AreOfHistories (map (λ root. new_view incarnation root.number) roots)
+first_are : (incarnation : ℕ) (watched : List (Path × Root)) → AreOfHistories (map (λ root. new_view incarnation root.1.number) watched)
 first_are incarnation [] = tt
-first_are incarnation (root ∷ roots) = (new_is incarnation root.number, first_are incarnation roots)
+first_are incarnation (root ∷ rest) = (new_is incarnation root.1.number, first_are incarnation rest)
 
-pub begun_are : (r : registry.State) → AreOfHistories (first_views r)
+pub begun_are : (r : roots.State) → AreOfHistories (first_views r)
 begun_are r = first_are r.incarnation r.roots
 
 one_more : (views : List Summary) (view : Summary) → AreOfHistories views → IsOfHistory view → AreOfHistories (views ++ view ∷ [])
 one_more [] view are is = (is, tt)
 one_more (v ∷ vs) view are is = (are.0, one_more vs view are.1 is)
 
-found_is : (path : Path) (roots : List Root) (views : List Summary) (view : Summary) → AreOfHistories views → view_at path roots views ≡ Some view → IsOfHistory view
+found_is : (path : Path) (watched : List (Path × Root)) (views : List Summary) (view : Summary) → AreOfHistories views → view_at path watched views ≡ Some view → IsOfHistory view
 found_is path [] views view are e = absurd cc
-found_is path (root ∷ roots) [] view are e = absurd cc
-found_is path (root ∷ roots) (v ∷ vs) view are e =
-    elim (bytes_eq root.path path) as (λ b. cond b (Some v) (view_at path roots vs) ≡ Some view → IsOfHistory view) [
+found_is path (root ∷ rest) [] view are e = absurd cc
+found_is path (root ∷ rest) (v ∷ vs) view are e =
+    elim (bytes_eq path root.0) as (λ b. cond b (Some v) (view_at path rest vs) ≡ Some view → IsOfHistory view) [
       | true ↦ λ f. subst (λ x. IsOfHistory x) (some_is v view f) are.0
-      | false ↦ λ f. found_is path roots vs view are.1 f
+      | false ↦ λ f. found_is path rest vs view are.1 f
     ] e
   where
     some_is : (a b : Summary) → Some a ≡ Some b → a ≡ b
@@ -52,19 +52,46 @@ found_is path (root ∷ roots) (v ∷ vs) view are e =
         or_else None = a
         or_else (Some x) = x
 
-with_are : (path : Path) (new : Summary) (roots : List Root) (views : List Summary) → AreOfHistories views → IsOfHistory new → AreOfHistories (with_view path new roots views)
+with_are : (path : Path) (new : Summary) (watched : List (Path × Root)) (views : List Summary) → AreOfHistories views → IsOfHistory new → AreOfHistories (with_view path new watched views)
 with_are path new [] views are is = are
-with_are path new (root ∷ roots) [] are is = tt
-with_are path new (root ∷ roots) (v ∷ vs) are is =
-    elim (bytes_eq root.path path) as (λ b. AreOfHistories (cond b (new ∷ vs) (v ∷ with_view path new roots vs))) [
+with_are path new (root ∷ rest) [] are is = tt
+with_are path new (root ∷ rest) (v ∷ vs) are is =
+    elim (bytes_eq path root.0) as (λ b. AreOfHistories (cond b (new ∷ vs) (v ∷ with_view path new rest vs))) [
       | true ↦ (is, are.1)
-      | false ↦ (are.0, with_are path new roots vs are.1 is)
+      | false ↦ (are.0, with_are path new rest vs are.1 is)
     ]
 
-watched_are : (r : Reply) (s : State) (path : Path) → AreOfHistories s.views → AreOfHistories (watched r s path).views
-watched_are reply.Changed s path are = one_more s.views (new_view s.registry.incarnation s.registry.next) are (new_is s.registry.incarnation s.registry.next)
-watched_are reply.Unchanged s path are = are
-watched_are (reply.Refused r) s path are = are
+without_are : (path : Path) (watched : List (Path × Root)) (views : List Summary) → AreOfHistories views → AreOfHistories (without_view path watched views)
+without_are path [] views are = are
+without_are path (root ∷ rest) [] are = tt
+without_are path (root ∷ rest) (v ∷ vs) are =
+    elim (bytes_eq path root.0) as (λ b. AreOfHistories (cond b vs (v ∷ without_view path rest vs))) [
+      | true ↦ are.1
+      | false ↦ (are.0, without_are path rest vs are.1)
+    ]
+
+-- the views after a command that is accepted
+after_are : (s : State) (c : Command) → AreOfHistories s.views → AreOfHistories (views_after s c)
+after_are s command.Begin are = are
+after_are s (command.Watch path) are = one_more s.views (new_view s.registry.incarnation s.registry.next) are (new_is s.registry.incarnation s.registry.next)
+after_are s (command.WatchDel path) are = without_are path s.registry.roots s.views are
+after_are s (command.Trigger path trigger) are = are
+after_are s (command.TriggerDel path name) are = are
+
+submitted_are : (s : State) (c : Command) → AreOfHistories s.views → AreOfHistories (state_after_command s c).views
+submitted_are s c are =
+    elim (is_change (reply_to_command s c)) as (λ b. AreOfHistories (cond b (accepted s c) s).views) [
+      | true ↦ after_are s c are
+      | false ↦ are
+    ]
+
+commanded_are : (s : State) (c : Command) → AreOfHistories s.views → AreOfHistories (commanded s c).state.views
+commanded_are s c are =
+    subst (λ t. AreOfHistories t.views) (left_so (reply_to_command s c) (command_reply c) (state_after_command s c)) (submitted_are s c are)
+
+triggers_are : (s : State) (root : Option Root) → AreOfHistories s.views → AreOfHistories (triggers_met s root).state.views
+triggers_are s None are = are
+triggers_are s (Some root) are = are
 
 asked_are : {A : Type 0} (s : State) (r : Result A Refusal) (to_reply : A → Data) → AreOfHistories s.views → AreOfHistories (question_met s r to_reply).state.views
 asked_are s (Ok a) to_reply are = are
@@ -103,9 +130,11 @@ module _ (operated_so : (h : History) (o : Op) → IsMade h → view_after (Some
 
   met_are : (s : State) (moment : ℕ) (r : Result Request Refusal) → AreOfHistories s.views → AreOfHistories (met_or_refused s moment r).state.views
   met_are s moment (Ok Version) are = are
-  met_are s moment (Ok (Watch path)) are =
-      let r = reply_to_command s (command.Watch path) in
-      subst (λ t. AreOfHistories t.views) (left_so r (watch_reply path) (state_after_command s (command.Watch path))) (watched_are r s path are)
+  met_are s moment (Ok (Watch path)) are = commanded_are s (command.Watch path) are
+  met_are s moment (Ok (WatchDel path)) are = commanded_are s (command.WatchDel path) are
+  met_are s moment (Ok (Trigger path trigger)) are = commanded_are s (command.Trigger path trigger) are
+  met_are s moment (Ok (TriggerList path)) are = triggers_are s (roots.root_at path s.registry) are
+  met_are s moment (Ok (TriggerDel path name)) are = commanded_are s (command.TriggerDel path name) are
   met_are s moment (Ok WatchList) are = are
   met_are s moment (Ok (Observe root pairs)) are = viewed_are s root (view_of s root) (op.Observe moment pairs) are (λ v e. found_is root s.registry.roots s.views v are e)
   met_are s moment (Ok (Listing root begun_at found)) are = listed_are s root (view_of s root) (op.Recrawl moment begun_at found) are (λ v e. found_is root s.registry.roots s.views v are e)

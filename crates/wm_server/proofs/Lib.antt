@@ -12,5 +12,6 @@ pub mod ReplyTexts
 pub mod RunLemmas
 pub mod SessionLemmas
 pub mod Texts
+pub mod TriggerLemmas
 pub mod WatchedLemmas
 mod WordLemmas

@@ -1,5 +1,7 @@
 -- A front's commands and operations.
-use Rattle.std.proofs.Common.{◌≡◌, ◌≢◌, true, false, cond, List, Result, Ok, Err, refl, sym, ap, ◌∙◌, arith}
+use Rattle.std.proofs.Common.{◌≡◌, ◌≢◌, ◌⊎◌, ◌≤◌, ℕ, Bool, true, false, cond, List, [], ◌∷◌, get_or, Result, Ok, Err, refl, sym, ap, ◌∙◌, subst, arith, inl, inr}
+use Rattle.std.proofs.lemmas.List.{append-nil}
+use Rattle.wm_disk.specs.Contents.{Rose}
 use Rattle.wm_disk.specs.declared.disk.Disk.{Ghosts}
 use Rattle.wm_disk.specs.declared.refusal.Refusal.{Refusal}
 use Rattle.wm_disk.specs.declared.refusal.Refusal.TheVariants as refusals
@@ -7,69 +9,267 @@ use Rattle.wm_names.specs.Paths.{Path}
 use Rattle.wm_clock.specs.declared.clock_id.ClockId.{ClockId}
 use Rattle.wm_view.specs.declared.op.Op.{Op}
 use Rattle.wm_view.specs.Summaries.{Summary}
+use Rattle.wm_checkpoint.specs.Machines.{replay_on}
+use Rattle.wm_checkpoint.specs.Meanings.{IsDamaged, IsRetired, MeansState}
 use Rattle.wm_registry.specs.declared.command.Command.{Command}
-use Rattle.wm_registry.specs.declared.command.Command.TheVariants.{Begin, Watch}
-use Rattle.wm_registry.specs.declared.command.Reply.{Reply}
-use Rattle.wm_registry.specs.declared.command.Reply.TheVariants.{Changed, Unchanged, Refused}
-use Rattle.wm_registry.specs.Registry as registry
-use Rattle.wm_server.specs.Faults.{Standing, Submits, Operates, Defined, Memory}
-use Rattle.wm_server.specs.Locals.{LeadsTo}
-use Rattle.wm_server.specs.LocalLaws.{grows_none, later_same}
-use Rattle.wm_server.specs.Sessions.{State, operation_met, reply_to_command, view_of, watched}
+use Rattle.wm_registry.specs.declared.command.Command.TheVariants.{Begin}
+use Rattle.wm_registry.specs.declared.reply.Reply.{Reply}
+use Rattle.wm_registry.specs.declared.reply.Reply.TheVariants.{Unchanged, Refused}
+use Rattle.wm_registry.specs.MachineLaws.{watches}
+use Rattle.wm_registry.specs.Roots as registry
+use Rattle.wm_registry.specs.Registry.{changed, is_change, reply_to}
+use Rattle.wm_store.specs.Batches.{AreAnswered, IsBatch, accepted_of, is_begin, unless_begin}
+use Rattle.wm_store.specs.Stored.{Stored}
+use Rattle.wm_server.specs.Faults.{Standing, Submits, Operates, Lasts, Defined, Device, Memory, Spent}
+use Rattle.wm_server.specs.LocalLaws.{stays}
+use Rattle.wm_server.specs.Sessions.{State, accepted, operation_met, reply_to_command, state_after_command, view_of, views_after}
+use Rattle.wm_server.specs.Stores.{IsUp, LeadsTo, StartRefused, standing_with, state_with, views_met}
 use Rattle.wm_server.specs.Watched.{Operated, clock_after, view_after}
-use Rattle.wm_server.specs.declared.local.LocalFront.{LocalFront}
 
--- ---- commands
+-- ---- how a command is met
 
-pub working : (s : State) (path : Path) → s.has_failed ≡ false → reply_to_command s (Watch path) ≡ registry.reply_to s.registry (Watch path)
-working s path e = rw e refl
+-- that of a working store, which isn't a `Begin`
+working : (s : State) (command : Command) → is_begin command ≡ false → s.has_failed ≡ false → reply_to_command s command ≡ reply_to s.registry command
+working s command plain works = rw (plain, works) refl
 
--- a command that is accepted is accepted by the registry, and nothing has failed
-pub accepted : (s : State) (command : Command) → reply_to_command s command ≡ Changed → (registry.reply_to s.registry command ≡ Changed) × (s.has_failed ≡ false)
-accepted s Begin e = absurd cc
-accepted s (Watch path) e =
-    elim s.has_failed as (λ b. s.has_failed ≡ b → cond b (Refused refusals.StoreFailed) (registry.reply_to s.registry (Watch path)) ≡ Changed → (registry.reply_to s.registry (Watch path) ≡ Changed) × (b ≡ false)) [
-      | true ↦ λ f bad. absurd cc
-      | false ↦ λ f met. (met, refl)
-    ] refl e
+down : (s : State) (command : Command) → is_begin command ≡ false → s.has_failed ≡ true → reply_to_command s command ≡ Refused refusals.StoreFailed
+down s command plain failed = rw (plain, failed) refl
 
-unchanged : (r : Reply) (s : State) (path : Path) → r ≢ Changed → watched r s path ≡ s
-unchanged Changed s path ne = absurd (ne refl)
-unchanged Unchanged s path ne = refl
-unchanged (Refused r) s path ne = refl
+met_so : (command : Command) (r : Reply) → is_begin command ≡ false → unless_begin command r ≡ r
+met_so command r plain = rw plain refl
 
-defined : (old : Standing) (path : Path) (r : Reply) → old.state.has_failed ≡ false → r ≡ registry.reply_to old.state.registry (Watch path) → r ≢ Changed → Submits old (Watch path) r old
-defined old path r works e ne =
-    let w : reply_to_command old.state (Watch path) ≡ r = working old.state path works ∙ sym e in
-    record {
-      way = Defined;
-      cause = omega arith;
-      reply_is = sym w;
-      state_is = sym (ap (λ q. watched q old.state path) w ∙ unchanged r old.state path ne);
-    }
+beginning : (s : State) (command : Command) → is_begin command ≡ true → reply_to_command s command ≡ Refused refusals.BadArguments
+beginning s command begin = rw begin refl
 
-memory : (old : Standing) (command : Command) → Submits old command (Refused refusals.NoMemory) old
-memory old command = record { way = Memory; cause = refl; reply_is = refl; state_is = refl }
+-- a command with this reply changes nothing
+idle_after : (s : State) (command : Command) (r : Reply) → reply_to_command s command ≡ r → is_change r ≡ false → state_after_command s command ≡ s
+idle_after s command r is idle = let none : is_change (reply_to_command s command) ≡ false = ap is_change is ∙ idle in rw none refl
 
--- a command that wasn't accepted, or for which there was no memory
-pub idle : (old : Standing) (path : Path) (r : Reply) → old.state.has_failed ≡ false → (r ≢ Refused refusals.NoMemory → r ≡ registry.reply_to old.state.registry (Watch path)) → r ≢ Changed → Submits old (Watch path) r old
-idle old path Changed w e ne = absurd (ne refl)
-idle old path Unchanged w e ne = defined old path Unchanged w (e (λ bad. cc)) ne
-idle old path (Refused refusals.NoMemory) w e ne = memory old (Watch path)
-idle old path (Refused r) w e ne = defined old path (Refused r) w (e (λ bad. cc)) ne
+-- and one that is accepted does what its kind does
+accepted_after : (s : State) (command : Command) (r : Reply) → reply_to_command s command ≡ r → is_change r ≡ true → state_after_command s command ≡ accepted s command
+accepted_after s command r is change = let some : is_change (reply_to_command s command) ≡ true = ap is_change is ∙ change in rw some refl
+
+lasts_same : (s : Standing) → Lasts s s
+lasts_same s = record { failures = omega arith; number = omega arith }
+
+-- a command that is refused by its kind or since nothing goes on
+pub refused_so : (old : Standing) (command : Command) (e : Refusal) → reply_to_command old.state command ≡ Refused e → Submits old command (Refused e) old
+refused_so old command e is = record { way = Defined; cause = lasts_same old; reply_is = sym is; state_is = sym (idle_after old.state command (Refused e) is refl) }
+
+pub begin_refused : (old : Standing) (command : Command) → is_begin command ≡ true → Submits old command (Refused refusals.BadArguments) old
+begin_refused old command begin = refused_so old command refusals.BadArguments (beginning old.state command begin)
+
+pub no_room : (old : Standing) (command : Command) → Submits old command (Refused refusals.NoMemory) old
+no_room old command = record { way = Memory; cause = (lasts_same old, refl); reply_is = refl; state_is = refl }
+
+-- ---- a batch of one
+
+-- the one reply
+one_reply : (number : ℕ) (s : _) (command : Command) (replies : List Reply) → AreAnswered number s (command ∷ []) replies → (reply : Reply) × (replies ≡ reply ∷ [])
+one_reply number s command [] a = absurd a
+one_reply number s command (reply ∷ []) a = (reply, refl)
+one_reply number s command (reply ∷ (other ∷ more)) a =
+    elim a [
+      | inl met ↦ absurd met.1
+      | inr spent ↦ let bad : other ∷ more ≡ [] = ap (λ (l : List Reply). rest_of l) spent.2 in absurd cc
+    ]
+  where
+    rest_of : List Reply → List Reply
+    rest_of [] = []
+    rest_of (r ∷ rs) = rs
+
+-- What the store tells of a batch of one command, which isn't a `Begin`, on a store that hasn't failed.
+module _ {D : Type 0} (disk : Ghosts D) (old new : Stored D) (command : Command) (plain : is_begin command ≡ false) where
+  abbrev pub before : List Summary → Standing
+  before views = standing_with disk old views
+
+  abbrev pub behind : Reply → List Summary → Standing
+  behind reply views = standing_with disk new (views_met reply (state_with old views) command)
+
+  lasts : (reply : Reply) (views : List Summary) → disk.failures old.disk ≤ disk.failures new.disk → old.number ≤ new.number → Lasts (before views) (behind reply views)
+  lasts reply views failures number = record { failures = failures; number = number }
+
+  -- it was met as the registry has it
+  changed_so : (reply : Reply) (views : List Summary) → reply_to_command (state_with old views) command ≡ reply → is_change reply ≡ true
+      → Lasts (before views) (behind reply views) → new.failed ≡ old.failed → new.registry ≡ changed old.registry command → Submits (before views) command reply (behind reply views)
+  changed_so reply views is change last failed registry = record {
+    way = Defined;
+    cause = last;
+    reply_is = sym is;
+    state_is = (λ i. record { registry = registry i; has_failed = failed i; views = ap (λ (b : Bool). cond b (views_after (state_with old views) command) views) change i }) ∙ sym (accepted_after (state_with old views) command reply is change);
+  }
+
+  -- nothing has changed
+  same_so : (reply : Reply) (views : List Summary) → new ≡ old → is_change reply ≡ false → Submits (before views) command reply (before views) → Submits (before views) command reply (behind reply views)
+  same_so reply views same idle s =
+      subst (λ (b : Bool). Submits (before views) command reply (standing_with disk new (cond b (views_after (state_with old views) command) views))) (sym idle)
+      (subst (λ (s : Stored D). Submits (before views) command reply (standing_with disk s views)) (sym same) s)
+
+  kept_so : (reply : Reply) (views : List Summary) → new ≡ old → is_change reply ≡ false → reply_to_command (state_with old views) command ≡ reply → Submits (before views) command reply (behind reply views)
+  kept_so reply views same idle is = same_so reply views same idle (record { way = Defined; cause = lasts_same (before views); reply_is = sym is; state_is = sym (idle_after (state_with old views) command reply is idle) })
+
+  -- a growth was refused
+  pub none_so : (views : List Summary) → new ≡ old → Submits (before views) command (Refused refusals.NoMemory) (behind (Refused refusals.NoMemory) views)
+  none_so views same = same_so (Refused refusals.NoMemory) views same refl (no_room (before views) command)
+
+  -- the store had failed before
+  pub down_so : (views : List Summary) → new ≡ old → old.failed ≡ true → Submits (before views) command (Refused refusals.StoreFailed) (behind (Refused refusals.StoreFailed) views)
+  down_so views same failed = kept_so (Refused refusals.StoreFailed) views same refl (down (state_with old views) command plain failed)
+
+  -- the registry is as it was, whatever calls of the disk were made
+  same_state : (reply : Reply) (views : List Summary) → new.registry ≡ old.registry → new.failed ≡ old.failed → is_change reply ≡ false → (behind reply views).state ≡ state_with old views
+  same_state reply views registry failed idle = λ i. record { registry = registry i; has_failed = failed i; views = ap (λ (b : Bool). cond b (views_after (state_with old views) command) views) idle i }
+
+  idle_so : (reply : Reply) (views : List Summary) → Lasts (before views) (behind reply views) → new.registry ≡ old.registry → new.failed ≡ old.failed → is_change reply ≡ false
+      → reply_to_command (state_with old views) command ≡ reply → Submits (before views) command reply (behind reply views)
+  idle_so reply views last registry failed idle is = record {
+    way = Defined;
+    cause = last;
+    reply_is = sym is;
+    state_is = same_state reply views registry failed idle ∙ sym (idle_after (state_with old views) command reply is idle);
+  }
+
+  short_so : (views : List Summary) → Lasts (before views) (behind (Refused refusals.NoMemory) views) → disk.failures new.disk ≡ disk.failures old.disk → new.registry ≡ old.registry → new.failed ≡ old.failed
+      → Submits (before views) command (Refused refusals.NoMemory) (behind (Refused refusals.NoMemory) views)
+  short_so views last failures registry failed = record {
+    way = Memory;
+    cause = (last, failures);
+    reply_is = refl;
+    state_is = same_state (Refused refusals.NoMemory) views registry failed refl;
+  }
+
+  spent_so : (reply : Reply) (views : List Summary) → old.failed ≡ false → Lasts (before views) (behind reply views) → disk.failures new.disk ≡ disk.failures old.disk → new.registry ≡ old.registry → new.failed ≡ old.failed
+      → reply ≡ Refused refusals.Exhausted → 9223372036854775807 ≤ new.number → is_change (reply_to old.registry command) ≡ true → Submits (before views) command reply (behind reply views)
+  spent_so reply views works last failures registry failed is spent change =
+      let accepts : is_change (reply_to_command (state_with old views) command) ≡ true = ap is_change (working (state_with old views) command plain works) ∙ change in
+      record { way = Spent; cause = (accepts, last, failures, spent); reply_is = is; state_is = same_state reply views registry failed (ap is_change is) }
+
+  -- by what the reply is in a batch of one
+  answered_so : (reply : Reply) (views : List Summary) → old.failed ≡ false → new.failed ≡ false → Lasts (before views) (behind reply views) → disk.failures new.disk ≡ disk.failures old.disk
+      → AreAnswered new.number old.registry (command ∷ []) (reply ∷ [])
+      → new.registry ≡ replay_on watches old.registry (accepted_of (command ∷ []) (reply ∷ []))
+      → (b : Bool) → is_change reply ≡ b → Submits (before views) command reply (behind reply views)
+  answered_so reply views works works' last failures answered registry b change =
+      let s : State = state_with old views in
+      elim answered [
+        | inl met ↦ elim met.0 [
+          | inl is ↦
+              let told : reply_to_command s command ≡ reply = working s command plain works ∙ sym (is ∙ met_so command (reply_to old.registry command) plain) in
+              by_change told b change
+          | inr none ↦
+              let is : reply ≡ Refused refusals.NoMemory = none ∙ met_so command (Refused refusals.NoMemory) plain in
+              subst (λ (r : Reply). Submits (before views) command r (behind r views)) (sym is) (short_so views (lasts (Refused refusals.NoMemory) views last.failures last.number) failures (stays (ap is_change is)) (works' ∙ sym works))
+        ]
+        | inr spent ↦
+            let is : reply ≡ Refused refusals.Exhausted = ap (λ (l : List Reply). first_of_list l) spent.2 ∙ met_so command (Refused refusals.Exhausted) plain in
+            let change' : is_change (reply_to old.registry command) ≡ true = ap is_change (sym (met_so command (reply_to old.registry command) plain)) ∙ spent.1 in
+            spent_so reply views works last failures (stays (ap is_change is)) (works' ∙ sym works) is spent.0 change'
+      ]
+    where
+      first_of_list : List Reply → Reply
+      first_of_list [] = Unchanged
+      first_of_list (r ∷ rs) = r
+
+      stays : is_change reply ≡ false → new.registry ≡ old.registry
+      stays none = registry ∙ ap (λ (b : Bool). replay_on watches old.registry (cond b (command ∷ []) [])) none
+
+      by_change : reply_to_command (state_with old views) command ≡ reply → (b : Bool) → is_change reply ≡ b → Submits (before views) command reply (behind reply views)
+      by_change told true change =
+          let was : is_change (reply_to old.registry command) ≡ true = ap is_change (sym (working (state_with old views) command plain works) ∙ told) ∙ change in
+          let after_is : replay_on watches old.registry (command ∷ []) ≡ changed old.registry command = rw was refl in
+          changed_so reply views told change last (works' ∙ sym works) (registry ∙ ap (λ (b : Bool). replay_on watches old.registry (cond b (command ∷ []) [])) change ∙ after_is)
+      by_change told false none = idle_so reply views last (stays none) (works' ∙ sym works) none told
+
+  -- the batch was answered
+  pub met_alone : (replies : List Reply) (reply : Reply) (views : List Summary) → replies ≡ reply ∷ [] → old.failed ≡ false → new.failed ≡ false
+      → disk.failures new.disk ≡ disk.failures old.disk → old.number ≤ new.number
+      → IsBatch disk old new (command ∷ []) replies → new.registry ≡ replay_on watches old.registry (accepted_of (command ∷ []) replies)
+      → Submits (before views) command reply (behind reply views)
+  met_alone replies reply views one works works' failures number batch registry =
+      answered_so reply views works works' (lasts reply views (omega (arith, failures)) number) failures
+      (subst (λ (l : List Reply). AreAnswered new.number old.registry (command ∷ []) l) one batch.answered)
+      (subst (λ (l : List Reply). new.registry ≡ replay_on watches old.registry (accepted_of (command ∷ []) l)) one registry)
+      (is_change reply) refl
+
+  -- the device failed with the command in flight
+  was_accepted : (number : ℕ) (reply : Reply) → AreAnswered number old.registry (command ∷ []) (reply ∷ []) → (b : Bool) → is_change reply ≡ b → (cond b (command ∷ []) [] ≡ [] → ⊥) → is_change (reply_to old.registry command) ≡ true
+  was_accepted number reply answered false change some = absurd (some refl)
+  was_accepted number reply answered true change some =
+      elim answered [
+        | inl met ↦ elim met.0 [
+          | inl is ↦ ap is_change (sym (is ∙ met_so command (reply_to old.registry command) plain)) ∙ change
+          | inr none ↦ let bad : false ≡ true = ap is_change (sym (none ∙ met_so command (Refused refusals.NoMemory) plain)) ∙ change in absurd cc
+        ]
+        | inr spent ↦ ap is_change (sym (met_so command (reply_to old.registry command) plain)) ∙ spent.1
+      ]
+
+  pub device_so : (replies : List Reply) (views : List Summary) → old.failed ≡ false → new.failed ≡ true → new.registry ≡ old.registry
+      → disk.failures old.disk ≤ disk.failures new.disk → Rose (disk.failures old.disk) (disk.failures new.disk) → old.number ≤ new.number
+      → IsBatch disk old new (command ∷ []) replies → (accepted_of (command ∷ []) replies ≡ [] → ⊥)
+      → Submits (before views) command (Refused refusals.DeviceFailed) (behind (Refused refusals.DeviceFailed) views)
+  device_so replies views works failed registry failures rose number batch some =
+      let one = one_reply new.number old.registry command replies batch.answered in
+      let accepts : is_change (reply_to old.registry command) ≡ true =
+      was_accepted new.number one.0 (subst (λ (l : List Reply). AreAnswered new.number old.registry (command ∷ []) l) one.1 batch.answered) (is_change one.0) refl
+      (subst (λ (l : List Reply). accepted_of (command ∷ []) l ≡ [] → ⊥) one.1 some) in
+      record {
+        way = Device;
+        cause = (ap is_change (working (state_with old views) command plain works) ∙ accepts, works, lasts (Refused refusals.DeviceFailed) views failures number, rose);
+        reply_is = refl;
+        state_is = λ i. record { registry = registry i; has_failed = failed i; views = views };
+      }
+
+  -- ---- what it keeps
+
+  pub leads_alone : (replies : List Reply) → old.failed ≡ false → new.failed ≡ false → (disk.honest new.disk → disk.honest old.disk) → disk.failures old.disk ≤ disk.failures new.disk
+      → IsBatch disk old new (command ∷ []) replies → new.registry ≡ replay_on watches old.registry (accepted_of (command ∷ []) replies) → LeadsTo disk old new
+  leads_alone replies works works' honest failures batch registry =
+      let all = accepted_of (command ∷ []) replies in
+      record {
+        later = record { honest = honest; count = failures };
+        failed = λ e. let bad : false ≡ true = sym works ∙ e in absurd cc;
+        still = λ e. let bad : false ≡ true = sym works ∙ e in absurd cc;
+        cause = λ e f. let bad : false ≡ true = sym works' ∙ f in absurd cc;
+        commits = λ e. record {
+          accepted = all;
+          in_flight = [];
+          registry = registry;
+          works = λ f. refl;
+          any_moment = inr (rw (append-nil all) batch.any_moment);
+        };
+      }
+
+  pub leads_device : (replies : List Reply) → old.failed ≡ false → new.failed ≡ true → new.registry ≡ old.registry → (disk.honest new.disk → disk.honest old.disk)
+      → disk.failures old.disk ≤ disk.failures new.disk → Rose (disk.failures old.disk) (disk.failures new.disk) → IsBatch disk old new (command ∷ []) replies → LeadsTo disk old new
+  leads_device replies works failed registry honest failures rose batch = record {
+    later = record { honest = honest; count = failures };
+    failed = λ e. failed;
+    still = λ e. let bad : false ≡ true = sym works ∙ e in absurd cc;
+    cause = λ e f. rose;
+    commits = λ e. record {
+      accepted = [];
+      in_flight = accepted_of (command ∷ []) replies;
+      registry = registry;
+      works = λ f. let bad : false ≡ true = sym f ∙ failed in absurd cc;
+      any_moment = inr batch.any_moment;
+    };
+  }
+
+  pub leads_same : new ≡ old → LeadsTo disk old new
+  leads_same same = subst (λ (s : Stored D). LeadsTo disk old s) (sym same) (stays disk old)
 
 -- ---- operations
 
 refuses : (old : Standing) (root : Path) (o : Op) (e : Refusal) → view_after (view_of old.state root) o ≡ Err e → Operates old root o (Err e) old
 refuses old root o e is = record {
   way = Defined;
-  cause = omega arith;
+  cause = lasts_same old;
   reply_is = sym (ap clock_after is);
   state_is = sym (ap (λ r. (operation_met old.state root r).state) is);
 }
 
 refused_or_none : (old : Standing) (root : Path) (o : Op) (e : Refusal) → (e ≢ refusals.NoMemory → view_after (view_of old.state root) o ≡ Err e) → Operates old root o (Err e) old
-refused_or_none old root o refusals.NoMemory h = record { way = Memory; cause = refl; reply_is = refl; state_is = refl }
+refused_or_none old root o refusals.NoMemory h = record { way = Memory; cause = (lasts_same old, refl); reply_is = refl; state_is = refl }
 refused_or_none old root o e h = refuses old root o e (h (λ bad. cc))
 
 -- a front with these views in place of the others
@@ -79,20 +279,118 @@ viewing old views = record old { state = record old.state { views = views } }
 pub operates : (old : Standing) (root : Path) (o : Op) (r : Result ClockId Refusal) (views : List Summary) → Operated root o old.state.registry.roots old.state.views r views → Operates old root o r (viewing old views)
 operates old root o (Ok clock) views (view, is, clock_is, views_are) = record {
   way = Defined;
-  cause = omega arith;
+  cause = record { failures = omega arith; number = omega arith };
   reply_is = ap Ok clock_is ∙ sym (ap clock_after is);
   state_is = ap (λ vs. record old.state { views = vs }) views_are ∙ sym (ap (λ r. (operation_met old.state root r).state) is);
 }
 operates old root o (Err e) views (h, views_are) = rw views_are (refused_or_none old root o e h)
 
--- only its views have changed
-module _ {D : Type 0} (disk : Ghosts D) where
-  pub aside : (a b : LocalFront D) → b.disk ≡ a.disk → b.registry ≡ a.registry → b.has_failed ≡ a.has_failed → LeadsTo disk a b
-  aside a b d r f = record {
-    later = rw d (later_same disk a.disk);
-    failed = λ e. f ∙ e;
-    still = λ e. d;
-    cause = λ e g. let bad : false ≡ true = sym e ∙ sym f ∙ g in absurd cc;
-    grows = λ h e. rw (d, r) (grows_none (disk.seen a.disk) a.registry);
-    durable = λ h e k. rw d k;
-  }
+-- ---- a batch of one that was refused
+
+first_is : (replies : List Reply) (one reply : Reply) → replies ≡ one ∷ [] → reply ≡ get_or replies 0 reply → reply ≡ one
+first_is replies one reply is at = at ∙ ap (λ (l : List Reply). get_or l 0 reply) is
+
+-- the replies to one command are the first of them
+pub only_reply : (number : ℕ) (s : registry.State) (command : Command) (replies : List Reply) (reply : Reply) → AreAnswered number s (command ∷ []) replies → reply ≡ get_or replies 0 reply → replies ≡ reply ∷ []
+only_reply number s command replies reply answered at =
+    let one = one_reply number s command replies answered in
+    one.1 ∙ ap (λ (r : Reply). r ∷ []) (sym (first_is replies one.0 reply one.1 at))
+
+pub err_is : {T : Type 0} (r : Result T Refusal) (a b : Refusal) → r ≡ Err a → r ≡ Err b → a ≡ b
+err_is r a b p q = cc
+
+pub not_true : (b : Bool) → (b ≡ true → ⊥) → b ≡ false
+not_true true h = absurd (h refl)
+not_true false h = refl
+
+module _ {D : Type 0} (disk : Ghosts D) (old new : Stored D) (command : Command) (plain : is_begin command ≡ false) where
+  -- what a store tells of a batch of one that it refused
+  pub record Refuses (e : Refusal) : Type 0 where
+    pub up : IsUp old
+    pub registry : new.registry ≡ old.registry
+    pub honest : disk.honest new.disk → disk.honest old.disk
+    pub failures : disk.failures old.disk ≤ disk.failures new.disk
+    pub number : old.number ≤ new.number
+    pub cut : old.failed ≡ false → (replies : List Reply) × IsBatch disk old new (command ∷ []) replies × (e ≡ refusals.DeviceFailed → accepted_of (command ∷ []) replies ≡ [] → ⊥)
+    pub memory : e ≡ refusals.NoMemory → new ≡ old
+    pub down : e ≡ refusals.StoreFailed → ((old.failed ≡ true) ⊎ (old.closed ≡ true)) × (new ≡ old)
+    pub stays_down : (old.failed ≡ true) ⊎ (old.closed ≡ true) → e ≡ refusals.StoreFailed
+    pub failed : e ≡ refusals.DeviceFailed → Rose (disk.failures old.disk) (disk.failures new.disk) × (new.failed ≡ true)
+    pub kinds : (e ≡ refusals.DeviceFailed) ⊎ (e ≡ refusals.NoMemory) ⊎ (e ≡ refusals.StoreFailed)
+
+  -- it was the failure of the store
+  had_failed : IsUp old → (old.failed ≡ true) ⊎ (old.closed ≡ true) → (b : Bool) → old.failed ≡ b → b ≡ true
+  had_failed up (inl failed) b is = sym is ∙ failed
+  had_failed up (inr closed) true is = refl
+  had_failed up (inr closed) false is = let bad : false ≡ true = sym (up is) ∙ closed in absurd cc
+
+  worked : (e : Refusal) → Refuses e → e ≢ refusals.StoreFailed → old.failed ≡ false
+  worked e r other = not_true old.failed (λ failed. other (r.stays_down (inl failed)))
+
+  pub refused_alone : (e : Refusal) (views : List Summary) → Refuses e → Submits (standing_with disk old views) command (Refused e) (standing_with disk new views)
+  refused_alone e views r =
+      elim r.kinds [
+        | inl device ↦
+            let works = worked e r (λ bad. let no : refusals.DeviceFailed ≡ refusals.StoreFailed = sym device ∙ bad in absurd cc) in
+            let cut = r.cut works in
+            subst (λ (x : Refusal). Submits (standing_with disk old views) command (Refused x) (standing_with disk new views)) (sym device)
+            (device_so disk old new command plain cut.0 views works (r.failed device).1 r.registry r.failures (r.failed device).0 r.number cut.1 (cut.2 device))
+        | inr other ↦ elim other [
+          | inl memory ↦
+              subst (λ (x : Refusal). Submits (standing_with disk old views) command (Refused x) (standing_with disk new views)) (sym memory) (none_so disk old new command plain views (r.memory memory))
+          | inr down ↦
+              let why = r.down down in
+              subst (λ (x : Refusal). Submits (standing_with disk old views) command (Refused x) (standing_with disk new views)) (sym down)
+              (down_so disk old new command plain views why.1 (had_failed r.up why.0 old.failed refl))
+        ]
+      ]
+
+  pub refused_leads : (e : Refusal) → Refuses e → LeadsTo disk old new
+  refused_leads e r =
+      elim r.kinds [
+        | inl device ↦
+            let works = worked e r (λ bad. let no : refusals.DeviceFailed ≡ refusals.StoreFailed = sym device ∙ bad in absurd cc) in
+            let cut = r.cut works in
+            leads_device disk old new command plain cut.0 works (r.failed device).1 r.registry r.honest r.failures (r.failed device).0 cut.1
+        | inr other ↦ elim other [
+          | inl memory ↦ leads_same disk old new command plain (r.memory memory)
+          | inr down ↦ leads_same disk old new command plain (r.down down).1
+        ]
+      ]
+
+-- ---- the front's views
+
+-- the views were changed as the accepted command does
+pub met_with : {D : Type 0} (disk : Ghosts D) (old new : Stored D) (command : Command) (reply : Reply) (views after : List Summary)
+    → Submits (standing_with disk old views) command reply (standing_with disk new (views_met reply (state_with old views) command)) → after ≡ views_met reply (state_with old views) command
+    → Submits (standing_with disk old views) command reply (standing_with disk new after)
+met_with disk old new command reply views after s is = subst (λ (vs : List Summary). Submits (standing_with disk old views) command reply (standing_with disk new vs)) (sym is) s
+
+pub views_changed : (s : State) (command : Command) (reply : Reply) (after : List Summary) → is_change reply ≡ true → after ≡ views_after s command → after ≡ views_met reply s command
+views_changed s command reply after change is = is ∙ sym (ap (λ (b : Bool). cond b (views_after s command) s.views) change)
+
+pub views_same : (s : State) (command : Command) (reply : Reply) (after : List Summary) → is_change reply ≡ false → after ≡ s.views → after ≡ views_met reply s command
+views_same s command reply after idle is = is ∙ sym (ap (λ (b : Bool). cond b (views_after s command) s.views) idle)
+
+-- ---- a start and a close
+
+pub start_refused : {D : Type 0} (disk : Ghosts D) (old new : D) (e : Refusal)
+    → (disk.honest new → e ≡ refusals.Damaged → IsDamaged watches (disk.seen old)) → (disk.honest new → e ≡ refusals.Retired → IsRetired (disk.seen old))
+    → (disk.honest new → e ≡ refusals.Exhausted → (found : registry.State) × (m : MeansState watches found (disk.seen old)) × ((reply_to found Begin ≡ Refused refusals.Exhausted) ⊎ (9223372036854775807 ≤ m.number)))
+    → (e ≡ refusals.DeviceFailed → Rose (disk.failures old) (disk.failures new))
+    → (e ≡ refusals.DeviceFailed) ⊎ (e ≡ refusals.NoMemory) ⊎ (e ≡ refusals.Exhausted) ⊎ (e ≡ refusals.Damaged) ⊎ (e ≡ refusals.Retired)
+    → StartRefused disk e old new
+start_refused disk old new e damaged retired exhausted failed kinds =
+    elim kinds [
+      | inl device ↦ subst (λ (x : Refusal). StartRefused disk x old new) (sym device) (failed device)
+      | inr a ↦ elim a [
+        | inl memory ↦ subst (λ (x : Refusal). StartRefused disk x old new) (sym memory) tt
+        | inr b ↦ elim b [
+          | inl spent ↦ subst (λ (x : Refusal). StartRefused disk x old new) (sym spent) (λ h. exhausted h spent)
+          | inr c ↦ elim c [
+            | inl bad ↦ subst (λ (x : Refusal). StartRefused disk x old new) (sym bad) (λ h. damaged h bad)
+            | inr gone ↦ subst (λ (x : Refusal). StartRefused disk x old new) (sym gone) (λ h. retired h gone)
+          ]
+        ]
+      ]
+    ]

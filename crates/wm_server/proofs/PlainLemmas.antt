@@ -1,22 +1,28 @@
 -- What is defined is never a fault: so a fault that is told has its cause.
 use Rattle.std.proofs.Common.{◌≡◌, ◌∙◌, ℕ, List, Bool, true, false, not, ◌||◌, ◌==◌, cond, length, nat_lt, refl, sym, ap, true≢false}
-use Rattle.std.specs.Prelude.{Option, Some, None, Result, Ok, Err, ◌&&◌, option_and_then, option_map, unwrap_or, is_none, codes}
+use Rattle.std.specs.Prelude.{Option, Some, None, Result, Ok, Err, ◌&&◌, option_and_then, option_map, unwrap_or, is_none, is_some, codes}
+use Rattle.std.specs.Option.{option_map_or}
 use Rattle.std.specs.Str.{bytes_eq}
-use Rattle.std.specs.List.{list_all}
+use Rattle.std.specs.List.{list_all, list_any}
 use Rattle.serde_json.specs.Data.{Data}
-use Rattle.serde_json.specs.Find.{at, as_str}
+use Rattle.serde_json.specs.Find.{at, as_str, get}
 use Rattle.wm_disk.specs.declared.refusal.Refusal.{Refusal}
 use Rattle.wm_names.specs.Paths.{is_root_path, is_rel_path}
 use Rattle.wm_names.specs.Entries.{is_whole}
 use Rattle.wm_names.specs.declared.subtree.Subtree.{Subtree}
 use Rattle.wm_clock.specs.Clocks.{spec_of}
 use Rattle.wm_clock.specs.declared.clock_spec.ClockSpec.{ClockSpec}
-use Rattle.wm_disk.specs.declared.refusal.Refusal.TheVariants.{BadCommand, BadPath, Exhausted, NotReady, StoreFailed, TooMany, BadClock}
+use Rattle.wm_disk.specs.declared.refusal.Refusal.TheVariants.{BadArguments, BadCommand, BadExpression, BadPath, BadTrigger, Exhausted, Full, NotReady, NotWatched, StoreFailed, TooMany, BadClock}
+use Rattle.wm_registry.specs.declared.command.Command.{Command}
 use Rattle.wm_registry.specs.declared.command.Command.TheVariants as command
-use Rattle.wm_registry.specs.declared.command.Reply.{Reply}
-use Rattle.wm_registry.specs.declared.command.Reply.TheVariants as reply
+use Rattle.wm_registry.specs.declared.reply.Reply.{Reply}
+use Rattle.wm_registry.specs.declared.reply.Reply.TheVariants as reply
+use Rattle.wm_registry.specs.declared.root.Root.{Root}
 use Rattle.wm_registry.specs.Registry as registry
-use Rattle.wm_registry.specs.Roots.{is_watched}
+use Rattle.wm_registry.specs.Roots as roots
+use Rattle.wm_registry.specs.Spelling.{state_spelling}
+use Rattle.wm_registry.specs.Triggers.{Definition, defined, has_trigger, is_name, is_trigger, same_definition}
+use Rattle.wm_store.specs.Batches.{is_begin}
 use Rattle.wm_view.specs.Files.{Files}
 use Rattle.wm_view.specs.Histories.{refuse_if, observed}
 use Rattle.wm_view.specs.Steps.{present, recrawled_in, refused_in, spent_in, step}
@@ -25,17 +31,18 @@ use Rattle.wm_view.specs.declared.op.Op.{Op}
 use Rattle.wm_view.specs.declared.op.Op.TheVariants as op
 use Rattle.wm_since.specs.Answers.{Question, answer_by}
 use Rattle.wm_server.specs.declared.request.Request.{Request}
-use Rattle.wm_server.specs.declared.request.Request.TheVariants.{Version, Watch, WatchList, Observe, Listing, Clock, Since}
+use Rattle.wm_server.specs.declared.request.Request.TheVariants.{Version, Watch, WatchDel, WatchList, Trigger, TriggerList, TriggerDel, Observe, Listing, Clock, Since}
 use Rattle.wm_server.specs.Arguments.{root_alone, root_named, text_at, count_of}
 use Rattle.wm_server.specs.ClockLines.{may_be_clock, since_clock, since_root}
 use Rattle.wm_server.specs.ListingLines.{are_below, files_of, found, listing_with, subtree_of}
 use Rattle.wm_server.specs.PairLines.{Pair, observe_with, pairs_of}
 use Rattle.wm_server.specs.Lines.{command_named, plain_request, request_of, request_of_line, request_of_text, request_with, text_of}
-use Rattle.wm_server.specs.Faults.{Standing, Way, Defined, Device, Memory, Answers, is_fault, faults_of, refusal_or}
+use Rattle.wm_server.specs.TriggerLines.{by_rules, definition_in, object_at, trigger_at, trigger_del_with, trigger_in, trigger_with}
+use Rattle.wm_server.specs.Faults.{Standing, Way, Defined, Device, Memory, Spent, Answers, is_fault, faults_of, refusal_or}
 use Rattle.wm_server.specs.Pages.{Refuses, page}
-use Rattle.wm_server.specs.Sessions.{State, question_met, line_met, listing_met, met_or_refused, commanded, by_reply, operation_met, refused, reply_to_command, since_question, state_after_command, view_of}
+use Rattle.wm_server.specs.Sessions.{State, question_met, line_met, listing_met, met_or_refused, commanded, by_reply, operation_met, refused, reply_to_command, since_question, state_after_command, triggers_met, view_of}
 use Rattle.wm_server.specs.Watched.{answer_of, clock_in, clock_answer, unless, view_after}
-use Rattle.wm_server.specs.Replies.{clock_reply, line_text, refusal_reply, reply_bytes, since_reply, watch_reply}
+use Rattle.wm_server.specs.Replies.{clock_reply, command_reply, line_text, refusal_reply, reply_bytes, since_reply}
 
 -- a result that tells a fault
 abbrev pub tells_fault : {A : Type 0} → Result A Refusal → Bool
@@ -82,16 +89,40 @@ since_plain : (may : Bool) (root : Option (List ℕ)) (clock : Option ClockSpec)
 since_plain true (Some root) clock = either (is_root_path root) _ _ (clock_plain root clock) refl
 since_plain _ _ clock = refl
 
+rules_plain : (t : Option Definition) → tells_fault (by_rules t) ≡ false
+rules_plain None = refl
+rules_plain (Some t) = either (is_trigger t) _ _ refl refl
+
+trigger_plain : (d : Data) → tells_fault (trigger_in d) ≡ false
+trigger_plain d = either (is_some (get (codes "expression") d)) (Err BadExpression) (by_rules (definition_in d)) refl (rules_plain (definition_in d))
+
+at_plain : (root : List ℕ) (r : Result Definition Refusal) → tells_fault r ≡ false → tells_fault (trigger_at root r) ≡ false
+at_plain root (Ok t) h = refl
+at_plain root (Err e) h = h
+
+defined_plain : (root : Option (List ℕ)) (d : Option Data) → tells_fault (trigger_with root d) ≡ false
+defined_plain (Some root) (Some d) = either (is_root_path root) (trigger_at root (trigger_in d)) (Err BadPath) (at_plain root (trigger_in d) (trigger_plain d)) refl
+defined_plain _ _ = refl
+
+deleted_plain : (root name : Option (List ℕ)) → tells_fault (trigger_del_with root name) ≡ false
+deleted_plain (Some root) (Some name) =
+    either {A = Request} (is_root_path root) (cond (is_name name) (Ok (TriggerDel root name)) (Err BadTrigger)) (Err BadPath) (either {A = Request} (is_name name) (Ok (TriggerDel root name)) (Err BadTrigger) refl refl) refl
+deleted_plain _ _ = refl
+
 command_plain : (d : Data) (name : Option (List ℕ)) → tells_fault (command_named d name) ≡ false
 command_plain d None = refl
 command_plain d (Some name) =
     either (bytes_eq name (codes "version")) _ _ (plain_plain d Version)
     (either (bytes_eq name (codes "watch")) _ _ (with_plain (λ path. Watch path) (root_alone d) (alone_plain d))
+    (either (bytes_eq name (codes "watch-del")) _ _ (with_plain (λ path. WatchDel path) (root_alone d) (alone_plain d))
     (either (bytes_eq name (codes "watch-list")) _ _ (plain_plain d WatchList)
+    (either (bytes_eq name (codes "trigger")) _ _ (either (is_none (at 3 d)) _ _ (defined_plain (text_at 1 d) (object_at 2 d)) refl)
+    (either (bytes_eq name (codes "trigger-list")) _ _ (with_plain (λ path. TriggerList path) (root_alone d) (alone_plain d))
+    (either (bytes_eq name (codes "trigger-del")) _ _ (either (is_none (at 3 d)) _ _ (deleted_plain (text_at 1 d) (text_at 2 d)) refl)
     (either (bytes_eq name (codes "observe")) _ _ (either (is_none (at 3 d)) _ _ (observed_plain (text_at 1 d) (option_and_then pairs_of (at 2 d))) refl)
     (either (bytes_eq name (codes "listing")) _ _ (either (is_none (at 5 d)) _ _ (listed_plain (text_at 1 d) (option_and_then count_of (at 2 d)) (text_at 3 d) (option_and_then files_of (at 4 d))) refl)
     (either (bytes_eq name (codes "clock")) _ _ (with_plain (λ path. Clock path) (root_alone d) (alone_plain d))
-    (either (bytes_eq name (codes "since")) _ _ (either (is_none (at 3 d)) _ _ (since_plain (unwrap_or (option_map may_be_clock (at 2 d)) false) (text_at 1 d) (option_and_then spec_of (text_at 2 d))) refl) refl))))))
+    (either (bytes_eq name (codes "since")) _ _ (either (is_none (at 3 d)) _ _ (since_plain (unwrap_or (option_map may_be_clock (at 2 d)) false) (text_at 1 d) (option_and_then spec_of (text_at 2 d))) refl) refl))))))))))
 
 text_plain : (o : Option Data) → tells_fault (request_of_text o) ≡ false
 unfolding request_of
@@ -105,6 +136,7 @@ line_plain line = text_plain (text_of line)
 
 abbrev pub reply_fault : Reply → Bool
 reply_fault reply.Changed = false
+reply_fault reply.Replaced = false
 reply_fault reply.Unchanged = false
 reply_fault (reply.Refused r) = is_fault r
 
@@ -112,17 +144,45 @@ either_reply : (b : Bool) (x y : Reply) → reply_fault x ≡ false → reply_fa
 either_reply true x y p q = p
 either_reply false x y p q = q
 
-by_plain : (r : Reply) (d : Data) (s : State) → reply_fault r ≡ false → tells_fault (by_reply r d s).reply ≡ false
+by_plain : (r : Reply) (d : Reply → Data) (s : State) → reply_fault r ≡ false → tells_fault (by_reply r d s).reply ≡ false
 by_plain reply.Changed d s h = refl
+by_plain reply.Replaced d s h = refl
 by_plain reply.Unchanged d s h = refl
 by_plain (reply.Refused r) d s h = h
 
-watch_plain : (s : State) (path : List ℕ) → tells_fault (commanded s (command.Watch path) (watch_reply path)).reply ≡ false
-watch_plain s path =
-    by_plain (reply_to_command s (command.Watch path)) (watch_reply path) (state_after_command s (command.Watch path))
-    (either_reply s.has_failed (reply.Refused StoreFailed) (registry.reply_to s.registry (command.Watch path)) refl
-    (either_reply (is_watched path s.registry.roots) _ _ refl
-    (either_reply (nat_lt (length s.registry.roots) 256) _ _ (either_reply (nat_lt s.registry.next registry.last) _ _ refl refl) refl)))
+full_plain : (new : roots.State) (r : Reply) → reply_fault r ≡ false → reply_fault (registry.unless_full new r) ≡ false
+full_plain new r h = either_reply (nat_lt 1048563 (length (state_spelling new))) (reply.Refused Full) r refl h
+
+at_root_plain : (f : Root → Reply) (root : Option Root) → ((x : Root) → reply_fault (f x) ≡ false) → reply_fault (option_map_or f root (reply.Refused NotWatched)) ≡ false
+at_root_plain f None h = refl
+at_root_plain f (Some root) h = h root
+
+met_trigger_plain : (s : roots.State) (path : List ℕ) (t : Definition) (root : Root) → reply_fault (registry.reply_to_trigger s path t root) ≡ false
+met_trigger_plain s path t root =
+    let new = roots.with_triggers s path root (defined t root.triggers) in
+    either_reply (list_any (same_definition t) root.triggers) _ _ refl
+    (either_reply (has_trigger t.name root.triggers) _ _ (full_plain new reply.Replaced refl)
+    (either_reply (nat_lt (length root.triggers) 64) _ _ (full_plain new reply.Changed refl) refl))
+
+registry_plain : (s : roots.State) (c : Command) → reply_fault (registry.reply_to s c) ≡ false
+registry_plain s command.Begin = either_reply (nat_lt s.incarnation registry.last) _ _ refl refl
+registry_plain s (command.Watch path) =
+    either_reply (roots.is_watched path s) _ _ refl
+    (either_reply (nat_lt (length s.roots) 256) _ _ (either_reply (nat_lt s.next registry.last) _ _ (full_plain (registry.watched s path) reply.Changed refl) refl) refl)
+registry_plain s (command.WatchDel path) = either_reply (roots.is_watched path s) _ _ refl refl
+registry_plain s (command.Trigger path t) = at_root_plain (registry.reply_to_trigger s path t) (roots.root_at path s) (met_trigger_plain s path t)
+registry_plain s (command.TriggerDel path name) =
+    at_root_plain (λ root. cond (has_trigger name root.triggers) reply.Changed reply.Unchanged) (roots.root_at path s) (λ root. either_reply (has_trigger name root.triggers) _ _ refl refl)
+
+commanded_plain : (s : State) (c : Command) → tells_fault (commanded s c).reply ≡ false
+commanded_plain s c =
+    by_plain (reply_to_command s c) (command_reply c) (state_after_command s c)
+    (either_reply (is_begin c) (reply.Refused BadArguments) _ refl
+    (either_reply s.has_failed (reply.Refused StoreFailed) (registry.reply_to s.registry c) refl (registry_plain s.registry c)))
+
+triggers_plain : (s : State) (root : Option Root) → tells_fault (triggers_met s root).reply ≡ false
+triggers_plain s None = refl
+triggers_plain s (Some root) = refl
 
 -- a refusal that is a fault
 abbrev pub option_fault : Option Refusal → Bool
@@ -186,7 +246,11 @@ answer_plain (Some view) question = either view.ready (Ok (answer_by (λ entry. 
 
 met_plain : (s : State) (moment : ℕ) (r : Result Request Refusal) → tells_fault r ≡ false → tells_fault (met_or_refused s moment r).reply ≡ false
 met_plain s moment (Ok Version) h = refl
-met_plain s moment (Ok (Watch path)) h = watch_plain s path
+met_plain s moment (Ok (Watch path)) h = commanded_plain s (command.Watch path)
+met_plain s moment (Ok (WatchDel path)) h = commanded_plain s (command.WatchDel path)
+met_plain s moment (Ok (Trigger path t)) h = commanded_plain s (command.Trigger path t)
+met_plain s moment (Ok (TriggerList path)) h = triggers_plain s (roots.root_at path s.registry)
+met_plain s moment (Ok (TriggerDel path name)) h = commanded_plain s (command.TriggerDel path name)
 met_plain s moment (Ok WatchList) h = refl
 met_plain s moment (Ok (Observe root pairs)) h = operated_plain s root (view_after (view_of s root) (op.Observe moment pairs)) (after_plain (view_of s root) (op.Observe moment pairs))
 met_plain s moment (Ok (Listing root begun_at files)) h = listing_plain s root (view_of s root) (op.Recrawl moment begun_at files)
@@ -198,6 +262,7 @@ one_fault : (way : Way) (defined : Result Data Refusal) (r : Refusal) → tells_
 one_fault Defined defined r plain fault e = absurd (true≢false (sym fault ∙ (ap (λ (x : Result Data Refusal). tells_fault x) (sym e) ∙ plain)))
 one_fault Device defined r plain fault e = refl
 one_fault Memory defined r plain fault e = refl
+one_fault Spent defined r plain fault e = let bad : true ≡ false = sym fault ∙ ap (λ (x : Result Data Refusal). tells_fault x) (sym e) in absurd cc
 
 -- a fault that is told is one
 pub fault_told : (old new : Standing) (moment : ℕ) (line before after : List ℕ) (r : Refusal) → is_fault r ≡ true → Refuses (line_met old.state moment line) r (page old before) (page new after)

@@ -1,26 +1,36 @@
 -- Lines over a file.
-use Rattle.std.proofs.Common.{◌≡◌, ℕ, ◌+◌, List, [], ◌∷◌, ◌++◌, true, false, Option, Some, None, cond, Result, Ok, Err, refl, sym, ap, ◌∙◌, subst, append_assoc}
+use Rattle.std.proofs.Common.{◌≡◌, ◌≤◌, ℕ, ◌+◌, List, [], ◌∷◌, true, false, Option, Some, None, cond, Result, Ok, Err, refl, sym, ap, ◌∙◌, subst, arith}
 use Rattle.std.specs.List.{AllByRecursion}
 use Rattle.wm_disk.specs.declared.refusal.Refusal.{Refusal}
 use Rattle.wm_disk.specs.declared.refusal.Refusal.TheVariants.{BadCommand}
+use Rattle.wm_disk.specs.declared.refusal.Refusal.TheVariants as refusals
 use Rattle.wm_names.specs.Paths.{Path}
 use Rattle.wm_view.specs.declared.op.Op.{Op}
 use Rattle.wm_view.specs.declared.op.Op.TheVariants as op
 use Rattle.wm_view.specs.Summaries.{Summary}
 use Rattle.serde_json.specs.Data.{Data}
+use Rattle.wm_disk.specs.declared.disk.Disk.{Ghosts}
+use Rattle.wm_checkpoint.specs.Machines.{replay_on}
 use Rattle.wm_registry.specs.declared.command.Command.TheVariants.{Begin}
-use Rattle.wm_registry.specs.Registry as registry
-use Rattle.wm_registry.specs.Meaning.{Leads, Means}
-use Rattle.wm_registry.proofs.Replays.{leads-one, leads-then}
+use Rattle.wm_registry.specs.declared.reply.Reply.TheVariants.{Changed}
+use Rattle.wm_registry.specs.declared.root.Root.{Root}
+use Rattle.wm_registry.specs.MachineLaws.{watches}
+use Rattle.wm_registry.specs.Registry.{after, reply_to}
+use Rattle.wm_registry.specs.Roots as registry
+use Rattle.wm_store.specs.Openings.{IsFound}
+use Rattle.wm_store.specs.Stored.{Stored}
 use Rattle.wm_server.specs.declared.request.Request.{Request}
-use Rattle.wm_server.specs.declared.request.Request.TheVariants.{Version, Watch, WatchList, Observe, Listing, Clock, Since}
+use Rattle.wm_server.specs.declared.request.Request.TheVariants.{Version, Watch, WatchDel, WatchList, Trigger, TriggerList, TriggerDel, Observe, Listing, Clock, Since}
 use Rattle.wm_server.specs.Inputs.{lines_of}
 use Rattle.wm_server.specs.Lines.{request_of_line}
-use Rattle.wm_server.specs.Locals.{Begun, Grows}
-use Rattle.wm_server.specs.Sessions.{State, question_met, line_met, listing_met, met_or_refused, operation_met, refused, since_question, view_of}
+use Rattle.wm_server.specs.LocalLaws.{rose_later}
+use Rattle.wm_server.specs.Locals.{CloseRefused}
+use Rattle.wm_server.specs.declared.local.LocalFront.{LocalFront}
+use Rattle.wm_server.specs.Sessions.{State, question_met, line_met, listing_met, met_or_refused, operation_met, refused, since_question, triggers_met, view_of}
+use Rattle.wm_server.specs.Stores.{IsKeptOn, Later, LeadsTo, LinesRefused, StartCut, StartRefused, standing_with, state_with}
 use Rattle.wm_server.specs.Replies.{clock_reply, since_reply}
 use Rattle.wm_server.specs.Watched.{answer_of, clock_answer, first_views, view_after}
-use Rattle.wm_server.specs.Faults.{Standing, Way, Defined, Device, Memory, state_or}
+use Rattle.wm_server.specs.Faults.{Standing, Way, Defined, Device, Memory, Spent, state_or}
 use Rattle.wm_server.specs.Runs.{Run, Served}
 use Rattle.wm_server.specs.Programs.{IsQuiet, Kept, LinesServed, first_state, line_number}
 
@@ -42,10 +52,18 @@ asked_failed : {A : Type 0} (s : State) (r : Result A Refusal) (to_reply : A →
 asked_failed s (Ok a) to_reply = refl
 asked_failed s (Err e) to_reply = refl
 
+listed_triggers_failed : (s : State) (root : Option Root) → (triggers_met s root).state.has_failed ≡ s.has_failed
+listed_triggers_failed s None = refl
+listed_triggers_failed s (Some root) = refl
+
 met_failed : (s : State) (moment : ℕ) (r : Result Request Refusal) → s.has_failed ≡ true → (met_or_refused s moment r).state.has_failed ≡ true
 met_failed s moment (Ok Version) e = e
 met_failed s moment (Ok (Watch path)) e = rw e refl
+met_failed s moment (Ok (WatchDel path)) e = rw e refl
 met_failed s moment (Ok WatchList) e = e
+met_failed s moment (Ok (Trigger path trigger)) e = rw e refl
+met_failed s moment (Ok (TriggerList path)) e = listed_triggers_failed s (registry.root_at path s.registry) ∙ e
+met_failed s moment (Ok (TriggerDel path name)) e = rw e refl
 met_failed s moment (Ok (Observe root pairs)) e = operated_failed s root (view_after (view_of s root) (op.Observe moment pairs)) ∙ e
 met_failed s moment (Ok (Listing root begun_at found)) e = listed_failed s root (view_of s root) (op.Recrawl moment begun_at found) ∙ e
 met_failed s moment (Ok (Clock root)) e = asked_failed s (clock_answer (view_of s root)) clock_reply ∙ e
@@ -56,6 +74,7 @@ way_failed : (way : Way) (s : State) (moment : ℕ) (line : List ℕ) → s.has_
 way_failed Defined s moment line e = met_failed s moment (request_of_line line) e
 way_failed Device s moment line e = refl
 way_failed Memory s moment line e = e
+way_failed Spent s moment line e = e
 
 stays_failed : (old : Standing) (moment : ℕ → ℕ) (k : ℕ) (lines : List (List ℕ)) (ways : List Way) (bytes : List ℕ) (new : Standing) → old.state.has_failed ≡ true → Run old moment k lines ways bytes new → new.state.has_failed ≡ true
 stays_failed old moment k [] [] bytes new e r = ap (λ (s : Standing). s.state.has_failed) r.1 ∙ e
@@ -70,6 +89,7 @@ quiet_way : (way : Way) (s : State) (moment : ℕ) (line : List ℕ) → ((state
 quiet_way Defined s moment line works = tt
 quiet_way Device s moment line works = works refl
 quiet_way Memory s moment line works = tt
+quiet_way Spent s moment line works = tt
 
 quiet_run : (old : Standing) (moment : ℕ → ℕ) (k : ℕ) (lines : List (List ℕ)) (ways : List Way) (bytes : List ℕ) (new : Standing) → new.state.has_failed ≡ false → Run old moment k lines ways bytes new → AllByRecursion IsQuiet ways
 quiet_run old moment k [] [] bytes new e r = tt
@@ -84,36 +104,60 @@ quiet_run old moment k (line ∷ lines) (way ∷ ways) bytes new e r = (
 
 -- ---- all of a session
 
-pub kept : (content begun_content content' : List ℕ) (begun left : registry.State) → (b : Begun content begun begun_content) → Grows begun_content begun content' left → Kept content b.was left content'
-kept content begun_content content' begun left b g =
-    let grown : content' ≡ content ++ 0 ∷ g.tail = g.grown ∙ ap (λ (t : List ℕ). t ++ g.tail) b.content_is ∙ append_assoc content (0 ∷ []) g.tail in
-    let leads : Leads g.tail (registry.after b.was Begin) left = subst (λ (r : registry.State). Leads g.tail r left) b.registry_is g.leads in
-    let from_begin : Leads (0 ∷ g.tail) b.was left = leads-then (0 ∷ []) g.tail b.was (registry.after b.was Begin) left (leads-one b.was Begin tt b.begins) leads in
-    record {
-      means = b.means;
-      begins = b.begins;
-      accepted = g.tail;
-      content_is = grown;
-      leads = leads;
-      means_now = subst (λ (t : List ℕ). Means t left) (sym grown) (leads-then content (0 ∷ g.tail) registry.fresh b.was left b.means from_begin);
-    }
-
-same_state : (s : State) (was : registry.State) → s.registry ≡ registry.after was Begin → s.has_failed ≡ false → s.views ≡ first_views s.registry → s ≡ first_state was
+same_state : (s : State) (was : registry.State) → s.registry ≡ after was Begin → s.has_failed ≡ false → s.views ≡ first_views s.registry → s ≡ first_state was
 same_state s was e works views = λ i. record { registry = e i; has_failed = works i; views = (views ∙ ap first_views e) i }
 
-pub lines_served : (content begun_content content' : List ℕ) (begun : State) (failures faults : ℕ) (input : List ℕ) (held holds : Option (List ℕ)) (left : Standing)
-    → begun.has_failed ≡ false → begun.views ≡ first_views begun.registry → left.state.has_failed ≡ false → Begun content begun.registry begun_content
-    → Served (record { state = begun; failures = failures }) line_number 0 input faults held holds left → Grows begun_content begun.registry content' left.state.registry → LinesServed content input held holds content'
-lines_served content begun_content content' begun failures faults input held holds left works views worked b s g =
-    let start : begun ≡ first_state b.was = same_state begun b.was b.registry_is works views in
-    record {
-      was = b.was;
-      before = failures;
-      ways = s.ways;
-      quiet = quiet_run (record { state = begun; failures = failures }) line_number 0 (lines_of input) s.ways s.bytes left worked s.run;
-      bytes = s.bytes;
-      left = left;
-      run = subst (λ (t : State). Run (record { state = t; failures = failures }) line_number 0 (lines_of input) s.ways s.bytes left) start s.run;
-      appends = s.appends;
-      kept = kept content begun_content content' begun.registry left.state.registry b g;
-    }
+module _ {D : Type 0} (disk : Ghosts D) where
+  -- a store was opened, went on to left, and what it had then was kept
+  pub record Session (old : D) (begun left : Stored D) (new : D) : Type 0 where
+    pub works : begun.failed ≡ false
+    pub start : (found : registry.State) × (reply_to found Begin ≡ Changed) × (begun.registry ≡ after found Begin) × IsFound disk old begun.disk found
+    pub leads : LeadsTo disk begun left
+    pub kept : IsKeptOn disk left.registry new
+
+  pub keeps : (old : D) (begun left : Stored D) (new : D) → (s : Session old begun left new) → Kept disk old s.start.0 left.registry new
+  keeps old begun left new s =
+      let commits = s.leads.commits s.works in
+      record {
+        means = s.start.3.means;
+        begins = s.start.1;
+        accepted = commits.accepted;
+        replayed = commits.registry ∙ ap (λ (r : registry.State). replay_on watches r commits.accepted) s.start.2;
+        kept = s.kept;
+      }
+
+  pub lines_served : (old : D) (begun left : Stored D) (views views' : List Summary) (new : D) (faults : ℕ) (input : List ℕ) (held holds : Option (List ℕ))
+      → Session old begun left new → views ≡ first_views begun.registry → left.failed ≡ false
+      → Served (standing_with disk begun views) line_number 0 input faults held holds (standing_with disk left views') → LinesServed disk old input held holds new
+  lines_served old begun left views views' new faults input held holds s views_are worked served =
+      let start : state_with begun views ≡ first_state s.start.0 = same_state (state_with begun views) s.start.0 s.start.2 s.works views_are in
+      record {
+        was = s.start.0;
+        before = disk.failures begun.disk;
+        number = begun.number;
+        ways = served.ways;
+        quiet = quiet_run (standing_with disk begun views) line_number 0 (lines_of input) served.ways served.bytes (standing_with disk left views') worked served.run;
+        bytes = served.bytes;
+        left = standing_with disk left views';
+        run = subst (λ (t : State). Run (record { state = t; failures = disk.failures begun.disk; number = begun.number }) line_number 0 (lines_of input) served.ways served.bytes (standing_with disk left views')) start served.run;
+        appends = served.appends;
+        kept = keeps old begun left new s;
+      }
+
+  -- ---- a refusal
+
+  pub start_refused : (old new : D) (e : Refusal) → StartRefused disk e old new → StartCut disk old new → LinesRefused disk e old new
+  start_refused old new refusals.DeviceFailed why cut = why
+  start_refused old new refusals.StoreFailed why cut = absurd why
+  start_refused old new e why cut = (why, cut)
+
+  -- the device failed meanwhile, or at the close
+  pub close_refused : {g : Ghosts D} (old : D) (begun : Stored D) (left : LocalFront D g) (new : D) (e : Refusal) → Later disk old begun.disk → begun.failed ≡ false → LeadsTo disk begun left.store → Later disk left.store.disk new
+      → CloseRefused disk e left new → LinesRefused disk e old new
+  close_refused old begun left new refusals.StoreFailed first works leads last why = λ below.
+      let there = rose_later (disk.failures old) (disk.failures begun.disk) (disk.failures left.store.disk) first.count (leads.cause works why) leads.later.count below in
+      omega (arith, there, last.count)
+  close_refused old begun left new refusals.DeviceFailed first works leads last why =
+      let so_far : disk.failures old ≤ disk.failures left.store.disk = omega (arith, first.count, leads.later.count) in
+      rose_later (disk.failures old) (disk.failures left.store.disk) (disk.failures new) so_far why last.count
+  close_refused old begun left new e first works leads last why = absurd why

@@ -1,26 +1,66 @@
 -- The texts of replies.
-use Rattle.std.proofs.Common.{◌≡◌, ◌<◌, ◌/◌, ◌%◌, ◌==◌, ℕ, zero, suc, cond, List, [], ◌∷◌, ◌++◌, true, false, refl, sym, ap, ◌∙◌, arith, append_assoc, codes, decimal}
+use Rattle.std.proofs.Common.{◌≡◌, ◌<◌, ◌/◌, ◌%◌, ◌==◌, ℕ, zero, suc, cond, List, [], ◌∷◌, ◌++◌, true, false, refl, sym, ap, ◌∙◌, arith, append_assoc, codes, decimal, map, Option, Some, None}
+use Rattle.std.specs.Map.{keys_of}
 use Rattle.std.specs.Fmt.{digit_glyph, digits, digits_onto}
 use Rattle.std.proofs.lemmas.Bool.Decides.{nat_tests}
 use Rattle.json.specs.Print.{escape, escape_byte}
 use Rattle.wm_clock.specs.Clocks.{clock_text}
 use Rattle.wm_clock.specs.declared.clock_id.ClockId.{ClockId}
-use Rattle.serde_json.specs.Data.{member, no_members, object, string}
+use Rattle.serde_json.specs.Data.{Data, Members, member, no_members, object, string}
 use Rattle.serde_json.specs.View.{items_of}
-use Rattle.serde_json.specs.Written.{has_float, items_have_float}
+use Rattle.serde_json.specs.Written.{has_float, items_have_float, members_have_float}
 use Rattle.serde_json.proofs.OnLiterals.{serde_json_on_literals}
 use Rattle.wm_disk.specs.Refusals.{text_of}
 use Rattle.wm_disk.specs.declared.refusal.Refusal.{Refusal}
 use Rattle.wm_disk.specs.declared.refusal.Refusal.TheVariants.{BadLine, BadCommand, BadArguments, BadPath, NotWatched, NotReady, BadClock, BadExpression, BadField, BadTrigger, Full, StoreFailed, DeviceFailed, Damaged, Exhausted, NoMemory, TooMany, NoPlace, NoQuestion, Retired}
-use Rattle.wm_registry.specs.declared.registry.Root.{Root}
-use Rattle.wm_server.specs.Replies.{clock_reply, paths_of, roots_reply, line_text, refusal_reply}
+use Rattle.wm_names.specs.Paths.{Path}
+use Rattle.wm_registry.specs.declared.root.Root.{Root}
+use Rattle.wm_registry.specs.declared.command.Command.{Command}
+use Rattle.wm_registry.specs.declared.command.Command.TheVariants as command
+use Rattle.wm_registry.specs.declared.reply.Reply.{Reply}
+use Rattle.wm_registry.specs.Triggers.{Definition}
+use Rattle.wm_server.specs.Replies.{clock_reply, command_reply, paths_of, roots_reply, line_text, refusal_reply, stdin_text, trigger_data, triggers_reply, with_expression}
 
-paths_no_float : (roots : List Root) → items_have_float (items_of (paths_of roots)) ≡ false
+paths_no_float : (roots : List (Path × Root)) → items_have_float (items_of (paths_of roots)) ≡ false
 paths_no_float [] = refl
 paths_no_float (root ∷ roots) = paths_no_float roots
 
-pub roots_no_float : (roots : List Root) → has_float (roots_reply roots) ≡ false
+pub roots_no_float : (roots : List (Path × Root)) → has_float (roots_reply roots) ≡ false
 roots_no_float roots = rw (paths_no_float roots) refl
+
+-- the paths are the keys
+pub paths_by_keys : (roots : List (Path × Root)) → paths_of roots ≡ map (λ path. string path) (keys_of roots)
+paths_by_keys [] = refl
+paths_by_keys (root ∷ roots) = ap (λ (rest : List Data). string root.0 ∷ rest) (paths_by_keys roots)
+
+words_no_float : (words : List (List ℕ)) → items_have_float (items_of (map (λ word. string word) words)) ≡ false
+words_no_float [] = refl
+words_no_float (word ∷ words) = words_no_float words
+
+expression_no_float : (expression : Option (List ℕ)) (rest : Members) → members_have_float rest ≡ false → members_have_float (with_expression expression rest) ≡ false
+expression_no_float None rest h = h
+expression_no_float (Some text) rest h = h
+
+trigger_no_float : (t : Definition) → has_float (trigger_data t) ≡ false
+trigger_no_float t =
+    let shown : Members = member (codes "name") (string t.name) (member (codes "stdin") (string (stdin_text t.stdin)) no_members) in
+    let words : items_have_float (items_of (map (λ word. string word) t.command)) ≡ false = words_no_float t.command in
+    let rest : members_have_float (with_expression t.expression shown) ≡ false = expression_no_float t.expression shown refl in
+    rw (words, rest) refl
+
+each_no_float : (triggers : List Definition) → items_have_float (items_of (map trigger_data triggers)) ≡ false
+each_no_float [] = refl
+each_no_float (t ∷ ts) = rw (trigger_no_float t, each_no_float ts) refl
+
+pub triggers_no_float : (triggers : List Definition) → has_float (triggers_reply triggers) ≡ false
+triggers_no_float triggers = rw (each_no_float triggers) refl
+
+pub command_no_float : (c : Command) (r : Reply) → has_float (command_reply c r) ≡ false
+command_no_float command.Begin r = refl
+command_no_float (command.Watch path) r = refl
+command_no_float (command.WatchDel path) r = refl
+command_no_float (command.Trigger path trigger) r = refl
+command_no_float (command.TriggerDel path name) r = refl
 
 -- the line of a refusal, around its text
 pub refusal_line : (r : Refusal) → line_text (refusal_reply r) ≡ (codes "{\"error\":\"" ++ text_of r) ++ codes "\",\"version\":\"w1\"}\n"

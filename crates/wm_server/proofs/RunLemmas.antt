@@ -13,7 +13,7 @@ use Rattle.wm_server.specs.Lines.{text_of, max_line, request_of_text}
 use Rattle.wm_server.proofs.Texts.{text_of-cut}
 use Rattle.wm_server.specs.Replies.{line_text, refusal_reply, reply_bytes}
 use Rattle.wm_server.specs.Sessions.{State, Outcome, line_met, met_or_refused}
-use Rattle.wm_server.specs.Faults.{Standing, Way, Defined, Device, Memory, HasCause, Answers, faults_of, refusal_or, state_or}
+use Rattle.wm_server.specs.Faults.{Standing, Way, Defined, Device, Memory, Spent, HasCause, Lasts, Answers, faults_of, refusal_or, state_or}
 use Rattle.wm_server.specs.Runs.{Run, Served, ServedCleanly, Serves, output_of, state_after, faults_in}
 use Rattle.wm_server.specs.declared.input.LineRead.{LineRead}
 use Rattle.wm_server.specs.declared.input.LineRead.TheVariants as reads
@@ -81,6 +81,9 @@ pub no_memory_line : codes "{\"error\":\"16 NoMemory\",\"version\":\"w1\"}\n" �
 unfolding line_text serde_json_on_literals
 no_memory_line = refl
 
+stood : (old new : Standing) → new ≡ old → Lasts old new
+stood old new same = record { failures = omega (arith, ap (λ (s : Standing). s.failures) same); number = omega (arith, ap (λ (s : Standing). s.number) same) }
+
 -- a line that was answered by want of memory, with nothing changed
 pub no_memory : (old new : Standing) (moment n : ℕ) (line : List ℕ) (held holds : Option (List ℕ)) → new ≡ old → n ≡ 1 → Appends held holds (reply_bytes (Err refusals.NoMemory)) → Serves old moment line n held holds new
 no_memory old new moment n line held holds same one appends = record {
@@ -88,7 +91,7 @@ no_memory old new moment n line held holds same one appends = record {
   bytes = reply_bytes (Err refusals.NoMemory);
   faults_are = one;
   appends = appends;
-  answers = record { cause = ap (λ (s : Standing). s.failures) same; bytes_are = refl; state_is = ap (λ (s : Standing). s.state) same };
+  answers = record { cause = (stood old new same, ap (λ (s : Standing). s.failures) same); bytes_are = refl; state_is = ap (λ (s : Standing). s.state) same };
 }
 
 -- ---- what two steps appended
@@ -105,10 +108,27 @@ appends-none (Some a) = sym (append-nil a)
 
 -- ---- a run without faults is the defined one
 
-no_faults : (way : Way) → faults_of way ≡ 0 → way ≡ Defined
-no_faults Defined e = refl
-no_faults Device e = absurd (omega arith)
-no_faults Memory e = absurd (omega arith)
+lasts : (way : Way) (accepts : Bool) (old new : Standing) → HasCause way accepts old new → Lasts old new
+lasts Defined accepts old new c = c
+lasts Device accepts old new c = c.2
+lasts Memory accepts old new c = c.0
+lasts Spent accepts old new c = c.1
+
+-- no line takes the slot's number back
+rises : (old : Standing) (moment : ℕ → ℕ) (k : ℕ) (lines : List (List ℕ)) (ways : List Way) (bytes : List ℕ) (new : Standing) → Run old moment k lines ways bytes new → old.number ≤ new.number
+rises old moment k [] [] bytes new r = omega (arith, ap (λ (s : Standing). s.number) r.1)
+rises old moment k [] (way ∷ ways) bytes new r = absurd r
+rises old moment k (line ∷ lines) [] bytes new r = absurd r
+rises old moment k (line ∷ lines) (way ∷ ways) bytes new r =
+    let here : Lasts old r.2 = lasts way (line_met old.state (moment k) line).accepts old r.2 r.4.cause in
+    omega (arith, here.number, rises r.2 moment (k + 1) lines ways r.1 new r.5)
+
+-- without a fault, and where the number isn't spent, a line was answered as it is defined
+no_faults : (way : Way) (accepts : Bool) (old new : Standing) → faults_of way ≡ 0 → HasCause way accepts old new → new.number < 9223372036854775807 → way ≡ Defined
+no_faults Defined accepts old new e c below = refl
+no_faults Device accepts old new e c below = absurd (omega arith)
+no_faults Memory accepts old new e c below = absurd (omega arith)
+no_faults Spent accepts old new e c below = absurd (omega (arith, c.3, below))
 
 clean_line : (way : Way) (old next : Standing) (moment : ℕ) (line front : List ℕ) → way ≡ Defined → Answers way old moment line front next
     → (front ≡ reply_bytes (line_met old.state moment line).reply) × (next.state ≡ (line_met old.state moment line).state)
@@ -117,14 +137,15 @@ clean_line way old next moment line front e a = (
   a.state_is ∙ ap (λ (w : Way). state_or w (line_met old.state moment line).state old.state) e,
 )
 
-clean : (old : Standing) (moment : ℕ → ℕ) (k : ℕ) (lines : List (List ℕ)) (ways : List Way) (bytes : List ℕ) (new : Standing) → faults_in ways ≡ 0 → Run old moment k lines ways bytes new
+clean : (old : Standing) (moment : ℕ → ℕ) (k : ℕ) (lines : List (List ℕ)) (ways : List Way) (bytes : List ℕ) (new : Standing) → faults_in ways ≡ 0 → new.number < 9223372036854775807 → Run old moment k lines ways bytes new
     → (bytes ≡ output_of old.state moment k lines) × (new.state ≡ state_after old.state moment k lines)
-clean old moment k [] [] bytes new none r = (r.0, ap (λ (s : Standing). s.state) r.1)
-clean old moment k [] (way ∷ ways) bytes new none r = absurd r
-clean old moment k (line ∷ lines) [] bytes new none r = absurd r
-clean old moment k (line ∷ lines) (way ∷ ways) bytes new none r =
-    let here = clean_line way old r.2 (moment k) line r.0 (no_faults way (omega arith)) r.4 in
-    let rest = clean r.2 moment (k + 1) lines ways r.1 new (omega arith) r.5 in
+clean old moment k [] [] bytes new none below r = (r.0, ap (λ (s : Standing). s.state) r.1)
+clean old moment k [] (way ∷ ways) bytes new none below r = absurd r
+clean old moment k (line ∷ lines) [] bytes new none below r = absurd r
+clean old moment k (line ∷ lines) (way ∷ ways) bytes new none below r =
+    let next : r.2.number < 9223372036854775807 = omega (arith, below, rises r.2 moment (k + 1) lines ways r.1 new r.5) in
+    let here = clean_line way old r.2 (moment k) line r.0 (no_faults way (line_met old.state (moment k) line).accepts old r.2 (omega arith) r.4.cause next) r.4 in
+    let rest = clean r.2 moment (k + 1) lines ways r.1 new (omega arith) below r.5 in
     let met = line_met old.state (moment k) line in (
       r.3 ∙ ap (λ (t : List ℕ). t ++ r.1) here.0 ∙ ap (λ (t : List ℕ). reply_bytes met.reply ++ t) (rest.0 ∙ ap (λ (s : State). output_of s moment (k + 1) lines) here.1),
       rest.1 ∙ ap (λ (s : State). state_after s moment (k + 1) lines) here.1,
@@ -213,12 +234,13 @@ ends old moment input held faults now place left holds reading kept left' l end 
     }
 
 pub cleanly : (old : Standing) (moment : ℕ → ℕ) (input : List ℕ) (held : Option (List ℕ)) (faults : ℕ) (now : Standing) (holds : Option (List ℕ))
-    → Served old moment 0 input faults held holds now → faults ≡ 0 → ServedCleanly old.state moment 0 input held holds now.state
-cleanly old moment input held faults now holds s none =
-    let c = clean old moment 0 (lines_of input) s.ways s.bytes now (sym s.faults_are ∙ none) s.run in
+    → Served old moment 0 input faults held holds now → faults ≡ 0 → now.number < 9223372036854775807 → ServedCleanly old.state moment 0 input held holds now.state
+cleanly old moment input held faults now holds s none below =
+    let c = clean old moment 0 (lines_of input) s.ways s.bytes now (sym s.faults_are ∙ none) below s.run in
     record { appends = subst (λ (t : List ℕ). Appends held holds t) c.0 s.appends; state_is = c.1 }
 
 pub few_faults : (way : Way) → faults_of way ≤ 1
 few_faults Defined = omega arith
 few_faults Device = omega arith
 few_faults Memory = omega arith
+few_faults Spent = omega arith

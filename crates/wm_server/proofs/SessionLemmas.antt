@@ -6,13 +6,12 @@ use Rattle.wm_names.specs.Paths.{Path}
 use Rattle.wm_clock.specs.declared.clock_id.ClockId.{ClockId}
 use Rattle.wm_view.specs.declared.op.Op.{Op}
 use Rattle.wm_view.specs.Summaries.{Summary}
-use Rattle.wm_registry.specs.declared.command.Command.TheVariants.{Watch}
-use Rattle.wm_registry.specs.declared.command.Reply.{Reply}
-use Rattle.wm_registry.specs.declared.command.Reply.TheVariants.{Changed, Unchanged, Refused}
-use Rattle.wm_server.specs.Faults.{Standing, Way, Defined, Device, Memory, HasCause, Operates, Submits, is_changed, refusal_or, reply_or, state_or}
+use Rattle.wm_registry.specs.declared.reply.Reply.{Reply}
+use Rattle.wm_registry.specs.declared.reply.Reply.TheVariants.{Changed, Replaced, Unchanged, Refused}
+use Rattle.wm_server.specs.Faults.{Standing, Way, Defined, Device, Memory, Spent, HasCause, Operates, refusal_or, state_or}
 use Rattle.wm_server.specs.Pages.{Grants, Refuses, page}
 use Rattle.wm_server.specs.Replies.{clock_reply, line_text, reply_bytes}
-use Rattle.wm_server.specs.Sessions.{State, by_reply, commanded, operation_met, reply_to_command, state_after_command, view_of}
+use Rattle.wm_server.specs.Sessions.{State, by_reply, operation_met, view_of}
 use Rattle.wm_server.specs.Watched.{clock_after, view_after}
 
 takes_no_command : (s : State) (root : Path) (r : Result Summary Refusal) → false ≡ (operation_met s root r).accepts
@@ -31,6 +30,7 @@ refusal_told Defined s root (Ok view) e is = absurd cc
 refusal_told Defined s root (Err r) e is = ap (err_of e) (sym is)
 refusal_told Device s root r e is = ap (err_of e) (sym is)
 refusal_told Memory s root r e is = ap (err_of e) (sym is)
+refusal_told Spent s root r e is = ap (err_of e) (sym is)
 
 pub operation_refused : (old new : Standing) (root : Path) (o : Op) (e : Refusal) (bytes : List ℕ) → Operates old root o (Err e) new
     → Refuses (operation_met old.state root (view_after (view_of old.state root) o)) e (page old bytes) (page new bytes)
@@ -53,6 +53,7 @@ done_is Defined s root (Ok view) clock is = (refl, ap (λ (x : Result ClockId Re
 done_is Defined s root (Err r) clock is = absurd cc
 done_is Device s root r clock is = absurd cc
 done_is Memory s root r clock is = absurd cc
+done_is Spent s root r clock is = absurd cc
 
 pub operation_done : (old new : Standing) (root : Path) (o : Op) (clock : ClockId) (bytes : List ℕ) → Operates old root o (Ok clock) new
     → Grants (operation_met old.state root (view_after (view_of old.state root) o)) (page old bytes) (page new (bytes ++ line_text (clock_reply clock)))
@@ -65,49 +66,11 @@ operation_done old new root o clock bytes m =
       state_is = m.state_is ∙ ap (λ w. state_or w (operation_met old.state root r).state old.state) is.0;
     }
 
--- ---- a command that is refused
+-- ---- a command
 
-reply_told : (way : Way) (r : Reply) (d : Data) (s : State) (e : Refusal) → Refused e ≡ reply_or way r → refusal_or way (by_reply r d s).reply ≡ Err e
-reply_told Defined Changed d s e is = absurd cc
-reply_told Defined Unchanged d s e is = absurd cc
-reply_told Defined (Refused r) d s e is = ap refusal_of (sym is)
-  where
-    refusal_of : Reply → Result Data Refusal
-    refusal_of (Refused x) = Err x
-    refusal_of Changed = Err e
-    refusal_of Unchanged = Err e
-reply_told Device r d s e is = ap refusal_of (sym is)
-  where
-    refusal_of : Reply → Result Data Refusal
-    refusal_of (Refused x) = Err x
-    refusal_of Changed = Err e
-    refusal_of Unchanged = Err e
-reply_told Memory r d s e is = ap refusal_of (sym is)
-  where
-    refusal_of : Reply → Result Data Refusal
-    refusal_of (Refused x) = Err x
-    refusal_of Changed = Err e
-    refusal_of Unchanged = Err e
-
-accepts_so : (r : Reply) (d : Data) (s : State) → is_changed r ≡ (by_reply r d s).accepts
-accepts_so Changed d s = refl
-accepts_so Unchanged d s = refl
-accepts_so (Refused e) d s = refl
-
-pub left_so : (r : Reply) (d : Data) (s : State) → s ≡ (by_reply r d s).state
+-- a command leaves the state that is handed to its outcome
+pub left_so : (r : Reply) (d : Reply → Data) (s : State) → s ≡ (by_reply r d s).state
 left_so Changed d s = refl
+left_so Replaced d s = refl
 left_so Unchanged d s = refl
 left_so (Refused e) d s = refl
-
-pub watch_refused : (old new : Standing) (path : Path) (d : Data) (e : Refusal) (bytes : List ℕ) → Submits old (Watch path) (Refused e) new
-    → Refuses (commanded old.state (Watch path) d) e (page old bytes) (page new bytes)
-watch_refused old new path d e bytes m =
-    let r = reply_to_command old.state (Watch path) in
-    let s = state_after_command old.state (Watch path) in
-    record {
-      way = m.way;
-      cause = subst (λ b. HasCause m.way b old new) (accepts_so r d s) m.cause;
-      reply_is = reply_told m.way r d s e m.reply_is;
-      state_is = m.state_is ∙ ap (λ x. state_or m.way x old.state) (left_so r d s);
-      bytes_are = refl;
-    }

@@ -2,59 +2,67 @@
 use Rattle.std.specs.Prelude.{◌≡◌, ◌≤◌, ℕ, List, Bool, true, false, Result, Err}
 use Rattle.wm_disk.specs.Contents.{Rose}
 use Rattle.wm_disk.specs.declared.refusal.Refusal.{Refusal}
-use Rattle.wm_disk.specs.declared.refusal.Refusal.TheVariants.{DeviceFailed, NoMemory}
+use Rattle.wm_disk.specs.declared.refusal.Refusal.TheVariants.{DeviceFailed, Exhausted, NoMemory}
 use Rattle.wm_names.specs.Paths.{Path}
 use Rattle.wm_clock.specs.declared.clock_id.ClockId.{ClockId}
 use Rattle.wm_view.specs.declared.op.Op.{Op}
 use Rattle.wm_registry.specs.declared.command.Command.{Command}
-use Rattle.wm_registry.specs.declared.command.Reply.{Reply}
-use Rattle.wm_registry.specs.declared.command.Reply.TheVariants as reply
+use Rattle.wm_registry.specs.declared.reply.Reply.{Reply}
+use Rattle.wm_registry.specs.declared.reply.Reply.TheVariants as reply
+use Rattle.wm_registry.specs.Registry.{is_change}
 use Rattle.wm_server.specs.Replies.{reply_bytes}
 use Rattle.wm_server.specs.Sessions.{State, line_met, operation_met, reply_to_command, state_after_command, view_of}
 use Rattle.wm_server.specs.Watched.{clock_after, view_after}
 
--- the state of a session, and how often the device under it has failed
+-- the state of a session, how often the device under it has failed, and the number of the slot in use
 pub record Standing : Type 0 where
   pub state : State
   pub failures : ℕ
+  pub number : ℕ
 
--- How a line was met: as it is defined; or the device failed, and then the store has failed; or a growth was refused, and then nothing changed.
+-- How a line was met: as it is defined; or the device failed, and then the store has failed; or a growth was refused, and then nothing
+-- changed; or the slot's number was spent, and then nothing changed.
 pub data Way : Type 0 where
   Defined : Way
   Device : Way
   Memory : Way
+  Spent : Way
+
+-- no number is taken back
+pub record Lasts (old new : Standing) : Type 0 where
+  pub failures : old.failures ≤ new.failures
+  pub number : old.number ≤ new.number
 
 -- the way has its cause; the device is asked only for a command that is to be accepted
 abbrev pub HasCause : Way → Bool → Standing → Standing → Type 0
-HasCause Defined accepts old new = old.failures ≤ new.failures
-HasCause Device accepts old new = (accepts ≡ true) × (old.state.has_failed ≡ false) × (old.failures ≤ new.failures) × Rose old.failures new.failures
-HasCause Memory accepts old new = new.failures ≡ old.failures
+HasCause Defined accepts old new = Lasts old new
+HasCause Device accepts old new = (accepts ≡ true) × (old.state.has_failed ≡ false) × Lasts old new × Rose old.failures new.failures
+HasCause Memory accepts old new = Lasts old new × (new.failures ≡ old.failures)
+HasCause Spent accepts old new = (accepts ≡ true) × Lasts old new × (new.failures ≡ old.failures) × (9223372036854775807 ≤ new.number)
 
 -- what is told in place of what is defined, and the state after it
 abbrev pub refusal_or : {A : Type 0} → Way → Result A Refusal → Result A Refusal
 refusal_or Defined defined = defined
 refusal_or Device defined = Err DeviceFailed
 refusal_or Memory defined = Err NoMemory
+refusal_or Spent defined = Err Exhausted
 
 abbrev pub reply_or : Way → Reply → Reply
 reply_or Defined defined = defined
 reply_or Device defined = reply.Refused DeviceFailed
 reply_or Memory defined = reply.Refused NoMemory
+reply_or Spent defined = reply.Refused Exhausted
 
 abbrev pub state_or : Way → State → State → State
 state_or Defined defined old = defined
 state_or Device defined old = record old { has_failed = true }
 state_or Memory defined old = old
-
-abbrev pub is_changed : Reply → Bool
-is_changed reply.Changed = true
-is_changed reply.Unchanged = false
-is_changed (reply.Refused r) = false
+state_or Spent defined old = old
 
 -- a front met a command
 pub record Submits (old : Standing) (command : Command) (result : Reply) (new : Standing) : Type 0 where
   pub way : Way
-  pub cause : HasCause way (is_changed (reply_to_command old.state command)) old new
+  pub cause : HasCause way (is_change (reply_to_command old.state command)) old new
   pub reply_is : result ≡ reply_or way (reply_to_command old.state command)
   pub state_is : new.state ≡ state_or way (state_after_command old.state command) old.state
 
@@ -69,6 +77,7 @@ abbrev pub faults_of : Way → ℕ
 faults_of Defined = 0
 faults_of Device = 1
 faults_of Memory = 1
+faults_of Spent = 0
 
 -- a refusal that comes where its cause comes, and not by what is defined
 abbrev pub is_fault : Refusal → Bool

@@ -18,5 +18,8 @@ pub mod Reading
 pub mod Replies
 pub mod Runs
 pub mod Sessions
+pub mod Stores
+pub mod ViewChanges
 pub mod Watched
+pub mod TriggerLines
 pub mod Words

@@ -12,7 +12,8 @@ use Rattle.wm_server.specs.Arguments.{root_alone}
 use Rattle.wm_server.specs.ClockLines.{since_request}
 use Rattle.wm_server.specs.ListingLines.{listing_request}
 use Rattle.wm_server.specs.PairLines.{observe_request}
-use Rattle.wm_server.specs.declared.request.Request.TheVariants.{Version, Watch, WatchList, Clock}
+use Rattle.wm_server.specs.declared.request.Request.TheVariants.{Version, Watch, WatchDel, WatchList, TriggerList, Clock}
+use Rattle.wm_server.specs.TriggerLines.{trigger_request, trigger_del_request}
 
 -- the most bytes of a line, its newline among them
 abbrev pub max_line : ℕ
@@ -41,12 +42,16 @@ command_named d None = Err BadCommand
 command_named d (Some name) =
     if bytes_eq name (codes "version") then plain_request d Version
     else (if bytes_eq name (codes "watch") then request_with (λ path. Watch path) (root_alone d)
+    else (if bytes_eq name (codes "watch-del") then request_with (λ path. WatchDel path) (root_alone d)
     else (if bytes_eq name (codes "watch-list") then plain_request d WatchList
+    else (if bytes_eq name (codes "trigger") then trigger_request d
+    else (if bytes_eq name (codes "trigger-list") then request_with (λ path. TriggerList path) (root_alone d)
+    else (if bytes_eq name (codes "trigger-del") then trigger_del_request d
     else (if bytes_eq name (codes "observe") then observe_request d
     else (if bytes_eq name (codes "listing") then listing_request d
     else (if bytes_eq name (codes "clock") then request_with (λ path. Clock path) (root_alone d)
     else (if bytes_eq name (codes "since") then since_request d
-    else Err BadCommand))))))
+    else Err BadCommand))))))))))
 
 unfoldable pub request_of : Data → Result Request Refusal
 request_of d = command_named d (option_and_then as_str (at 0 d))

@@ -1,30 +1,64 @@
--- Moments of a `LocalFront` follow each other.
-use Rattle.std.proofs.Common.{◌≡◌, ◌≤◌, ℕ, List, [], ◌++◌, Bool, true, false, refl, sym, ap, ◌∙◌, arith, inl, inr, append_assoc}
+-- Moments of a store follow each other.
+use Rattle.std.proofs.Common.{◌≡◌, ◌≤◌, ◌+◌, ℕ, List, [], ◌++◌, length, take, Bool, true, false, refl, sym, ap, ◌∙◌, subst, ⊎_elim, arith, inl, inr, append_assoc}
+use Rattle.std.proofs.Math.Seq.{take-append-add}
 use Rattle.std.proofs.lemmas.Bool.{cases_lt}
-use Rattle.std.proofs.lemmas.List.{append-nil}
+use Rattle.std.proofs.lemmas.List.{append-nil, length-append, take-append-le}
 use Rattle.wm_disk.specs.Contents.{Rose, last_count}
+use Rattle.wm_disk.specs.Moments.{LeavesOnly, then_runs}
 use Rattle.wm_disk.specs.declared.disk.Disk.{Ghosts}
-use Rattle.wm_registry.specs.Registry as registry
-use Rattle.wm_registry.proofs.Replays.{leads-none, leads-then}
-use Rattle.wm_server.specs.Locals.{Later, Grows, LeadsTo}
-use Rattle.wm_server.specs.declared.local.LocalFront.{LocalFront}
+use Rattle.wm_checkpoint.specs.Machines.{Meaning, replay_on}
+use Rattle.wm_checkpoint.specs.Meanings.{MeansState, MeansBeginning}
+use Rattle.wm_checkpoint.proofs.Outside.{replayed_append}
+use Rattle.wm_registry.specs.MachineLaws.{watches}
+use Rattle.wm_registry.specs.declared.command.Command.{Command}
+use Rattle.wm_store.specs.Stored.{Stored}
+use Rattle.wm_server.specs.Stores.{Later, Commits, LeadsTo}
 
-pub grows_none : (content : List ℕ) (state : registry.State) → Grows content state content state
-grows_none content state = record { tail = []; grown = sym (append-nil content); leads = leads-none state }
+-- ---- counts
 
-grows_then : (x y z : List ℕ) (a b c : registry.State) → Grows x a y b → Grows y b z c → Grows x a z c
-grows_then x y z a b c p q = record {
-  tail = p.tail ++ q.tail;
-  grown = q.grown ∙ ap (λ (t : List ℕ). t ++ q.tail) p.grown ∙ append_assoc x p.tail q.tail;
-  leads = leads-then p.tail q.tail a b c p.leads q.leads;
-}
-
-rose_later : (a b c : ℕ) → a ≤ b → Rose b c → b ≤ c → Rose a c
+pub rose_later : (a b c : ℕ) → a ≤ b → Rose b c → b ≤ c → Rose a c
 rose_later a b c le rose le' below =
     elim (cases_lt b last_count) [
       | inl lt ↦ let rest = rose lt in omega (arith, le, rest)
       | inr past ↦ omega (arith, le', below, past)
     ]
+
+not_failed : (b : Bool) → (b ≡ true → ⊥) → b ≡ false
+not_failed true h = absurd (h refl)
+not_failed false h = refl
+
+-- ---- what a crash leaves
+
+weaker : {D : Type 0} (moment : D → ℕ) (left_since : D → ℕ → List ℕ → Type 0) (old new : D) (P Q : List ℕ → Type 0) → LeavesOnly moment left_since old new P → ((c : List ℕ) → P c → Q c) → LeavesOnly moment left_since old new Q
+weaker moment left_since old new P Q run weaken = record {
+  later = run.later;
+  each = λ c left. weaken c (run.each c left);
+  before = λ t c le left. ⊎_elim inl (λ now. inr (weaken c now)) (run.before t c le left);
+}
+
+-- ---- beginnings of lists of commands
+
+module _ {S C : Type 0} (m : Meaning S C) where
+  -- a beginning of some commands is one of these with others behind them
+  pub more_behind : (state : S) (first second : List C) (content : List ℕ) → MeansBeginning m state first content → MeansBeginning m state (first ++ second) content
+  more_behind state first second content b = record {
+    count = b.count;
+    within = omega (arith, b.within, length-append first second);
+    means = subst (λ (l : List C). MeansState m (replay_on m state l) content) (sym (take-append-le b.count first second b.within)) b.means;
+  }
+
+  -- and so is one after some commands, with these in front of it
+  pub more_before : (state next : S) (first second : List C) (content : List ℕ) → next ≡ replay_on m state first → MeansBeginning m next second content → MeansBeginning m state (first ++ second) content
+  more_before state next first second content is b =
+      let here : replay_on m next (take b.count second) ≡ replay_on m state (take (length first + b.count) (first ++ second)) =
+      ap (λ (s : S). replay_on m s (take b.count second)) is ∙ sym (replayed_append m.after state first (take b.count second)) ∙ ap (λ (l : List C). replay_on m state l) (sym (take-append-add first second b.count)) in
+      record {
+        count = length first + b.count;
+        within = omega (arith, b.within, length-append first second);
+        means = subst (λ (s : S). MeansState m s content) here b.means;
+      }
+
+-- ---- moments of a store
 
 module _ {D : Type 0} (disk : Ghosts D) where
   pub later_same : (a : D) → Later disk a a
@@ -33,26 +67,62 @@ module _ {D : Type 0} (disk : Ghosts D) where
   pub later_then : (a b c : D) → Later disk a b → Later disk b c → Later disk a c
   later_then a b c p q = record { honest = λ h. p.honest (q.honest h); count = omega (arith, p.count, q.count) }
 
-  pub stays : (a : LocalFront D) → LeadsTo disk a a
-  stays a = record { later = later_same a.disk; failed = λ e. e; still = λ e. refl; cause = λ e f. let bad : false ≡ true = sym e ∙ f in absurd cc; grows = λ h e. grows_none (disk.seen a.disk) a.registry; durable = λ h e d. d }
+  -- nothing was done
+  pub commits_none : (a : Stored D) → Commits disk a a
+  commits_none a = record { accepted = []; in_flight = []; registry = refl; works = λ e. refl; any_moment = inl refl }
 
-  not_failed : (b : Bool) → (b ≡ true → ⊥) → b ≡ false
-  not_failed true h = absurd (h refl)
-  not_failed false h = refl
+  pub stays : (a : Stored D) → LeadsTo disk a a
+  stays a = record { later = later_same a.disk; failed = λ e. e; still = λ e. refl; cause = λ e f. let bad : false ≡ true = sym e ∙ f in absurd cc; commits = λ e. commits_none a }
 
   -- the device failed in the first part or in the second
-  rises : (a b c : LocalFront D) → LeadsTo disk a b → LeadsTo disk b c → (middle : Bool) → b.has_failed ≡ middle → a.has_failed ≡ false → c.has_failed ≡ true → Rose (disk.failures a.disk) (disk.failures c.disk)
+  rises : (a b c : Stored D) → LeadsTo disk a b → LeadsTo disk b c → (middle : Bool) → b.failed ≡ middle → a.failed ≡ false → c.failed ≡ true → Rose (disk.failures a.disk) (disk.failures c.disk)
   rises a b c p q true m e f = λ below. omega (arith, p.cause e m below, q.later.count)
   rises a b c p q false m e f = λ below. rose_later (disk.failures a.disk) (disk.failures b.disk) (disk.failures c.disk) p.later.count (q.cause m f) q.later.count below
 
-  pub goes_on : (a b c : LocalFront D) → LeadsTo disk a b → LeadsTo disk b c → LeadsTo disk a c
-  goes_on a b c p q =
-      let middle : c.has_failed ≡ false → b.has_failed ≡ false = λ e. not_failed b.has_failed (λ t. let bad : false ≡ true = sym e ∙ q.failed t in absurd cc) in
+  -- Two runs of commands are one.
+  both_run : (a b c : Stored D) → (disk.honest c.disk → disk.honest b.disk) → b.failed ≡ false → (p : Commits disk a b) (q : Commits disk b c)
+      → (disk.honest b.disk → LeavesOnly disk.moment disk.left_since a.disk b.disk (MeansBeginning watches a.registry (p.accepted ++ p.in_flight)))
+      → (disk.honest c.disk → LeavesOnly disk.moment disk.left_since b.disk c.disk (MeansBeginning watches b.registry (q.accepted ++ q.in_flight)))
+      → Commits disk a c
+  both_run a b c honest works p q first second =
+      let none : p.accepted ++ p.in_flight ≡ p.accepted = ap (λ (l : List Command). p.accepted ++ l) (p.works works) ∙ append-nil p.accepted in
+      let all : p.accepted ++ (q.accepted ++ q.in_flight) ≡ (p.accepted ++ q.accepted) ++ q.in_flight = sym (append_assoc p.accepted q.accepted q.in_flight) in
+      let Whole : List ℕ → Type 0 = MeansBeginning watches a.registry ((p.accepted ++ q.accepted) ++ q.in_flight) in
+      let of_first : (content : List ℕ) → MeansBeginning watches a.registry (p.accepted ++ p.in_flight) content → Whole content =
+      λ content begun. subst (λ (l : List Command). MeansBeginning watches a.registry l content) all
+      (more_behind watches a.registry p.accepted (q.accepted ++ q.in_flight) content (subst (λ (l : List Command). MeansBeginning watches a.registry l content) none begun)) in
+      let of_second : (content : List ℕ) → MeansBeginning watches b.registry (q.accepted ++ q.in_flight) content → Whole content =
+      λ content begun. subst (λ (l : List Command). MeansBeginning watches a.registry l content) all (more_before watches a.registry b.registry p.accepted (q.accepted ++ q.in_flight) content p.registry begun) in
       record {
-        later = later_then a.disk b.disk c.disk p.later q.later;
-        failed = λ e. q.failed (p.failed e);
-        still = λ e. q.still (p.failed e) ∙ p.still e;
-        cause = λ e f. rises a b c p q b.has_failed refl e f;
-        grows = λ h e. grows_then (disk.seen a.disk) (disk.seen b.disk) (disk.seen c.disk) a.registry b.registry c.registry (p.grows (q.later.honest h) (middle e)) (q.grows h e);
-        durable = λ h e d. q.durable h e (p.durable (q.later.honest h) (middle e) d);
+        accepted = p.accepted ++ q.accepted;
+        in_flight = q.in_flight;
+        registry = q.registry ∙ ap (λ s. replay_on watches s q.accepted) p.registry ∙ sym (replayed_append watches.after a.registry p.accepted q.accepted);
+        works = q.works;
+        any_moment = inr (λ h. then_runs disk.moment disk.left_since a.disk b.disk c.disk Whole (MeansBeginning watches b.registry (q.accepted ++ q.in_flight))
+            (weaker disk.moment disk.left_since a.disk b.disk (MeansBeginning watches a.registry (p.accepted ++ p.in_flight)) Whole (first (honest h)) of_first)
+            (second h)
+            of_second);
       }
+
+  commits_then : (a b c : Stored D) → (disk.honest c.disk → disk.honest b.disk) → b.failed ≡ false → Commits disk a b → Commits disk b c → Commits disk a c
+  commits_then a b c honest works p q =
+      elim p.any_moment [
+        | inl same ↦ subst (λ (s : Stored D). Commits disk s c) same q
+        | inr first ↦ elim q.any_moment [
+          | inl same ↦ subst (λ (s : Stored D). Commits disk a s) (sym same) p
+          | inr second ↦ both_run a b c honest works p q first second
+        ]
+      ]
+
+  commits_on : (a b c : Stored D) → LeadsTo disk a b → LeadsTo disk b c → a.failed ≡ false → (middle : Bool) → b.failed ≡ middle → Commits disk a c
+  commits_on a b c p q e true m = subst (λ (s : Stored D). Commits disk a s) (sym (q.still m)) (p.commits e)
+  commits_on a b c p q e false m = commits_then a b c q.later.honest m (p.commits e) (q.commits m)
+
+  pub goes_on : (a b c : Stored D) → LeadsTo disk a b → LeadsTo disk b c → LeadsTo disk a c
+  goes_on a b c p q = record {
+    later = later_then a.disk b.disk c.disk p.later q.later;
+    failed = λ e. q.failed (p.failed e);
+    still = λ e. q.still (p.failed e) ∙ p.still e;
+    cause = λ e f. rises a b c p q b.failed refl e f;
+    commits = λ e. commits_on a b c p q e b.failed refl;
+  }

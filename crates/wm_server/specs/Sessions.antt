@@ -13,18 +13,21 @@ use Rattle.wm_view.specs.Summaries.{Summary}
 use Rattle.wm_since.specs.Answers.{Question}
 use Rattle.wm_registry.specs.declared.command.Command.{Command}
 use Rattle.wm_registry.specs.declared.command.Command.TheVariants as command
-use Rattle.wm_registry.specs.declared.command.Reply.{Reply}
-use Rattle.wm_registry.specs.declared.command.Reply.TheVariants as reply
+use Rattle.wm_registry.specs.declared.reply.Reply.{Reply}
+use Rattle.wm_registry.specs.declared.reply.Reply.TheVariants as reply
+use Rattle.wm_registry.specs.declared.root.Root.{Root}
 use Rattle.wm_registry.specs.Registry as registry
+use Rattle.wm_registry.specs.Roots as roots
 use Rattle.wm_server.specs.declared.request.Request.{Request}
-use Rattle.wm_server.specs.declared.request.Request.TheVariants.{Version, Watch, WatchList, Observe, Listing, Clock, Since}
+use Rattle.wm_server.specs.declared.request.Request.TheVariants.{Version, Watch, WatchDel, WatchList, Trigger, TriggerList, TriggerDel, Observe, Listing, Clock, Since}
 use Rattle.wm_server.specs.Lines.{request_of_line}
-use Rattle.wm_server.specs.Replies.{version_reply, watch_reply, roots_reply, clock_reply, since_reply}
-use Rattle.wm_server.specs.Watched.{answer_of, clock_in, clock_answer, new_view, view_after, view_at, with_view}
+use Rattle.wm_store.specs.Batches.{is_begin}
+use Rattle.wm_server.specs.Replies.{version_reply, command_reply, roots_reply, triggers_reply, clock_reply, since_reply}
+use Rattle.wm_server.specs.Watched.{answer_of, clock_in, clock_answer, new_view, view_after, view_at, with_view, without_view}
 
 -- what lines read and change
 pub record State : Type 0 where
-  pub registry : registry.State
+  pub registry : roots.State
   -- the store has failed: each command is refused from then on
   pub has_failed : Bool
   -- one view a root, in order of watching
@@ -46,27 +49,32 @@ replied d s = record { reply = Ok d; state = s; accepts = false }
 
 -- how a command is met: a `Begin` is made by a start alone, and a store that has failed takes nothing
 abbrev pub reply_to_command : State → Command → Reply
-reply_to_command s command.Begin = reply.Refused BadArguments
-reply_to_command s (command.Watch path) = if s.has_failed then reply.Refused StoreFailed else registry.reply_to s.registry (command.Watch path)
+reply_to_command s command = if is_begin command then reply.Refused BadArguments else (if s.has_failed then reply.Refused StoreFailed else registry.reply_to s.registry command)
 
--- a root that begins to be watched has a new view
-abbrev pub watched : Reply → State → Path → State
-watched reply.Changed s path = record s { registry = registry.changed s.registry (command.Watch path); views = s.views ++ new_view s.registry.incarnation s.registry.next ∷ [] }
-watched reply.Unchanged s path = s
-watched (reply.Refused r) s path = s
+-- a root that begins to be watched has a new view, and one that isn't watched any longer has none
+abbrev pub views_after : State → Command → List Summary
+views_after s command.Begin = s.views
+views_after s (command.Watch path) = s.views ++ new_view s.registry.incarnation s.registry.next ∷ []
+views_after s (command.WatchDel path) = without_view path s.registry.roots s.views
+views_after s (command.Trigger path trigger) = s.views
+views_after s (command.TriggerDel path name) = s.views
+
+-- the state after a command that is accepted
+abbrev pub accepted : State → Command → State
+accepted s command = record s { registry = registry.changed s.registry command; views = views_after s command }
 
 abbrev pub state_after_command : State → Command → State
-state_after_command s command.Begin = s
-state_after_command s (command.Watch path) = watched (reply_to_command s (command.Watch path)) s path
+state_after_command s command = if registry.is_change (reply_to_command s command) then accepted s command else s
 
-abbrev pub by_reply : Reply → Data → State → Outcome
-by_reply reply.Changed d s = record { reply = Ok d; state = s; accepts = true }
-by_reply reply.Unchanged d s = replied d s
-by_reply (reply.Refused r) d s = refused r s
+abbrev pub by_reply : Reply → (Reply → Data) → State → Outcome
+by_reply reply.Changed to_reply s = record { reply = Ok (to_reply reply.Changed); state = s; accepts = true }
+by_reply reply.Replaced to_reply s = record { reply = Ok (to_reply reply.Replaced); state = s; accepts = true }
+by_reply reply.Unchanged to_reply s = replied (to_reply reply.Unchanged) s
+by_reply (reply.Refused r) to_reply s = refused r s
 
--- a command of the registry, with the reply to one that isn't refused
-abbrev pub commanded : State → Command → Data → Outcome
-commanded s command d = by_reply (reply_to_command s command) d (state_after_command s command)
+-- a command of the registry
+abbrev pub commanded : State → Command → Outcome
+commanded s command = by_reply (reply_to_command s command) (command_reply command) (state_after_command s command)
 
 -- ---- operations on views, and questions
 
@@ -93,6 +101,11 @@ abbrev pub question_met : {A : Type 0} → State → Result A Refusal → (A →
 question_met s (Ok a) to_reply = replied (to_reply a) s
 question_met s (Err r) to_reply = refused r s
 
+-- the triggers of a root
+abbrev pub triggers_met : State → Option Root → Outcome
+triggers_met s None = refused NotWatched s
+triggers_met s (Some root) = replied (triggers_reply root.triggers) s
+
 -- the since point that a text names: none in another instance
 abbrev pub since_point : ClockSpec → Option ClockId
 since_point (Moment c) = Some c
@@ -106,11 +119,15 @@ since_question spec = record { since = since_point spec; empty_on_fresh = false 
 -- a request at a moment
 abbrev pub met : State → ℕ → Request → Outcome
 met s moment Version = replied version_reply s
-met s moment (Watch path) = commanded s (command.Watch path) (watch_reply path)
+met s moment (Watch path) = commanded s (command.Watch path)
+met s moment (WatchDel path) = commanded s (command.WatchDel path)
 met s moment WatchList = replied (roots_reply s.registry.roots) s
 met s moment (Observe root pairs) = operation_met s root (view_after (view_of s root) (op.Observe moment pairs))
 met s moment (Listing root begun_at found) = listing_met s root (view_of s root) (op.Recrawl moment begun_at found)
 met s moment (Clock root) = question_met s (clock_answer (view_of s root)) clock_reply
+met s moment (Trigger path trigger) = commanded s (command.Trigger path trigger)
+met s moment (TriggerList path) = triggers_met s (roots.root_at path s.registry)
+met s moment (TriggerDel path name) = commanded s (command.TriggerDel path name)
 met s moment (Since root spec) = question_met s (answer_of (view_of s root) (since_question spec)) since_reply
 
 abbrev pub met_or_refused : State → ℕ → Result Request Refusal → Outcome

@@ -22,8 +22,8 @@ pub trait Front {
 
     /// Submits a command; a `Begin` is refused. After a failure of the device each later command is
     /// refused.
-    fn submit(&mut self, alloc: Global, command: &Command) -> Reply
-        ensures met { Submits (standing self.old) command.now result (standing self.new) }
+    fn submit(&mut self, alloc: Global, command: Command) -> Reply
+        ensures met { Submits (standing self.old) command result (standing self.new) }
         ensures later { leads_to self.old self.new };
 
     /// Performs an operation on the view of a watched root, and gives the root's clock after it.

@@ -6,7 +6,7 @@ ghost use Rattle.wm_view.specs.Summaries.{summary};
 ghost use Rattle.wm_since.specs.Answers.{Question, answer_to};
 ghost use Rattle.wm_server.specs.Watched.{AreOfHistories, answer_of, first_views, unless, view_after};
 ghost use Rattle.wm_server.specs.Sessions.{State, line_met};
-ghost use Rattle.wm_registry.specs.Registry as registry;
+ghost use Rattle.wm_registry.specs.Roots as registry;
 
 use wm_since::every_answer;
 use wm_view::every_operation;

@@ -24,6 +24,7 @@ pub mod run;
 mod session;
 #[cfg(test)]
 mod tests;
+mod triggers;
 mod watched;
 pub mod words;
 

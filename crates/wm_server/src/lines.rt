@@ -1,7 +1,7 @@
 //! The `lines` command: the lines of a reader over a state file.
 ghost use Rattle.std.specs.Prelude.{◌≡◌, ℕ, List, Some, OnOk};
 ghost use Rattle.std.specs.Io.KnownBytes.{Appends};
-ghost use Rattle.wm_server.specs.Locals.{IsDurable, Later};
+ghost use Rattle.wm_server.specs.Stores.{Later};
 ghost use Rattle.wm_server.specs.Endings.{Ends, status_of};
 ghost use Rattle.wm_server.specs.Programs.{LinesServed, message_of};
 
@@ -26,15 +26,14 @@ pub enum Ending {
 
 /// Answers the lines of a reader to a writer over the state file on a disk, and closes the file at the
 /// reader's end, or where the reader or the writer fails. The disk is handed back.
-pub fn serve_lines<D: Disk, R: BufRead, W: Write>(
+pub fn serve_lines<D: Disk + Drop, R: BufRead, W: Write>(
     alloc: Global,
     disk: D,
     reader: &mut R,
     writer: &mut W,
 ) -> (Ending, D)
     ensures served { result.0 ≡ Ending.Served → D.honest result.1 → (input : List ℕ) → R.remaining reader.old ≡ Some input →
-        LinesServed (D.seen disk) input (W.contents writer.old) (W.contents writer.new) (D.seen result.1) }
-    ensures durable { result.0 ≡ Ending.Served → D.honest result.1 → IsDurable D.Disk result.1 }
+        LinesServed D.Disk disk input (W.contents writer.old) (W.contents writer.new) result.1 }
     ensures refused { Ends D.Disk result.0 disk result.1 }
     ensures later { Later D.Disk disk result.1 }
 {
@@ -73,7 +72,7 @@ pub(crate) fn refuse<E: Write>(refusal: Refusal, faults: &mut E) -> u8
 
 /// All of `watchmand lines` on a disk, with its status: 0, or 1 with the reason told on `faults`. A
 /// reader or writer that failed is told as `DeviceFailed`.
-pub fn lines_on<D: Disk, R: BufRead, W: Write, E: Write>(
+pub fn lines_on<D: Disk + Drop, R: BufRead, W: Write, E: Write>(
     alloc: Global,
     disk: D,
     reader: &mut R,
@@ -81,8 +80,7 @@ pub fn lines_on<D: Disk, R: BufRead, W: Write, E: Write>(
     faults: &mut E,
 ) -> (u8, D)
     ensures served { result.0 ≡ 0 → D.honest result.1 → (input : List ℕ) → R.remaining reader.old ≡ Some input →
-        LinesServed (D.seen disk) input (W.contents writer.old) (W.contents writer.new) (D.seen result.1) }
-    ensures durable { result.0 ≡ 0 → D.honest result.1 → IsDurable D.Disk result.1 }
+        LinesServed D.Disk disk input (W.contents writer.old) (W.contents writer.new) result.1 }
     ensures quiet { result.0 ≡ 0 → faults.new ≡ faults.old }
     ensures refused { (ending : Ending) × (result.0 ≡ status_of ending) × Ends D.Disk ending disk result.1 }
     ensures later { Later D.Disk disk result.1 }

@@ -36,7 +36,7 @@ fn count_at(value: &Value, key: &str) -> Option<u64>
 }
 
 /// Whether a value is an object with so many keys.
-fn has_keys(value: &Value, n: usize) -> bool
+pub(crate) fn has_keys(value: &Value, n: usize) -> bool
     ensures { result ≡ has_keys_lem n (view value.now) }
 {
     match value.as_object() {

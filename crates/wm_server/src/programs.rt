@@ -24,7 +24,7 @@ pub fn watchmand<R: BufRead, W: Write, E: Write>(
     ensures fault { asked (map (λ word. word.now) words.now) ≡ shown_lem 2 → 0 < result }
 {
     match Words::read(alloc, words) {
-        Ok(Words::Format { file }) => format(files, &file, writer, faults),
+        Ok(Words::Format { file }) => format(alloc, files, &file, writer, faults),
         Ok(Words::Lines { file }) => lines::<Unknown, R, W, E>(
             alloc, files, &file, reader, writer, faults,
         ),
@@ -46,6 +46,7 @@ fn shown<W: Write>(text: &str, status: u8, writer: &mut W) -> u8
 
 /// `watchmand format FILE`: makes a state file, which must not be there yet.
 fn format<W: Write, E: Write>(
+    alloc: Global,
     files: &impl Files<File = File>,
     path: &str,
     writer: &mut W,
@@ -54,8 +55,11 @@ fn format<W: Write, E: Write>(
     ensures range { result ≤ 1 }
     ensures formatted { result ≡ 0 → Appends (W.contents writer.old) (W.contents writer.new) (codes "formatted\n") }
 {
-    if FileDisk::<Unknown>::create(files, path).is_err() {
+    let Ok(mut disk) = FileDisk::<Unknown>::create(files, path) else {
         return refuse(Refusal::DeviceFailed, faults);
+    };
+    if let Err(refusal) = wm_store::format(alloc, &mut disk) {
+        return refuse(refusal, faults);
     }
     match writer.write_all(b"formatted\n") {
         Ok(()) => 0,
@@ -84,6 +88,7 @@ fn lines<S: Start, R: BufRead, W: Write, E: Write>(
 #[cfg(test)]
 mod tests {
     use super::*;
+    use crate::tests::journal;
     use std::fs;
     use std::test::Fail;
 
@@ -155,10 +160,9 @@ mod tests {
         }
         let content = fs::read(&rt, PATH)?;
         fs::remove_file(&rt, PATH)?;
-        assert_eq!(rt;
-            content.as_slice(),
-            b"\x00\x01\x00\x00\x00\x02/r\x00".as_slice()
-        );
+        // a start and a watch, and another start
+        let used = b"\xa5\x00\xa5\x01\x00\x00\x00\x02/r\xa5\x00\x00".as_slice();
+        assert_eq!(rt; journal(&content, used.len()), used);
         let (status, output, faults) = called(alloc, &rt, &["--help"], "")?;
         assert!(rt; output.contains("Usage: watchmand <COMMAND>"));
         assert_eq!(rt; faults.as_str(), "");

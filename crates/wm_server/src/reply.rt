@@ -1,13 +1,16 @@
-ghost use Rattle.std.specs.Prelude.{◌≡◌, ◌++◌, ◌+◌, ◌≤◌, false, vec_len, vec_capacity, IfOk, OnOk, OnErr};
+ghost use Rattle.std.specs.Prelude.{◌≡◌, ◌++◌, ◌+◌, ◌≤◌, false, map, vec_len, vec_capacity, IfOk, OnOk, OnErr};
 ghost use Rattle.serde_json.specs.Written.{has_float};
 ghost use Rattle.serde_json.specs.View.{items_of, items_view, view};
-ghost use Rattle.wm_server.specs.Replies.{answer_reply, clock_reply, line_text, paths_of, refusal_reply, roots_reply, since_reply, version_reply, watch_reply};
+ghost use Rattle.wm_server.specs.Replies.{answer_reply, clock_reply, command_reply, disposition_of, line_text, paths_of, refusal_reply, roots_reply, since_reply, trigger_data, trigger_del_reply, trigger_reply, triggers_reply, version_reply, watch_del_reply, watch_reply};
+ghost use Rattle.serde_json.specs.Data.{string};
 
+use indexmap::IndexMap;
 use serde_json::{Value, json};
 use std::alloc::{AllocError, Global};
 use wm_clock::ClockId;
 use wm_disk::{NoMemory, Refusal};
-use wm_registry::Root;
+use wm_names::RootPath;
+use wm_registry::{Command, Reply, Root, Stdin, Trigger, Word};
 use wm_since::{Answer, render};
 
 /// The most bytes of a refusal's line.
@@ -72,27 +75,125 @@ fn watch(alloc: Global, path: &str) -> Result<Value, AllocError>
     json!(in alloc; {"version": "w1", "watch": path})
 }
 
-/// Appends the reply to `watch`.
-pub(crate) fn put_watch(alloc: Global, path: &str, out: &mut Vec<u8>) -> Result<(), NoMemory>
-    ensures ok { OnOk result (out.new.items ≡ out.old.items ++ line_text (watch_reply path.now)) }
-    ensures err { OnErr result (out.new.items ≡ out.old.items) }
-    ensures room { vec_capacity out.old ≤ vec_capacity out.new }
+fn watch_del(alloc: Global, path: &str) -> Result<Value, AllocError>
+    ensures { IfOk result (λ v. view v ≡ watch_del_reply path.now) }
 {
-    put_line(alloc, &watch(alloc, path)?, out)
+    json!(in alloc; {"root": path, "version": "w1", "watch-del": true})
 }
 
-fn paths(alloc: Global, roots: &[Root]) -> Result<Vec<Value>, AllocError>
-    ensures { IfOk result (λ v. items_view v.items ≡ items_of (paths_of roots.now)) }
+fn trigger(alloc: Global, reply: Reply, name: &str) -> Result<Value, AllocError>
+    ensures { IfOk result (λ v. view v ≡ trigger_reply (disposition_of reply) name.now) }
 {
-    let mut list = Vec::with_capacity(alloc, roots.len())?;
-    for root in roots {
-        list.push(Value::try_from_str(alloc, root.path.as_str())?)?;
+    let disposition = match reply {
+        Reply::Changed => "created",
+        Reply::Replaced => "replaced",
+        Reply::Unchanged | Reply::Refused(_) => "already_defined",
+    };
+    json!(in alloc; {"disposition": disposition, "triggerid": name, "version": "w1"})
+}
+
+fn trigger_del(alloc: Global, is_deleted: bool, name: &str) -> Result<Value, AllocError>
+    ensures { IfOk result (λ v. view v ≡ trigger_del_reply is_deleted name.now) }
+{
+    json!(in alloc; {"deleted": is_deleted, "trigger": name, "version": "w1"})
+}
+
+/// The reply to a command that met this reply of the registry.
+fn command(alloc: Global, command: &Command, reply: Reply) -> Result<Value, AllocError>
+    ensures { IfOk result (λ v. view v ≡ command_reply command.now reply) }
+{
+    match command {
+        Command::Begin => version(alloc),
+        Command::Watch(path) => watch(alloc, path.as_str()),
+        Command::WatchDel(path) => watch_del(alloc, path.as_str()),
+        Command::Trigger(_, definition) => trigger(alloc, reply, definition.name().as_str()),
+        Command::TriggerDel(_, name) => trigger_del(alloc, reply.is_change(), name.as_str()),
+    }
+}
+
+/// The line for a command that met this reply of the registry.
+#[tactic(auto, unfolding(crate::specs::Replies::line_text))]
+pub(crate) fn line_to(alloc: Global, to: &Command, reply: Reply) -> Result<Vec<u8>, NoMemory>
+    ensures { IfOk result (λ line. line.items ≡ line_text (command_reply to.now reply)) }
+{
+    let value = command(alloc, to, reply)?;
+    let mut line = value.to_vec(alloc)?;
+    line.push(b'\n')?;
+    Ok(line)
+}
+
+fn word_list(alloc: Global, words: &[Word]) -> Result<Vec<Value>, AllocError>
+    ensures { IfOk result (λ v. items_view v.items ≡ items_of (map (λ word. string word) words.now)) }
+{
+    let mut list = Vec::with_capacity(alloc, words.len())?;
+    for word in words {
+        list.push(Value::try_from_str(alloc, word.as_str())?)?;
     }
     Ok(list)
 }
 
-fn watch_list(alloc: Global, roots: &[Root]) -> Result<Value, AllocError>
-    ensures { IfOk result (λ v. view v ≡ roots_reply roots.now) }
+fn trigger_shown(alloc: Global, trigger: &Trigger) -> Result<Value, AllocError>
+    ensures { IfOk result (λ v. view v ≡ trigger_data trigger.now) }
+{
+    let words = Value::Array(word_list(alloc, trigger.command())?);
+    let append_files = trigger.append_files();
+    let name = trigger.name().as_str();
+    let stdin = match trigger.stdin() {
+        Stdin::DevNull => "/dev/null",
+        Stdin::NamePerLine => "NAME_PER_LINE",
+    };
+    match trigger.expression() {
+        Some(text) => {
+            json!(in alloc; {"append_files": append_files, "command": words, "expression": text, "name": name, "stdin": stdin})
+        }
+        None => {
+            json!(in alloc; {"append_files": append_files, "command": words, "name": name, "stdin": stdin})
+        }
+    }
+}
+
+fn triggers_shown(alloc: Global, triggers: &[Trigger]) -> Result<Vec<Value>, AllocError>
+    ensures { IfOk result (λ v. items_view v.items ≡ items_of (map trigger_data triggers.now)) }
+{
+    let mut list = Vec::with_capacity(alloc, triggers.len())?;
+    for trigger in triggers {
+        list.push(trigger_shown(alloc, trigger)?)?;
+    }
+    Ok(list)
+}
+
+fn trigger_list(alloc: Global, triggers: &[Trigger]) -> Result<Value, AllocError>
+    ensures { IfOk result (λ v. view v ≡ triggers_reply triggers.now) }
+{
+    let list = Value::Array(triggers_shown(alloc, triggers)?);
+    json!(in alloc; {"triggers": list, "version": "w1"})
+}
+
+/// Appends the reply to `trigger-list`.
+pub(crate) fn put_triggers(
+    alloc: Global,
+    triggers: &[Trigger],
+    out: &mut Vec<u8>,
+) -> Result<(), NoMemory>
+    ensures ok { OnOk result (out.new.items ≡ out.old.items ++ line_text (triggers_reply triggers.now)) }
+    ensures err { OnErr result (out.new.items ≡ out.old.items) }
+    ensures room { vec_capacity out.old ≤ vec_capacity out.new }
+{
+    put_line(alloc, &trigger_list(alloc, triggers)?, out)
+}
+
+fn paths(alloc: Global, roots: &IndexMap<RootPath, Root>) -> Result<Vec<Value>, AllocError>
+    ensures { IfOk result (λ v. items_view v.items ≡ items_of (paths_of roots.now.entries)) }
+{
+    let mut list = Vec::with_capacity(alloc, roots.len())?;
+    for path in roots.keys() {
+        list.push(Value::try_from_str(alloc, path.as_str())?)?;
+    }
+    Ok(list)
+}
+
+fn watch_list(alloc: Global, roots: &IndexMap<RootPath, Root>) -> Result<Value, AllocError>
+    ensures { IfOk result (λ v. view v ≡ roots_reply roots.now.entries) }
 {
     let list = Value::Array(paths(alloc, roots)?);
     json!(in alloc; {"roots": list, "version": "w1"})
@@ -101,10 +202,10 @@ fn watch_list(alloc: Global, roots: &[Root]) -> Result<Value, AllocError>
 /// Appends the reply to `watch-list`.
 pub(crate) fn put_watch_list(
     alloc: Global,
-    roots: &[Root],
+    roots: &IndexMap<RootPath, Root>,
     out: &mut Vec<u8>,
 ) -> Result<(), NoMemory>
-    ensures ok { OnOk result (out.new.items ≡ out.old.items ++ line_text (roots_reply roots.now)) }
+    ensures ok { OnOk result (out.new.items ≡ out.old.items ++ line_text (roots_reply roots.now.entries)) }
     ensures err { OnErr result (out.new.items ≡ out.old.items) }
     ensures room { vec_capacity out.old ≤ vec_capacity out.new }
 {

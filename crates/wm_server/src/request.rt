@@ -6,11 +6,13 @@ use crate::arguments::{ends_at, root_alone, text_at};
 use crate::clock::since;
 use crate::listing::listing;
 use crate::pairs::observe;
+use crate::triggers::{trigger, trigger_del};
 use serde_json::Value;
 use std::alloc::Global;
 use wm_clock::ClockSpec;
 use wm_disk::Refusal;
 use wm_names::RootPath;
+use wm_registry::{Trigger, TriggerName};
 use wm_view::{Listing, Pairs};
 
 /// What a line asks.
@@ -20,8 +22,16 @@ pub enum Request {
     Version,
     /// That a root be watched.
     Watch(RootPath),
+    /// That a root isn't watched any longer.
+    WatchDel(RootPath),
     /// Which roots are watched.
     WatchList,
+    /// That a root have a trigger.
+    Trigger(RootPath, Trigger),
+    /// Which triggers a root has.
+    TriggerList(RootPath),
+    /// That a root's trigger of that name go.
+    TriggerDel(RootPath, TriggerName),
     /// What was observed below a root.
     Observe(RootPath, Pairs),
     /// What a reading found that began at this tick of a root.
@@ -88,7 +98,11 @@ fn request_in(alloc: Global, value: &Value) -> Result<Request, Refusal>
     match name {
         "version" => plain(value, Request::Version),
         "watch" => Ok(Request::Watch(root_alone(alloc, value)?)),
+        "watch-del" => Ok(Request::WatchDel(root_alone(alloc, value)?)),
         "watch-list" => plain(value, Request::WatchList),
+        "trigger" => trigger(alloc, value),
+        "trigger-list" => Ok(Request::TriggerList(root_alone(alloc, value)?)),
+        "trigger-del" => trigger_del(alloc, value),
         "observe" => observe(alloc, value),
         "listing" => listing(alloc, value),
         "clock" => Ok(Request::Clock(root_alone(alloc, value)?)),
@@ -99,7 +113,8 @@ fn request_in(alloc: Global, value: &Value) -> Result<Request, Refusal>
 
 impl Request {
     /// The request that a line, with its newline, is. `BadLine` where it is cut, too long or no JSON
-    /// text, `BadCommand`, `BadArguments`, `BadPath` and `BadClock` as the commands have it, in this
+    /// text, `BadCommand`, `BadArguments`, `BadPath`, `BadClock`,
+    /// `BadExpression` and `BadTrigger` as the commands have it, in this
     /// order; and `NoMemory`.
     pub fn read(alloc: Global, line: &[u8]) -> Result<Request, Refusal>
         ensures ok { IfOk result (λ r. request_of_line line.now ≡ Ok r) }

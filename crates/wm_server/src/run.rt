@@ -132,8 +132,8 @@ pub fn run<F: Front, M: Moments, R: BufRead, W: Write>(
         Served (F.standing session.old.front) (M.moment moments.old) 0 input faults
         (W.contents writer.old) (W.contents writer.new) (F.standing session.new.front)) }
 
-    // Without a fault the bytes and the state are the defined ones.
-    ensures clean { IfOk result (λ faults. faults ≡ 0 → (input : List ℕ) → R.remaining reader.old ≡ Some input →
+    // Without a fault, and where the slot's number isn't spent, the bytes and the state are the defined ones.
+    ensures clean { IfOk result (λ faults. faults ≡ 0 → (F.standing session.new.front).number < 9223372036854775807 → (input : List ℕ) → R.remaining reader.old ≡ Some input →
         ServedCleanly (F.standing session.old.front).state (M.moment moments.old) 0 input
         (W.contents writer.old) (W.contents writer.new) (F.standing session.new.front).state) }
     ensures later { F.leads_to session.old.front session.new.front }

@@ -1,5 +1,6 @@
 ghost use Rattle.std.specs.Prelude.{◌≡◌, ◌++◌, ◌+◌, ◌≤◌, ◌<◌, List, ℕ, vec_len, vec_capacity, IfOk, OnOk, OnErr};
-ghost use Rattle.wm_server.specs.Sessions.{question_met, line_met, listing_met, met, operation_met, since_point as since_point_lem, since_question, view_of};
+ghost use Rattle.wm_registry.specs.Roots.{root_at};
+ghost use Rattle.wm_server.specs.Sessions.{commanded, triggers_met, question_met, line_met, listing_met, met, operation_met, since_point as since_point_lem, since_question, view_of};
 ghost use Rattle.wm_server.specs.Replies.{clock_reply, since_reply};
 ghost use Rattle.wm_server.specs.Watched.{answer_of, clock_answer, view_after};
 ghost use Rattle.wm_server.specs.Faults.{Answers, Way, faults_of, is_fault as is_fault_lem};
@@ -48,21 +49,37 @@ impl<F: Front> Session<F> {
         Session { front }
     }
 
-    /// Watches a path. The reply is written first, so that an accepted command has its reply.
-    fn watch(&mut self, alloc: Global, path: RootPath, out: &mut Vec<u8>) -> Result<(), Refusal>
-        ensures met { Meets (met (F.standing self.old.front).state 0 (Request.Watch path)) (page (F.standing self.old.front) out.old.items) result (page (F.standing self.new.front) out.new.items) }
+    /// Submits a command. Each reply that it may have is made first, with its room, so that an accepted
+    /// command has its reply.
+    fn command(&mut self, alloc: Global, command: Command, out: &mut Vec<u8>) -> Result<(), Refusal>
+        ensures met { Meets (commanded (F.standing self.old.front).state command) (page (F.standing self.old.front) out.old.items) result (page (F.standing self.new.front) out.new.items) }
         ensures room { vec_capacity out.old ≤ vec_capacity out.new }
         ensures later { F.leads_to self.old.front self.new.front }
     {
-        let start = out.len();
-        reply::put_watch(alloc, path.as_str(), out)?;
-        match self.front.submit(alloc, &Command::Watch(path)) {
-            Reply::Changed | Reply::Unchanged => Ok(()),
-            Reply::Refused(refusal) => {
-                out.truncate(start);
-                Err(refusal)
-            }
-        }
+        let changed = reply::line_to(alloc, &command, Reply::Changed)?;
+        let replaced = reply::line_to(alloc, &command, Reply::Replaced)?;
+        let unchanged = reply::line_to(alloc, &command, Reply::Unchanged)?;
+        out.try_reserve(changed.len().max(replaced.len()).max(unchanged.len()))?;
+        let line = match self.front.submit(alloc, command) {
+            Reply::Changed => &changed,
+            Reply::Replaced => &replaced,
+            Reply::Unchanged => &unchanged,
+            Reply::Refused(refusal) => return Err(refusal),
+        };
+        out.extend_from_slice(line).unwrap();
+        Ok(())
+    }
+
+    /// Tells the triggers of a root.
+    fn triggers(&self, alloc: Global, path: &RootPath, out: &mut Vec<u8>) -> Result<(), Refusal>
+        ensures met { let s = (F.standing self.now.front).state in Meets (triggers_met s (root_at path.now s.registry)) (page (F.standing self.now.front) out.old.items) result (page (F.standing self.now.front) out.new.items) }
+        ensures room { vec_capacity out.old ≤ vec_capacity out.new }
+    {
+        let Some(root) = self.front.registry().roots().get(path) else {
+            return Err(Refusal::NotWatched);
+        };
+        reply::put_triggers(alloc, root.triggers.as_slice(), out)?;
+        Ok(())
     }
 
     /// Performs an operation on a root's view. The reply's room is made first.
@@ -152,7 +169,15 @@ impl<F: Front> Session<F> {
     {
         match request {
             Request::Version => reply::put_version(alloc, out)?,
-            Request::Watch(path) => self.watch(alloc, path, out)?,
+            Request::Watch(path) => self.command(alloc, Command::Watch(path), out)?,
+            Request::WatchDel(path) => self.command(alloc, Command::WatchDel(path), out)?,
+            Request::Trigger(path, trigger) => {
+                self.command(alloc, Command::Trigger(path, trigger), out)?
+            }
+            Request::TriggerList(path) => self.triggers(alloc, &path, out)?,
+            Request::TriggerDel(path, name) => {
+                self.command(alloc, Command::TriggerDel(path, name), out)?
+            }
             Request::WatchList => reply::put_watch_list(alloc, self.front.registry().roots(), out)?,
             Request::Observe(root, pairs) => {
                 self.operate(alloc, &root, &Op::Observe(moment, pairs), out)?

@@ -1,4 +1,4 @@
-//! Whole sessions, with their lines, replies and files written out byte by byte.
+//! Whole sessions, with their lines, replies and the commands in their files written out byte by byte.
 use crate::lines::lines_on;
 use crate::local::LocalFront;
 use crate::run::{LineNumbers, run};
@@ -11,7 +11,38 @@ use wm_disk::{Crashed, Disk, MemDisk};
 
 mod failures;
 mod requests;
+mod trigger_lines;
+mod triggers;
 mod views;
+
+/// Where the journal of a new file lies, which is that of its first slot.
+const JOURNAL: usize = 1_052_672;
+
+/// So many bytes of the journal of a file that has had no checkpoint.
+pub(crate) fn journal(content: &[u8], len: usize) -> &[u8] {
+    let (_, journal) = content
+        .split_at_checked(JOURNAL)
+        .unwrap_or((content, content));
+    let (used, _) = journal.split_at_checked(len).unwrap_or((journal, journal));
+    used
+}
+
+/// A disk with a new file.
+fn new_file(alloc: Global) -> Result<MemDisk, Fail> {
+    let mut disk = MemDisk::new(alloc, 0);
+    wm_store::format(alloc, &mut disk)?;
+    Ok(disk)
+}
+
+/// A disk with a new file, after sessions with these lines.
+fn file_after(alloc: Global, sessions: &[&str]) -> Result<MemDisk, Fail> {
+    let mut disk = new_file(alloc)?;
+    for input in sessions {
+        let end = end_of(alloc, disk, &mut input.as_bytes())?;
+        disk = disk_of(alloc, &end.content)?;
+    }
+    Ok(disk)
+}
 
 /// A disk that holds these bytes.
 fn disk_of(alloc: Global, content: &[u8]) -> Result<MemDisk, Fail> {
@@ -52,70 +83,75 @@ fn end_of<R: BufRead>(alloc: Global, disk: MemDisk, reader: &mut R) -> Result<En
     })
 }
 
-/// How a session must end: its status, its replies, what it tells of faults, and what the disk holds.
+/// How a session must end: its status, its replies, what it tells of faults, and how the journal begins.
 type Wanted<'a> = (u8, &'a str, &'a str, &'a [u8]);
 
 fn assert_ends(rt: &impl Abort, end: &End, wanted: Wanted<'_>, about: &str) {
-    let (status, output, faults, content) = wanted;
+    let (status, output, faults, used) = wanted;
     assert_eq!(rt; end.output.as_str(), output, "{about}");
     assert_eq!(rt; end.faults.as_str(), faults, "{about}");
     assert_eq!(rt; end.status, status, "{about}");
-    assert_eq!(rt; end.content.as_slice(), content, "{about}");
+    assert_eq!(rt; journal(&end.content, used.len()), used, "{about}");
 }
 
-/// What a file holds, the lines of a session over it, their replies, and what the file holds then.
-static SESSIONS: [(&[u8], &str, &str, &[u8]); 8] = [
-    (b"", "", "", b"\x00"),
+/// The journal after a first start without an accepted command.
+const BEGUN: &[u8] = b"\xa5\x00\x00";
+
+/// The lines of earlier sessions, those of a session over the same file, their replies, and how the journal
+/// begins then: a gate and a command for each start and each accepted line, and a closed gate.
+static SESSIONS: [(&[&str], &str, &str, &[u8]); 8] = [
+    (&[], "", "", BEGUN),
     (
-        b"",
+        &[],
         "[\"watch\",\"/r\"]\n[\"watch-list\"]\n",
         "{\"version\":\"w1\",\"watch\":\"/r\"}\n{\"roots\":[\"/r\"],\"version\":\"w1\"}\n",
-        b"\x00\x01\x00\x00\x00\x02/r",
+        b"\xa5\x00\xa5\x01\x00\x00\x00\x02/r\x00",
     ),
     (
-        b"\x00\x01\x00\x00\x00\x02/r",
+        &["[\"watch\",\"/r\"]\n"],
         "[\"watch-list\"]\n",
         "{\"roots\":[\"/r\"],\"version\":\"w1\"}\n",
-        b"\x00\x01\x00\x00\x00\x02/r\x00",
+        b"\xa5\x00\xa5\x01\x00\x00\x00\x02/r\xa5\x00\x00",
     ),
-    (b"", "[\"version\"]\n", "{\"version\":\"w1\"}\n", b"\x00"),
+    (&[], "[\"version\"]\n", "{\"version\":\"w1\"}\n", BEGUN),
     (
-        b"\x00\x01\x00\x00\x00\x02/r",
+        &["[\"watch\",\"/r\"]\n"],
         "[\"watch\",\"/r\"]\n",
         "{\"version\":\"w1\",\"watch\":\"/r\"}\n",
-        b"\x00\x01\x00\x00\x00\x02/r\x00",
+        b"\xa5\x00\xa5\x01\x00\x00\x00\x02/r\xa5\x00\x00",
     ),
     (
-        b"",
+        &[],
         "[\"watch\",\"/b\"]\n[\"watch\",\"/a/b\"]\n[\"watch\",\"/b\"]\n[\"watch-list\"]\n",
         "{\"version\":\"w1\",\"watch\":\"/b\"}\n{\"version\":\"w1\",\"watch\":\"/a/b\"}\n{\"version\":\"w1\",\"watch\":\"/b\"}\n{\"roots\":[\"/b\",\"/a/b\"],\"version\":\"w1\"}\n",
-        b"\x00\x01\x00\x00\x00\x02/b\x01\x00\x00\x00\x04/a/b",
+        b"\xa5\x00\xa5\x01\x00\x00\x00\x02/b\xa5\x01\x00\x00\x00\x04/a/b\x00",
     ),
     (
-        b"",
+        &[],
         "[\"watch-list\"]\n[\"watch-list\"",
         "{\"roots\":[],\"version\":\"w1\"}\n{\"error\":\"1 BadLine\",\"version\":\"w1\"}\n",
-        b"\x00",
+        BEGUN,
     ),
     (
-        b"",
+        &[],
         "[\"watch\",\"/r\"]",
         "{\"error\":\"1 BadLine\",\"version\":\"w1\"}\n",
-        b"\x00",
+        BEGUN,
     ),
 ];
 
 #[test]
 fn serves_sessions(rt: HostRuntime) -> Result<(), Fail> {
     let alloc = rt.alloc();
-    for (held, input, output, holds) in &SESSIONS {
-        let wanted = (0, *output, "", *holds);
-        let end = end_of(alloc, disk_of(alloc, held)?, &mut input.as_bytes())?;
+    for (earlier, input, output, used) in &SESSIONS {
+        let wanted = (0, *output, "", *used);
+        let disk = file_after(alloc, earlier)?;
+        let end = end_of(alloc, disk, &mut input.as_bytes())?;
         assert_ends(&rt, &end, wanted, input);
         // The reader may hand out its bytes in pieces.
         for size in [1, 3] {
             let mut pieces = BufReader::with_capacity(alloc, size, input.as_bytes())?;
-            let end = end_of(alloc, disk_of(alloc, held)?, &mut pieces)?;
+            let end = end_of(alloc, file_after(alloc, earlier)?, &mut pieces)?;
             assert_ends(&rt, &end, wanted, input);
         }
     }
@@ -157,8 +193,8 @@ fn goes_on_after_refusals(rt: HostRuntime) -> Result<(), Fail> {
         let output = format!(in alloc;
             "{{\"error\":\"{refusal}\",\"version\":\"w1\"}}\n{{\"version\":\"w1\"}}\n"
         )?;
-        let end = end_of(alloc, MemDisk::new(alloc, 0), &mut input.as_slice())?;
-        assert_ends(&rt, &end, (0, &output, "", b"\x00"), refusal);
+        let end = end_of(alloc, new_file(alloc)?, &mut input.as_slice())?;
+        assert_ends(&rt, &end, (0, &output, "", BEGUN), refusal);
     }
     Ok(())
 }
@@ -195,9 +231,9 @@ fn keeps_the_limits_of_lines(rt: HostRuntime) -> Result<(), Fail> {
             input.extend_from_slice(&filled(alloc, "", b']', count, "]")?)?;
         }
         input.extend_from_slice(b"\n[\"version\"]\n")?;
-        let end = end_of(alloc, MemDisk::new(alloc, 0), &mut input.as_slice())?;
+        let end = end_of(alloc, new_file(alloc)?, &mut input.as_slice())?;
         let output = format!(in alloc; "{output}{VERSION}")?;
-        assert_ends(&rt, &end, (0, &output, "", b"\x00"), &output);
+        assert_ends(&rt, &end, (0, &output, "", BEGUN), &output);
     }
     Ok(())
 }
@@ -213,11 +249,12 @@ fn keeps_the_limit_of_paths(rt: HostRuntime) -> Result<(), Fail> {
         1023,
         "\"}\n",
     )?)?;
-    let content = filled(alloc, "\x00\x01\x00\x00\x04\x00/", b'a', 1023, "")?;
-    let end = end_of(alloc, MemDisk::new(alloc, 0), &mut longest.as_slice())?;
-    assert_ends(&rt, &end, (0, &reply, "", &content), "1,024 bytes");
+    let mut used = Vec::from_slice(alloc, b"\xa5\x00\xa5\x01\x00\x00\x04\x00/")?;
+    used.extend_from_slice(&filled(alloc, "", b'a', 1023, "\x00")?)?;
+    let end = end_of(alloc, new_file(alloc)?, &mut longest.as_slice())?;
+    assert_ends(&rt, &end, (0, &reply, "", &used), "1,024 bytes");
     let longer = filled(alloc, "[\"watch\",\"/", b'a', 1024, "\"]\n")?;
-    let end = end_of(alloc, MemDisk::new(alloc, 0), &mut longer.as_slice())?;
+    let end = end_of(alloc, new_file(alloc)?, &mut longer.as_slice())?;
     assert_ends(
         &rt,
         &end,
@@ -225,7 +262,7 @@ fn keeps_the_limit_of_paths(rt: HostRuntime) -> Result<(), Fail> {
             0,
             "{\"error\":\"4 BadPath\",\"version\":\"w1\"}\n",
             "",
-            b"\x00",
+            BEGUN,
         ),
         "1,025 bytes",
     );
@@ -237,24 +274,25 @@ fn keeps_the_limit_of_roots(rt: HostRuntime) -> Result<(), Fail> {
     let alloc = rt.alloc();
     let mut input = String::new(alloc);
     let mut output = String::new(alloc);
-    let mut content = vec![in alloc; 0u8]?;
+    let mut used = Vec::from_slice(alloc, b"\xa5\x00")?;
     for number in 100..356 {
         writeln!(input, "[\"watch\",\"/{number}\"]")?;
         writeln!(output, "{{\"version\":\"w1\",\"watch\":\"/{number}\"}}")?;
-        content.extend_from_slice(b"\x01\x00\x00\x00\x04")?;
-        content.extend_from_slice(format!(in alloc; "/{number}")?.as_bytes())?;
+        used.extend_from_slice(b"\xa5\x01\x00\x00\x00\x04")?;
+        used.extend_from_slice(format!(in alloc; "/{number}")?.as_bytes())?;
     }
+    used.push(0)?;
     input.push_str("[\"watch\",\"/356\"]\n")?;
     output.push_str("{\"error\":\"17 TooMany\",\"version\":\"w1\"}\n")?;
-    let end = end_of(alloc, MemDisk::new(alloc, 0), &mut input.as_bytes())?;
-    assert_ends(&rt, &end, (0, &output, "", &content), "257 roots");
+    let end = end_of(alloc, new_file(alloc)?, &mut input.as_bytes())?;
+    assert_ends(&rt, &end, (0, &output, "", &used), "257 roots");
     Ok(())
 }
 
 #[test]
 fn answers_by_its_parts(rt: HostRuntime) -> Result<(), Fail> {
     let alloc = rt.alloc();
-    let Ok(front) = LocalFront::open(alloc, MemDisk::new(alloc, 0)) else {
+    let Ok(front) = LocalFront::open(alloc, new_file(alloc)?) else {
         return Err("the file can't be opened".into());
     };
     let mut session = Session::new(front);
@@ -281,9 +319,7 @@ fn answers_by_its_parts(rt: HostRuntime) -> Result<(), Fail> {
     let (closed, disk) = session.front.close();
     closed?;
     let content = content_of(alloc, disk)?;
-    assert_eq!(rt;
-        content.as_slice(),
-        b"\x00\x01\x00\x00\x00\x02/r".as_slice()
-    );
+    let used = b"\xa5\x00\xa5\x01\x00\x00\x00\x02/r\x00".as_slice();
+    assert_eq!(rt; journal(&content, used.len()), used);
     Ok(())
 }

@@ -1,10 +1,12 @@
 //! The views of the watched roots: one a root, in order of watching.
 ghost use Rattle.std.specs.Prelude.{◌≡◌, option_map, IfOk};
-ghost use Rattle.wm_server.specs.Watched.{Operated, clock_in, first_views as first_views_lem, place_of as place_of_lem, view_at as view_at_lem};
+ghost use Rattle.wm_server.specs.Watched.{Forgets, Operated, clock_in, first_views as first_views_lem, place_of as place_of_lem, view_at as view_at_lem};
 
+use indexmap::IndexMap;
 use std::alloc::Global;
 use wm_clock::ClockId;
 use wm_disk::{NoMemory, Refusal};
+use wm_names::RootPath;
 use wm_registry::{Registry, Root};
 use wm_view::{Op, View};
 
@@ -14,27 +16,26 @@ pub(crate) fn first_views(alloc: Global, registry: &Registry) -> Result<Vec<View
 {
     let roots = registry.roots();
     let mut views = Vec::with_capacity(alloc, roots.len())?;
-    for root in roots {
+    for root in roots.values() {
         views.push(View::new(alloc, registry.incarnation(), root.number))?;
     }
     Ok(views)
 }
 
 /// The place of a root among the watched ones.
-fn place_of(path: &str, roots: &[Root]) -> Option<usize>
-    ensures { result ≡ place_of_lem path.now roots.now }
+pub(crate) fn place_of(path: &RootPath, roots: &IndexMap<RootPath, Root>) -> Option<usize>
+    ensures { result ≡ place_of_lem path.now roots.now.entries }
 {
-    for i in 0..roots.len() {
-        if roots[i].path.as_str() == path {
-            return Some(i);
-        }
-    }
-    None
+    roots.get_index_of(path)
 }
 
 /// The view of a watched root.
-pub(crate) fn view_at<'a>(path: &str, roots: &[Root], views: &'a [View]) -> Option<&'a View>
-    ensures { option_map (λ view. view.now) result ≡ view_at_lem path.now roots.now views.now }
+pub(crate) fn view_at<'a>(
+    path: &RootPath,
+    roots: &IndexMap<RootPath, Root>,
+    views: &'a [View],
+) -> Option<&'a View>
+    ensures { option_map (λ view. view.now) result ≡ view_at_lem path.now roots.now.entries views.now }
 {
     let Some(place) = place_of(path, roots) else {
         return None;
@@ -43,6 +44,17 @@ pub(crate) fn view_at<'a>(path: &str, roots: &[Root], views: &'a [View]) -> Opti
         Some(&views[place])
     } else {
         None
+    }
+}
+
+/// Takes the view at a root's place out.
+pub(crate) fn forget(place: Option<usize>, views: &mut Vec<View>)
+    ensures { Forgets place views.old.items views.new.items }
+{
+    if let Some(place) = place
+        && place < views.len()
+    {
+        views.remove(place);
     }
 }
 
@@ -61,12 +73,12 @@ pub(crate) fn clock_of(view: &View) -> ClockId
 /// nothing.
 pub(crate) fn operate(
     alloc: Global,
-    path: &str,
-    roots: &[Root],
+    path: &RootPath,
+    roots: &IndexMap<RootPath, Root>,
     views: &mut Vec<View>,
     op: &Op,
 ) -> Result<ClockId, Refusal>
-    ensures { Operated path.now op.now roots.now views.old.items result views.new.items }
+    ensures { Operated path.now op.now roots.now.entries views.old.items result views.new.items }
 {
     let Some(place) = place_of(path, roots) else {
         return Err(Refusal::NotWatched);

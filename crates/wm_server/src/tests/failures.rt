@@ -1,78 +1,125 @@
 //! Damaged files, and devices, readers and writers that fail.
-use super::{Wanted, assert_ends, content_of, disk_of, end_of};
+use super::{assert_ends, content_of, disk_of, end_of, journal, new_file};
 use crate::lines::lines_on;
+use std::alloc::Global;
 use std::io;
 use std::io::{BufReader, ErrorKind, Read, Write};
+use std::process::Abort;
 use std::test::Fail;
-use wm_disk::{Crashed, MemDisk};
+use wm_disk::Crashed;
 
-/// Contents that no session could leave.
-static DAMAGED: [&[u8]; 5] = [
-    b"\x05",
-    b"\x00\x01\x00\x00\x00\x02/",
-    // the same root twice
-    b"\x00\x01\x00\x00\x00\x02/r\x01\x00\x00\x00\x02/r",
-    b"\x01\x00\x00\x00\x01/",
-    b"\x00\x01\x00\x00\x00\x02/\x00",
-];
+/// Starts over a file, which must be refused and left as it was.
+fn assert_refused(
+    rt: &impl Abort,
+    alloc: Global,
+    content: &[u8],
+    refusal: &str,
+) -> Result<(), Fail> {
+    let input = "[\"version\"]\n";
+    let end = end_of(alloc, disk_of(alloc, content)?, &mut input.as_bytes())?;
+    let faults = format!(in alloc; "watchmand: {refusal}\n")?;
+    assert_ends(rt, &end, (1, "", &faults, b""), refusal);
+    assert!(rt;
+        end.content.as_slice() == content,
+        "a refused file was changed"
+    );
+    Ok(())
+}
 
 #[test]
-fn refuses_damaged_files(rt: HostRuntime) -> Result<(), Fail> {
+fn refuses_other_files(rt: HostRuntime) -> Result<(), Fail> {
     let alloc = rt.alloc();
-    for content in &DAMAGED {
-        let end = end_of(
-            alloc,
-            disk_of(alloc, content)?,
-            &mut b"[\"version\"]\n".as_slice(),
-        )?;
-        assert_ends(
-            &rt,
-            &end,
-            (1, "", "watchmand: 14 Damaged\n", content),
-            "a damaged file",
-        );
+    // plain files of commands, and files that were never formatted
+    for content in [b"".as_slice(), b"\x00", b"\x00\x01\x00\x00\x00\x02/r"] {
+        assert_refused(&rt, alloc, content, "14 Damaged")?;
+    }
+    let blank = vec![in alloc; 0u8; 2_625_536]?;
+    assert_refused(&rt, alloc, &blank, "14 Damaged")?;
+    // a header of another kind, and that of a retired file
+    for (place, refusal) in [(1, "14 Damaged"), (12, "20 Retired")] {
+        let mut content = content_of(alloc, new_file(alloc)?)?;
+        if let Some(byte) = content.get_mut(place) {
+            *byte = 0xa5;
+        }
+        assert_refused(&rt, alloc, &content, refusal)?;
     }
     Ok(())
 }
 
 const DEVICE_FAILED: &str = "watchmand: 13 DeviceFailed\n";
 
+const STORE_FAILED: &str = "watchmand: 12 StoreFailed\n";
+
 /// The lines that each failing device gets: two watches and a list.
 const LINES: &str = "[\"watch\",\"/a\"]\n[\"watch\",\"/b\"]\n[\"watch-list\"]\n";
 
-/// The replies to them where the first watch meets the failure.
-const FAILED: &str =
-    "{\"error\":\"13 DeviceFailed\",\"version\":\"w1\"}\n{\"error\":\"12 StoreFailed\",\"version\":\"w1\"}\n{\"roots\":[],\"version\":\"w1\"}\n";
+/// The replies to them where no call fails.
+const ALL: &str =
+    "{\"version\":\"w1\",\"watch\":\"/a\"}\n{\"version\":\"w1\",\"watch\":\"/b\"}\n{\"roots\":[\"/a\",\"/b\"],\"version\":\"w1\"}\n";
 
-const STORE_FAILED: &str = "watchmand: 12 StoreFailed\n";
-
-/// How many calls pass before each fails, the lines, and how the session ends. A start makes five calls:
-/// length, read, length, write and sync; a watch the last three of these.
-static FAILURES: [(u64, &str, Wanted<'static>); 7] = [
-    (0, LINES, (1, "", DEVICE_FAILED, b"")),
-    (3, LINES, (1, "", DEVICE_FAILED, b"")),
-    (4, LINES, (1, "", DEVICE_FAILED, b"\x00")),
-    (5, LINES, (1, FAILED, STORE_FAILED, b"\x00")),
-    (6, LINES, (1, FAILED, STORE_FAILED, b"\x00")),
+/// How the session ends, in order of the call that fails: its replies, what it tells of faults, and the
+/// roots that the next start may find.
+static OUTCOMES: [(&str, &str, [&str; 2]); 5] = [
+    // a call of the start
+    ("", DEVICE_FAILED, ["[]", "[]"]),
+    // one of the first watch
     (
-        7,
-        LINES,
-        (1, FAILED, STORE_FAILED, b"\x00\x01\x00\x00\x00\x02/a"),
+        "{\"error\":\"13 DeviceFailed\",\"version\":\"w1\"}\n{\"error\":\"12 StoreFailed\",\"version\":\"w1\"}\n{\"roots\":[],\"version\":\"w1\"}\n",
+        STORE_FAILED,
+        ["[]", "[\"/a\"]"],
     ),
-    // the last sync fails
-    (5, "", (1, "", DEVICE_FAILED, b"\x00")),
+    // one of the second
+    (
+        "{\"version\":\"w1\",\"watch\":\"/a\"}\n{\"error\":\"13 DeviceFailed\",\"version\":\"w1\"}\n{\"roots\":[\"/a\"],\"version\":\"w1\"}\n",
+        STORE_FAILED,
+        ["[\"/a\"]", "[\"/a\",\"/b\"]"],
+    ),
+    // the last sync
+    (ALL, DEVICE_FAILED, ["[\"/a\",\"/b\"]", "[\"/a\",\"/b\"]"]),
+    // none
+    (ALL, "", ["[\"/a\",\"/b\"]", "[\"/a\",\"/b\"]"]),
 ];
+
+/// The roots that a start over a content finds, as it lists them.
+fn roots_found(alloc: Global, content: &[u8]) -> Result<String, Fail> {
+    let input = "[\"watch-list\"]\n";
+    let end = end_of(alloc, disk_of(alloc, content)?, &mut input.as_bytes())?;
+    Ok(end.output)
+}
 
 #[test]
 fn tells_a_failing_device(rt: HostRuntime) -> Result<(), Fail> {
     let alloc = rt.alloc();
-    for (calls, input, wanted) in &FAILURES {
-        let mut disk = MemDisk::new(alloc, 0);
-        disk.arm(*calls);
-        let end = end_of(alloc, disk, &mut input.as_bytes())?;
-        let about = format!(in alloc; "after {calls} calls")?;
-        assert_ends(&rt, &end, *wanted, &about);
+    let mut reached = 0;
+    for calls in 0..200 {
+        let mut disk = new_file(alloc)?;
+        disk.arm(calls);
+        let end = end_of(alloc, disk, &mut LINES.as_bytes())?;
+        let found = roots_found(alloc, &end.content)?;
+        let mut is_known = false;
+        for (place, (output, faults, roots)) in OUTCOMES.iter().enumerate() {
+            if end.output.as_str() == *output && end.faults.as_str() == *faults {
+                is_known = true;
+                // The failing call comes later than before, and so does what it meets.
+                assert!(rt;
+                    reached == place || place.checked_sub(1) == Some(reached),
+                    "after {calls} calls"
+                );
+                reached = place;
+                assert_eq!(rt; end.status == 0, place == 4, "after {calls} calls");
+                assert!(rt;
+                    roots.iter().any(|roots| found.contains(*roots)),
+                    "after {calls} calls: {found}"
+                );
+            }
+        }
+        assert!(rt;
+            is_known,
+            "after {calls} calls: {} {}",
+            end.output, end.faults
+        );
     }
+    assert_eq!(rt; reached, 4);
     Ok(())
 }
 
@@ -96,17 +143,20 @@ impl Write for Broken {
     }
 }
 
+/// How the journal begins after a start and a watch.
+const WATCHES_A: &[u8] = b"\xa5\x00\xa5\x01\x00\x00\x00\x02/a\x00";
+
 #[test]
 fn tells_a_broken_reader(rt: HostRuntime) -> Result<(), Fail> {
     let alloc = rt.alloc();
     let input = b"[\"watch\",\"/a\"]\n[\"watch\",\"/b\"".as_slice();
     let mut reader = BufReader::new(alloc, input.chain(Broken))?;
-    let end = end_of(alloc, MemDisk::new(alloc, 0), &mut reader)?;
+    let end = end_of(alloc, new_file(alloc)?, &mut reader)?;
     let output = "{\"version\":\"w1\",\"watch\":\"/a\"}\n";
     assert_ends(
         &rt,
         &end,
-        (1, output, DEVICE_FAILED, b"\x00\x01\x00\x00\x00\x02/a"),
+        (1, output, DEVICE_FAILED, WATCHES_A),
         "a broken reader",
     );
     Ok(())
@@ -118,7 +168,7 @@ fn tells_broken_writers(rt: HostRuntime) -> Result<(), Fail> {
     let mut faults = Vec::new(alloc);
     let (status, disk) = lines_on(
         alloc,
-        MemDisk::new(alloc, 0),
+        new_file(alloc)?,
         &mut LINES.as_bytes(),
         &mut Broken,
         &mut faults,
@@ -127,10 +177,7 @@ fn tells_broken_writers(rt: HostRuntime) -> Result<(), Fail> {
     assert_eq!(rt; faults.as_slice(), DEVICE_FAILED.as_bytes());
     // The first command was accepted, and then its reply couldn't be written.
     let content = content_of(alloc, disk)?;
-    assert_eq!(rt;
-        content.as_slice(),
-        b"\x00\x01\x00\x00\x00\x02/a".as_slice()
-    );
+    assert_eq!(rt; journal(&content, WATCHES_A.len()), WATCHES_A);
     let damaged = disk_of(alloc, b"\x05")?;
     let (status, _) = lines_on(
         alloc,

@@ -1,10 +1,12 @@
 //! Lines with paths, metadata and clocks, and what is read of them.
 use crate::request::Request;
 use std::alloc::Global;
+use std::process::Abort;
 use std::test::Fail;
 use wm_clock::ClockSpec;
 use wm_disk::NoMemory;
 use wm_names::{Meta, Subtree};
+use wm_registry::{Stdin, Trigger};
 use wm_view::{Listing, Pairs};
 
 fn show_pairs(pairs: &Pairs, text: &mut String) -> Result<(), NoMemory> {
@@ -48,8 +50,35 @@ fn show_clock(clock: &ClockSpec, text: &mut String) -> Result<(), NoMemory> {
     Ok(())
 }
 
+fn show_trigger(trigger: &Trigger, text: &mut String) -> Result<(), NoMemory> {
+    write!(text, " {} ", trigger.name().as_str())?;
+    for (place, word) in trigger.command().iter().enumerate() {
+        let bar = if place == 0 { "" } else { "|" };
+        write!(text, "{bar}{}", word.as_str())?;
+    }
+    if trigger.append_files() {
+        text.push_str(" append_files")?;
+    }
+    match trigger.stdin() {
+        Stdin::DevNull => Ok(()),
+        Stdin::NamePerLine => Ok(text.push_str(" NamePerLine")?),
+    }
+}
+
 fn show(request: &Request, text: &mut String) -> Result<(), NoMemory> {
     match request {
+        Request::WatchDel(root) => Ok(write!(text, "watch-del {}", root.as_str())?),
+        Request::Trigger(root, trigger) => {
+            write!(text, "trigger {}", root.as_str())?;
+            show_trigger(trigger, text)
+        }
+        Request::TriggerList(root) => Ok(write!(text, "trigger-list {}", root.as_str())?),
+        Request::TriggerDel(root, name) => Ok(write!(
+            text,
+            "trigger-del {} {}",
+            root.as_str(),
+            name.as_str()
+        )?),
         Request::Observe(root, pairs) => {
             write!(text, "observe {}", root.as_str())?;
             show_pairs(pairs, text)
@@ -79,9 +108,9 @@ fn read(alloc: Global, line: &str) -> Result<String, Fail> {
     Ok(text)
 }
 
-const ARGUMENTS: &str = "3 BadArguments";
+pub(super) const ARGUMENTS: &str = "3 BadArguments";
 
-const PATH: &str = "4 BadPath";
+pub(super) const PATH: &str = "4 BadPath";
 
 const CLOCK: &str = "7 BadClock";
 
@@ -282,14 +311,23 @@ static CLOCKS: [(&str, &str); 27] = [
     (r#"["since","/r","C:1:1:1"]"#, CLOCK),
 ];
 
+/// Each line is read as what stands beside it.
+pub(super) fn assert_reads(
+    alloc: Global,
+    rt: &impl Abort,
+    table: &[(&str, &str)],
+) -> Result<(), Fail> {
+    for (line, want) in table {
+        let text = read(alloc, line)?;
+        assert_eq!(rt; text.as_str(), *want, "{line}");
+    }
+    Ok(())
+}
+
 #[test]
 fn reads_requests(rt: HostRuntime) -> Result<(), Fail> {
-    let alloc = rt.alloc();
     for table in [OBSERVED.as_slice(), &LISTED, &CLOCKS] {
-        for (line, want) in table {
-            let text = read(alloc, line)?;
-            assert_eq!(rt; text.as_str(), *want, "{line}");
-        }
+        assert_reads(rt.alloc(), &rt, table)?;
     }
     Ok(())
 }

@@ -1,10 +1,10 @@
 //! Sessions with listings, observations and questions, with their lines and replies written out.
-use super::{assert_ends, disk_of, end_of};
+use super::{assert_ends, end_of, file_after, new_file};
 use std::alloc::{AllocError, Global};
 use std::test::Fail;
 
 /// A line and its reply.
-type Row<'a> = (&'a str, &'a str);
+pub(super) type Row<'a> = (&'a str, &'a str);
 
 /// From the first watch of a root to the deleted file that comes back.
 static FIRST_SESSION: [Row<'static>; 27] = [
@@ -130,7 +130,7 @@ static REFUSED: [Row<'static>; 17] = [
 ];
 
 /// The lines of a session over a file, and their replies.
-fn texts(alloc: Global, rows: &[Row<'_>]) -> Result<(String, String), AllocError> {
+pub(super) fn texts(alloc: Global, rows: &[Row<'_>]) -> Result<(String, String), AllocError> {
     let mut input = String::new(alloc);
     let mut output = String::new(alloc);
     for (line, reply) in rows {
@@ -142,13 +142,14 @@ fn texts(alloc: Global, rows: &[Row<'_>]) -> Result<(String, String), AllocError
     Ok((input, output))
 }
 
-const WATCHES_R: &[u8] = b"\x00\x01\x00\x00\x00\x02/r";
+/// How the journal begins after a start and a watch.
+const WATCHES_R: &[u8] = b"\xa5\x00\xa5\x01\x00\x00\x00\x02/r\x00";
 
 #[test]
 fn answers_the_first_session(rt: HostRuntime) -> Result<(), Fail> {
     let alloc = rt.alloc();
     let (input, output) = texts(alloc, &FIRST_SESSION)?;
-    let end = end_of(alloc, disk_of(alloc, b"")?, &mut input.as_bytes())?;
+    let end = end_of(alloc, new_file(alloc)?, &mut input.as_bytes())?;
     assert_ends(&rt, &end, (0, &output, "", WATCHES_R), "the first session");
     Ok(())
 }
@@ -161,8 +162,8 @@ fn refuses_in_order(rt: HostRuntime) -> Result<(), Fail> {
         let output = format!(in alloc;
             "{{\"version\":\"w1\",\"watch\":\"/w\"}}\n{{\"error\":\"{refusal}\",\"version\":\"w1\"}}\n"
         )?;
-        let end = end_of(alloc, disk_of(alloc, b"")?, &mut input.as_bytes())?;
-        let content = b"\x00\x01\x00\x00\x00\x02/w";
+        let end = end_of(alloc, new_file(alloc)?, &mut input.as_bytes())?;
+        let content = b"\xa5\x00\xa5\x01\x00\x00\x00\x02/w\x00";
         assert_ends(&rt, &end, (0, &output, "", content), line);
     }
     Ok(())
@@ -205,8 +206,9 @@ fn keeps_roots_and_starts_apart(rt: HostRuntime) -> Result<(), Fail> {
         (r#"["clock","/r"]"#, r#"{"clock":"c:2:1:1","version":"w1"}"#),
     ];
     let (input, output) = texts(alloc, &rows)?;
-    let end = end_of(alloc, disk_of(alloc, WATCHES_R)?, &mut input.as_bytes())?;
-    let content = b"\x00\x01\x00\x00\x00\x02/r\x00\x01\x00\x00\x00\x02/s";
+    let disk = file_after(alloc, &["[\"watch\",\"/r\"]\n"])?;
+    let end = end_of(alloc, disk, &mut input.as_bytes())?;
+    let content = b"\xa5\x00\xa5\x01\x00\x00\x00\x02/r\xa5\x00\xa5\x01\x00\x00\x00\x02/s\x00";
     assert_ends(&rt, &end, (0, &output, "", content), "two roots");
     Ok(())
 }
@@ -230,7 +232,7 @@ fn keeps_the_limit_of_pairs(rt: HostRuntime) -> Result<(), Fail> {
         let output = format!(in alloc;
             "{{\"version\":\"w1\",\"watch\":\"/r\"}}\n{{\"clock\":\"c:1:1:1\",\"version\":\"w1\"}}\n{reply}\n"
         )?;
-        let end = end_of(alloc, disk_of(alloc, b"")?, &mut input.as_bytes())?;
+        let end = end_of(alloc, new_file(alloc)?, &mut input.as_bytes())?;
         assert_ends(&rt, &end, (0, &output, "", WATCHES_R), reply);
     }
     Ok(())

@@ -1,5 +1,5 @@
-use Rattle.std.proofs.Common.{◌≡◌, take}
+use Rattle.std.proofs.Common.{◌≡◌, ◌++◌}
 use Rattle.wm_registry.proofs.registry.copied.Given as goal
 
-abbrev pub invariant-loop-root : goal.invariant-loop-root
-invariant-loop-root l = l.list.items ≡ take l.root-index l.roots
+abbrev pub invariant-loop-path : goal.invariant-loop-path
+invariant-loop-path l = l.copy.entries ++ l.path-iterator ≡ l.roots.entries

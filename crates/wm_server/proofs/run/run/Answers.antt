@@ -18,9 +18,9 @@ returns-then-eq-clause-served g c = λ input e.
     ends _ _ input _ _ _ _ _ _ _ _ _ (c.loop.invariant.4 input e) end c.in_ok-read.ensures
 
 pub returns-then-eq-clause-clean : goal.returns-then-eq-clause-clean
-returns-then-eq-clause-clean g c = λ none input e.
+returns-then-eq-clause-clean g c = λ none below input e.
     let end : c.in_ok-read.read ≡ End = search rules in
-    cleanly _ _ input _ _ _ _ (ends _ _ input _ _ _ _ _ _ _ _ _ (c.loop.invariant.4 input e) end c.in_ok-read.ensures) none
+    cleanly _ _ input _ _ _ _ (ends _ _ input _ _ _ _ _ _ _ _ _ (c.loop.invariant.4 input e) end c.in_ok-read.ensures) none below
 
 pub loop-preserved : goal.loop-preserved
 loop-preserved g c =

@@ -1,6 +1,6 @@
-use Rattle.std.proofs.Common.{◌≡◌, take, map}
-use Rattle.wm_server.specs.Watched.{new_view}
+use Rattle.std.proofs.Common.{◌≡◌, ◌++◌, map}
+use Rattle.wm_server.specs.Watched.{first_views, new_view}
 use Rattle.wm_server.proofs.watched.first_views.Given as goal
 
 abbrev pub invariant-loop-root : goal.invariant-loop-root
-invariant-loop-root l = l.views.items ≡ map (λ root. new_view l.registry.incarnation root.number) (take l.root-index l.roots)
+invariant-loop-root l = first_views l.registry ≡ l.views.items ++ map (λ root. new_view l.registry.incarnation root.number) l.root-iterator

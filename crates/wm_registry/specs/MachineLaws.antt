@@ -1,0 +1,23 @@
+-- The laws of `Machine` for the registry.
+use Rattle.std.proofs.Common.{◌≡◌, false, ◌≤◌, length, refl}
+use Rattle.wm_registry.specs.Roots.{State}
+use Rattle.wm_registry.specs.Registry.{after, changes}
+use Rattle.wm_registry.specs.Commands.{IsCommand, command_spelling}
+use Rattle.wm_registry.specs.Spelling.{IsState, state_spelling}
+use Rattle.wm_checkpoint.specs.Machines.{Meaning}
+use Rattle.wm_registry.specs.declared.command.Command.{Command}
+
+pub idle_registry : (s : State) (c : Command) → changes s c ≡ false → after s c ≡ s
+idle_registry s c h = rw h refl
+
+pub small_registry : (s : State) → IsState s → length (state_spelling s) ≤ 1048563
+small_registry s h = h.short
+
+-- the registry as a machine: how states and commands are spelled, and what a command does
+abbrev pub watches : Meaning State Command
+watches = record {
+  state = record { fits = IsState; spelling = state_spelling };
+  command = record { fits = IsCommand; spelling = command_spelling };
+  after = after;
+  changes = changes;
+}

@@ -1,0 +1,88 @@
+-- The laws of `Wire` for names and triggers.
+use Rattle.std.proofs.Common.{◌≡◌, ℕ, ◌+◌, ◌*◌, ◌^◌, ◌<◌, ◌≤◌, Bool, true, false, List, [], ◌∷◌, ◌++◌, length, flat_map, Option, Some, None, refl, sym, ap, ◌∙◌, append_assoc, arith}
+use Rattle.std.proofs.lemmas.List.{length-append}
+use Rattle.std.specs.List.{AllByRecursion}
+use Rattle.byteorder.specs.Endian.{big_bytes}
+use Rattle.wm_wire.specs.Spelling.{text, truth, Every, Alone, IsText, IsList, IsOptional, list_spelling, optional_spelling}
+use Rattle.wm_wire.specs.Laws.{alone_text, short_text, alone_truth}
+use Rattle.wm_wire.specs.ListLaws.{alone_list}
+use Rattle.wm_wire.specs.PairLaws.{SameFront, alone_optional, same_front}
+use Rattle.wm_registry.specs.Spelling.{IsName, IsTrigger, stdin_spelling, trigger_spelling}
+use Rattle.wm_registry.specs.Triggers.{Definition, definition}
+use Rattle.wm_registry.specs.declared.stdin.Stdin.{Stdin}
+use Rattle.wm_registry.specs.declared.stdin.Stdin.TheVariants.{DevNull, NamePerLine}
+
+pub alone_stdin : (x y : Stdin) (a b : List ℕ) → Every x → Every y → stdin_spelling x ++ a ≡ stdin_spelling y ++ b → x ≡ y
+alone_stdin DevNull DevNull a b p q e = refl
+alone_stdin DevNull NamePerLine a b p q e = absurd cc
+alone_stdin NamePerLine DevNull a b p q e = absurd cc
+alone_stdin NamePerLine NamePerLine a b p q e = refl
+
+pub short_stdin : (x : Stdin) → Every x → length (stdin_spelling x) < 2 ^ 32
+short_stdin DevNull p = omega arith
+short_stdin NamePerLine p = omega arith
+
+pub alone_name : (x y : List ℕ) (a b : List ℕ) → IsName x → IsName y → text x ++ a ≡ text y ++ b → x ≡ y
+alone_name x y a b hx hy e = alone_text 64 x y a b hx.is_text hy.is_text e
+
+pub short_name : (x : List ℕ) → IsName x → length (text x) < 2 ^ 32
+short_name x h = short_text 64 x h.is_text
+
+-- of two rows that begin the same bytes, the first parts are the same, and so is what follows them
+pub same_part : {V : Type 0} (fits : V → Type 0) (spelling : V → List ℕ) → Alone fits spelling → (x y : V) (more more' a b : List ℕ) → fits x → fits y → (spelling x ++ more) ++ a ≡ (spelling y ++ more') ++ b → SameFront x y (more ++ a) (more' ++ b)
+same_part fits spelling alone x y more more' a b hx hy e =
+    same_front fits spelling alone x y (more ++ a) (more' ++ b) hx hy (sym (append_assoc (spelling x) more a) ∙ e ∙ append_assoc (spelling y) more' b)
+
+pub alone_trigger : (x y : Definition) (a b : List ℕ) → IsTrigger x → IsTrigger y → trigger_spelling x ++ a ≡ trigger_spelling y ++ b → x ≡ y
+alone_trigger x y a b hx hy e =
+    let name = same_part IsName text alone_name x.name y.name _ _ a b hx.name hy.name e in
+    let command = same_part (IsList 16 (IsText 1024) text) (list_spelling text) (alone_list 16 (IsText 1024) text (alone_text 1024)) x.command y.command _ _ a b hx.command hy.command name.rest in
+    let expression = same_part (IsOptional (IsText 4096) text) (optional_spelling text) (alone_optional (IsText 4096) text (alone_text 4096)) x.expression y.expression _ _ a b hx.expression hy.expression command.rest in
+    let flag = same_part Every truth alone_truth x.append_files y.append_files _ _ a b tt tt expression.rest in
+    let stdin = alone_stdin x.stdin y.stdin a b tt tt flag.rest in
+    ap (λ v. definition v x.command x.expression x.append_files x.stdin) name.value
+    ∙ ap (λ v. definition y.name v x.expression x.append_files x.stdin) command.value
+    ∙ ap (λ v. definition y.name y.command v x.append_files x.stdin) expression.value
+    ∙ ap (λ v. definition y.name y.command y.expression v x.stdin) flag.value
+    ∙ ap (λ v. definition y.name y.command y.expression y.append_files v) stdin
+
+-- a text takes four bytes more than it has
+pub small_text : (max : ℕ) (x : List ℕ) → IsText max x → length (text x) ≤ max + 4
+small_text max x h = omega (arith, h.short, length-append (big_bytes 4 (length x)) x)
+
+-- words of at most 1,024 bytes take at most 1,028 each
+small_words : (words : List (List ℕ)) → AllByRecursion (IsText 1024) words → length (flat_map text words) ≤ length words * 1028
+small_words [] h = omega arith
+small_words (word ∷ words) h = omega (arith, small_text 1024 word h.0, small_words words h.1, length-append (text word) (flat_map text words))
+
+small_expression : (x : Option (List ℕ)) → IsOptional (IsText 4096) text x → length (optional_spelling text x) ≤ 4101
+small_expression None h = omega arith
+small_expression (Some x) h = omega (arith, small_text 4096 x h.held)
+
+small_flags : (flag : Bool) (stdin : Stdin) → length (truth flag ++ stdin_spelling stdin) ≤ 2
+small_flags false DevNull = omega arith
+small_flags false NamePerLine = omega arith
+small_flags true DevNull = omega arith
+small_flags true NamePerLine = omega arith
+
+-- a trigger's spelling has at most 21,000 bytes
+pub small_trigger : (x : Definition) → IsTrigger x → length (trigger_spelling x) ≤ 21000
+small_trigger x h =
+    let flags = truth x.append_files ++ stdin_spelling x.stdin in
+    let expression = optional_spelling text x.expression in
+    let words = flat_map text x.command in
+    omega (
+      arith,
+      small_text 64 x.name h.name.is_text,
+      small_words x.command h.command.each,
+      h.command.count,
+      small_expression x.expression h.expression,
+      small_flags x.append_files x.stdin,
+      length-append expression flags,
+      length-append (list_spelling text x.command) (expression ++ flags),
+      length-append (big_bytes 4 (length x.command)) words,
+      length-append (text x.name) (list_spelling text x.command ++ (expression ++ flags)),
+    )
+
+pub short_trigger : (x : Definition) → IsTrigger x → length (trigger_spelling x) < 2 ^ 32
+short_trigger x h = omega (arith, small_trigger x h)

@@ -1,0 +1,63 @@
+ghost use Rattle.wm_registry.specs.Registry.{after as after_lem, changes as changes_lem, reply_to};
+ghost use Rattle.wm_registry.specs.MachineLaws.{idle_registry, small_registry};
+
+use crate::command::Command;
+use crate::registry::Registry;
+use crate::reply::Reply;
+use std::alloc::Global;
+use wm_checkpoint::Machine;
+use wm_disk::{NoMemory, Refusal};
+
+impl Machine for Registry {
+    type State = Registry;
+
+    type Command = Command;
+
+    type Reply = Reply;
+
+    ghost after = { after_lem };
+
+    ghost changes = { changes_lem };
+
+    ghost reply = { reply_to };
+
+    fn apply(
+        alloc: Global,
+        state: &mut Registry,
+        command: &Command,
+    ) -> Result<(Reply, bool), NoMemory> {
+        match state.apply(alloc, command) {
+            Reply::Refused(Refusal::NoMemory) => Err(NoMemory),
+            reply => Ok((reply, reply.is_change())),
+        }
+    }
+
+    fn copy(alloc: Global, state: &Registry) -> Result<Registry, NoMemory> {
+        state.copy(alloc)
+    }
+
+    ghost idle = { idle_registry };
+
+    ghost small = { small_registry };
+}
+
+#[cfg(test)]
+mod tests {
+    use super::*;
+    use std::test::Fail;
+
+    #[test]
+    fn copies_a_state(rt: HostRuntime) -> Result<(), Fail> {
+        let mut state = Registry::new(rt.alloc());
+        let (reply, changed) = <Registry as Machine>::apply(
+            rt.alloc(),
+            &mut state,
+            &Command::Begin,
+        )?;
+        assert_eq!(rt; reply, Reply::Changed);
+        assert!(rt; changed);
+        let copy = <Registry as Machine>::copy(rt.alloc(), &state)?;
+        assert_eq!(rt; copy.incarnation(), 1);
+        Ok(())
+    }
+}

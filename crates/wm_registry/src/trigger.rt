@@ -1,0 +1,301 @@
+ghost use Rattle.std.specs.Prelude.{◌≡◌, ◌≢◌, ◌↔◌, ◌++◌, ℕ, List, true, false, take, length, map, nat_le, OnOk, OnErr, IfOk, IfErr, IsErrOf};
+ghost use Rattle.std.specs.List.{list_all};
+ghost use Rattle.std.specs.Option.{option_map};
+ghost use Rattle.wm_registry.specs.Spelling.{IsTrigger, trigger_spelling};
+ghost use Rattle.wm_registry.specs.TriggerLaws.{alone_trigger, short_trigger};
+ghost use Rattle.wm_registry.specs.Triggers.{has_program as has_program_lem, is_command as is_command_lem, is_expression as is_expression_lem, is_trigger, same_definition};
+
+use crate::stdin::Stdin;
+use crate::trigger_name::{TriggerName, is_name};
+use std::alloc::Global;
+use std::marker::Model;
+use wm_disk::{NoMemory, Refusal};
+use wm_wire::{List, Optional, Pair, Text, Wire};
+
+/// A word of a command.
+pub type Word = Text<1024>;
+
+/// The words of a command.
+type Words = List<Word, 16>;
+
+/// The text of an expression, which may be missing.
+type Expression = Optional<Text<4096>>;
+
+/// A program that is to be started where files of a root change: 1 to 16 words of at most 1,024 bytes,
+/// the first of them not empty, and perhaps an expression of at most 4,096 bytes, which chooses the
+/// files. Contracts see it as a `Definition`.
+#[derive(Drop)]
+pub struct Trigger {
+    name: TriggerName,
+    command: Words,
+    expression: Expression,
+    append_files: bool,
+    stdin: Stdin,
+}
+
+impl Model for Trigger {
+    ghost use Rattle.wm_registry.specs.Triggers.{Definition, has_program};
+    ghost use Rattle.std.specs.Prelude.{◌≡◌, true};
+
+    ghost Value = { Definition };
+
+    ghost view = { λ t. record { name = t.name; command = t.command; expression = t.expression; append_files = t.append_files; stdin = t.stdin } };
+
+    ghost invariant = { λ t. has_program t.command ≡ true };
+}
+
+/// Whether there is a first word, and it isn't empty.
+fn has_program(words: &[Word]) -> bool
+    ensures { result ≡ has_program_lem words.now }
+{
+    match words {
+        [program, ..] => !program.as_str().is_empty(),
+        [] => false,
+    }
+}
+
+impl Trigger {
+    ghost use Rattle.wm_registry.specs.Triggers.{definition};
+
+    /// The trigger with this name, this command of a program and its words, and this expression.
+    /// `BadTrigger` where a rule is broken: the name has 1 to 64 bytes, the command 1 to 16 words of at
+    /// most 1,024 bytes with the first not empty, the expression at most 4,096 bytes. The rules come
+    /// first, so that `NoMemory` is for a trigger that keeps them.
+    pub fn new(
+        alloc: Global,
+        name: &str,
+        command: &[&str],
+        expression: Option<&str>,
+        append_files: bool,
+        stdin: Stdin,
+    ) -> Result<Trigger, Refusal>
+        ensures ok { IfOk result (λ t. t ≡ definition name.now (map (λ w. w.now) command.now) (option_map (λ t. t.now) expression.entry) append_files stdin) }
+        ensures fits { IfOk result IsTrigger }
+        ensures refused { IsErrOf result Refusal.BadTrigger ↔ (is_trigger (definition name.now (map (λ w. w.now) command.now) (option_map (λ t. t.now) expression.entry) append_files stdin) ≡ false) }
+        ensures kinds { IfErr result (λ e. e ≢ Refusal.NoMemory → e ≡ Refusal.BadTrigger) }
+    {
+        if !is_name(name) || !is_command(command) || !is_expression(expression) {
+            return Err(Refusal::BadTrigger);
+        }
+        let name = TriggerName::read(alloc, name)?;
+        let command = read_words(alloc, command)?;
+        let expression = read_expression(alloc, expression)?;
+        Ok(Trigger {
+            name,
+            command,
+            expression,
+            append_files,
+            stdin,
+        })
+    }
+
+    /// Its name.
+    pub fn name(&self) -> &TriggerName
+        ensures { result.now ≡ self.now.name }
+    {
+        &self.name
+    }
+
+    /// The program and its words.
+    pub fn command(&self) -> &[Word]
+        ensures { result.now ≡ self.now.command }
+    {
+        self.command.as_slice()
+    }
+
+    /// The text of its expression.
+    pub fn expression(&self) -> Option<&str>
+        ensures { option_map (λ t. t.now) result ≡ self.now.expression }
+    {
+        match self.expression.as_option() {
+            Some(text) => Some(text.as_str()),
+            None => None,
+        }
+    }
+
+    /// Whether the names of the files are to follow the words.
+    pub fn append_files(&self) -> bool
+        ensures { result ≡ self.now.append_files }
+    {
+        self.append_files
+    }
+
+    /// What the program is to read.
+    pub fn stdin(&self) -> Stdin
+        ensures { result ≡ self.now.stdin }
+    {
+        self.stdin
+    }
+
+    /// Whether the other is defined in the same way.
+    pub(crate) fn is_same(&self, other: &Trigger) -> bool
+        ensures { result ≡ same_definition self.now other.now }
+    {
+        self.name.as_str() == other.name.as_str()
+            && self.command() == other.command()
+            && self.expression() == other.expression()
+            && self.append_files == other.append_files
+            && self.stdin.is_same(other.stdin)
+    }
+
+    /// The same trigger again.
+    pub fn copy(&self, alloc: Global) -> Result<Trigger, NoMemory>
+        ensures { IfOk result (λ t. t ≡ self.now) }
+    {
+        let name = self.name.copy(alloc)?;
+        let command = copied(alloc, &self.command)?;
+        let expression = copied_expression(alloc, &self.expression)?;
+        Ok(Trigger {
+            name,
+            command,
+            expression,
+            append_files: self.append_files,
+            stdin: self.stdin,
+        })
+    }
+
+    /// Appends the parts one after another, and may stop between two.
+    fn put_parts(&self, out: &mut Vec<u8>) -> Result<(), NoMemory>
+        ensures ok { OnOk result (out.new.items ≡ out.old.items ++ trigger_spelling self.now) }
+        ensures err { OnErr result (take (length out.old.items) out.new.items ≡ out.old.items) }
+    {
+        self.name.put(out)?;
+        self.command.put(out)?;
+        self.expression.put(out)?;
+        self.append_files.put(out)?;
+        self.stdin.put(out)
+    }
+}
+
+/// The parts of a trigger, in the order of its spelling.
+type Parts = Pair<TriggerName, Pair<Words, Pair<Expression, Pair<bool, Stdin>>>>;
+
+impl Wire for Trigger {
+    ghost fits = { IsTrigger };
+
+    ghost spelling = { trigger_spelling };
+
+    fn put(&self, out: &mut Vec<u8>) -> Result<(), NoMemory> {
+        let start = out.len();
+        if self.put_parts(out).is_err() {
+            out.truncate(start);
+            return Err(NoMemory);
+        }
+        Ok(())
+    }
+
+    fn size(&self) -> u64 {
+        self.name.size() + self.command.size() + self.expression.size() + 2
+    }
+
+    fn take(alloc: Global, bytes: &[u8]) -> Result<Option<(Self, usize)>, NoMemory> {
+        let Some((parts, size)) = Parts::take(alloc, bytes)? else {
+            return Ok(None);
+        };
+        let (name, rest) = parts.into_parts();
+        let (command, rest) = rest.into_parts();
+        let (expression, rest) = rest.into_parts();
+        let (append_files, stdin) = rest.into_parts();
+        if !has_program(command.as_slice()) {
+            return Ok(None);
+        }
+        let trigger = Trigger {
+            name,
+            command,
+            expression,
+            append_files,
+            stdin,
+        };
+        Ok(Some((trigger, size)))
+    }
+
+    ghost alone = { alone_trigger };
+
+    ghost short = { short_trigger };
+}
+
+/// Whether these are 1 to 16 words of at most 1,024 bytes, the first of them not empty.
+fn is_command(words: &[&str]) -> bool
+    ensures { result ≡ is_command_lem (map (λ w. w.now) words.now) }
+{
+    match words {
+        [program, ..] => !program.is_empty() && words.len() <= 16 && are_short(words),
+        [] => false,
+    }
+}
+
+/// Whether none of the words has more than 1,024 bytes.
+fn are_short(words: &[&str]) -> bool
+    ensures { result ≡ list_all (λ w. nat_le (length w.now) 1024) words.now }
+{
+    words.iter().all(|word| word.len() <= 1024)
+}
+
+/// Whether there is no expression, or one of at most 4,096 bytes.
+fn is_expression(text: Option<&str>) -> bool
+    ensures { result ≡ is_expression_lem (option_map (λ t. t.now) text.entry) }
+{
+    match text {
+        Some(text) => text.len() <= 4096,
+        None => true,
+    }
+}
+
+/// A command of these words, which are within the limits.
+fn read_words(alloc: Global, words: &[&str]) -> Result<Words, NoMemory>
+    requires { is_command_lem (map (λ w. w.now) words.now) ≡ true }
+    ensures { IfOk result (λ l. l ≡ map (λ w. w.now) words.now) }
+{
+    let mut list = List::new(alloc);
+    for word in words {
+        let word = Text::new(alloc, word)?;
+        if list.push(word).is_err() {
+            return Err(NoMemory);
+        }
+    }
+    Ok(list)
+}
+
+/// The expression with this text, which is within the limits.
+fn read_expression(alloc: Global, text: Option<&str>) -> Result<Expression, NoMemory>
+    requires { is_expression_lem (option_map (λ t. t.now) text) ≡ true }
+    ensures { IfOk result (λ e. e ≡ option_map (λ t. t.now) text.entry) }
+{
+    let Some(text) = text else {
+        return Ok(Optional::none());
+    };
+    match Optional::some(Text::new(alloc, text)?) {
+        Ok(expression) => Ok(expression),
+        Err(_) => Err(NoMemory),
+    }
+}
+
+/// The same words again.
+fn copied(alloc: Global, words: &Words) -> Result<Words, NoMemory>
+    ensures { IfOk result (λ l. l ≡ words.now) }
+{
+    let mut list = List::new(alloc);
+    for word in words.as_slice() {
+        let word = word.copy(alloc)?;
+        if list.push(word).is_err() {
+            return Err(NoMemory);
+        }
+    }
+    Ok(list)
+}
+
+/// The same expression again.
+fn copied_expression(alloc: Global, expression: &Expression) -> Result<Expression, NoMemory>
+    ensures { IfOk result (λ e. e ≡ expression.now) }
+{
+    let Some(text) = expression.as_option() else {
+        return Ok(Optional::none());
+    };
+    match Optional::some(text.copy(alloc)?) {
+        Ok(copy) => Ok(copy),
+        Err(_) => Err(NoMemory),
+    }
+}
+
+#[cfg(test)]
+pub(crate) mod tests;

@@ -1,0 +1,151 @@
+ghost use Rattle.std.specs.Prelude.{◌≡◌, ◌≢◌, Ok, Err, Some, None, map, option_map, option_and_then, IfOk, IfErr};
+ghost use Rattle.serde_json.specs.Find.{as_array, as_str, get};
+ghost use Rattle.serde_json.specs.View.{items_view, view};
+ghost use Rattle.wm_server.specs.TriggerLines.{by_rules, definition_in, flag_in, has_known_keys as has_known_keys_lem, stdin_in, stdin_named as stdin_named_lem, trigger_del_request, trigger_in as trigger_in_lem, trigger_request, words_in};
+
+use crate::arguments::{ends_at, text_at};
+use crate::metadata::has_keys;
+use crate::request::Request;
+use serde_json::Value;
+use std::alloc::Global;
+use wm_disk::Refusal;
+use wm_names::RootPath;
+use wm_registry::{Stdin, Trigger, TriggerName};
+
+/// A truth value that is false where it is missing.
+fn flag(value: Option<&Value>) -> Option<bool>
+    ensures { result ≡ flag_in (option_map (λ v. view v.now) value.entry) }
+{
+    match value {
+        Some(value) => value.as_bool(),
+        None => Some(false),
+    }
+}
+
+/// What a text names that a program is to read.
+fn stdin_named(text: &str) -> Option<Stdin>
+    ensures { result ≡ stdin_named_lem text.now }
+{
+    match text {
+        "/dev/null" => Some(Stdin::DevNull),
+        "NAME_PER_LINE" => Some(Stdin::NamePerLine),
+        _ => None,
+    }
+}
+
+/// What a program is to read, `/dev/null` where it is missing.
+fn stdin(value: Option<&Value>) -> Option<Stdin>
+    ensures { result ≡ stdin_in (option_map (λ v. view v.now) value.entry) }
+{
+    match value {
+        Some(value) => stdin_named(value.as_str()?),
+        None => Some(Stdin::DevNull),
+    }
+}
+
+/// The items of an array.
+fn items(value: Option<&Value>) -> Option<&Vec<Value>>
+    ensures { option_map (λ v. items_view v.now.items) result ≡ option_and_then as_array (option_map (λ v. view v.now) value.entry) }
+{
+    value?.as_array()
+}
+
+/// The texts of an array.
+fn words(alloc: Global, value: Option<&Value>) -> Result<Vec<&str>, Refusal>
+    ensures ok { IfOk result (λ words. words_in (option_map (λ v. view v.now) value.entry) ≡ Some (map (λ w. w.now) words.items)) }
+    ensures refused { IfErr result (λ e. e ≢ Refusal.NoMemory → (e ≡ Refusal.BadTrigger) × (words_in (option_map (λ v. view v.now) value.entry) ≡ None)) }
+{
+    let Some(items) = items(value) else {
+        return Err(Refusal::BadTrigger);
+    };
+    let mut words = Vec::new(alloc);
+    for item in items {
+        let Some(word) = item.as_str() else {
+            return Err(Refusal::BadTrigger);
+        };
+        words.push(word)?;
+    }
+    Ok(words)
+}
+
+/// Whether an object has as many keys as it has known ones: a name, a command, and perhaps the two
+/// others.
+fn has_known_keys(object: &Value) -> bool
+    ensures { result ≡ has_known_keys_lem (view object.now) }
+{
+    let flags = usize::from(object.get("append_files").is_some());
+    let stdins = usize::from(object.get("stdin").is_some());
+    has_keys(object, 2 + (flags + stdins))
+}
+
+/// The text at a key.
+fn text_named<'a>(object: &'a Value, key: &str) -> Option<&'a str>
+    ensures { option_map (λ text. text.now) result ≡ option_and_then as_str (get key.now (view object.now)) }
+{
+    object.get(key)?.as_str()
+}
+
+/// The trigger that an object without an expression defines.
+fn plain_trigger_in(alloc: Global, object: &Value) -> Result<Trigger, Refusal>
+    ensures ok { IfOk result (λ t. by_rules (definition_in (view object.now)) ≡ Ok t) }
+    ensures refused { IfErr result (λ e. e ≢ Refusal.NoMemory → by_rules (definition_in (view object.now)) ≡ Err e) }
+{
+    if !has_known_keys(object) {
+        return Err(Refusal::BadTrigger);
+    }
+    let (Some(name), Some(append_files), Some(stdin)) = (
+        text_named(object, "name"),
+        flag(object.get("append_files")),
+        stdin(object.get("stdin")),
+    ) else {
+        return Err(Refusal::BadTrigger);
+    };
+    let words = words(alloc, object.get("command"))?;
+    Trigger::new(alloc, name, &words, None, append_files, stdin)
+}
+
+/// The trigger that an object defines.
+fn trigger_in(alloc: Global, object: &Value) -> Result<Trigger, Refusal>
+    ensures ok { IfOk result (λ t. trigger_in_lem (view object.now) ≡ Ok t) }
+    ensures refused { IfErr result (λ e. e ≢ Refusal.NoMemory → trigger_in_lem (view object.now) ≡ Err e) }
+{
+    if object.get("expression").is_some() {
+        return Err(Refusal::BadExpression);
+    }
+    plain_trigger_in(alloc, object)
+}
+
+/// `trigger` with a root path and an object.
+pub(crate) fn trigger(alloc: Global, value: &Value) -> Result<Request, Refusal>
+    ensures ok { IfOk result (λ r. trigger_request (view value.now) ≡ Ok r) }
+    ensures refused { IfErr result (λ e. e ≢ Refusal.NoMemory → trigger_request (view value.now) ≡ Err e) }
+{
+    if !ends_at(value, 3) {
+        return Err(Refusal::BadArguments);
+    }
+    let (Some(root), Some(object)) = (text_at(value, 1), value.get(2)) else {
+        return Err(Refusal::BadArguments);
+    };
+    if !object.is_object() {
+        return Err(Refusal::BadArguments);
+    }
+    let root = RootPath::read(alloc, root)?;
+    let trigger = trigger_in(alloc, object)?;
+    Ok(Request::Trigger(root, trigger))
+}
+
+/// `trigger-del` with a root path and a name.
+pub(crate) fn trigger_del(alloc: Global, value: &Value) -> Result<Request, Refusal>
+    ensures ok { IfOk result (λ r. trigger_del_request (view value.now) ≡ Ok r) }
+    ensures refused { IfErr result (λ e. e ≢ Refusal.NoMemory → trigger_del_request (view value.now) ≡ Err e) }
+{
+    if !ends_at(value, 3) {
+        return Err(Refusal::BadArguments);
+    }
+    let (Some(root), Some(name)) = (text_at(value, 1), text_at(value, 2)) else {
+        return Err(Refusal::BadArguments);
+    };
+    let root = RootPath::read(alloc, root)?;
+    let name = TriggerName::read(alloc, name)?;
+    Ok(Request::TriggerDel(root, name))
+}

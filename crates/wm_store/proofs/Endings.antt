@@ -1,0 +1,240 @@
+-- A batch from its first command to its end.
+use Rattle.std.proofs.Common.{◌≡◌, ◌⊎◌, ⊎_elim, inl, inr, refl, sym, ◌∙◌, ap, subst, ℕ, zero, suc, ◌+◌, ◌≤◌, ◌<◌, Bool, true, false, List, [], ◌∷◌, ◌++◌, length, take, drop, get_or, arith, length-append, vec_len, vec_capacity}
+use Rattle.std.specs.Prelude.{Option, Some, None, Result, Ok, Err, IfErr, OnErr, if◌then◌else◌}
+use Rattle.std.specs.Option.{unwrap_or}
+use Rattle.wm_disk.specs.declared.disk.Disk as disks
+use Rattle.wm_disk.specs.declared.refusal.Refusal.TheVariants.{NoMemory, Exhausted}
+use Rattle.wm_journal.specs.Records.{taken}
+use Rattle.wm_journal.proofs.Opening.{weaker}
+use Rattle.wm_registry.specs.Commands.{command_spelling}
+use Rattle.wm_registry.specs.declared.command.Command.{Command}
+use Rattle.wm_registry.specs.declared.reply.Reply.{Reply}
+use Rattle.wm_registry.specs.declared.reply.Reply.TheVariants.{Refused}
+use Rattle.wm_registry.specs.Registry.{after, is_change, reply_to}
+use Rattle.wm_registry.specs.Roots.{State}
+use Rattle.wm_registry.specs.MachineLaws.{watches}
+use Rattle.wm_checkpoint.specs.Machines.{replay_on, Accepts}
+use Rattle.wm_checkpoint.specs.Meanings.{MeansBeginning}
+use Rattle.wm_checkpoint.specs.Kept.{disk_of, state_of, has_failed, number_of, Keeps}
+use Rattle.wm_checkpoint.proofs.Outside.{replayed_append}
+use Rattle.wm_store.specs.Batches.{IsBatch, IsShort, AreAnswered, accepted_of, is_begin, met}
+use Rattle.wm_store.specs.UnderWay.{K, AreCalls, AreMet, IsCut, IsDone, IsNew, IsPast, IsReady, IsSoFar, IsWhole, KeepsRoom}
+use Rattle.wm_store.specs.declared.batch.Batch.{Batch}
+use Rattle.wm_store.proofs.Batching.{calls_none, calls_then, whole_none, whole_then, longer}
+use Rattle.wm_store.proofs.Replying.{accepted_append, all_short, answered_met, met_append, short_append, short_last, short_replies}
+use Rattle.wm_store.proofs.Runs.{Leaves, OnlyNow, stood, unbegun}
+use Rattle.wm_store.proofs.Stores.{stored}
+
+-- ---- commands and replies
+
+none_left : (cs ds : List Command) → cs ++ ds ≡ [] → cs ≡ []
+none_left [] ds e = refl
+none_left (c ∷ cs) ds e = absurd cc
+
+none_right : (cs ds : List Command) → cs ++ ds ≡ [] → ds ≡ []
+none_right [] ds e = e
+none_right (c ∷ cs) ds e = absurd cc
+
+one_refused : (b : Bool) (c : Command) → (if b then c ∷ [] else []) ≡ [] → b ≡ false
+one_refused true c e = absurd cc
+one_refused false c e = refl
+
+one_accepted : (b : Bool) (c : Command) (l m : List Command) → b ≡ true → (if b then c ∷ l else m) ≡ [] → ⊥
+one_accepted true c l m h e = absurd cc
+one_accepted false c l m h e = absurd cc
+
+-- the registry's own reply, but to a Begin
+as_asked : (b : Bool) (x y : Reply) → b ≡ false → y ≡ (if b then x else y)
+as_asked true x y h = absurd cc
+as_asked false x y h = refl
+
+-- the commands at a turn of the loop over them
+parted : (cs : List Command) (n : ℕ) (c : Command) → n < length cs → c ≡ get_or cs n c → cs ≡ take n cs ++ (c ∷ drop (suc n) cs)
+parted [] n c lt e = absurd (omega (arith, lt))
+parted (d ∷ cs) zero c lt e = ap (λ (x : Command). x ∷ cs) (sym e)
+parted (d ∷ cs) (suc n) c lt e = ap (λ (l : List Command). d ∷ l) (parted cs n c (omega (arith, lt)) e)
+
+pub at_turn : (all seen : List Command) (c : Command) → seen ≡ take (length seen) all → length seen < length all → c ≡ get_or all (length seen) c → all ≡ seen ++ (c ∷ drop (suc (length seen)) all)
+at_turn all seen c front lt is = parted all (length seen) c lt is ∙ ap (λ (l : List Command). l ++ (c ∷ drop (suc (length seen)) all)) (sym front)
+
+-- what a failure has, by two clauses
+pub err_both : {T E Q : Type 0} {P R : E → Type 0} (r : Result T E) → ((x : E) → P x → Q → R x) → IfErr r P → OnErr r Q → IfErr r R
+err_both (Ok x) f p q = tt
+err_both (Err e) f p q = f e p q
+
+module _ {D : Type 0} (disk : disks.Ghosts D) where
+  -- Of a batch of commands from start on, some were met, and the device hasn't failed.
+  pub record IsUnderWay (start : K disk) (commands done : List Command) (keeper : K disk) (batch : Batch) : Type 0 where
+    pub ready : IsReady disk keeper batch
+    pub past : IsPast disk start done keeper batch
+    pub so_far : IsSoFar (number_of keeper) (state_of start) done batch
+    pub idle : accepted_of done batch.replies.items ≡ [] → (keeper ≡ start) ⊎ IsShort batch.replies.items
+    pub calls : AreCalls disk (length done) start keeper
+    pub whole : IsWhole disk start keeper
+    pub len : vec_len batch.replies ≡ length done
+    pub replies : length commands ≤ vec_capacity batch.replies
+    pub group : length commands ≤ vec_capacity batch.group
+
+  pub none_yet : (start : K disk) (commands : List Command) (batch : Batch) → Keeps watches start → has_failed start ≡ false → IsNew (state_of start) (length commands) batch
+      → (disk.honest (disk_of start) → Leaves disk (disk_of start) (disk_of start) (MeansBeginning watches (state_of start) [])) → IsUnderWay start commands [] start batch
+  none_yet start commands batch kp alive new standing = record {
+    ready = record {
+      kept = kp;
+      whole = alive;
+      accepted = subst (λ (l : List Command). Accepts watches (state_of start) l) (sym new.group) tt;
+      next = new.next ∙ ap (λ (l : List Command). replay_on watches (state_of start) l) (sym new.group);
+      size = new.size ∙ ap (λ (l : List Command). taken command_spelling l) (sym new.group);
+      fits = omega (arith, new.size);
+      len = omega (arith, new.group_len, new.replies_len);
+    };
+    past = record {
+      committed = [];
+      led = refl;
+      len = ap (λ (l : List Reply). length l) (sym new.replies);
+      accepted = sym new.group;
+      first = omega (arith, new.first);
+      front = ap (λ (n : ℕ). accepted_of (take n []) (take n batch.replies.items)) new.first;
+      before = inr (new.before, refl);
+      run = standing;
+    };
+    so_far = inl (new.refused, subst (λ (l : List Reply). AreMet (state_of start) [] l) (sym new.replies) tt);
+    idle = λ _. inl refl;
+    calls = calls_none disk 0 start start refl;
+    whole = whole_none disk start start refl kp alive;
+    len = new.replies_len;
+    replies = omega (arith, new.replies_room);
+    group = omega (arith, new.group_room);
+  }
+
+  -- one command more
+  module _ (start : K disk) (commands done : List Command) (old new : K disk) (a b : Batch) (c : Command) (u : IsUnderWay start commands done old a) where
+    still_idle : (q : Reply) → b.replies.items ≡ a.replies.items ++ (q ∷ []) → (is_change q ≡ false → a.group.items ≡ [] → (new ≡ old) ⊎ (q ≡ Refused NoMemory)) → accepted_of (done ++ (c ∷ [])) b.replies.items ≡ [] → (new ≡ start) ⊎ IsShort b.replies.items
+    still_idle q is same none =
+        let both : accepted_of done a.replies.items ++ accepted_of (c ∷ []) (q ∷ []) ≡ [] = sym (accepted_append done (c ∷ []) a.replies.items (q ∷ []) u.past.len) ∙ ap (λ (l : List Reply). accepted_of (done ++ (c ∷ [])) l) (sym is) ∙ none in
+        let front : accepted_of done a.replies.items ≡ [] = none_left (accepted_of done a.replies.items) (accepted_of (c ∷ []) (q ∷ [])) both in
+        let idle : is_change q ≡ false = one_refused (is_change q) c (none_right (accepted_of done a.replies.items) (accepted_of (c ∷ []) (q ∷ [])) both) in
+        let group : a.group.items ≡ [] = none_right u.past.committed a.group.items (sym u.past.accepted ∙ front) in
+        ⊎_elim
+        (λ k. ⊎_elim
+        (λ first. inl (k ∙ first))
+        (λ short. inr (subst (λ (l : List Reply). IsShort l) (sym is) (short_append a.replies.items (q ∷ []) short)))
+        (u.idle front))
+        (λ k. inr (subst (λ (l : List Reply). IsShort l) (sym is) (short_last a.replies.items q k)))
+        (same idle group)
+
+    pub one_more : IsReady disk new b → vec_len b.replies ≡ vec_len a.replies + 1 → KeepsRoom a b
+        → ((s : K disk) (cs : List Command) → IsPast disk s cs old a → IsPast disk s (cs ++ (c ∷ [])) new b)
+        → ((s : K disk) (cs : List Command) → IsPast disk s cs old a → IsSoFar (number_of old) (state_of s) cs a → IsSoFar (number_of new) (state_of s) (cs ++ (c ∷ [])) b)
+        → ((q : Reply) × (b.replies.items ≡ a.replies.items ++ (q ∷ [])) × (is_change q ≡ false → a.group.items ≡ [] → (new ≡ old) ⊎ (q ≡ Refused NoMemory)))
+        → AreCalls disk 1 old new → IsWhole disk old new → IsUnderWay start commands (done ++ (c ∷ [])) new b
+    one_more ready len room past so_far idle calls whole =
+        let one : length (done ++ (c ∷ [])) ≡ length done + 1 = length-append done (c ∷ []) in
+        record {
+          ready = ready;
+          past = past start done u.past;
+          so_far = so_far start done u.past u.so_far;
+          idle = still_idle idle.0 idle.1 idle.2;
+          calls = subst (λ (n : ℕ). AreCalls disk n start new) (sym one) (calls_then disk (length done) 1 start old new u.calls calls);
+          whole = whole_then disk start old new u.whole whole;
+          len = omega (arith, len, u.len, one);
+          replies = omega (arith, room.replies, u.replies);
+          group = omega (arith, room.group, u.group);
+        }
+
+  -- The device failed in the midst of the batch: the replies are those so far, then that to a command that was to be accepted.
+  cut_replies : (done : Batch) (c : Command) (rest : List Command) → List Reply
+  cut_replies a c rest = a.replies.items ++ (reply_to a.next c ∷ short_replies rest)
+
+  -- Unless the slot's number is spent, all commands so far were met.
+  all_met : (start : K disk) (commands done : List Command) (old : K disk) (a : Batch) → IsUnderWay start commands done old a → (a.refused ≡ None) ⊎ (a.group.items ≡ [] → ⊥) → AreMet (state_of start) done a.replies.items
+  all_met start commands done old a u why = ⊎_elim (λ h. h.1)
+      (λ w. ⊎_elim (λ h. h.1)
+      (λ h. ⊎_elim (λ n. absurd (let clash : Some Exhausted ≡ None = sym h.0 ∙ n in cc)) (λ some. absurd (some h.1)) why) w) u.so_far
+
+  -- the batch's registry is that behind the commands accepted so far
+  next_is : (start : K disk) (commands done : List Command) (old : K disk) (a : Batch) → IsUnderWay start commands done old a → a.next ≡ replay_on watches (state_of start) (accepted_of done a.replies.items)
+  next_is start commands done old a u =
+      u.ready.next ∙ ap (λ (s : State). replay_on watches s a.group.items) u.past.led ∙ sym (replayed_append after (state_of start) u.past.committed a.group.items)
+      ∙ ap (λ (l : List Command). replay_on watches (state_of start) l) (sym u.past.accepted)
+
+  module _ (start : K disk) (commands done : List Command) (old new : K disk) (a : Batch) (c : Command) (rest : List Command) (before : Option State)
+      (u : IsUnderWay start commands done old a) (all : commands ≡ done ++ (c ∷ rest)) (cut : IsCut disk start done a.replies.items new before)
+      (none : a.refused ≡ None) (other : is_begin c ≡ false) (accepts : is_change (reply_to a.next c) ≡ true) where
+    accepted_cut : accepted_of commands (cut_replies a c rest) ≡ accepted_of done a.replies.items ++ accepted_of (c ∷ rest) (reply_to a.next c ∷ short_replies rest)
+    unfolding cut_replies
+    accepted_cut = ap (λ (l : List Command). accepted_of l (a.replies.items ++ (reply_to a.next c ∷ short_replies rest))) all
+        ∙ accepted_append done (c ∷ rest) a.replies.items (reply_to a.next c ∷ short_replies rest) u.past.len
+
+    last_met : (s : State) → a.next ≡ s → AreMet s (c ∷ rest) (reply_to a.next c ∷ short_replies rest)
+    last_met s is = (
+      inl (ap (λ (t : State). reply_to t c) is ∙ as_asked (is_begin c) _ (reply_to s c) other),
+      all_short (met s c (reply_to a.next c)) rest,
+    )
+
+    pub cut_at : (replies : List Reply) × AreMet (state_of start) commands replies × IsCut disk start commands replies new before × (accepted_of commands replies ≡ [] → ⊥)
+    unfolding cut_replies
+    cut_at =
+        let replies : List Reply = cut_replies a c rest in
+        let front : List Command = accepted_of done a.replies.items in
+        let back : List Command = accepted_of (c ∷ rest) (reply_to a.next c ∷ short_replies rest) in (
+          replies,
+          subst (λ (l : List Command). AreMet (state_of start) l replies) (sym all)
+              (met_append (state_of start) done (c ∷ rest) a.replies.items (reply_to a.next c ∷ short_replies rest) (all_met start commands done old a u (inl none)) (last_met (replay_on watches (state_of start) front) (next_is start commands done old a u))),
+          record {
+            was = cut.was;
+            run = λ h. subst (λ (l : List Command). Leaves disk (disk_of start) (disk_of new) (MeansBeginning watches (state_of start) l)) (sym accepted_cut)
+                (weaker disk.moment disk.left_since (disk_of start) (disk_of new) (MeansBeginning watches (state_of start) front) (MeansBeginning watches (state_of start) (front ++ back)) (cut.run h) (longer (state_of start) front back));
+          },
+          λ e. one_accepted (is_change (reply_to a.next c)) c (accepted_of rest (short_replies rest)) (accepted_of rest (short_replies rest)) accepts (none_right front back (sym accepted_cut ∙ e)),
+        )
+
+  -- It failed at the end.
+  pub cut_last : (start : K disk) (commands done : List Command) (old new : K disk) (a : Batch) (before : Option State) → IsUnderWay start commands done old a → done ≡ commands
+      → IsCut disk start done a.replies.items new before → (a.group.items ≡ [] → ⊥) → (replies : List Reply) × AreMet (state_of start) commands replies × IsCut disk start commands replies new before × (accepted_of commands replies ≡ [] → ⊥)
+  cut_last start commands done old new a before u all cut some = subst
+      (λ (l : List Command). (replies : List Reply) × AreMet (state_of start) l replies × IsCut disk start l replies new before × (accepted_of l replies ≡ [] → ⊥)) all
+      (a.replies.items, all_met start commands done old a u (inr some), cut, λ e. some (none_right u.past.committed a.group.items (sym u.past.accepted ∙ e)))
+
+  -- ---- what a store has of it
+
+  module _ (start : K disk) (before : Option State) (closed : Bool) (none : before ≡ None) where
+    registry_is : unwrap_or before (state_of start) ≡ state_of start
+    registry_is = ap (λ (o : Option State). unwrap_or o (state_of start)) none
+
+    -- from the store's registry on
+    from_registry : (new : D) (cs : List Command) → Leaves disk (disk_of start) new (MeansBeginning watches (state_of start) cs) → Leaves disk (disk_of start) new (MeansBeginning watches (unwrap_or before (state_of start)) cs)
+    from_registry new cs run = subst (λ (s : State). Leaves disk (disk_of start) new (MeansBeginning watches s cs)) (sym registry_is) run
+
+    -- no command was met
+    pub none_met : OnlyNow disk → Keeps watches start → has_failed start ≡ false → (commands : List Command) → IsBatch disk (stored disk start before closed) (stored disk start before closed) commands (short_replies commands)
+    none_met only_now kp alive commands =
+        let replies : List Reply = short_replies commands in
+        record {
+          answered = answered_met (number_of start) (unwrap_or before (state_of start)) commands replies (all_short (unwrap_or before (state_of start)) commands);
+          any_moment = λ h. from_registry (disk_of start) (accepted_of commands replies) (unbegun disk (disk_of start) (disk_of start) (state_of start) (accepted_of commands replies) (stood disk only_now start kp alive h));
+        }
+
+    -- the device failed
+    module _ (new : K disk) (commands : List Command) (replies : List Reply) (was : Option State) (cut : IsCut disk start commands replies new was) where
+      pub cut_batch : AreMet (state_of start) commands replies → IsBatch disk (stored disk start before closed) (stored disk new was closed) commands replies
+      cut_batch met = record {
+        answered = subst (λ (s : State). AreAnswered (number_of new) s commands replies) (sym registry_is) (answered_met (number_of new) (state_of start) commands replies met);
+        any_moment = λ h. from_registry (disk_of new) (accepted_of commands replies) (cut.run h);
+      }
+
+      pub cut_registry : unwrap_or was (state_of new) ≡ unwrap_or before (state_of start)
+      cut_registry = cut.was ∙ sym registry_is
+
+    -- all is done
+    module _ (new : K disk) (commands : List Command) (replies : List Reply) (d : IsDone disk start commands new replies) where
+      pub done_batch : IsBatch disk (stored disk start before closed) (stored disk new before closed) commands replies
+      done_batch = record {
+        answered = subst (λ (s : State). AreAnswered (number_of new) s commands replies) (sym registry_is) d.answered;
+        any_moment = λ h. from_registry (disk_of new) (accepted_of commands replies) (d.run h);
+      }
+
+      pub done_registry : unwrap_or before (state_of new) ≡ replay_on watches (unwrap_or before (state_of start)) (accepted_of commands replies)
+      done_registry = ap (λ (o : Option State). unwrap_or o (state_of new)) none ∙ d.led ∙ ap (λ (s : State). replay_on watches s (accepted_of commands replies)) (sym registry_is)
+
+      pub done_idle : accepted_of commands replies ≡ [] → (stored disk new before closed ≡ stored disk start before closed) ⊎ IsShort replies
+      done_idle e = ⊎_elim (λ k. inl (ap (λ (x : K disk). stored disk x before closed) k)) (λ short. inr short) (d.idle e)

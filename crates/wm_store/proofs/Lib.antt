@@ -1,0 +1,9 @@
+pub mod Batching
+pub mod Endings
+pub mod Finishing
+pub mod Opened
+pub mod Replies
+pub mod Replying
+pub mod Runs
+pub mod Stores
+pub mod Taking

@@ -1,0 +1,73 @@
+-- How a store is opened over what its keeper found.
+use Rattle.std.proofs.Common.{◌≡◌, ◌⊎◌, inl, inr, subst, ℕ, ◌≤◌, List, [], ◌∷◌}
+use Rattle.std.specs.Prelude.{Result, Ok, Err, IfOk, IfErr}
+use Rattle.wm_disk.specs.declared.disk.Disk as disks
+use Rattle.wm_disk.specs.declared.refusal.Refusal.{Refusal}
+use Rattle.wm_disk.specs.declared.refusal.Refusal.TheVariants.{DeviceFailed, NoMemory, Exhausted, Damaged, Retired}
+use Rattle.wm_registry.specs.declared.command.Command.{Command}
+use Rattle.wm_registry.specs.declared.command.Command.TheVariants.{Begin}
+use Rattle.wm_registry.specs.declared.reply.Reply.{Reply}
+use Rattle.wm_registry.specs.declared.reply.Reply.TheVariants.{Refused}
+use Rattle.wm_registry.specs.Registry.{reply_to}
+use Rattle.wm_registry.specs.Roots.{State}
+use Rattle.wm_registry.specs.MachineLaws.{watches}
+use Rattle.wm_checkpoint.specs.Meanings.{Means, MeansState, MeansBeginning}
+use Rattle.wm_checkpoint.specs.Kept.{disk_of, state_of, number_of, IsKept}
+use Rattle.wm_checkpoint.specs.declared.keeper.Keeper.{Keeper}
+use Rattle.wm_store.specs.Openings.{IsFound}
+use Rattle.wm_store.proofs.Runs.{Leaves}
+
+module _ {D : Type 0} (disk : disks.Ghosts D) (old : D) (keeper : Keeper D State State Command Reply disk) (k : IsKept watches keeper) (seen : disk.seen (disk_of keeper) ≡ disk.seen old) where
+  -- what the disk means, with the number of its slot
+  pub means_seen : MeansState watches (state_of keeper) (disk.seen old)
+  means_seen = record {
+    slot = keeper.slot;
+    number = keeper.number;
+    base = k.base;
+    commands = k.commands;
+    means = subst (λ (x : List ℕ). Means watches x keeper.slot keeper.number k.base k.commands) seen k.means;
+    is = k.is;
+  }
+
+  pub found : Leaves disk old (disk_of keeper) (disk.may_leave old) → (new : D) → Leaves disk (disk_of keeper) new (MeansBeginning watches (state_of keeper) (Begin ∷ [])) → IsFound disk old new (state_of keeper)
+  found until new run = record { means = means_seen; synced = disk_of keeper; until = until; from = run }
+
+  pub spent : (reply_to (state_of keeper) Begin ≡ Refused Exhausted) ⊎ (9223372036854775807 ≤ number_of keeper) → (s : State) × (m : MeansState watches s (disk.seen old)) × ((reply_to s Begin ≡ Refused Exhausted) ⊎ (9223372036854775807 ≤ m.number))
+  unfolding means_seen
+  spent why = (state_of keeper, means_seen, why)
+
+pub if_ok_both : {T E : Type 0} {P Q R : T → Type 0} (r : Result T E) → ((x : T) → P x → Q x → R x) → IfOk r P → IfOk r Q → IfOk r R
+if_ok_both (Ok x) f p q = f x p q
+if_ok_both (Err e) f p q = tt
+
+-- which refusals an opening has
+
+pub kinds_found : (x : Refusal) → (x ≡ DeviceFailed) ⊎ (x ≡ NoMemory) ⊎ (x ≡ Damaged) ⊎ (x ≡ Retired) → (x ≡ DeviceFailed) ⊎ (x ≡ NoMemory) ⊎ (x ≡ Exhausted) ⊎ (x ≡ Damaged) ⊎ (x ≡ Retired)
+kinds_found x (inl h) = inl h
+kinds_found x (inr (inl h)) = inr (inl h)
+kinds_found x (inr (inr h)) = inr (inr (inr h))
+
+pub kinds_begun : (x : Refusal) → (x ≡ DeviceFailed) ⊎ (x ≡ NoMemory) ⊎ (x ≡ Exhausted) → (x ≡ DeviceFailed) ⊎ (x ≡ NoMemory) ⊎ (x ≡ Exhausted) ⊎ (x ≡ Damaged) ⊎ (x ≡ Retired)
+kinds_begun x (inl h) = inl h
+kinds_begun x (inr (inl h)) = inr (inl h)
+kinds_begun x (inr (inr h)) = inr (inr (inl h))
+
+pub not_exhausted : (x : Refusal) → (x ≡ DeviceFailed) ⊎ (x ≡ NoMemory) ⊎ (x ≡ Damaged) ⊎ (x ≡ Retired) → x ≡ Exhausted → ⊥
+not_exhausted x (inl h) e = absurd cc
+not_exhausted x (inr (inl h)) e = absurd cc
+not_exhausted x (inr (inr (inl h))) e = absurd cc
+not_exhausted x (inr (inr (inr h))) e = absurd cc
+
+pub not_damaged : (x : Refusal) → (x ≡ DeviceFailed) ⊎ (x ≡ NoMemory) ⊎ (x ≡ Exhausted) → x ≡ Damaged → ⊥
+not_damaged x (inl h) e = absurd cc
+not_damaged x (inr (inl h)) e = absurd cc
+not_damaged x (inr (inr h)) e = absurd cc
+
+pub not_retired : (x : Refusal) → (x ≡ DeviceFailed) ⊎ (x ≡ NoMemory) ⊎ (x ≡ Exhausted) → x ≡ Retired → ⊥
+not_retired x (inl h) e = absurd cc
+not_retired x (inr (inl h)) e = absurd cc
+not_retired x (inr (inr h)) e = absurd cc
+
+pub if_err_both : {T E : Type 0} {P Q R : E → Type 0} (r : Result T E) → ((x : E) → P x → Q x → R x) → IfErr r P → IfErr r Q → IfErr r R
+if_err_both (Ok x) f p q = tt
+if_err_both (Err e) f p q = f e p q

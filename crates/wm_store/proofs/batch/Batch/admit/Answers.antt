@@ -1,0 +1,173 @@
+use Rattle.std.proofs.Common.{◌≡◌, ◌≤◌, ⊎_elim, inl, inr, refl, sym, ◌∙◌, ap, arith, ℕ, true, false, List, [], ◌∷◌, ◌++◌}
+use Rattle.std.specs.Prelude.{Some}
+use Rattle.wm_disk.specs.declared.refusal.Refusal.{Refusal}
+use Rattle.wm_disk.specs.declared.refusal.Refusal.TheVariants.{NoMemory, Exhausted, BadArguments}
+use Rattle.wm_journal.specs.Records.{taken}
+use Rattle.wm_registry.specs.Commands.{IsCommand, command_spelling}
+use Rattle.wm_registry.specs.CommandLaws.{small_command}
+use Rattle.wm_registry.specs.declared.command.Command.{Command}
+use Rattle.wm_registry.specs.Registry.{is_change, reply_to}
+use Rattle.wm_store.specs.Batches.{is_begin}
+use Rattle.wm_checkpoint.specs.Kept.{room_left}
+use Rattle.wm_store.proofs.Replies.{not_begin}
+use Rattle.wm_store.proofs.Replying.{taken_append}
+use Rattle.wm_store.proofs.Batching.{calls_none, whole_none}
+use Rattle.wm_store.proofs.batch.Batch.admit.Goals as goal
+
+fits_alone : (group : List Command) (c : Command) → group ≡ [] → IsCommand c → (room : ℕ) → room ≡ 262143 → taken command_spelling (group ++ (c ∷ [])) ≤ room
+fits_alone group c none fits room is = omega (arith, taken_append group (c ∷ []), ap (λ (l : List Command). taken command_spelling l) none, small_command c fits, is)
+
+same_inside : (x r : Refusal) → Some x ≡ Some r → r ≡ x
+same_inside x r e = cc
+
+pub returns-in-Begin : goal.returns-in-Begin
+returns-in-Begin g c =
+    let D = g.D.Disk in
+    let old = c.args.keeper.now in
+    record {
+      ready = c.requires.ready;
+      same = (refl, refl);
+      room = record { replies = omega arith; group = omega arith };
+      open_yet = λ e. absurd cc;
+      refused = λ r e. inl (ap is_begin c.in-Begin.is, same_inside BadArguments r e, refl, refl);
+      past = λ start done p. p;
+      cut = tt;
+      asked = tt;
+      calls = calls_none D 1 old old refl;
+      whole = whole_none D old old refl c.requires.ready.kept c.requires.ready.whole;
+      down = tt;
+    }
+
+pub returns-in-Some : goal.returns-in-Some
+returns-in-Some g c =
+    let D = g.D.Disk in
+    let old = c.args.keeper.now in
+    let other = not_begin c.args.command.now c.in_default.not-Begin in
+    let is = c.in-Some.is in
+    record {
+      ready = c.requires.ready;
+      same = (refl, refl);
+      room = record { replies = omega arith; group = omega arith };
+      open_yet = λ e. absurd cc;
+      refused = λ r e.
+          let this = same_inside c.in-Some.refusal r e in
+          ⊎_elim
+          (λ h. let clash = sym is ∙ h in absurd cc)
+          (λ w. ⊎_elim
+          (λ h. inr (inl (other, this ∙ same_inside NoMemory c.in-Some.refusal (sym h ∙ is), h, inr h, λ _. refl)))
+          (λ h. inr (inr (other, this ∙ same_inside Exhausted c.in-Some.refusal (sym h ∙ is), h, (λ _. refl), inr (h, refl, refl))))
+          w)
+          c.requires.refused;
+      past = λ start done p. p;
+      cut = tt;
+      asked = tt;
+      calls = calls_none D 1 old old refl;
+      whole = whole_none D old old refl c.requires.ready.kept c.requires.ready.whole;
+      down = tt;
+    }
+
+pub returns-then-not-is_change : goal.returns-then-not-is_change
+returns-then-not-is_change g c =
+    let D = g.D.Disk in
+    let old = c.args.keeper.now in
+    let none = c.in_default-refused.is in
+    let idle : is_change (reply_to c.args.self.now.next c.args.command.now) ≡ false = ap is_change (sym c.reply_to.ensures) ∙ sym c.if-not-is_change.ensures in
+    record {
+      ready = c.requires.ready;
+      same = (refl, refl);
+      room = record { replies = omega arith; group = omega arith };
+      open_yet = λ e. (none, none, not_begin c.args.command.now c.in_default.not-Begin, inl refl, λ h. let clash : true ≡ false = sym h ∙ idle in absurd cc);
+      refused = λ r e. absurd cc;
+      past = λ start done p. p;
+      cut = tt;
+      asked = tt;
+      calls = calls_none D 1 old old refl;
+      whole = whole_none D old old refl c.requires.ready.kept c.requires.ready.whole;
+      down = tt;
+    }
+
+pub returns-then-self-size : goal.returns-then-self-size
+returns-then-self-size g c =
+    let D = g.D.Disk in
+    let old = c.args.keeper.now in
+    let a = c.args.self.now in
+    let command = c.args.command.now in
+    let none = c.in_default-refused.is in
+    record {
+      ready = c.requires.ready;
+      same = (refl, refl);
+      room = record { replies = omega arith; group = omega arith };
+      open_yet = λ e. (none, none, not_begin command c.in_default.not-Begin, inl refl, λ h. omega (arith, taken_append a.group.items (command ∷ []), c.requires.ready.size, c.size.ensures.exact, c.room.ensures, c.if-self-size.true));
+      refused = λ r e. absurd cc;
+      past = λ start done p. p;
+      cut = tt;
+      asked = tt;
+      calls = calls_none D 1 old old refl;
+      whole = whole_none D old old refl c.requires.ready.kept c.requires.ready.whole;
+      down = tt;
+    }
+
+pub returns-in-Ok : goal.returns-in-Ok
+returns-in-Ok g c =
+    let D = g.D.Disk in
+    let old = c.args.keeper.now in
+    let new = c.make_room.new.keeper in
+    let a = c.args.self.now in
+    let b = c.make_room.new.self in
+    let command = c.args.command.now in
+    let m = c.in-Ok.ensures in
+    let none = c.in_default-refused.is in
+    let other = not_begin command c.in_default.not-Begin in
+    let accepted : is_change (reply_to a.next command) ≡ true = ap is_change (sym c.reply_to.ensures) ∙ sym c.if-not-is_change.ensures in
+    record {
+      ready = m.ready;
+      same = m.same;
+      room = m.room;
+      open_yet = λ e. (
+        e,
+        none,
+        other,
+        inr accepted,
+        λ h. ⊎_elim
+            (λ x. fits_alone b.group.items command x.1 c.size.ensures.fits (room_left new) x.2)
+            (λ w. ⊎_elim (λ x. let clash = sym x.0 ∙ e in absurd cc) (λ x. let clash = sym x.0 ∙ e in absurd cc) w)
+            m.made,
+      );
+      refused = λ r e. ⊎_elim
+          (λ x. let clash = sym x.0 ∙ e in absurd cc)
+          (λ w. ⊎_elim
+          (λ x. inr (inl (other, same_inside NoMemory r (sym x.0 ∙ e), x.0, inl none, x.1)))
+          (λ x. inr (inr (other, same_inside Exhausted r (sym x.0 ∙ e), x.0, x.3, inl (none, accepted, x.2, x.1))))
+          w)
+          m.made;
+      past = m.past;
+      cut = tt;
+      asked = tt;
+      calls = m.calls;
+      whole = m.whole;
+      down = tt;
+    }
+
+pub returns-in-Err : goal.returns-in-Err
+returns-in-Err g c =
+    let m = c.in-Err.ensures in
+    let accepted : is_change (reply_to c.args.self.now.next c.args.command.now) ≡ true = ap is_change (sym c.reply_to.ensures) ∙ sym c.if-not-is_change.ensures in
+    record {
+      ready = tt;
+      same = tt;
+      room = tt;
+      open_yet = tt;
+      refused = tt;
+      past = tt;
+      cut = m.cut;
+      asked = (c.in_default-refused.is, not_begin c.args.command.now c.in_default.not-Begin, accepted);
+      calls = m.calls;
+      whole = tt;
+      down = m.down;
+    }
+
+pub overflow_add-self : goal.overflow_add-self
+overflow_add-self g c = omega (arith, c.requires.ready.fits, c.requires.ready.kept.place.len_is, small_command c.args.command.now c.size.ensures.fits, c.size.ensures.exact)
+
+pub overflow_add-self-2 : goal.overflow_add-self-2
+overflow_add-self-2 g c = omega (arith, c.requires.ready.fits, c.requires.ready.kept.place.len_is, small_command c.args.command.now c.size.ensures.fits, c.size.ensures.exact)

@@ -1,0 +1,88 @@
+use Rattle.std.proofs.Common.{◌≡◌, ⊎_elim, inl, inr, refl, sym, ◌∙◌, ap, subst, arith, ℕ, true, false, List, [], ◌∷◌, length, vec_len, ◌==◌, eqb-true}
+use Rattle.std.proofs.lemmas.Result.{on_ok_weaker, on_err_weaker}
+use Rattle.wm_registry.specs.declared.command.Command.{Command}
+use Rattle.wm_store.specs.UnderWay.{K, KeepsRoom, IsRoomMade, IsPast, IsCut, IsWhole, IsDown}
+use Rattle.wm_store.specs.declared.batch.Batch.{Batch}
+use Rattle.wm_store.proofs.Batching.{calls_then, calls_more, whole_then, down_then, keeps_room, made_later}
+use Rattle.wm_store.proofs.batch.Batch.make_room.Goals as goal
+
+not_empty : (n : ℕ) → false ≡ (n == 0) → n ≡ 0 → ⊥
+not_empty n h e = let clash : false ≡ true = h ∙ ap (λ (k : ℕ). k == 0) e in absurd cc
+
+no_items : (xs : List Command) → length xs ≡ 0 → xs ≡ []
+no_items [] h = refl
+no_items (x ∷ xs) h = absurd (omega (arith, h))
+
+pub switch-requires : goal.switch-requires
+switch-requires g c =
+    let a = c.args.self.now in
+    let none : vec_len a.group ≡ 0 = eqb-true (vec_len a.group) 0 (sym c.if-is_empty.ensures) in
+    record {
+      ready = c.requires.ready;
+      open_yet = c.requires.open_yet;
+      none = no_items a.group.items (sym a.group.ok.0 ∙ none);
+    }
+
+pub returns-then-is_empty : goal.returns-then-is_empty
+returns-then-is_empty g c = let s = c.switch.ensures in record { ready = s.ready; same = s.same; room = s.room; made = s.made; past = s.past; cut = s.cut; calls = s.calls; whole = s.whole; down = s.down }
+
+pub returns-in_default : goal.returns-in_default
+returns-in_default g c =
+    let m = c.in_default.ensures in
+    record { ready = tt; same = tt; room = tt; made = tt; past = tt; cut = m.cut; calls = calls_more g.D.Disk 0 1 _ _ (omega arith) m.calls; whole = tt; down = m.down }
+
+some_group : (a : Batch) → false ≡ (vec_len a.group == 0) → a.group.items ≡ [] → ⊥
+some_group a h none = not_empty (vec_len a.group) h (a.group.ok.0 ∙ ap length none)
+
+pub returns-in-Some : goal.returns-in-Some
+returns-in-Some g c =
+    let m = c.in-Ok.ensures in
+    record {
+      ready = m.ready;
+      same = m.same;
+      room = m.room;
+      made = ⊎_elim
+          (λ h. let clash = sym h.0 ∙ c.in-Some.is in absurd cc)
+          (λ h. inr (inl (h, λ none. absurd (some_group c.args.self.now c.if-is_empty.ensures none))))
+          m.made;
+      past = m.past;
+      cut = tt;
+      calls = calls_more g.D.Disk 0 1 _ _ (omega arith) m.calls;
+      whole = m.whole;
+      down = tt;
+    }
+
+pub switch-requires-in-None : goal.switch-requires-in-None
+switch-requires-in-None g c =
+    let m = c.in-Ok.ensures in
+    record {
+      ready = m.ready;
+      open_yet = c.in-None.is;
+      none = ⊎_elim (λ h. h.1) (λ h. let clash = sym h ∙ c.in-None.is in absurd cc) m.made;
+    }
+
+pub returns-in-None : goal.returns-in-None
+returns-in-None g c =
+    let D = g.D.Disk in
+    let old = c.args.keeper.now in
+    let mid = c.commit_so_far.new.keeper in
+    let new = c.switch-in-None.new.keeper in
+    let a = c.args.self.now in
+    let b = c.commit_so_far.new.self in
+    let e = c.switch-in-None.new.self in
+    let m = c.in-Ok.ensures in
+    let s = c.switch-in-None.ensures in
+    let r = c.switch-in-None.result in
+    let some : a.group.items ≡ [] → ⊥ = some_group a c.if-is_empty.ensures in
+    record {
+      ready = s.ready;
+      same = on_ok_weaker r (λ (x : (e.next ≡ b.next) × (e.replies ≡ b.replies)). (x.0 ∙ m.same.0, x.1 ∙ m.same.1)) s.same;
+      room = on_ok_weaker r (λ (x : KeepsRoom b e). keeps_room a b e m.room x) s.room;
+      made = on_ok_weaker r (λ (x : IsRoomMade D mid b new e). made_later D old mid new a b e x some) s.made;
+      past = on_ok_weaker r (λ (f : (start : K D) (done : List Command) → IsPast D start done mid b → IsPast D start done new e). λ start done p. f start done (m.past start done p)) s.past;
+      cut = on_err_weaker r (λ (f : (start : K D) (done : List Command) → IsPast D start done mid b → IsCut D start done b.replies.items new e.before). λ start done p.
+          subst (λ v. IsCut D start done v.items new e.before) m.same.1 (f start done (m.past start done p))) s.cut;
+      calls = calls_then D 0 1 old mid new m.calls s.calls;
+      whole = on_ok_weaker r (λ (w : IsWhole D mid new). whole_then D old mid new m.whole w) s.whole;
+      down = on_err_weaker r (λ (w : IsDown D mid new). down_then D old mid new m.whole w) s.down;
+    }

@@ -1,0 +1,41 @@
+use Rattle.std.proofs.Common.{◌≡◌, refl, ap, sym, ◌∙◌, arith}
+use Rattle.std.specs.Prelude.{true, false}
+use Rattle.std.proofs.lemmas.Result.{on_ok_weaker}
+use Rattle.wm_checkpoint.specs.Kept.{disk_of, has_failed}
+use Rattle.wm_store.proofs.Runs.{stood, kinds_up, told_four}
+use Rattle.wm_store.proofs.begin.find_room.Goals as goal
+
+pub returns-then-room-ge2 : goal.returns-then-room-ge2
+returns-then-room-ge2 g c = record {
+  kept = c.requires.kept;
+  state = refl;
+  room = (omega (arith, c.room.ensures, c.if-room-ge2.true), c.requires.whole);
+  any_moment = λ h. stood g.D.Disk g.met.D.Disk.only_now c.args.keeper.now c.requires.kept c.requires.whole h;
+  unbegun = tt;
+  exhausted = λ e. absurd cc;
+  honest = λ h. h;
+  later = omega arith;
+  whole = refl;
+  failed = λ e. absurd cc;
+  kinds = tt;
+}
+
+pub returns : goal.returns
+returns g c =
+    let k = c.checkpoint.ensures in
+    record {
+      kept = k.kept;
+      state = k.state;
+      room = on_ok_weaker c.checkpoint.result (λ h. (omega (arith, h.2), h.3)) k.slot;
+      any_moment = k.any_moment c.requires.whole;
+      unbegun = told_four c.checkpoint.result ((has_failed c.checkpoint.new.self ≡ false) × (g.D.Disk.failures (disk_of c.checkpoint.new.self) ≡ g.D.Disk.failures (disk_of c.args.keeper.now))) k.kinds
+          (λ e. (ap (λ y. has_failed y) (k.memory e) ∙ c.requires.whole, ap (λ y. g.D.Disk.failures (disk_of y)) (k.memory e)))
+          (λ e. (ap (λ y. has_failed y) (k.exhausted e).1 ∙ c.requires.whole, ap (λ y. g.D.Disk.failures (disk_of y)) (k.exhausted e).1))
+          (λ e. (ap (λ y. has_failed y) (k.down e).1 ∙ c.requires.whole, ap (λ y. g.D.Disk.failures (disk_of y)) (k.down e).1));
+      exhausted = λ e. (k.exhausted e).0;
+      honest = k.honest;
+      later = k.later;
+      whole = k.whole;
+      failed = λ e. (k.failed e).0;
+      kinds = kinds_up c.checkpoint.result k.kinds (λ e. absurd (let up : true ≡ false = sym (k.down e).0 ∙ c.requires.whole in cc));
+    }

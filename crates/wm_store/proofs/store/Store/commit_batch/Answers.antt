@@ -1,0 +1,158 @@
+use Rattle.std.proofs.Common.{◌≡◌, ◌⊎◌, ⊎_elim, inl, inr, refl, sym, ◌∙◌, subst, arith, ℕ, List, [], true, false, vec_len}
+use Rattle.std.specs.Prelude.{Option, None}
+use Rattle.std.specs.Option.{unwrap_or}
+use Rattle.wm_registry.specs.Roots.{State}
+use Rattle.wm_registry.specs.MachineLaws.{watches}
+use Rattle.wm_checkpoint.specs.Meanings.{MeansBeginning, MeansState}
+use Rattle.wm_checkpoint.specs.Kept.{disk_of, state_of, has_failed}
+use Rattle.wm_store.specs.Batches.{accepted_of}
+use Rattle.wm_store.specs.UnderWay.{IsNew}
+use Rattle.wm_store.proofs.Replying.{short_replies}
+use Rattle.wm_store.proofs.Runs.{stood, unbegun}
+use Rattle.wm_store.proofs.Stores.{IsInside, fallen, left_now, means_up, up}
+use Rattle.wm_store.proofs.Endings.{cut_batch, cut_registry, done_batch, done_idle, done_registry, none_met}
+use Rattle.wm_store.proofs.store.Store.commit_batch.Goals as goal
+use Rattle.wm_store.proofs.store.Store.commit_batch.Goals.{then-self-via-then-self, then-self-via-else-self+then-has_failed}
+
+pub run-requires : goal.run-requires
+run-requires g c =
+    let D = g.D.Disk in
+    let k = c.self.inside.keeper in
+    let alive : has_failed k ≡ false = sym c.if-has_failed.ensures in
+    let commands = c.args.commands in
+    let new : IsNew (state_of k) (vec_len commands) c.in-Ok.batch = subst (λ (n : ℕ). IsNew (state_of k) n c.in-Ok.batch) c.len.ensures (subst (λ (s : State). IsNew s c.len.result c.in-Ok.batch) c.state.ensures c.in-Ok.ensures) in
+    record {
+      kept = c.self.invariant.0;
+      whole = alive;
+      new = subst (λ (n : ℕ). IsNew (state_of k) n c.in-Ok.batch) commands.ok.0 new;
+      standing = λ h. unbegun D (disk_of k) (disk_of k) (state_of k) [] (stood D g.met.D.Disk.only_now k c.self.invariant.0 alive h);
+    }
+
+pub invariant_of-self : goal.invariant_of-self
+invariant_of-self g c =
+    let D = g.D.Disk in
+    let i = c.self.inside in
+    let new = c.run.new.keeper in
+    let none : i.before ≡ None = c.self.invariant.1 (sym c.if-has_failed.ensures) in
+    let m = c.in-Ok-run.ensures in
+    subst (λ (b : Option State). IsInside D new b i.closed) (sym none) (up D new m.whole.kept m.whole.up i.closed)
+
+pub invariant_of-self-in-Err : goal.invariant_of-self-in-Err
+invariant_of-self-in-Err g c =
+    let D = g.D.Disk in
+    let i = c.self.inside in
+    let old = i.keeper in
+    let new = c.run.new.keeper in
+    let m = c.in-Err.ensures in
+    let accepted : List _ = accepted_of c.args.commands.items m.cut.0 in
+    fallen D new m.down.kept m.down.down c.in-Err.before i.closed (state_of old) m.cut.2.was accepted
+    (λ h x left. left_now D g.met.D.Disk.counts_now (disk_of old) (disk_of new) (MeansBeginning watches (state_of old) accepted) h (m.cut.2.run h) x left)
+
+pub returns-then-self : goal.returns-then-self
+returns-then-self g c =
+    let D = g.D.Disk in
+    let i = c.self.inside in
+    let commands = c.args.commands.items in
+    let why : (has_failed i.keeper ≡ true) ⊎ (i.closed ≡ true) = elim c.then-self.branch [
+      | then-self-via-then-self w ↦ inr w.if-self.true
+      | then-self-via-else-self+then-has_failed w ↦ inl (sym w.if-has_failed.ensures)
+    ] in
+    rw (← c.self.view_is) (record {
+      answered = tt;
+      registry = tt;
+      means = λ h. tt;
+      idle = tt;
+      cut = λ alive. (short_replies commands, none_met D i.keeper i.before i.closed (c.self.invariant.1 alive) g.met.D.Disk.only_now c.self.invariant.0 alive commands, λ e. absurd cc);
+      unchanged = refl;
+      memory = λ e. absurd cc;
+      down = λ e. (why, refl);
+      stays_down = λ e. refl;
+      number = (omega arith, omega arith);
+      honest = λ h. h;
+      later = omega arith;
+      whole = tt;
+      failed = λ e. absurd cc;
+      kinds = inr (inr refl);
+    })
+
+pub returns-in_default : goal.returns-in_default
+returns-in_default g c =
+    let D = g.D.Disk in
+    let i = c.self.inside in
+    let commands = c.args.commands.items in
+    let alive : has_failed i.keeper ≡ false = sym c.if-has_failed.ensures in
+    rw (← c.self.view_is) (record {
+      answered = tt;
+      registry = tt;
+      means = λ h. tt;
+      idle = tt;
+      cut = λ _. (short_replies commands, none_met D i.keeper i.before i.closed (c.self.invariant.1 alive) g.met.D.Disk.only_now c.self.invariant.0 alive commands, λ e. absurd cc);
+      unchanged = refl;
+      memory = λ e. refl;
+      down = λ e. absurd cc;
+      stays_down = λ e. ⊎_elim (λ down. let clash : true ≡ false = sym down ∙ alive in absurd cc) (λ shut. let clash : true ≡ false = sym shut ∙ c.if-self.false in absurd cc) e;
+      number = (omega arith, omega arith);
+      honest = λ h. h;
+      later = omega arith;
+      whole = tt;
+      failed = λ e. absurd cc;
+      kinds = inr (inl refl);
+    })
+
+pub returns-in-Ok-run : goal.returns-in-Ok-run
+returns-in-Ok-run g c =
+    let D = g.D.Disk in
+    let i = c.self.inside in
+    let old = i.keeper in
+    let new = c.run.new.keeper in
+    let commands = c.args.commands.items in
+    let replies = c.in-Ok-run.replies.items in
+    let alive : has_failed old ≡ false = sym c.if-has_failed.ensures in
+    let none : i.before ≡ None = c.self.invariant.1 alive in
+    let m = c.in-Ok-run.ensures in
+    rw (← c.self.view_is) (record {
+      answered = done_batch D old i.before i.closed none new commands replies m.done;
+      registry = done_registry D old i.before i.closed none new commands replies m.done;
+      means = λ h x left. subst (λ (b : Option State). MeansState watches (unwrap_or b (state_of new)) x) (sym none) (means_up D new m.whole.kept m.whole.up h x left);
+      idle = λ e. done_idle D old i.before i.closed none new commands replies m.done e;
+      cut = tt;
+      unchanged = tt;
+      memory = λ e. absurd cc;
+      down = λ e. absurd cc;
+      stays_down = λ e. ⊎_elim (λ down. let clash : true ≡ false = sym down ∙ alive in absurd cc) (λ shut. let clash : true ≡ false = sym shut ∙ c.if-self.false in absurd cc) e;
+      number = (m.calls.least, m.calls.most);
+      honest = m.calls.honest;
+      later = m.calls.later;
+      whole = (m.whole.count, m.whole.up, c.if-self.false);
+      failed = λ e. absurd cc;
+      kinds = tt;
+    })
+
+pub returns-in-Err : goal.returns-in-Err
+returns-in-Err g c =
+    let D = g.D.Disk in
+    let i = c.self.inside in
+    let old = i.keeper in
+    let new = c.run.new.keeper in
+    let commands = c.args.commands.items in
+    let alive : has_failed old ≡ false = sym c.if-has_failed.ensures in
+    let none : i.before ≡ None = c.self.invariant.1 alive in
+    let m = c.in-Err.ensures in
+    let was = c.in-Err.before in
+    rw (← c.self.view_is) (record {
+      answered = tt;
+      registry = tt;
+      means = λ h. tt;
+      idle = tt;
+      cut = λ _. (m.cut.0, cut_batch D old i.before i.closed none new commands m.cut.0 was m.cut.2 m.cut.1, λ _ e. m.cut.3 e);
+      unchanged = cut_registry D old i.before i.closed none new commands m.cut.0 was m.cut.2;
+      memory = λ e. absurd cc;
+      down = λ e. absurd cc;
+      stays_down = λ e. ⊎_elim (λ down. let clash : true ≡ false = sym down ∙ alive in absurd cc) (λ shut. let clash : true ≡ false = sym shut ∙ c.if-self.false in absurd cc) e;
+      number = (m.calls.least, m.calls.most);
+      honest = m.calls.honest;
+      later = m.calls.later;
+      whole = tt;
+      failed = λ e. (m.down.rose, m.down.down);
+      kinds = inl refl;
+    })

@@ -1,0 +1,77 @@
+use Rattle.std.proofs.Common.{◌≡◌, ◌≤◌, ◌⊎◌, inl, inr, ◌∙◌, subst, arith, ℕ, List, [], ◌∷◌}
+use Rattle.std.proofs.lemmas.Result.{IfOk-weaker, IfErr-weaker}
+use Rattle.wm_disk.specs.Contents.{Rose}
+use Rattle.wm_disk.specs.declared.refusal.Refusal.{Refusal}
+use Rattle.wm_disk.specs.declared.refusal.Refusal.TheVariants.{Exhausted, DeviceFailed}
+use Rattle.wm_registry.specs.declared.command.Command.TheVariants.{Begin}
+use Rattle.wm_registry.specs.Registry.{after, reply_to}
+use Rattle.wm_registry.specs.declared.reply.Reply.TheVariants.{Changed, Refused}
+use Rattle.wm_registry.specs.MachineLaws.{watches}
+use Rattle.wm_checkpoint.specs.Meanings.{MeansBeginning, MeansState}
+use Rattle.wm_checkpoint.specs.Kept.{disk_of, state_of, number_of}
+use Rattle.wm_store.specs.Stored.{Stored}
+use Rattle.wm_store.proofs.Runs.{Leaves}
+use Rattle.wm_store.proofs.Opened.{found, means_seen, spent, if_ok_both, if_err_both, kinds_found, kinds_begun, not_exhausted, not_damaged, not_retired}
+use Rattle.wm_store.proofs.store.Store.open.Goals as goal
+
+pub begin-requires : goal.begin-requires
+begin-requires g c = record { kept = c.in-Ok.ensures.kept.0; whole = c.in-Ok.ensures.kept.1 }
+
+pub returns-in-Ok : goal.returns-in-Ok
+returns-in-Ok g c =
+    let D = g.D.Disk in
+    let old = c.args.disk in
+    let keeper = c.in-Ok.keeper in
+    let k = c.in-Ok.ensures in
+    let b = c.begin.ensures in
+    let r = c.begin.result in
+    let kept = λ (h : D.honest (disk_of keeper)). k.kept.0.kept k.kept.1 h in
+    record {
+      begun = if_ok_both r
+          (λ (s : Stored g.row.D.Denot) (is : (reply_to (state_of keeper) Begin ≡ Changed) × (s.registry ≡ after (state_of keeper) Begin)) (both : (D.honest s.disk → D.honest (disk_of keeper)) × (D.honest s.disk → Leaves D (disk_of keeper) s.disk (MeansBeginning watches (state_of keeper) (Begin ∷ [])))).
+          λ h. let there = both.0 h in (state_of keeper, is.0, is.1, found D old keeper (kept there) (k.seen.0 there) (k.any_moment.0 there) s.disk (both.1 h)))
+          (if_ok_both r (λ (s : Stored g.row.D.Denot) (p : reply_to (state_of keeper) Begin ≡ Changed) (q : s.registry ≡ after (state_of keeper) Begin). (p, q)) b.changed b.begun)
+          (if_ok_both r (λ (s : Stored g.row.D.Denot) (p : D.honest s.disk → D.honest (disk_of keeper)) (q : D.honest s.disk → Leaves D (disk_of keeper) s.disk (MeansBeginning watches (state_of keeper) (Begin ∷ []))). (p, q)) b.honest.0 b.any_moment);
+      means = b.means;
+      up = b.up;
+      cut = if_err_both r
+          (λ (e : Refusal × g.row.D.Denot) (there : D.honest e.1 → D.honest (disk_of keeper)) (run : D.honest e.1 → Leaves D (disk_of keeper) e.1 (MeansBeginning watches (state_of keeper) (Begin ∷ []))).
+          λ h. inr (state_of keeper, found D old keeper (kept (there h)) (k.seen.0 (there h)) (k.any_moment.0 (there h)) e.1 (run h)))
+          b.honest.1 b.cut;
+      unbegun = if_err_both r
+          (λ (e : Refusal × g.row.D.Denot) (there : D.honest e.1 → D.honest (disk_of keeper)) (ub : D.honest e.1 → (e.0 ≡ DeviceFailed → ⊥) → (x : List ℕ) → D.may_leave e.1 x → MeansState watches (state_of keeper) x).
+          λ h no. inr (state_of keeper, means_seen D old keeper (kept (there h)) (k.seen.0 (there h)), ub h no))
+          b.honest.1 b.unbegun;
+      damaged = IfErr-weaker r _ _ (λ e kind h is. absurd (not_damaged e.0 kind is)) b.kinds;
+      retired = IfErr-weaker r _ _ (λ e kind h is. absurd (not_retired e.0 kind is)) b.kinds;
+      exhausted = if_err_both r
+          (λ (e : Refusal × g.row.D.Denot) (there : D.honest e.1 → D.honest (disk_of keeper)) (why : e.0 ≡ Exhausted → (reply_to (state_of keeper) Begin ≡ Refused Exhausted) ⊎ (9223372036854775807 ≤ number_of keeper)).
+          λ h is. spent D old keeper (kept (there h)) (k.seen.0 (there h)) (why is))
+          b.honest.1 b.exhausted;
+      honest = (IfOk-weaker r _ _ (λ s f h. k.honest.0 (f h)) b.honest.0, IfErr-weaker r _ _ (λ e f h. k.honest.0 (f h)) b.honest.1);
+      later = (IfOk-weaker r _ _ (λ s le. omega (arith, k.later.0, le)) b.later.0, IfErr-weaker r _ _ (λ e le. omega (arith, k.later.0, le)) b.later.1);
+      whole = IfOk-weaker r _ _ (λ s same. same ∙ k.whole) b.whole;
+      failed = IfErr-weaker r _ _ (λ e rose is. subst (λ (n : ℕ). Rose n (D.failures e.1)) k.whole (rose is)) b.failed;
+      stood = IfErr-weaker r _ _ (λ e same no. same no ∙ k.whole) b.stood;
+      kinds = IfErr-weaker r _ _ (λ e kind. kinds_begun e.0 kind) b.kinds;
+    }
+
+pub returns-in-Err : goal.returns-in-Err
+returns-in-Err g c =
+    let k = c.in-Err.ensures in
+    record {
+      begun = tt;
+      means = tt;
+      up = tt;
+      cut = λ h. inl (k.any_moment.1 h);
+      unbegun = λ h no. inl (k.any_moment.1 h);
+      damaged = k.damaged;
+      retired = k.retired;
+      exhausted = λ h is. absurd (not_exhausted c.in-Err.refusal k.kinds is);
+      honest = (tt, k.honest.1);
+      later = (tt, k.later.1);
+      whole = tt;
+      failed = k.failed;
+      stood = k.stood;
+      kinds = kinds_found c.in-Err.refusal k.kinds;
+    }

@@ -1,0 +1,65 @@
+-- What a batch of commands is answered.
+use Rattle.std.specs.Prelude.{◌≡◌, ◌⊎◌, ◌≤◌, ℕ, Bool, true, false, List, [], ◌∷◌, if◌then◌else◌, map}
+use Rattle.wm_disk.specs.declared.refusal.Refusal.TheVariants.{BadArguments, Exhausted, NoMemory}
+use Rattle.wm_disk.specs.declared.disk.Disk as disks
+use Rattle.wm_disk.specs.Moments.{LeavesOnly}
+use Rattle.wm_registry.specs.declared.command.Command.{Command}
+use Rattle.wm_registry.specs.declared.command.Command.TheVariants.{Begin, Watch, WatchDel, Trigger, TriggerDel}
+use Rattle.wm_registry.specs.declared.reply.Reply.{Reply}
+use Rattle.wm_registry.specs.declared.reply.Reply.TheVariants.{Refused}
+use Rattle.wm_registry.specs.Roots.{State}
+use Rattle.wm_registry.specs.Registry.{changed, is_change, reply_to}
+use Rattle.wm_registry.specs.MachineLaws.{watches}
+use Rattle.wm_checkpoint.specs.Meanings.{MeansBeginning}
+use Rattle.wm_store.specs.Stored.{Stored}
+
+abbrev pub is_begin : Command → Bool
+is_begin Begin = true
+is_begin (Watch path) = false
+is_begin (WatchDel path) = false
+is_begin (Trigger path trigger) = false
+is_begin (TriggerDel path name) = false
+
+-- the reply, but an opening alone begins an incarnation
+abbrev pub unless_begin : Command → Reply → Reply
+unless_begin command reply = if is_begin command then Refused BadArguments else reply
+
+-- how a command of a batch is met
+abbrev pub in_batch : State → Command → Reply
+in_batch s command = unless_begin command (reply_to s command)
+
+-- It is met so; or it finds no memory, and changes nothing.
+abbrev pub IsMet : State → Command → Reply → Type 0
+IsMet s command reply = (reply ≡ in_batch s command) ⊎ (reply ≡ unless_begin command (Refused NoMemory))
+
+-- the state after a command with this reply
+abbrev pub met : State → Command → Reply → State
+met s command reply = if is_change reply then changed s command else s
+
+-- Each command is met in the state that those before it leave. Where the slot's number is spent, a command that the registry
+-- accepts may be refused for that, with all behind it.
+abbrev pub AreAnswered : ℕ → State → List Command → List Reply → Type 0
+AreAnswered number s [] [] = Unit {0}
+AreAnswered number s [] (reply ∷ replies) = ⊥
+AreAnswered number s (command ∷ commands) [] = ⊥
+AreAnswered number s (command ∷ commands) (reply ∷ replies) =
+    (IsMet s command reply × AreAnswered number (met s command reply) commands replies)
+    ⊎ ((9223372036854775807 ≤ number) × (is_change (in_batch s command) ≡ true)
+    × (reply ∷ replies ≡ map (λ c. unless_begin c (Refused Exhausted)) (command ∷ commands)))
+
+-- those of the commands that changed the registry, by their replies
+abbrev pub accepted_of : List Command → List Reply → List Command
+accepted_of [] replies = []
+accepted_of (command ∷ commands) [] = []
+accepted_of (command ∷ commands) (reply ∷ replies) =
+    if is_change reply then command ∷ accepted_of commands replies else accepted_of commands replies
+
+-- a growth was refused for one of the commands
+abbrev pub IsShort : List Reply → Type 0
+IsShort [] = ⊥
+IsShort (reply ∷ replies) = (reply ≡ Refused NoMemory) ⊎ IsShort replies
+
+-- A batch from old to new, with these replies; a crash at any moment of it leaves the registry after a beginning of those accepted.
+pub record IsBatch {D : Type 0} (disk : disks.Ghosts D) (old new : Stored D) (commands : List Command) (replies : List Reply) : Type 0 where
+  pub answered : AreAnswered new.number old.registry commands replies
+  pub any_moment : disk.honest new.disk → LeavesOnly disk.moment disk.left_since old.disk new.disk (MeansBeginning watches old.registry (accepted_of commands replies))

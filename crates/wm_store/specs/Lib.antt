@@ -1,0 +1,4 @@
+pub mod Batches
+pub mod Openings
+pub mod Stored
+pub mod UnderWay

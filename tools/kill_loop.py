@@ -1,0 +1,111 @@
+#!/usr/bin/env python3
+"""Kills `watchmand lines` (SIGKILL) in the midst of watches and triggers, again and again, and shows that no
+command that was answered is ever lost: each start finds the watches and triggers after the answered commands
+and a beginning of those that were in flight, and nothing else.
+
+Usage: tools/kill_loop.py PROGRAM [KILLS [SEED]]
+"""
+import json
+import os
+import random
+import subprocess
+import sys
+import tempfile
+
+
+def command(rng):
+    """A request line that changes watches or triggers, or nothing."""
+    root = "/r%d" % rng.randrange(6)
+    name = "t%d" % rng.randrange(3)
+    kind = rng.choice(["watch", "watch", "watch-del", "trigger", "trigger", "trigger", "trigger-del"])
+    if kind == "trigger":
+        words = ["true"] * rng.randrange(1, 4)
+        return [kind, root, {"name": name, "command": words}]
+    if kind == "trigger-del":
+        return [kind, root, name]
+    return [kind, root]
+
+
+def after(state, line):
+    """The watches and triggers after a request: a dictionary of roots in order of watching, each with a
+    dictionary of triggers in order of first definition."""
+    kind, root = line[0], line[1]
+    state = {path: dict(triggers) for path, triggers in state.items()}
+    if kind == "watch":
+        state.setdefault(root, {})
+    elif kind == "watch-del":
+        state.pop(root, None)
+    elif root in state and kind == "trigger":
+        state[root][line[2]["name"]] = line[2]["command"]
+    elif root in state:
+        state[root].pop(line[2], None)
+    return state
+
+
+def ordered(state):
+    return [(path, list(triggers.items())) for path, triggers in state.items()]
+
+
+def found(program, path):
+    """The watches and triggers that a start finds."""
+    def ask(lines):
+        text = "".join(json.dumps(line) + "\n" for line in lines)
+        ran = subprocess.run([program, "lines", path], input=text, capture_output=True, text=True)
+        if ran.returncode != 0:
+            sys.exit("a start failed: " + ran.stderr)
+        return [json.loads(reply) for reply in ran.stdout.splitlines()]
+
+    roots = ask([["watch-list"]])[0]["roots"]
+    replies = ask([["trigger-list", root] for root in roots])
+    return [
+        (root, [(trigger["name"], trigger["command"]) for trigger in reply["triggers"]])
+        for root, reply in zip(roots, replies)
+    ]
+
+
+def killed(program, path, rng):
+    """Sends commands and kills the program; gives those answered and those in flight."""
+    lines = [command(rng) for _ in range(rng.randrange(1, 60))]
+    server = subprocess.Popen([program, "lines", path], stdin=subprocess.PIPE, stdout=subprocess.PIPE)
+    os.write(server.stdin.fileno(), "".join(json.dumps(line) + "\n" for line in lines).encode())
+    # the kill comes behind a number of replies, in the midst of the commands that follow
+    answers = b""
+    wanted = rng.randrange(len(lines) + 1)
+    while answers.count(b"\n") < wanted:
+        answers += os.read(server.stdout.fileno(), rng.randrange(1, 4096))
+    for _ in range(rng.randrange(2000)):
+        pass
+    server.kill()
+    server.stdin.close()
+    answers += server.stdout.read()
+    server.wait()
+    answered = answers.count(b"\n")
+    return lines[:answered], lines[answered:]
+
+
+def main():
+    program = os.path.realpath(sys.argv[1])
+    kills = int(sys.argv[2]) if len(sys.argv) > 2 else 200
+    rng = random.Random(int(sys.argv[3]) if len(sys.argv) > 3 else 1)
+    answered_in_all, in_flight_kept = 0, 0
+    with tempfile.TemporaryDirectory() as folder:
+        path = os.path.join(folder, "state")
+        subprocess.run([program, "format", path], check=True, stdout=subprocess.DEVNULL)
+        state = {}
+        for kill in range(kills):
+            answered, in_flight = killed(program, path, rng)
+            for line in answered:
+                state = after(state, line)
+            answered_in_all += len(answered)
+            there = found(program, path)
+            kept = 0
+            while ordered(state) != there and kept < len(in_flight):
+                state = after(state, in_flight[kept])
+                kept += 1
+            if ordered(state) != there:
+                sys.exit("kill %d: a start found %r" % (kill, there))
+            in_flight_kept += 1 if kept else 0
+    print("%d kills, %d commands answered, none lost; %d times one in flight was kept" % (kills, answered_in_all, in_flight_kept))
+
+
+main()
