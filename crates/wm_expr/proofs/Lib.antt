@@ -1,0 +1,9 @@
+pub mod Alone
+pub mod Cuts
+pub mod DeepRuns
+pub mod Each
+pub mod Lists
+pub mod Runs
+pub mod Suffixes
+pub mod Views
+pub mod Within

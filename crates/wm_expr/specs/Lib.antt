@@ -1,0 +1,10 @@
+pub mod Globs
+pub mod Limits
+pub mod Meanings
+pub mod PathLaws
+pub mod Patterns
+pub mod Readings
+pub mod Rows
+pub mod Terms
+pub mod Views
+pub mod Within

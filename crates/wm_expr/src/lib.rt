@@ -1,0 +1,21 @@
+//! Expressions: tests on files, read from JSON.
+//!
+//! [`Expr::read`] takes just the JSON values that are expressions (specs/Readings.antt), and
+//! [`Expr::holds`] answers as they are meant (specs/Meanings.antt).
+#![tactic(auto)]
+
+mod component;
+mod copying;
+mod expr;
+mod laws;
+mod limits;
+mod meaning;
+mod pattern;
+mod reading;
+mod simple;
+#[cfg(test)]
+mod tests;
+mod words;
+
+pub use expr::{Comparison, Expr, Scope};
+pub use laws::{every_expression, worked_rows};

@@ -1,0 +1,210 @@
+ghost use Rattle.std.specs.Prelude.{◌≡◌, ◌≢◌, ◌∷◌, [], Some, None, IfOk, IfErr, map, string_bytes, option_and_then, option_map};
+ghost use Rattle.serde_json.specs.Find.{as_str};
+ghost use Rattle.serde_json.specs.View.{items_view, view};
+ghost use Rattle.wm_expr.specs.Limits.{depth};
+ghost use Rattle.wm_expr.specs.Patterns.{is_pattern as is_pattern_lem};
+ghost use Rattle.wm_expr.specs.Readings.{comparison_of, each, kept, kind_of, match_term as match_term_lem, name_term as name_term_lem, one_or_many, plain_of, scope_of, simple_term as simple_term_lem, size_alone as size_alone_lem, size_of, size_term as size_term_lem, suffix_term as suffix_term_lem, type_term as type_term_lem};
+ghost use Rattle.wm_expr.specs.Views.{term};
+
+use crate::expr::{Comparison, Expr, Scope};
+use crate::pattern::is_pattern;
+use crate::words::{comparison_named, kind_named, plain, scope_named};
+use serde_json::Value;
+use std::alloc::Global;
+use wm_disk::Refusal;
+use wm_names::Kind;
+
+/// The greatest size that an expression may name, in bytes.
+const MAX_SIZE: u64 = (1 << 63) - 1;
+
+/// The texts of an array.
+fn texts(alloc: Global, items: &[Value]) -> Result<Vec<String>, Refusal>
+    ensures ok { IfOk result (λ texts. each as_str (items_view items.now) ≡ Some (map string_bytes texts.items)) }
+    ensures refused { IfErr result (λ e. e ≢ Refusal.NoMemory → (e ≡ Refusal.BadExpression) × (each as_str (items_view items.now) ≡ None)) }
+{
+    let mut texts = Vec::new(alloc);
+    for item in items {
+        let Some(text) = item.as_str() else {
+            return Err(Refusal::BadExpression);
+        };
+        texts.push(String::from_str(alloc, text)?)?;
+    }
+    Ok(texts)
+}
+
+/// A list of one text.
+fn one_text(alloc: Global, text: &str) -> Result<Vec<String>, Refusal>
+    ensures ok { IfOk result (λ texts. map string_bytes texts.items ≡ text.now ∷ []) }
+    ensures refused { IfErr result (λ e. e ≡ Refusal.NoMemory) }
+{
+    let mut texts = Vec::new(alloc);
+    texts.push(String::from_str(alloc, text)?)?;
+    Ok(texts)
+}
+
+/// The texts that a text or an array names.
+fn names(alloc: Global, value: &Value) -> Result<Vec<String>, Refusal>
+    ensures ok { IfOk result (λ names. one_or_many (view value.now) ≡ Some (map string_bytes names.items)) }
+    ensures refused { IfErr result (λ e. e ≢ Refusal.NoMemory → (e ≡ Refusal.BadExpression) × (one_or_many (view value.now) ≡ None)) }
+{
+    match value {
+        Value::String(text) => one_text(alloc, text),
+        Value::Array(items) => texts(alloc, items),
+        _ => Err(Refusal::BadExpression),
+    }
+}
+
+/// The part of a path that the rest of a term names, the basename where there is no rest.
+fn scope(rest: &[Value]) -> Option<Scope>
+    ensures { result ≡ scope_of (items_view rest.now) }
+{
+    match rest {
+        [] => Some(Scope::Basename),
+        [word] => scope_named(word.as_str()?),
+        [_, _, ..] => None,
+    }
+}
+
+/// The size that a value is.
+fn size(value: &Value) -> Option<u64>
+    ensures { result ≡ size_of (view value.now) }
+{
+    match value.as_u64() {
+        Some(n) if n <= MAX_SIZE => Some(n),
+        _ => None,
+    }
+}
+
+/// The size that is the rest of a term.
+fn size_alone(rest: &[Value]) -> Option<u64>
+    ensures { result ≡ size_alone_lem (items_view rest.now) }
+{
+    match rest {
+        [number] => size(number),
+        [] => None,
+        [_, _, ..] => None,
+    }
+}
+
+/// The kind that a value names.
+fn kind(value: &Value) -> Option<Kind>
+    ensures { result ≡ option_and_then kind_of (as_str (view value.now)) }
+{
+    value.as_str().and_then(kind_named)
+}
+
+/// The comparison that a value names.
+fn comparison(value: &Value) -> Option<Comparison>
+    ensures { result ≡ option_and_then comparison_of (as_str (view value.now)) }
+{
+    value.as_str().and_then(comparison_named)
+}
+
+/// The pattern that a value is.
+fn pattern(value: &Value) -> Option<&str>
+    ensures { option_map (λ text. text.now) result ≡ kept is_pattern_lem (as_str (view value.now)) }
+{
+    match value.as_str() {
+        Some(text) if is_pattern(text) => Some(text),
+        _ => None,
+    }
+}
+
+/// `name` with names, and perhaps a part of the path.
+fn name_term(alloc: Global, first: &Value, rest: &[Value]) -> Result<Expr, Refusal>
+    ensures ok { IfOk result (λ e. name_term_lem (view first.now) (items_view rest.now) ≡ Some (term e)) }
+    ensures flat { IfOk result (λ e. depth (term e) ≡ 1) }
+    ensures refused { IfErr result (λ e. e ≢ Refusal.NoMemory → (e ≡ Refusal.BadExpression) × (name_term_lem (view first.now) (items_view rest.now) ≡ None)) }
+{
+    let Some(scope) = scope(rest) else {
+        return Err(Refusal::BadExpression);
+    };
+    let names = names(alloc, first)?;
+    Ok(Expr::Name(names, scope))
+}
+
+/// `suffix` with suffixes.
+fn suffix_term(alloc: Global, first: &Value, rest: &[Value]) -> Result<Expr, Refusal>
+    ensures ok { IfOk result (λ e. suffix_term_lem (view first.now) (items_view rest.now) ≡ Some (term e)) }
+    ensures flat { IfOk result (λ e. depth (term e) ≡ 1) }
+    ensures refused { IfErr result (λ e. e ≢ Refusal.NoMemory → (e ≡ Refusal.BadExpression) × (suffix_term_lem (view first.now) (items_view rest.now) ≡ None)) }
+{
+    match rest {
+        [] => Ok(Expr::Suffix(names(alloc, first)?)),
+        [_, ..] => Err(Refusal::BadExpression),
+    }
+}
+
+/// `type` with a letter.
+fn type_term(first: &Value, rest: &[Value]) -> Result<Expr, Refusal>
+    ensures ok { IfOk result (λ e. type_term_lem (view first.now) (items_view rest.now) ≡ Some (term e)) }
+    ensures flat { IfOk result (λ e. depth (term e) ≡ 1) }
+    ensures refused { IfErr result (λ e. e ≢ Refusal.NoMemory → (e ≡ Refusal.BadExpression) × (type_term_lem (view first.now) (items_view rest.now) ≡ None)) }
+{
+    let Some(kind) = kind(first) else {
+        return Err(Refusal::BadExpression);
+    };
+    match rest {
+        [] => Ok(Expr::Type(kind)),
+        [_, ..] => Err(Refusal::BadExpression),
+    }
+}
+
+/// `size` with a comparison and a number.
+fn size_term(first: &Value, rest: &[Value]) -> Result<Expr, Refusal>
+    ensures ok { IfOk result (λ e. size_term_lem (view first.now) (items_view rest.now) ≡ Some (term e)) }
+    ensures flat { IfOk result (λ e. depth (term e) ≡ 1) }
+    ensures refused { IfErr result (λ e. e ≢ Refusal.NoMemory → (e ≡ Refusal.BadExpression) × (size_term_lem (view first.now) (items_view rest.now) ≡ None)) }
+{
+    let Some(op) = comparison(first) else {
+        return Err(Refusal::BadExpression);
+    };
+    match size_alone(rest) {
+        Some(n) => Ok(Expr::Size(op, n)),
+        None => Err(Refusal::BadExpression),
+    }
+}
+
+/// `match` with a pattern, and perhaps a part of the path.
+fn match_term(alloc: Global, first: &Value, rest: &[Value]) -> Result<Expr, Refusal>
+    ensures ok { IfOk result (λ e. match_term_lem (view first.now) (items_view rest.now) ≡ Some (term e)) }
+    ensures flat { IfOk result (λ e. depth (term e) ≡ 1) }
+    ensures refused { IfErr result (λ e. e ≢ Refusal.NoMemory → (e ≡ Refusal.BadExpression) × (match_term_lem (view first.now) (items_view rest.now) ≡ None)) }
+{
+    let (Some(text), Some(scope)) = (pattern(first), scope(rest)) else {
+        return Err(Refusal::BadExpression);
+    };
+    let text = String::from_str(alloc, text)?;
+    Ok(Expr::Match(text, scope))
+}
+
+/// A term that is a word alone.
+pub(crate) fn plain_term(word: &str) -> Result<Expr, Refusal>
+    ensures ok { IfOk result (λ e. plain_of word.now ≡ Some (term e)) }
+    ensures flat { IfOk result (λ e. depth (term e) ≡ 1) }
+    ensures refused { IfErr result (λ e. (e ≡ Refusal.BadExpression) × (plain_of word.now ≡ None)) }
+{
+    match plain(word) {
+        Some(term) => Ok(term),
+        None => Err(Refusal::BadExpression),
+    }
+}
+
+/// A term that holds no other, by its word and what follows it.
+pub(crate) fn simple_term(alloc: Global, word: &str, parts: &[Value]) -> Result<Expr, Refusal>
+    ensures ok { IfOk result (λ e. simple_term_lem word.now (items_view parts.now) ≡ Some (term e)) }
+    ensures flat { IfOk result (λ e. depth (term e) ≡ 1) }
+    ensures refused { IfErr result (λ e. e ≢ Refusal.NoMemory → (e ≡ Refusal.BadExpression) × (simple_term_lem word.now (items_view parts.now) ≡ None)) }
+{
+    let [first, rest @ ..] = parts else {
+        return plain_term(word);
+    };
+    match word {
+        "name" => name_term(alloc, first, rest),
+        "suffix" => suffix_term(alloc, first, rest),
+        "type" => type_term(first, rest),
+        "size" => size_term(first, rest),
+        "match" => match_term(alloc, first, rest),
+        _ => Err(Refusal::BadExpression),
+    }
+}
