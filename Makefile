@@ -5,9 +5,10 @@ STATE ?= watchmand.state
 PROGRAM := crates/watchmand/out/watchmand
 JOURNAL_BENCH := crates/journal_bench/out/journal_bench
 STORE_BENCH := crates/store_bench/out/store_bench
+MATCH_BENCH := crates/match_bench/out/match_bench
 SOURCES := crates.txt $(shell find crates -name out -prune -o -type f \( -name '*.rt' -o -name '*.antt' \) -print)
 
-.PHONY: test build run install bench bench-journal bench-store session kill
+.PHONY: test build run install bench bench-journal bench-store bench-match session examples kill
 
 test:
 	rt ci
@@ -30,6 +31,10 @@ install: $(PROGRAM)
 # A session from the first watch of a root to a deleted file that comes back, by the built program.
 session: $(PROGRAM)
 	bench/first_session.sh $(PROGRAM)
+
+# The requests of the page for users, by the built program.
+examples: $(PROGRAM)
+	tools/examples.sh $(PROGRAM)
 
 # Kills the built program in the midst of commands, again and again, and looks for what it answered.
 kill: $(PROGRAM)
@@ -55,3 +60,11 @@ $(STORE_BENCH): $(SOURCES)
 
 bench-store: $(STORE_BENCH)
 	bench/store.sh $(STORE_BENCH)
+
+$(MATCH_BENCH): $(SOURCES)
+	cd crates/match_bench && rt run -- 3 </dev/null >&2
+	@touch $@
+
+# How long `match` takes for patterns that are hard to refuse, of 64 to 1,024 bytes.
+bench-match: $(MATCH_BENCH)
+	$(MATCH_BENCH) 200

@@ -1,5 +1,5 @@
 -- A clock id has one text, and is computed from it.
-use Rattle.std.proofs.Common.{◌≡◌, ℕ, true, false, ◌&&◌, cond, List, [], ◌∷◌, ◌++◌, drop, decimal, bytes_eq, ◌==◌, Option, Some, None, refl, sym, ap, ◌∙◌, arith, MatchOption, Bor, eqb-true}
+use Rattle.std.proofs.Common.{◌≡◌, ℕ, true, false, ◌&&◌, cond, List, [], ◌∷◌, ◌++◌, drop, decimal, bytes_eq, ◌==◌, Option, Some, None, refl, sym, ap, subst, ◌∙◌, arith, MatchOption, Bor, eqb-true}
 use Rattle.std.specs.List.{slice_split}
 use Rattle.std.specs.Str.Parse.{digits_value}
 use Rattle.std.proofs.lemmas.List.Splits.{slice_split_at, slice_split_none}
@@ -7,8 +7,9 @@ use Rattle.std.proofs.lemmas.Slice.Eq.{bytes_eq-Decides}
 use Rattle.std.proofs.lemmas.Str.Pattern.{IsSplitOnceResult, split_after}
 use Rattle.wm_clock.specs.declared.clock_id.ClockId.{ClockId}
 use Rattle.wm_clock.specs.declared.clock_spec.ClockSpec.{ClockSpec}
-use Rattle.wm_clock.specs.declared.clock_spec.ClockSpec.TheVariants.{Clock, Another}
-use Rattle.wm_clock.specs.Clocks.{Names, NumberRead, Reads, clock_text, guess, if_named, is_clock, is_number, spec_of}
+use Rattle.wm_clock.specs.declared.clock_spec.ClockSpec.TheVariants.{Clock, Another, Cursor}
+use Rattle.wm_clock.specs.Clocks.{Names, NumberRead, Reads, clock_text, guess, if_name, if_named, is_clock, is_number, spec_of}
+use Rattle.wm_clock.specs.Cursors.{is_cursor_name}
 use Rattle.wm_clock.specs.Laws.{OneText, IsReadBack, Agree}
 use Rattle.wm_clock.proofs.Numbers.{both_first, both_second, no_colon, no_colon_at, value_again}
 
@@ -80,32 +81,69 @@ guess_right text (i ∷ []) c e = absurd cc
 guess_right text (i ∷ r ∷ []) c e = absurd cc
 guess_right text (i ∷ r ∷ t ∷ u ∷ us) c e = absurd cc
 
-another_if : (text : List ℕ) (s : ClockSpec) → ((c : ClockId) → ¬ (Names text c)) → ((c : ClockId) → s ≡ Clock c → Names text c) → s ≡ Another
-another_if text (Clock c) none right = absurd (none c (right c refl))
-another_if text Another none right = refl
+-- and nothing is guessed as a cursor
+if_named_no_cursor : (text : List ℕ) (d : ClockId) (name : List ℕ) → ¬ (if_named text d ≡ Cursor name)
+if_named_no_cursor text d name e =
+    elim (is_clock d && bytes_eq text (clock_text d)) as (λ b. cond b (Clock d) Another ≡ Cursor name → ⊥) [
+      | true ↦ λ q. absurd cc
+      | false ↦ λ q. absurd cc
+    ] e
+
+guess_no_cursor : (text : List ℕ) (p : List (List ℕ)) (name : List ℕ) → ¬ (guess text p ≡ Cursor name)
+guess_no_cursor text (i ∷ r ∷ t ∷ []) name e = if_named_no_cursor text (record { incarnation = digits_value 10 i; root = digits_value 10 r; tick = digits_value 10 t }) name e
+guess_no_cursor text [] name e = absurd cc
+guess_no_cursor text (i ∷ []) name e = absurd cc
+guess_no_cursor text (i ∷ r ∷ []) name e = absurd cc
+guess_no_cursor text (i ∷ r ∷ t ∷ u ∷ us) name e = absurd cc
+
+another_if : (text : List ℕ) (s : ClockSpec) → ((c : ClockId) → ¬ (Names text c)) → ((c : ClockId) → s ≡ Clock c → Names text c) → ((name : List ℕ) → ¬ (s ≡ Cursor name)) → s ≡ Another
+another_if text (Clock c) none right no_cursor = absurd (none c (right c refl))
+another_if text Another none right no_cursor = refl
+another_if text (Cursor name) none right no_cursor = absurd (no_cursor name refl)
 
 computed : (text : List ℕ) (s : ClockSpec) → Reads text s → spec_of text ≡ Some s
 computed text (Clock c) h = named text c h
 computed text Another (rest, e, none) =
     let p = slice_split (λ x. x == 58) rest in
-    let g : guess text p ≡ Another = another_if text (guess text p) none (λ c q. guess_right text p c q) in
+    let g : guess text p ≡ Another = another_if text (guess text p) none (λ c q. guess_right text p c q) (guess_no_cursor text p) in
     ap spec_of e ∙ ap (λ (t : List ℕ). Some (guess t p)) (sym e) ∙ ap (λ (s : ClockSpec). Some s) g
+computed text (Cursor name) h = ap spec_of h.0 ∙ ap (λ b. cond b (Some (Cursor name)) None) h.1
+
+both_are : (a b c d : ℕ) (rest : List ℕ) → ((a == c) && (b == d)) ≡ true → a ∷ b ∷ rest ≡ c ∷ d ∷ rest
+both_are a b c d rest h =
+    let first : a ≡ c = eqb-true a c (both_first (a == c) (b == d) h) in
+    let second : b ≡ d = eqb-true b d (both_second (a == c) (b == d) h) in
+    λ i. first i ∷ second i ∷ rest
 
 begun : (a b : ℕ) (rest : List ℕ) (s : ClockSpec) → ((a == 99) && (b == 58)) ≡ true → spec_of (a ∷ b ∷ rest) ≡ Some s → guess (a ∷ b ∷ rest) (slice_split (λ x. x == 58) rest) ≡ s → Reads (a ∷ b ∷ rest) s
 begun a b rest (Clock c) h e q = guess_right (a ∷ b ∷ rest) (slice_split (λ x. x == 58) rest) c q
-begun a b rest Another h e q =
-    let first : a ≡ 99 = eqb-true a 99 (both_first (a == 99) (b == 58) h) in
-    let second : b ≡ 58 = eqb-true b 58 (both_second (a == 99) (b == 58) h) in
-    (rest, λ i. first i ∷ second i ∷ rest, λ c n. another_is_no_clock c (same_spec Another (Clock c) (sym e ∙ named (a ∷ b ∷ rest) c n)))
+begun a b rest Another h e q = (rest, both_are a b 99 58 rest h, λ c n. another_is_no_clock c (same_spec Another (Clock c) (sym e ∙ named (a ∷ b ∷ rest) c n)))
+begun a b rest (Cursor name) h e q = absurd (guess_no_cursor (a ∷ b ∷ rest) (slice_split (λ x. x == 58) rest) name q)
+
+-- what is read behind `n:` is that name
+named_cursor : (text rest : List ℕ) (s : ClockSpec) → text ≡ 110 ∷ 58 ∷ rest → if_name rest ≡ Some s → Reads text s
+named_cursor text rest s is e =
+    elim (is_cursor_name rest) as (λ b. is_cursor_name rest ≡ b → cond b (Some (Cursor rest)) None ≡ Some s → Reads text s) [
+      | true ↦ λ h q. subst (Reads text) (same_spec (Cursor rest) s q) (is, h)
+      | false ↦ λ h q. absurd cc
+    ] refl e
+
+begun_other : (a b : ℕ) (rest : List ℕ) (s : ClockSpec) → cond ((a == 110) && (b == 58)) (if_name rest) None ≡ Some s → Reads (a ∷ b ∷ rest) s
+begun_other a b rest s e =
+    elim ((a == 110) && (b == 58)) as (λ t. ((a == 110) && (b == 58)) ≡ t → cond t (if_name rest) None ≡ Some s → Reads (a ∷ b ∷ rest) s) [
+      | true ↦ λ h q. named_cursor (a ∷ b ∷ rest) rest s (both_are a b 110 58 rest h) q
+      | false ↦ λ h q. absurd cc
+    ] refl e
 
 right : (text : List ℕ) (s : ClockSpec) → spec_of text ≡ Some s → Reads text s
 right [] s e = absurd cc
 right (a ∷ []) s e = absurd cc
 right (a ∷ b ∷ rest) s e =
     let found = guess (a ∷ b ∷ rest) (slice_split (λ x. x == 58) rest) in
-    elim ((a == 99) && (b == 58)) as (λ t. ((a == 99) && (b == 58)) ≡ t → cond t (Some found) None ≡ Some s → Reads (a ∷ b ∷ rest) s) [
+    let other = cond ((a == 110) && (b == 58)) (if_name rest) None in
+    elim ((a == 99) && (b == 58)) as (λ t. ((a == 99) && (b == 58)) ≡ t → cond t (Some found) other ≡ Some s → Reads (a ∷ b ∷ rest) s) [
       | true ↦ λ h q. begun a b rest s h e (same_spec found s q)
-      | false ↦ λ h q. absurd cc
+      | false ↦ λ h q. begun_other a b rest s q
     ] refl e
 
 pub agree : Agree
@@ -145,5 +183,5 @@ module _ (rest : List ℕ) (c : ClockId) (names : Names (99 ∷ 58 ∷ rest) c) 
       pub has_tick : ¬ (NumberRead tick.now None)
       has_tick none = none c.tick (in_range c names.1).tick second_cut.1
 
-pub exact : (text : List ℕ) (s : ClockSpec) → Reads text s → ◌≡◌ {A = Option ClockSpec} (Some s) (spec_of text)
-exact text s h = sym (computed text s h)
+pub exact : (text : List ℕ) (s : ClockSpec) → Reads text s → spec_of text ≡ Some s
+exact text s h = computed text s h

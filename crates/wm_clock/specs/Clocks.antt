@@ -1,10 +1,11 @@
 -- Clock ids, their one text, and what a text names.
-use Rattle.std.specs.Prelude.{◌≡◌, ◌≢◌, ℕ, ◌-◌, ◌^◌, Bool, true, ◌&&◌, cond, List, [], ◌∷◌, ◌++◌, nat_lt, nat_le, ◌==◌, Option, Some, None, MatchOption, decimal, bytes_eq}
+use Rattle.std.specs.Prelude.{◌≡◌, ◌≢◌, ℕ, ◌-◌, ◌^◌, Bool, true, false, ◌&&◌, cond, List, [], ◌∷◌, ◌++◌, nat_lt, nat_le, ◌==◌, Option, Some, None, MatchOption, decimal, bytes_eq}
 use Rattle.std.specs.List.{slice_split}
 use Rattle.std.specs.Str.Parse.{digits_value}
 use Rattle.wm_clock.specs.declared.clock_id.ClockId.{ClockId}
 use Rattle.wm_clock.specs.declared.clock_spec.ClockSpec.{ClockSpec}
-use Rattle.wm_clock.specs.declared.clock_spec.ClockSpec.TheVariants.{Clock, Another}
+use Rattle.wm_clock.specs.declared.clock_spec.ClockSpec.TheVariants.{Clock, Another, Cursor}
+use Rattle.wm_clock.specs.Cursors.{is_cursor_name}
 
 -- the greatest value of every counter
 abbrev pub limit : ℕ
@@ -28,6 +29,7 @@ Names text c = (text ≡ clock_text c) × (is_clock c ≡ true)
 abbrev pub Reads : List ℕ → ClockSpec → Type 0
 Reads text (Clock c) = Names text c
 Reads text Another = (rest : List ℕ) × (text ≡ 99 ∷ 58 ∷ rest) × ((c : ClockId) → ¬ (Names text c))
+Reads text (Cursor name) = (text ≡ 110 ∷ 58 ∷ name) × (is_cursor_name name ≡ true)
 
 -- the clock that the text names, and `None` only where there is none
 abbrev pub ClockRead : List ℕ → Option ClockId → Type 0
@@ -36,6 +38,11 @@ ClockRead text r = MatchOption r ((c : ClockId) → ¬ (Names text c)) (Names te
 -- the number in range whose digits the text is, and `None` only where there is none
 abbrev pub NumberRead : List ℕ → Option ℕ → Type 0
 NumberRead text r = MatchOption r ((n : ℕ) → is_number n ≡ true → text ≢ decimal n) (λ n. (text ≡ decimal n) × (is_number n ≡ true))
+
+-- the text begins with `n:`
+abbrev pub is_cursor : List ℕ → Bool
+is_cursor (a ∷ b ∷ rest) = (a == 110) && (b == 58)
+is_cursor _ = false
 
 -- ---- the same as a function, to be computed
 
@@ -47,6 +54,12 @@ abbrev pub guess : List ℕ → List (List ℕ) → ClockSpec
 guess text (i ∷ r ∷ t ∷ []) = if_named text (record { incarnation = digits_value 10 i; root = digits_value 10 r; tick = digits_value 10 t })
 guess text _ = Another
 
+-- what follows `n:` is a name
+abbrev pub if_name : List ℕ → Option ClockSpec
+if_name name = cond (is_cursor_name name) (Some (Cursor name)) None
+
 abbrev pub spec_of : List ℕ → Option ClockSpec
-spec_of (a ∷ b ∷ rest) = cond ((a == 99) && (b == 58)) (Some (guess (a ∷ b ∷ rest) (slice_split (λ x. x == 58) rest))) None
+spec_of (a ∷ b ∷ rest) =
+    cond ((a == 99) && (b == 58)) (Some (guess (a ∷ b ∷ rest) (slice_split (λ x. x == 58) rest)))
+    (cond (is_cursor (a ∷ b ∷ rest)) (if_name rest) None)
 spec_of _ = None

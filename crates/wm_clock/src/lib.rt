@@ -1,15 +1,17 @@
 //! Clock ids: moments of a root, and the texts that name them.
 //!
 //! A [`ClockId`] has one text, `c:I:R:T`. A [`ClockSpec`] is what a client's text names: such a moment,
-//! or the clock of another instance.
+//! the clock of another instance, or a cursor, `n:` and a [`CursorName`].
 #![tactic(auto)]
 
 mod clock_id;
 mod clock_spec;
+mod cursor_name;
 mod laws;
 mod number;
 
 pub use clock_id::{ClockId, MAX_TEXT};
 pub use clock_spec::ClockSpec;
+pub use cursor_name::{CursorName, MAX_CURSOR_NAME};
 pub use laws::clock_laws;
 pub use number::LIMIT;

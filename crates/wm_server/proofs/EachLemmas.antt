@@ -8,7 +8,7 @@ use Rattle.std.proofs.lemmas.List.{drop_all, append-nil}
 use Rattle.serde_json.specs.Data.{Data}
 use Rattle.serde_json.specs.View.{view, items_view, members_view}
 use Rattle.serde_json.specs.declared.value.Value.{Value}
-use Rattle.wm_server.specs.Metadata.{members_len}
+use Rattle.wm_server.specs.Keys.{members_len}
 use Rattle.wm_names.specs.Paths.{Path}
 use Rattle.std.specs.Borrow.{Bor}
 use Rattle.wm_server.specs.PairLines.{by_text, each}

@@ -8,18 +8,25 @@ use Rattle.wm_names.specs.Paths.{Path}
 use Rattle.wm_view.specs.declared.op.Op.{Op}
 use Rattle.wm_view.specs.declared.op.Op.TheVariants as op
 use Rattle.wm_view.specs.Histories.{History, IsMade, after, begun, refusal}
-use Rattle.wm_view.specs.Summaries.{Summary, summary}
+use Rattle.wm_since.specs.Cursors.{CursorList}
+use Rattle.wm_since.specs.declared.query.Answer.{Answer}
+use Rattle.wm_clock.specs.declared.clock_id.ClockId.{ClockId}
+use Rattle.wm_clock.specs.declared.clock_spec.ClockSpec.{ClockSpec}
+use Rattle.wm_clock.specs.declared.clock_spec.ClockSpec.TheVariants.{Clock as Moment, Another, Cursor}
+use Rattle.wm_server.specs.declared.query.Inquiry.{Inquiry}
+use Rattle.wm_server.specs.Inquiries.{inquired}
+use Rattle.wm_server.specs.declared.watched.RootView.{RootView}
 use Rattle.wm_registry.specs.declared.command.Command.{Command}
 use Rattle.wm_registry.specs.declared.command.Command.TheVariants as command
 use Rattle.wm_registry.specs.declared.root.Root.{Root}
 use Rattle.wm_registry.specs.Registry.{is_change}
 use Rattle.wm_registry.specs.Roots as roots
 use Rattle.wm_server.specs.declared.request.Request.{Request}
-use Rattle.wm_server.specs.declared.request.Request.TheVariants.{Version, Watch, WatchDel, WatchList, Trigger, TriggerList, TriggerDel, Observe, Listing, Clock, Since}
+use Rattle.wm_server.specs.declared.request.Request.TheVariants.{Version, Watch, WatchDel, WatchList, Trigger, TriggerList, TriggerDel, Observe, Listing, Clock, Query}
 use Rattle.wm_server.specs.Lines.{request_of_line}
-use Rattle.wm_server.specs.Replies.{clock_reply, command_reply, since_reply}
-use Rattle.wm_server.specs.Sessions.{State, accepted, commanded, question_met, line_met, listing_met, met_or_refused, operation_met, refused, reply_to_command, since_question, state_after_command, triggers_met, view_of, views_after}
-use Rattle.wm_server.specs.Watched.{AreOfHistories, IsOfHistory, answer_of, clock_answer, first_views, new_view, unless, view_after, view_at, with_view, without_view}
+use Rattle.wm_server.specs.Replies.{clock_reply, command_reply}
+use Rattle.wm_server.specs.Sessions.{State, accepted, answered, commanded, cursor_moved, inquiry_met, question_met, line_met, listing_met, met_or_refused, operation_met, refused, reply_to_command, state_after_command, triggers_met, view_of, views_after}
+use Rattle.wm_server.specs.Watched.{AreOfHistories, IsOfHistory, of_history, clock_answer, first_views, new_view, unless, view_after, view_at, with_cursor, with_view, without_view}
 use Rattle.wm_server.proofs.SessionLemmas.{left_so}
 
 new_is : (incarnation number : ℕ) → IsOfHistory (new_view incarnation number)
@@ -32,11 +39,11 @@ first_are incarnation (root ∷ rest) = (new_is incarnation root.1.number, first
 pub begun_are : (r : roots.State) → AreOfHistories (first_views r)
 begun_are r = first_are r.incarnation r.roots
 
-one_more : (views : List Summary) (view : Summary) → AreOfHistories views → IsOfHistory view → AreOfHistories (views ++ view ∷ [])
+one_more : (views : List RootView) (view : RootView) → AreOfHistories views → IsOfHistory view → AreOfHistories (views ++ view ∷ [])
 one_more [] view are is = (is, tt)
 one_more (v ∷ vs) view are is = (are.0, one_more vs view are.1 is)
 
-found_is : (path : Path) (watched : List (Path × Root)) (views : List Summary) (view : Summary) → AreOfHistories views → view_at path watched views ≡ Some view → IsOfHistory view
+found_is : (path : Path) (watched : List (Path × Root)) (views : List RootView) (view : RootView) → AreOfHistories views → view_at path watched views ≡ Some view → IsOfHistory view
 found_is path [] views view are e = absurd cc
 found_is path (root ∷ rest) [] view are e = absurd cc
 found_is path (root ∷ rest) (v ∷ vs) view are e =
@@ -45,14 +52,14 @@ found_is path (root ∷ rest) (v ∷ vs) view are e =
       | false ↦ λ f. found_is path rest vs view are.1 f
     ] e
   where
-    some_is : (a b : Summary) → Some a ≡ Some b → a ≡ b
+    some_is : (a b : RootView) → Some a ≡ Some b → a ≡ b
     some_is a b f = ap (λ o. or_else o) f
       where
-        or_else : Option Summary → Summary
+        or_else : Option RootView → RootView
         or_else None = a
         or_else (Some x) = x
 
-with_are : (path : Path) (new : Summary) (watched : List (Path × Root)) (views : List Summary) → AreOfHistories views → IsOfHistory new → AreOfHistories (with_view path new watched views)
+with_are : (path : Path) (new : RootView) (watched : List (Path × Root)) (views : List RootView) → AreOfHistories views → IsOfHistory new → AreOfHistories (with_view path new watched views)
 with_are path new [] views are is = are
 with_are path new (root ∷ rest) [] are is = tt
 with_are path new (root ∷ rest) (v ∷ vs) are is =
@@ -61,7 +68,7 @@ with_are path new (root ∷ rest) (v ∷ vs) are is =
       | false ↦ (are.0, with_are path new rest vs are.1 is)
     ]
 
-without_are : (path : Path) (watched : List (Path × Root)) (views : List Summary) → AreOfHistories views → AreOfHistories (without_view path watched views)
+without_are : (path : Path) (watched : List (Path × Root)) (views : List RootView) → AreOfHistories views → AreOfHistories (without_view path watched views)
 without_are path [] views are = are
 without_are path (root ∷ rest) [] are = tt
 without_are path (root ∷ rest) (v ∷ vs) are =
@@ -97,33 +104,48 @@ asked_are : {A : Type 0} (s : State) (r : Result A Refusal) (to_reply : A → Da
 asked_are s (Ok a) to_reply are = are
 asked_are s (Err e) to_reply are = are
 
-module _ (operated_so : (h : History) (o : Op) → IsMade h → view_after (Some (summary h)) o ≡ unless (refusal h o) (summary (after h o))) (made_so : (h : History) (o : Op) → IsMade h → IsMade (after h o)) where
-  done_is : (h : History) (o : Op) (new : Summary) → IsMade h → (r : Option Refusal) → unless r (summary (after h o)) ≡ Ok new → IsOfHistory new
-  done_is h o new made None e = (after h o, made_so h o made, sym (ap (λ r. or_else r) e))
+-- a root's cursor moved
+moved_are : (s : State) (root : Path) (view : Option RootView) (name : List ℕ) (clock : ClockId) → AreOfHistories s.views → ((v : RootView) → view ≡ Some v → IsOfHistory v) → AreOfHistories (cursor_moved s root view name clock).views
+moved_are s root None name clock are is = are
+moved_are s root (Some view) name clock are is = with_are root (with_cursor name clock view) s.registry.roots s.views are (is view refl)
+
+told_are : (s : State) (root : Path) (since : Option ClockSpec) (clock : ClockId) → AreOfHistories s.views → AreOfHistories (answered s root since clock).views
+told_are s root None clock are = are
+told_are s root (Some (Moment c)) clock are = are
+told_are s root (Some Another) clock are = are
+told_are s root (Some (Cursor name)) clock are = moved_are s root (view_of s root) name clock are (λ v e. found_is root s.registry.roots s.views v are e)
+
+inquired_are : (s : State) (root : Path) (q : Inquiry) (r : Result Answer Refusal) → AreOfHistories s.views → AreOfHistories (inquiry_met s root q r).state.views
+inquired_are s root q (Ok a) are = told_are s root q.since a.clock are
+inquired_are s root q (Err e) are = are
+
+module _ (operated_so : (h : History) (cursors : CursorList) (o : Op) → IsMade h → view_after (Some (of_history h cursors)) o ≡ unless (refusal h o) (of_history (after h o) cursors)) (made_so : (h : History) (o : Op) → IsMade h → IsMade (after h o)) where
+  done_is : (h : History) (cursors : CursorList) (o : Op) (new : RootView) → IsMade h → (r : Option Refusal) → unless r (of_history (after h o) cursors) ≡ Ok new → IsOfHistory new
+  done_is h cursors o new made None e = (after h o, made_so h o made, sym (ap (λ r. (or_else r).view) e))
     where
-      or_else : Result Summary Refusal → Summary
+      or_else : Result RootView Refusal → RootView
       or_else (Ok x) = x
       or_else (Err x) = new
-  done_is h o new made (Some r) e = absurd cc
+  done_is h cursors o new made (Some r) e = absurd cc
 
-  after_is : (view new : Summary) (o : Op) → IsOfHistory view → view_after (Some view) o ≡ Ok new → IsOfHistory new
-  after_is view new o (h, made, is) e = done_is h o new made (refusal h o) (sym (operated_so h o made) ∙ ap (λ v. view_after (Some v) o) (sym is) ∙ e)
+  after_is : (view new : RootView) (o : Op) → IsOfHistory view → view_after (Some view) o ≡ Ok new → IsOfHistory new
+  after_is view new o (h, made, is) e = done_is h view.cursors o new made (refusal h o) (sym (operated_so h view.cursors o made) ∙ ap (λ v. view_after (Some (record { view = v; cursors = view.cursors })) o) (sym is) ∙ e)
 
-  seen_is : (view : Option Summary) (new : Summary) (o : Op) → ((v : Summary) → view ≡ Some v → IsOfHistory v) → view_after view o ≡ Ok new → IsOfHistory new
+  seen_is : (view : Option RootView) (new : RootView) (o : Op) → ((v : RootView) → view ≡ Some v → IsOfHistory v) → view_after view o ≡ Ok new → IsOfHistory new
   seen_is None new o is e = absurd cc
   seen_is (Some view) new o is e = after_is view new o (is view refl) e
 
-  operated_are : (s : State) (root : Path) (r : Result Summary Refusal) → AreOfHistories s.views → ((new : Summary) → r ≡ Ok new → IsOfHistory new) → AreOfHistories (operation_met s root r).state.views
+  operated_are : (s : State) (root : Path) (r : Result RootView Refusal) → AreOfHistories s.views → ((new : RootView) → r ≡ Ok new → IsOfHistory new) → AreOfHistories (operation_met s root r).state.views
   operated_are s root (Ok new) are is = with_are root new s.registry.roots s.views are (is new refl)
   operated_are s root (Err e) are is = are
 
-  viewed_are : (s : State) (root : Path) (view : Option Summary) (o : Op) → AreOfHistories s.views → ((v : Summary) → view ≡ Some v → IsOfHistory v) → AreOfHistories (operation_met s root (view_after view o)).state.views
+  viewed_are : (s : State) (root : Path) (view : Option RootView) (o : Op) → AreOfHistories s.views → ((v : RootView) → view ≡ Some v → IsOfHistory v) → AreOfHistories (operation_met s root (view_after view o)).state.views
   viewed_are s root view o are is = operated_are s root (view_after view o) are (λ new e. seen_is view new o is e)
 
-  listed_are : (s : State) (root : Path) (view : Option Summary) (o : Op) → AreOfHistories s.views → ((v : Summary) → view ≡ Some v → IsOfHistory v) → AreOfHistories (listing_met s root view o).state.views
+  listed_are : (s : State) (root : Path) (view : Option RootView) (o : Op) → AreOfHistories s.views → ((v : RootView) → view ≡ Some v → IsOfHistory v) → AreOfHistories (listing_met s root view o).state.views
   listed_are s root None o are is = are
   listed_are s root (Some view) o are is =
-      elim view.ready as (λ b. AreOfHistories (cond b (refused BadCommand s) (operation_met s root (view_after (Some view) o))).state.views) [
+      elim view.view.ready as (λ b. AreOfHistories (cond b (refused BadCommand s) (operation_met s root (view_after (Some view) o))).state.views) [
         | true ↦ are
         | false ↦ viewed_are s root (Some view) o are is
       ]
@@ -139,7 +161,7 @@ module _ (operated_so : (h : History) (o : Op) → IsMade h → view_after (Some
   met_are s moment (Ok (Observe root pairs)) are = viewed_are s root (view_of s root) (op.Observe moment pairs) are (λ v e. found_is root s.registry.roots s.views v are e)
   met_are s moment (Ok (Listing root begun_at found)) are = listed_are s root (view_of s root) (op.Recrawl moment begun_at found) are (λ v e. found_is root s.registry.roots s.views v are e)
   met_are s moment (Ok (Clock root)) are = asked_are s (clock_answer (view_of s root)) clock_reply are
-  met_are s moment (Ok (Since root spec)) are = asked_are s (answer_of (view_of s root) (since_question spec)) since_reply are
+  met_are s moment (Ok (Query root q)) are = inquired_are s root q (inquired (view_of s root) q) are
   met_are s moment (Err e) are = are
 
   pub line_are : (s : State) (moment : ℕ) (line : List ℕ) → AreOfHistories s.views → AreOfHistories (line_met s moment line).state.views

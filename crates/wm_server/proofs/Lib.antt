@@ -3,6 +3,8 @@ pub mod FileExamples
 pub mod FileStart
 pub mod HistoryLemmas
 pub mod InputLemmas
+pub mod Inquiring
+pub mod KeptLemmas
 pub mod ListedLemmas
 pub mod LocalLemmas
 mod OneWordLemmas

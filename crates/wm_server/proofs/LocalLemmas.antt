@@ -8,23 +8,26 @@ use Rattle.wm_disk.specs.declared.refusal.Refusal.TheVariants as refusals
 use Rattle.wm_names.specs.Paths.{Path}
 use Rattle.wm_clock.specs.declared.clock_id.ClockId.{ClockId}
 use Rattle.wm_view.specs.declared.op.Op.{Op}
-use Rattle.wm_view.specs.Summaries.{Summary}
+use Rattle.wm_server.specs.declared.watched.RootView.{RootView}
 use Rattle.wm_checkpoint.specs.Machines.{replay_on}
 use Rattle.wm_checkpoint.specs.Meanings.{IsDamaged, IsRetired, MeansState}
 use Rattle.wm_registry.specs.declared.command.Command.{Command}
 use Rattle.wm_registry.specs.declared.command.Command.TheVariants.{Begin}
 use Rattle.wm_registry.specs.declared.reply.Reply.{Reply}
-use Rattle.wm_registry.specs.declared.reply.Reply.TheVariants.{Unchanged, Refused}
+use Rattle.wm_registry.specs.declared.reply.Reply.TheVariants.{Changed, Unchanged, Refused}
 use Rattle.wm_registry.specs.MachineLaws.{watches}
 use Rattle.wm_registry.specs.Roots as registry
-use Rattle.wm_registry.specs.Registry.{changed, is_change, reply_to}
+use Rattle.wm_registry.specs.Registry.{after, changed, is_change, reply_to}
 use Rattle.wm_store.specs.Batches.{AreAnswered, IsBatch, accepted_of, is_begin, unless_begin}
+use Rattle.wm_store.specs.Openings.{IsFound}
 use Rattle.wm_store.specs.Stored.{Stored}
 use Rattle.wm_server.specs.Faults.{Standing, Submits, Operates, Lasts, Defined, Device, Memory, Spent}
+use Rattle.wm_server.specs.KeptExpressions.{have_expressions}
 use Rattle.wm_server.specs.LocalLaws.{stays}
 use Rattle.wm_server.specs.Sessions.{State, accepted, operation_met, reply_to_command, state_after_command, view_of, views_after}
 use Rattle.wm_server.specs.Stores.{IsUp, LeadsTo, StartRefused, standing_with, state_with, views_met}
 use Rattle.wm_server.specs.Watched.{Operated, clock_after, view_after}
+use Rattle.wm_server.proofs.KeptLemmas.{expressions_after_begin}
 
 -- ---- how a command is met
 
@@ -80,17 +83,17 @@ one_reply number s command (reply ∷ (other ∷ more)) a =
 
 -- What the store tells of a batch of one command, which isn't a `Begin`, on a store that hasn't failed.
 module _ {D : Type 0} (disk : Ghosts D) (old new : Stored D) (command : Command) (plain : is_begin command ≡ false) where
-  abbrev pub before : List Summary → Standing
+  abbrev pub before : List RootView → Standing
   before views = standing_with disk old views
 
-  abbrev pub behind : Reply → List Summary → Standing
+  abbrev pub behind : Reply → List RootView → Standing
   behind reply views = standing_with disk new (views_met reply (state_with old views) command)
 
-  lasts : (reply : Reply) (views : List Summary) → disk.failures old.disk ≤ disk.failures new.disk → old.number ≤ new.number → Lasts (before views) (behind reply views)
+  lasts : (reply : Reply) (views : List RootView) → disk.failures old.disk ≤ disk.failures new.disk → old.number ≤ new.number → Lasts (before views) (behind reply views)
   lasts reply views failures number = record { failures = failures; number = number }
 
   -- it was met as the registry has it
-  changed_so : (reply : Reply) (views : List Summary) → reply_to_command (state_with old views) command ≡ reply → is_change reply ≡ true
+  changed_so : (reply : Reply) (views : List RootView) → reply_to_command (state_with old views) command ≡ reply → is_change reply ≡ true
       → Lasts (before views) (behind reply views) → new.failed ≡ old.failed → new.registry ≡ changed old.registry command → Submits (before views) command reply (behind reply views)
   changed_so reply views is change last failed registry = record {
     way = Defined;
@@ -100,27 +103,27 @@ module _ {D : Type 0} (disk : Ghosts D) (old new : Stored D) (command : Command)
   }
 
   -- nothing has changed
-  same_so : (reply : Reply) (views : List Summary) → new ≡ old → is_change reply ≡ false → Submits (before views) command reply (before views) → Submits (before views) command reply (behind reply views)
+  same_so : (reply : Reply) (views : List RootView) → new ≡ old → is_change reply ≡ false → Submits (before views) command reply (before views) → Submits (before views) command reply (behind reply views)
   same_so reply views same idle s =
       subst (λ (b : Bool). Submits (before views) command reply (standing_with disk new (cond b (views_after (state_with old views) command) views))) (sym idle)
       (subst (λ (s : Stored D). Submits (before views) command reply (standing_with disk s views)) (sym same) s)
 
-  kept_so : (reply : Reply) (views : List Summary) → new ≡ old → is_change reply ≡ false → reply_to_command (state_with old views) command ≡ reply → Submits (before views) command reply (behind reply views)
+  kept_so : (reply : Reply) (views : List RootView) → new ≡ old → is_change reply ≡ false → reply_to_command (state_with old views) command ≡ reply → Submits (before views) command reply (behind reply views)
   kept_so reply views same idle is = same_so reply views same idle (record { way = Defined; cause = lasts_same (before views); reply_is = sym is; state_is = sym (idle_after (state_with old views) command reply is idle) })
 
   -- a growth was refused
-  pub none_so : (views : List Summary) → new ≡ old → Submits (before views) command (Refused refusals.NoMemory) (behind (Refused refusals.NoMemory) views)
+  pub none_so : (views : List RootView) → new ≡ old → Submits (before views) command (Refused refusals.NoMemory) (behind (Refused refusals.NoMemory) views)
   none_so views same = same_so (Refused refusals.NoMemory) views same refl (no_room (before views) command)
 
   -- the store had failed before
-  pub down_so : (views : List Summary) → new ≡ old → old.failed ≡ true → Submits (before views) command (Refused refusals.StoreFailed) (behind (Refused refusals.StoreFailed) views)
+  pub down_so : (views : List RootView) → new ≡ old → old.failed ≡ true → Submits (before views) command (Refused refusals.StoreFailed) (behind (Refused refusals.StoreFailed) views)
   down_so views same failed = kept_so (Refused refusals.StoreFailed) views same refl (down (state_with old views) command plain failed)
 
   -- the registry is as it was, whatever calls of the disk were made
-  same_state : (reply : Reply) (views : List Summary) → new.registry ≡ old.registry → new.failed ≡ old.failed → is_change reply ≡ false → (behind reply views).state ≡ state_with old views
+  same_state : (reply : Reply) (views : List RootView) → new.registry ≡ old.registry → new.failed ≡ old.failed → is_change reply ≡ false → (behind reply views).state ≡ state_with old views
   same_state reply views registry failed idle = λ i. record { registry = registry i; has_failed = failed i; views = ap (λ (b : Bool). cond b (views_after (state_with old views) command) views) idle i }
 
-  idle_so : (reply : Reply) (views : List Summary) → Lasts (before views) (behind reply views) → new.registry ≡ old.registry → new.failed ≡ old.failed → is_change reply ≡ false
+  idle_so : (reply : Reply) (views : List RootView) → Lasts (before views) (behind reply views) → new.registry ≡ old.registry → new.failed ≡ old.failed → is_change reply ≡ false
       → reply_to_command (state_with old views) command ≡ reply → Submits (before views) command reply (behind reply views)
   idle_so reply views last registry failed idle is = record {
     way = Defined;
@@ -129,7 +132,7 @@ module _ {D : Type 0} (disk : Ghosts D) (old new : Stored D) (command : Command)
     state_is = same_state reply views registry failed idle ∙ sym (idle_after (state_with old views) command reply is idle);
   }
 
-  short_so : (views : List Summary) → Lasts (before views) (behind (Refused refusals.NoMemory) views) → disk.failures new.disk ≡ disk.failures old.disk → new.registry ≡ old.registry → new.failed ≡ old.failed
+  short_so : (views : List RootView) → Lasts (before views) (behind (Refused refusals.NoMemory) views) → disk.failures new.disk ≡ disk.failures old.disk → new.registry ≡ old.registry → new.failed ≡ old.failed
       → Submits (before views) command (Refused refusals.NoMemory) (behind (Refused refusals.NoMemory) views)
   short_so views last failures registry failed = record {
     way = Memory;
@@ -138,14 +141,14 @@ module _ {D : Type 0} (disk : Ghosts D) (old new : Stored D) (command : Command)
     state_is = same_state (Refused refusals.NoMemory) views registry failed refl;
   }
 
-  spent_so : (reply : Reply) (views : List Summary) → old.failed ≡ false → Lasts (before views) (behind reply views) → disk.failures new.disk ≡ disk.failures old.disk → new.registry ≡ old.registry → new.failed ≡ old.failed
+  spent_so : (reply : Reply) (views : List RootView) → old.failed ≡ false → Lasts (before views) (behind reply views) → disk.failures new.disk ≡ disk.failures old.disk → new.registry ≡ old.registry → new.failed ≡ old.failed
       → reply ≡ Refused refusals.Exhausted → 9223372036854775807 ≤ new.number → is_change (reply_to old.registry command) ≡ true → Submits (before views) command reply (behind reply views)
   spent_so reply views works last failures registry failed is spent change =
       let accepts : is_change (reply_to_command (state_with old views) command) ≡ true = ap is_change (working (state_with old views) command plain works) ∙ change in
       record { way = Spent; cause = (accepts, last, failures, spent); reply_is = is; state_is = same_state reply views registry failed (ap is_change is) }
 
   -- by what the reply is in a batch of one
-  answered_so : (reply : Reply) (views : List Summary) → old.failed ≡ false → new.failed ≡ false → Lasts (before views) (behind reply views) → disk.failures new.disk ≡ disk.failures old.disk
+  answered_so : (reply : Reply) (views : List RootView) → old.failed ≡ false → new.failed ≡ false → Lasts (before views) (behind reply views) → disk.failures new.disk ≡ disk.failures old.disk
       → AreAnswered new.number old.registry (command ∷ []) (reply ∷ [])
       → new.registry ≡ replay_on watches old.registry (accepted_of (command ∷ []) (reply ∷ []))
       → (b : Bool) → is_change reply ≡ b → Submits (before views) command reply (behind reply views)
@@ -181,7 +184,7 @@ module _ {D : Type 0} (disk : Ghosts D) (old new : Stored D) (command : Command)
       by_change told false none = idle_so reply views last (stays none) (works' ∙ sym works) none told
 
   -- the batch was answered
-  pub met_alone : (replies : List Reply) (reply : Reply) (views : List Summary) → replies ≡ reply ∷ [] → old.failed ≡ false → new.failed ≡ false
+  pub met_alone : (replies : List Reply) (reply : Reply) (views : List RootView) → replies ≡ reply ∷ [] → old.failed ≡ false → new.failed ≡ false
       → disk.failures new.disk ≡ disk.failures old.disk → old.number ≤ new.number
       → IsBatch disk old new (command ∷ []) replies → new.registry ≡ replay_on watches old.registry (accepted_of (command ∷ []) replies)
       → Submits (before views) command reply (behind reply views)
@@ -203,7 +206,7 @@ module _ {D : Type 0} (disk : Ghosts D) (old new : Stored D) (command : Command)
         | inr spent ↦ ap is_change (sym (met_so command (reply_to old.registry command) plain)) ∙ spent.1
       ]
 
-  pub device_so : (replies : List Reply) (views : List Summary) → old.failed ≡ false → new.failed ≡ true → new.registry ≡ old.registry
+  pub device_so : (replies : List Reply) (views : List RootView) → old.failed ≡ false → new.failed ≡ true → new.registry ≡ old.registry
       → disk.failures old.disk ≤ disk.failures new.disk → Rose (disk.failures old.disk) (disk.failures new.disk) → old.number ≤ new.number
       → IsBatch disk old new (command ∷ []) replies → (accepted_of (command ∷ []) replies ≡ [] → ⊥)
       → Submits (before views) command (Refused refusals.DeviceFailed) (behind (Refused refusals.DeviceFailed) views)
@@ -273,10 +276,10 @@ refused_or_none old root o refusals.NoMemory h = record { way = Memory; cause = 
 refused_or_none old root o e h = refuses old root o e (h (λ bad. cc))
 
 -- a front with these views in place of the others
-abbrev viewing : Standing → List Summary → Standing
+abbrev viewing : Standing → List RootView → Standing
 viewing old views = record old { state = record old.state { views = views } }
 
-pub operates : (old : Standing) (root : Path) (o : Op) (r : Result ClockId Refusal) (views : List Summary) → Operated root o old.state.registry.roots old.state.views r views → Operates old root o r (viewing old views)
+pub operates : (old : Standing) (root : Path) (o : Op) (r : Result ClockId Refusal) (views : List RootView) → Operated root o old.state.registry.roots old.state.views r views → Operates old root o r (viewing old views)
 operates old root o (Ok clock) views (view, is, clock_is, views_are) = record {
   way = Defined;
   cause = record { failures = omega arith; number = omega arith };
@@ -327,7 +330,7 @@ module _ {D : Type 0} (disk : Ghosts D) (old new : Stored D) (command : Command)
   worked : (e : Refusal) → Refuses e → e ≢ refusals.StoreFailed → old.failed ≡ false
   worked e r other = not_true old.failed (λ failed. other (r.stays_down (inl failed)))
 
-  pub refused_alone : (e : Refusal) (views : List Summary) → Refuses e → Submits (standing_with disk old views) command (Refused e) (standing_with disk new views)
+  pub refused_alone : (e : Refusal) (views : List RootView) → Refuses e → Submits (standing_with disk old views) command (Refused e) (standing_with disk new views)
   refused_alone e views r =
       elim r.kinds [
         | inl device ↦
@@ -361,15 +364,15 @@ module _ {D : Type 0} (disk : Ghosts D) (old new : Stored D) (command : Command)
 -- ---- the front's views
 
 -- the views were changed as the accepted command does
-pub met_with : {D : Type 0} (disk : Ghosts D) (old new : Stored D) (command : Command) (reply : Reply) (views after : List Summary)
+pub met_with : {D : Type 0} (disk : Ghosts D) (old new : Stored D) (command : Command) (reply : Reply) (views after : List RootView)
     → Submits (standing_with disk old views) command reply (standing_with disk new (views_met reply (state_with old views) command)) → after ≡ views_met reply (state_with old views) command
     → Submits (standing_with disk old views) command reply (standing_with disk new after)
-met_with disk old new command reply views after s is = subst (λ (vs : List Summary). Submits (standing_with disk old views) command reply (standing_with disk new vs)) (sym is) s
+met_with disk old new command reply views after s is = subst (λ (vs : List RootView). Submits (standing_with disk old views) command reply (standing_with disk new vs)) (sym is) s
 
-pub views_changed : (s : State) (command : Command) (reply : Reply) (after : List Summary) → is_change reply ≡ true → after ≡ views_after s command → after ≡ views_met reply s command
+pub views_changed : (s : State) (command : Command) (reply : Reply) (after : List RootView) → is_change reply ≡ true → after ≡ views_after s command → after ≡ views_met reply s command
 views_changed s command reply after change is = is ∙ sym (ap (λ (b : Bool). cond b (views_after s command) s.views) change)
 
-pub views_same : (s : State) (command : Command) (reply : Reply) (after : List Summary) → is_change reply ≡ false → after ≡ s.views → after ≡ views_met reply s command
+pub views_same : (s : State) (command : Command) (reply : Reply) (after : List RootView) → is_change reply ≡ false → after ≡ s.views → after ≡ views_met reply s command
 views_same s command reply after idle is = is ∙ sym (ap (λ (b : Bool). cond b (views_after s command) s.views) idle)
 
 -- ---- a start and a close
@@ -388,9 +391,21 @@ start_refused disk old new e damaged retired exhausted failed kinds =
         | inr b ↦ elim b [
           | inl spent ↦ subst (λ (x : Refusal). StartRefused disk x old new) (sym spent) (λ h. exhausted h spent)
           | inr c ↦ elim c [
-            | inl bad ↦ subst (λ (x : Refusal). StartRefused disk x old new) (sym bad) (λ h. damaged h bad)
+            | inl bad ↦ subst (λ (x : Refusal). StartRefused disk x old new) (sym bad) (λ h. inl (damaged h bad))
             | inr gone ↦ subst (λ (x : Refusal). StartRefused disk x old new) (sym gone) (λ h. retired h gone)
           ]
         ]
       ]
+    ]
+
+-- after a store was begun: a trigger keeps a text that is no expression, or memory is wanted
+pub views_refused : {D : Type 0} (disk : Ghosts D) (old new : D) (begun : registry.State) (e : Refusal)
+    → (disk.honest new → (found : registry.State) × (reply_to found Begin ≡ Changed) × (begun ≡ after found Begin) × IsFound disk old new found)
+    → ((e ≡ refusals.Damaged) × (have_expressions begun ≡ false)) ⊎ (e ≡ refusals.NoMemory)
+    → StartRefused disk e old new
+views_refused disk old new begun e found why =
+    elim why [
+      | inl none ↦ subst (λ (x : Refusal). StartRefused disk x old new) (sym none.0)
+          (λ h. (let f = found h in inr (f.0, sym (expressions_after_begin f.0) ∙ ap have_expressions (sym f.2) ∙ none.1, f.3)))
+      | inr memory ↦ subst (λ (x : Refusal). StartRefused disk x old new) (sym memory) tt
     ]

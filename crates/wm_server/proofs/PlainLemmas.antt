@@ -1,6 +1,6 @@
 -- What is defined is never a fault: so a fault that is told has its cause.
 use Rattle.std.proofs.Common.{◌≡◌, ◌∙◌, ℕ, List, Bool, true, false, not, ◌||◌, ◌==◌, cond, length, nat_lt, refl, sym, ap, true≢false}
-use Rattle.std.specs.Prelude.{Option, Some, None, Result, Ok, Err, ◌&&◌, option_and_then, option_map, unwrap_or, is_none, is_some, codes}
+use Rattle.std.specs.Prelude.{Option, Some, None, Result, Ok, Err, ◌&&◌, option_and_then, option_map, unwrap_or, is_none, codes}
 use Rattle.std.specs.Option.{option_map_or}
 use Rattle.std.specs.Str.{bytes_eq}
 use Rattle.std.specs.List.{list_all, list_any}
@@ -12,7 +12,7 @@ use Rattle.wm_names.specs.Entries.{is_whole}
 use Rattle.wm_names.specs.declared.subtree.Subtree.{Subtree}
 use Rattle.wm_clock.specs.Clocks.{spec_of}
 use Rattle.wm_clock.specs.declared.clock_spec.ClockSpec.{ClockSpec}
-use Rattle.wm_disk.specs.declared.refusal.Refusal.TheVariants.{BadArguments, BadCommand, BadExpression, BadPath, BadTrigger, Exhausted, Full, NotReady, NotWatched, StoreFailed, TooMany, BadClock}
+use Rattle.wm_disk.specs.declared.refusal.Refusal.TheVariants.{BadArguments, BadCommand, BadPath, BadTrigger, Exhausted, Full, NotReady, NotWatched, StoreFailed, TooMany, BadClock}
 use Rattle.wm_registry.specs.declared.command.Command.{Command}
 use Rattle.wm_registry.specs.declared.command.Command.TheVariants as command
 use Rattle.wm_registry.specs.declared.reply.Reply.{Reply}
@@ -27,22 +27,34 @@ use Rattle.wm_view.specs.Files.{Files}
 use Rattle.wm_view.specs.Histories.{refuse_if, observed}
 use Rattle.wm_view.specs.Steps.{present, recrawled_in, refused_in, spent_in, step}
 use Rattle.wm_view.specs.Summaries.{Summary}
+use Rattle.wm_server.specs.declared.watched.RootView.{RootView}
+use Rattle.wm_since.specs.declared.query.Answer.{Answer}
+use Rattle.wm_server.specs.declared.query.Inquiry.{Inquiry}
+use Rattle.wm_server.specs.Inquiries.{has_place, inquired, question_in}
+use Rattle.wm_expr.specs.Meanings.{holds}
 use Rattle.wm_view.specs.declared.op.Op.{Op}
 use Rattle.wm_view.specs.declared.op.Op.TheVariants as op
-use Rattle.wm_since.specs.Answers.{Question, answer_by}
+use Rattle.wm_since.specs.Answers.{answer_by}
 use Rattle.wm_server.specs.declared.request.Request.{Request}
-use Rattle.wm_server.specs.declared.request.Request.TheVariants.{Version, Watch, WatchDel, WatchList, Trigger, TriggerList, TriggerDel, Observe, Listing, Clock, Since}
+use Rattle.wm_server.specs.declared.request.Request.TheVariants.{Version, Watch, WatchDel, WatchList, Trigger, TriggerList, TriggerDel, Observe, Listing, Clock, Query}
 use Rattle.wm_server.specs.Arguments.{root_alone, root_named, text_at, count_of}
 use Rattle.wm_server.specs.ClockLines.{may_be_clock, since_clock, since_root}
 use Rattle.wm_server.specs.ListingLines.{are_below, files_of, found, listing_with, subtree_of}
 use Rattle.wm_server.specs.PairLines.{Pair, observe_with, pairs_of}
 use Rattle.wm_server.specs.Lines.{command_named, plain_request, request_of, request_of_line, request_of_text, request_with, text_of}
-use Rattle.wm_server.specs.TriggerLines.{by_rules, definition_in, object_at, trigger_at, trigger_del_with, trigger_in, trigger_with}
+use Rattle.wm_expr.specs.Readings.{expression_of}
+use Rattle.wm_expr.specs.Terms.{Term}
+use Rattle.wm_since.specs.Fields.{fields_of}
+use Rattle.wm_since.specs.declared.field.Field.{Field}
+use Rattle.wm_server.specs.QueryLines.{clock_at, clock_key, clock_read, empty_key, expression_at, expression_key, expression_read, fields_at, fields_key, fields_read, has_query_keys, has_query_kinds, inquiry_in, inquiry_of, names_in, query_at, query_on, query_with}
+use Rattle.wm_server.specs.KeptExpressions.{is_expression, kept_text}
+use Rattle.wm_server.specs.Keys.{flag_in, object_at}
+use Rattle.wm_server.specs.TriggerLines.{by_rules, definition_in, trigger_at, trigger_del_with, trigger_in, trigger_keeping, trigger_with}
 use Rattle.wm_server.specs.Faults.{Standing, Way, Defined, Device, Memory, Spent, Answers, is_fault, faults_of, refusal_or}
 use Rattle.wm_server.specs.Pages.{Refuses, page}
-use Rattle.wm_server.specs.Sessions.{State, question_met, line_met, listing_met, met_or_refused, commanded, by_reply, operation_met, refused, reply_to_command, since_question, state_after_command, triggers_met, view_of}
-use Rattle.wm_server.specs.Watched.{answer_of, clock_in, clock_answer, unless, view_after}
-use Rattle.wm_server.specs.Replies.{clock_reply, command_reply, line_text, refusal_reply, reply_bytes, since_reply}
+use Rattle.wm_server.specs.Sessions.{State, question_met, line_met, listing_met, met_or_refused, commanded, by_reply, operation_met, refused, reply_to_command, inquiry_met, state_after_command, triggers_met, view_of}
+use Rattle.wm_server.specs.Watched.{clock_in, clock_answer, unless, view_after}
+use Rattle.wm_server.specs.Replies.{clock_reply, command_reply, line_text, refusal_reply, reply_bytes}
 
 -- a result that tells a fault
 abbrev pub tells_fault : {A : Type 0} → Result A Refusal → Bool
@@ -89,12 +101,66 @@ since_plain : (may : Bool) (root : Option (List ℕ)) (clock : Option ClockSpec)
 since_plain true (Some root) clock = either (is_root_path root) _ _ (clock_plain root clock) refl
 since_plain _ _ clock = refl
 
+clock_at_plain : (o : Option Data) → tells_fault (clock_at o) ≡ false
+clock_at_plain None = refl
+clock_at_plain (Some d) = clock_read_plain (option_and_then spec_of (as_str d))
+  where
+    clock_read_plain : (o : Option ClockSpec) → tells_fault (clock_read o) ≡ false
+    clock_read_plain None = refl
+    clock_read_plain (Some c) = refl
+
+expression_at_plain : (o : Option Data) → tells_fault (expression_at o) ≡ false
+expression_at_plain None = refl
+expression_at_plain (Some d) = expression_read_plain (expression_of d)
+  where
+    expression_read_plain : (o : Option Term) → tells_fault (expression_read o) ≡ false
+    expression_read_plain None = refl
+    expression_read_plain (Some x) = refl
+
+fields_at_plain : (o : Option Data) → tells_fault (fields_at o) ≡ false
+fields_at_plain None = refl
+fields_at_plain (Some d) = fields_read_plain (option_and_then fields_of (names_in d))
+  where
+    fields_read_plain : (o : Option (List Field)) → tells_fault (fields_read o) ≡ false
+    fields_read_plain None = refl
+    fields_read_plain (Some fields) = refl
+
+inquiry_of_plain : (b : Bool) (c : Result (Option ClockSpec) Refusal) (x : Result Term Refusal) (fields : Result (List Field) Refusal)
+    → tells_fault c ≡ false → tells_fault x ≡ false → tells_fault fields ≡ false → tells_fault (inquiry_of b c x fields) ≡ false
+inquiry_of_plain b (Err e) x fields p q r = p
+inquiry_of_plain b (Ok c) (Err e) fields p q r = q
+inquiry_of_plain b (Ok c) (Ok x) (Err e) p q r = r
+inquiry_of_plain b (Ok c) (Ok x) (Ok fields) p q r = refl
+
+query_at_plain : (root : List ℕ) (q : Result Inquiry Refusal) → tells_fault q ≡ false → tells_fault (query_at root q) ≡ false
+query_at_plain root (Ok q) h = refl
+query_at_plain root (Err e) h = h
+
+query_on_plain : (root : List ℕ) (d : Data) (b : Option Bool) → tells_fault (query_on root d b) ≡ false
+query_on_plain root d None = refl
+query_on_plain root d (Some b) =
+    either (is_root_path root) (query_at root (inquiry_in b d)) (Err BadPath)
+    (query_at_plain root (inquiry_in b d)
+    (inquiry_of_plain b (clock_at (clock_key d)) (expression_at (expression_key d)) (fields_at (fields_key d)) (clock_at_plain (clock_key d)) (expression_at_plain (expression_key d)) (fields_at_plain (fields_key d)))) refl
+
+queried_plain : (root : Option (List ℕ)) (d : Option Data) → tells_fault (query_with root d) ≡ false
+queried_plain (Some root) (Some d) = either (has_query_keys d && has_query_kinds d) (query_on root d (flag_in (empty_key d))) (Err BadArguments) (query_on_plain root d (flag_in (empty_key d))) refl
+queried_plain _ _ = refl
+
 rules_plain : (t : Option Definition) → tells_fault (by_rules t) ≡ false
 rules_plain None = refl
 rules_plain (Some t) = either (is_trigger t) _ _ refl refl
 
+kept_plain : (o : Option Data) → tells_fault (kept_text o) ≡ false
+kept_plain None = refl
+kept_plain (Some d) = either (is_expression d) _ _ refl refl
+
+keeping_plain : (text : Result (Option (List ℕ)) Refusal) (d : Data) → tells_fault text ≡ false → tells_fault (trigger_keeping text d) ≡ false
+keeping_plain (Ok text) d h = rules_plain (definition_in text d)
+keeping_plain (Err e) d h = h
+
 trigger_plain : (d : Data) → tells_fault (trigger_in d) ≡ false
-trigger_plain d = either (is_some (get (codes "expression") d)) (Err BadExpression) (by_rules (definition_in d)) refl (rules_plain (definition_in d))
+trigger_plain d = keeping_plain (kept_text (get (codes "expression") d)) d (kept_plain (get (codes "expression") d))
 
 at_plain : (root : List ℕ) (r : Result Definition Refusal) → tells_fault r ≡ false → tells_fault (trigger_at root r) ≡ false
 at_plain root (Ok t) h = refl
@@ -122,7 +188,8 @@ command_plain d (Some name) =
     (either (bytes_eq name (codes "observe")) _ _ (either (is_none (at 3 d)) _ _ (observed_plain (text_at 1 d) (option_and_then pairs_of (at 2 d))) refl)
     (either (bytes_eq name (codes "listing")) _ _ (either (is_none (at 5 d)) _ _ (listed_plain (text_at 1 d) (option_and_then count_of (at 2 d)) (text_at 3 d) (option_and_then files_of (at 4 d))) refl)
     (either (bytes_eq name (codes "clock")) _ _ (with_plain (λ path. Clock path) (root_alone d) (alone_plain d))
-    (either (bytes_eq name (codes "since")) _ _ (either (is_none (at 3 d)) _ _ (since_plain (unwrap_or (option_map may_be_clock (at 2 d)) false) (text_at 1 d) (option_and_then spec_of (text_at 2 d))) refl) refl))))))))))
+    (either (bytes_eq name (codes "since")) _ _ (either (is_none (at 3 d)) _ _ (since_plain (unwrap_or (option_map may_be_clock (at 2 d)) false) (text_at 1 d) (option_and_then spec_of (text_at 2 d))) refl)
+    (either (bytes_eq name (codes "query")) _ _ (either (is_none (at 3 d)) _ _ (queried_plain (text_at 1 d) (object_at 2 d)) refl) refl)))))))))))
 
 text_plain : (o : Option Data) → tells_fault (request_of_text o) ≡ false
 unfolding request_of
@@ -212,22 +279,22 @@ view_plain view (op.Recrawl moment begun_at found) =
     (refuse_plain outside BadClock last refl (refuse_plain spent Exhausted None refl refl)) (refuse_plain part NotReady None refl refl)
 view_plain view (op.AgeOut time age) = refuse_plain (not view.ready) NotReady None refl refl
 
-unless_plain : (r : Option Refusal) (new : Summary) → option_fault r ≡ false → tells_fault (unless r new) ≡ false
+unless_plain : (r : Option Refusal) (new : RootView) → option_fault r ≡ false → tells_fault (unless r new) ≡ false
 unless_plain None new h = refl
 unless_plain (Some r) new h = h
 
-after_plain : (view : Option Summary) (o : Op) → tells_fault (view_after view o) ≡ false
+after_plain : (view : Option RootView) (o : Op) → tells_fault (view_after view o) ≡ false
 after_plain None o = refl
-after_plain (Some view) o = unless_plain (refused_in view o) (step view o) (view_plain view o)
+after_plain (Some root) o = unless_plain (refused_in root.view o) (record root { view = step root.view o }) (view_plain root.view o)
 
-operated_plain : (s : State) (root : List ℕ) (r : Result Summary Refusal) → tells_fault r ≡ false → tells_fault (operation_met s root r).reply ≡ false
+operated_plain : (s : State) (root : List ℕ) (r : Result RootView Refusal) → tells_fault r ≡ false → tells_fault (operation_met s root r).reply ≡ false
 operated_plain s root (Ok view) h = refl
 operated_plain s root (Err e) h = h
 
-listing_plain : (s : State) (root : List ℕ) (view : Option Summary) (o : Op) → tells_fault (listing_met s root view o).reply ≡ false
+listing_plain : (s : State) (root : List ℕ) (view : Option RootView) (o : Op) → tells_fault (listing_met s root view o).reply ≡ false
 listing_plain s root None o = refl
 listing_plain s root (Some view) o =
-    elim view.ready as (λ b. tells_fault (cond b (refused BadCommand s) (operation_met s root (view_after (Some view) o))).reply ≡ false) [
+    elim view.view.ready as (λ b. tells_fault (cond b (refused BadCommand s) (operation_met s root (view_after (Some view) o))).reply ≡ false) [
       | true ↦ refl
       | false ↦ operated_plain s root (view_after (Some view) o) (after_plain (Some view) o)
     ]
@@ -236,13 +303,19 @@ asked_plain : {A : Type 0} (s : State) (r : Result A Refusal) (to_reply : A → 
 asked_plain s (Ok a) to_reply h = refl
 asked_plain s (Err e) to_reply h = h
 
-clock_told_plain : (view : Option Summary) → tells_fault (clock_answer view) ≡ false
+clock_told_plain : (view : Option RootView) → tells_fault (clock_answer view) ≡ false
 clock_told_plain None = refl
-clock_told_plain (Some view) = either view.ready (Ok (clock_in view)) (Err NotReady) refl refl
+clock_told_plain (Some view) = either view.view.ready (Ok (clock_in view)) (Err NotReady) refl refl
 
-answer_plain : (view : Option Summary) (question : Question) → tells_fault (answer_of view question) ≡ false
-answer_plain None question = refl
-answer_plain (Some view) question = either view.ready (Ok (answer_by (λ entry. true) view question)) (Err NotReady) refl refl
+inquired_plain : (view : Option RootView) (q : Inquiry) → tells_fault (inquired view q) ≡ false
+inquired_plain None q = refl
+inquired_plain (Some root) q =
+    let answer : Result Answer Refusal = Ok (answer_by (holds q.expression) root.view (question_in q root.cursors)) in
+    either root.view.ready (cond (has_place q.since root.cursors) answer (Err TooMany)) (Err NotReady) (either (has_place q.since root.cursors) answer (Err TooMany) refl refl) refl
+
+inquiry_plain : (s : State) (root : List ℕ) (q : Inquiry) (r : Result Answer Refusal) → tells_fault r ≡ false → tells_fault (inquiry_met s root q r).reply ≡ false
+inquiry_plain s root q (Ok a) h = refl
+inquiry_plain s root q (Err e) h = h
 
 met_plain : (s : State) (moment : ℕ) (r : Result Request Refusal) → tells_fault r ≡ false → tells_fault (met_or_refused s moment r).reply ≡ false
 met_plain s moment (Ok Version) h = refl
@@ -255,7 +328,7 @@ met_plain s moment (Ok WatchList) h = refl
 met_plain s moment (Ok (Observe root pairs)) h = operated_plain s root (view_after (view_of s root) (op.Observe moment pairs)) (after_plain (view_of s root) (op.Observe moment pairs))
 met_plain s moment (Ok (Listing root begun_at files)) h = listing_plain s root (view_of s root) (op.Recrawl moment begun_at files)
 met_plain s moment (Ok (Clock root)) h = asked_plain s (clock_answer (view_of s root)) clock_reply (clock_told_plain (view_of s root))
-met_plain s moment (Ok (Since root spec)) h = asked_plain s (answer_of (view_of s root) (since_question spec)) since_reply (answer_plain (view_of s root) (since_question spec))
+met_plain s moment (Ok (Query root q)) h = inquiry_plain s root q (inquired (view_of s root) q) (inquired_plain (view_of s root) q)
 met_plain s moment (Err e) h = h
 
 one_fault : (way : Way) (defined : Result Data Refusal) (r : Refusal) → tells_fault defined ≡ false → is_fault r ≡ true → refusal_or way defined ≡ Err r → 1 ≡ faults_of way

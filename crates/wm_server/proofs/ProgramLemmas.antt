@@ -7,7 +7,13 @@ use Rattle.wm_disk.specs.declared.refusal.Refusal.TheVariants as refusals
 use Rattle.wm_names.specs.Paths.{Path}
 use Rattle.wm_view.specs.declared.op.Op.{Op}
 use Rattle.wm_view.specs.declared.op.Op.TheVariants as op
-use Rattle.wm_view.specs.Summaries.{Summary}
+use Rattle.wm_server.specs.declared.watched.RootView.{RootView}
+use Rattle.wm_since.specs.declared.query.Answer.{Answer}
+use Rattle.wm_clock.specs.declared.clock_id.ClockId.{ClockId}
+use Rattle.wm_clock.specs.declared.clock_spec.ClockSpec.{ClockSpec}
+use Rattle.wm_clock.specs.declared.clock_spec.ClockSpec.TheVariants.{Clock as Moment, Another, Cursor}
+use Rattle.wm_server.specs.declared.query.Inquiry.{Inquiry}
+use Rattle.wm_server.specs.Inquiries.{inquired}
 use Rattle.serde_json.specs.Data.{Data}
 use Rattle.wm_disk.specs.declared.disk.Disk.{Ghosts}
 use Rattle.wm_checkpoint.specs.Machines.{replay_on}
@@ -20,30 +26,30 @@ use Rattle.wm_registry.specs.Roots as registry
 use Rattle.wm_store.specs.Openings.{IsFound}
 use Rattle.wm_store.specs.Stored.{Stored}
 use Rattle.wm_server.specs.declared.request.Request.{Request}
-use Rattle.wm_server.specs.declared.request.Request.TheVariants.{Version, Watch, WatchDel, WatchList, Trigger, TriggerList, TriggerDel, Observe, Listing, Clock, Since}
+use Rattle.wm_server.specs.declared.request.Request.TheVariants.{Version, Watch, WatchDel, WatchList, Trigger, TriggerList, TriggerDel, Observe, Listing, Clock, Query}
 use Rattle.wm_server.specs.Inputs.{lines_of}
 use Rattle.wm_server.specs.Lines.{request_of_line}
 use Rattle.wm_server.specs.LocalLaws.{rose_later}
 use Rattle.wm_server.specs.Locals.{CloseRefused}
 use Rattle.wm_server.specs.declared.local.LocalFront.{LocalFront}
-use Rattle.wm_server.specs.Sessions.{State, question_met, line_met, listing_met, met_or_refused, operation_met, refused, since_question, triggers_met, view_of}
+use Rattle.wm_server.specs.Sessions.{State, question_met, line_met, listing_met, met_or_refused, operation_met, refused, answered, cursor_moved, inquiry_met, triggers_met, view_of}
 use Rattle.wm_server.specs.Stores.{IsKeptOn, Later, LeadsTo, LinesRefused, StartCut, StartRefused, standing_with, state_with}
-use Rattle.wm_server.specs.Replies.{clock_reply, since_reply}
-use Rattle.wm_server.specs.Watched.{answer_of, clock_answer, first_views, view_after}
+use Rattle.wm_server.specs.Replies.{clock_reply}
+use Rattle.wm_server.specs.Watched.{clock_answer, first_views, view_after}
 use Rattle.wm_server.specs.Faults.{Standing, Way, Defined, Device, Memory, Spent, state_or}
 use Rattle.wm_server.specs.Runs.{Run, Served}
 use Rattle.wm_server.specs.Programs.{IsQuiet, Kept, LinesServed, first_state, line_number}
 
 -- ---- a store that has failed stays so
 
-operated_failed : (s : State) (root : Path) (r : Result Summary Refusal) → (operation_met s root r).state.has_failed ≡ s.has_failed
+operated_failed : (s : State) (root : Path) (r : Result RootView Refusal) → (operation_met s root r).state.has_failed ≡ s.has_failed
 operated_failed s root (Ok view) = refl
 operated_failed s root (Err e) = refl
 
-listed_failed : (s : State) (root : Path) (view : Option Summary) (o : Op) → (listing_met s root view o).state.has_failed ≡ s.has_failed
+listed_failed : (s : State) (root : Path) (view : Option RootView) (o : Op) → (listing_met s root view o).state.has_failed ≡ s.has_failed
 listed_failed s root None o = refl
 listed_failed s root (Some view) o =
-    elim view.ready as (λ b. (cond b (refused BadCommand s) (operation_met s root (view_after (Some view) o))).state.has_failed ≡ s.has_failed) [
+    elim view.view.ready as (λ b. (cond b (refused BadCommand s) (operation_met s root (view_after (Some view) o))).state.has_failed ≡ s.has_failed) [
       | true ↦ refl
       | false ↦ operated_failed s root (view_after (Some view) o)
     ]
@@ -56,6 +62,20 @@ listed_triggers_failed : (s : State) (root : Option Root) → (triggers_met s ro
 listed_triggers_failed s None = refl
 listed_triggers_failed s (Some root) = refl
 
+moved_failed : (s : State) (root : Path) (view : Option RootView) (name : List ℕ) (clock : ClockId) → (cursor_moved s root view name clock).has_failed ≡ s.has_failed
+moved_failed s root None name clock = refl
+moved_failed s root (Some view) name clock = refl
+
+told_failed : (s : State) (root : Path) (since : Option ClockSpec) (clock : ClockId) → (answered s root since clock).has_failed ≡ s.has_failed
+told_failed s root None clock = refl
+told_failed s root (Some (Moment c)) clock = refl
+told_failed s root (Some Another) clock = refl
+told_failed s root (Some (Cursor name)) clock = moved_failed s root (view_of s root) name clock
+
+inquired_failed : (s : State) (root : Path) (q : Inquiry) (r : Result Answer Refusal) → (inquiry_met s root q r).state.has_failed ≡ s.has_failed
+inquired_failed s root q (Ok a) = told_failed s root q.since a.clock
+inquired_failed s root q (Err e) = refl
+
 met_failed : (s : State) (moment : ℕ) (r : Result Request Refusal) → s.has_failed ≡ true → (met_or_refused s moment r).state.has_failed ≡ true
 met_failed s moment (Ok Version) e = e
 met_failed s moment (Ok (Watch path)) e = rw e refl
@@ -67,7 +87,7 @@ met_failed s moment (Ok (TriggerDel path name)) e = rw e refl
 met_failed s moment (Ok (Observe root pairs)) e = operated_failed s root (view_after (view_of s root) (op.Observe moment pairs)) ∙ e
 met_failed s moment (Ok (Listing root begun_at found)) e = listed_failed s root (view_of s root) (op.Recrawl moment begun_at found) ∙ e
 met_failed s moment (Ok (Clock root)) e = asked_failed s (clock_answer (view_of s root)) clock_reply ∙ e
-met_failed s moment (Ok (Since root spec)) e = asked_failed s (answer_of (view_of s root) (since_question spec)) since_reply ∙ e
+met_failed s moment (Ok (Query root q)) e = inquired_failed s root q (inquired (view_of s root) q) ∙ e
 met_failed s moment (Err r) e = e
 
 way_failed : (way : Way) (s : State) (moment : ℕ) (line : List ℕ) → s.has_failed ≡ true → (state_or way (line_met s moment line).state s).has_failed ≡ true
@@ -126,7 +146,7 @@ module _ {D : Type 0} (disk : Ghosts D) where
         kept = s.kept;
       }
 
-  pub lines_served : (old : D) (begun left : Stored D) (views views' : List Summary) (new : D) (faults : ℕ) (input : List ℕ) (held holds : Option (List ℕ))
+  pub lines_served : (old : D) (begun left : Stored D) (views views' : List RootView) (new : D) (faults : ℕ) (input : List ℕ) (held holds : Option (List ℕ))
       → Session old begun left new → views ≡ first_views begun.registry → left.failed ≡ false
       → Served (standing_with disk begun views) line_number 0 input faults held holds (standing_with disk left views') → LinesServed disk old input held holds new
   lines_served old begun left views views' new faults input held holds s views_are worked served =

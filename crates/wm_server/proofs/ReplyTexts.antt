@@ -19,6 +19,7 @@ use Rattle.wm_registry.specs.declared.command.Command.{Command}
 use Rattle.wm_registry.specs.declared.command.Command.TheVariants as command
 use Rattle.wm_registry.specs.declared.reply.Reply.{Reply}
 use Rattle.wm_registry.specs.Triggers.{Definition}
+use Rattle.wm_server.proofs.KeptLemmas.{shown_no_float}
 use Rattle.wm_server.specs.Replies.{clock_reply, command_reply, paths_of, roots_reply, line_text, refusal_reply, stdin_text, trigger_data, triggers_reply, with_expression}
 
 paths_no_float : (roots : List (Path × Root)) → items_have_float (items_of (paths_of roots)) ≡ false
@@ -37,15 +38,15 @@ words_no_float : (words : List (List ℕ)) → items_have_float (items_of (map (
 words_no_float [] = refl
 words_no_float (word ∷ words) = words_no_float words
 
-expression_no_float : (expression : Option (List ℕ)) (rest : Members) → members_have_float rest ≡ false → members_have_float (with_expression expression rest) ≡ false
-expression_no_float None rest h = h
-expression_no_float (Some text) rest h = h
+with_no_float : (expression : Option (List ℕ)) (rest : Members) → members_have_float rest ≡ false → members_have_float (with_expression expression rest) ≡ false
+with_no_float None rest h = h
+with_no_float (Some text) rest h = rw (shown_no_float text, h) refl
 
 trigger_no_float : (t : Definition) → has_float (trigger_data t) ≡ false
 trigger_no_float t =
     let shown : Members = member (codes "name") (string t.name) (member (codes "stdin") (string (stdin_text t.stdin)) no_members) in
     let words : items_have_float (items_of (map (λ word. string word) t.command)) ≡ false = words_no_float t.command in
-    let rest : members_have_float (with_expression t.expression shown) ≡ false = expression_no_float t.expression shown refl in
+    let rest : members_have_float (with_expression t.expression shown) ≡ false = with_no_float t.expression shown refl in
     rw (words, rest) refl
 
 each_no_float : (triggers : List Definition) → items_have_float (items_of (map trigger_data triggers)) ≡ false

@@ -5,7 +5,7 @@ use Rattle.wm_disk.specs.declared.refusal.Refusal.{Refusal}
 use Rattle.wm_names.specs.Paths.{Path}
 use Rattle.wm_clock.specs.declared.clock_id.ClockId.{ClockId}
 use Rattle.wm_view.specs.declared.op.Op.{Op}
-use Rattle.wm_view.specs.Summaries.{Summary}
+use Rattle.wm_server.specs.declared.watched.RootView.{RootView}
 use Rattle.wm_registry.specs.declared.reply.Reply.{Reply}
 use Rattle.wm_registry.specs.declared.reply.Reply.TheVariants.{Changed, Replaced, Unchanged, Refused}
 use Rattle.wm_server.specs.Faults.{Standing, Way, Defined, Device, Memory, Spent, HasCause, Operates, refusal_or, state_or}
@@ -14,7 +14,7 @@ use Rattle.wm_server.specs.Replies.{clock_reply, line_text, reply_bytes}
 use Rattle.wm_server.specs.Sessions.{State, by_reply, operation_met, view_of}
 use Rattle.wm_server.specs.Watched.{clock_after, view_after}
 
-takes_no_command : (s : State) (root : Path) (r : Result Summary Refusal) → false ≡ (operation_met s root r).accepts
+takes_no_command : (s : State) (root : Path) (r : Result RootView Refusal) → false ≡ (operation_met s root r).accepts
 takes_no_command s root (Ok view) = refl
 takes_no_command s root (Err e) = refl
 
@@ -24,7 +24,7 @@ err_of : {A B : Type 0} → Refusal → Result A Refusal → Result B Refusal
 err_of e (Ok a) = Err e
 err_of e (Err x) = Err x
 
-refusal_told : (way : Way) (s : State) (root : Path) (r : Result Summary Refusal) (e : Refusal) → Err e ≡ refusal_or way (clock_after r) → refusal_or way (operation_met s root r).reply ≡ Err e
+refusal_told : (way : Way) (s : State) (root : Path) (r : Result RootView Refusal) (e : Refusal) → Err e ≡ refusal_or way (clock_after r) → refusal_or way (operation_met s root r).reply ≡ Err e
 unfolding err_of
 refusal_told Defined s root (Ok view) e is = absurd cc
 refusal_told Defined s root (Err r) e is = ap (err_of e) (sym is)
@@ -44,7 +44,7 @@ operation_refused old new root o e bytes m = record {
 
 -- ---- an operation that is done
 
-done_is : (way : Way) (s : State) (root : Path) (r : Result Summary Refusal) (clock : ClockId) → Ok clock ≡ refusal_or way (clock_after r) → (way ≡ Defined) × ((operation_met s root r).reply ≡ Ok (clock_reply clock))
+done_is : (way : Way) (s : State) (root : Path) (r : Result RootView Refusal) (clock : ClockId) → Ok clock ≡ refusal_or way (clock_after r) → (way ≡ Defined) × ((operation_met s root r).reply ≡ Ok (clock_reply clock))
 done_is Defined s root (Ok view) clock is = (refl, ap (λ (x : Result ClockId Refusal). reply_of x) (sym is))
   where
     reply_of : Result ClockId Refusal → Result Data Refusal

@@ -10,7 +10,8 @@ use Rattle.wm_wire.specs.Spelling.{IsOptional, IsText, text}
 use Rattle.wm_registry.specs.declared.stdin.Stdin.{Stdin}
 use Rattle.wm_registry.specs.Spelling.{IsTrigger}
 use Rattle.wm_registry.specs.Triggers.{Definition, definition, is_command, is_expression, is_name, is_trigger}
-use Rattle.wm_server.specs.TriggerLines.{by_rules, definition_in, flag_in, has_known_keys, stdin_in, words_in}
+use Rattle.wm_server.specs.Keys.{flag_in}
+use Rattle.wm_server.specs.TriggerLines.{by_rules, definition_in, has_known_keys, stdin_in, words_in}
 
 both : (a b : Bool) → a ≡ true → b ≡ true → (a && b) ≡ true
 both a b p q = rw (p, q) refl
@@ -33,11 +34,11 @@ keeps_rules t h =
     (both (nat_le (length t.command) 16) (list_all (λ word. nat_le (length word) 1024) t.command) (le-leb (length t.command) 16 h.command.count) (words_keep t.command h.command.each)))
     (expression_keeps t.expression h.expression))
 
-pub from_parts : (d : Data) (name : List ℕ) (words : List (List ℕ)) (append_files : Bool) (stdin : Stdin) → has_known_keys d ≡ true
+pub from_parts : (d : Data) (expression : Option (List ℕ)) (name : List ℕ) (words : List (List ℕ)) (append_files : Bool) (stdin : Stdin) → has_known_keys d ≡ true
     → option_and_then as_str (get (codes "name") d) ≡ Some name → words_in (get (codes "command") d) ≡ Some words
     → flag_in (get (codes "append_files") d) ≡ Some append_files → stdin_in (get (codes "stdin") d) ≡ Some stdin
-    → definition_in d ≡ Some (definition name words None append_files stdin)
-from_parts d name words append_files stdin keys n w a s = rw (keys, n, w, a, s) refl
+    → definition_in expression d ≡ Some (definition name words expression append_files stdin)
+from_parts d expression name words append_files stdin keys n w a s = rw (keys, n, w, a, s) refl
 
 pub made_by_rules : (made : Result Definition Refusal) (read : Option Definition) (t : Definition) → IfOk made (λ x. x ≡ t) → IfOk made IsTrigger → read ≡ Some t
     → IfOk made (λ x. by_rules read ≡ Ok x)

@@ -8,16 +8,23 @@ use Rattle.wm_names.specs.Paths.{is_root_path}
 use Rattle.wm_clock.specs.declared.clock_spec.ClockSpec.{ClockSpec}
 use Rattle.wm_clock.specs.Clocks.{spec_of}
 use Rattle.wm_server.specs.declared.request.Request.{Request}
-use Rattle.wm_server.specs.declared.request.Request.TheVariants.{Since}
+use Rattle.wm_server.specs.declared.request.Request.TheVariants.{Query}
 use Rattle.wm_server.specs.Arguments.{text_at}
+use Rattle.wm_server.specs.declared.query.Inquiry.{Inquiry}
+use Rattle.wm_expr.specs.Terms.{Always}
+use Rattle.wm_since.specs.Fields.{default_fields}
 
 -- what may stand for a clock: a text, or a number, which is no clock
 abbrev pub may_be_clock : Data → Bool
 may_be_clock d = is_some (as_str d) || is_some (as_number d)
 
+-- each file, with the default fields
+abbrev pub since_inquiry : ClockSpec → Inquiry
+since_inquiry clock = record { since = Some clock; expression = Always; fields = default_fields; empty_on_fresh = false }
+
 abbrev pub since_clock : List ℕ → Option ClockSpec → Result Request Refusal
 since_clock root None = Err BadClock
-since_clock root (Some clock) = Ok (Since root clock)
+since_clock root (Some clock) = Ok (Query root (since_inquiry clock))
 
 abbrev pub since_root : Bool → Option (List ℕ) → Option ClockSpec → Result Request Refusal
 since_root true (Some root) clock = if is_root_path root then since_clock root clock else Err BadPath

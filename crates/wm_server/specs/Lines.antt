@@ -11,6 +11,7 @@ use Rattle.wm_server.specs.declared.request.Request.{Request}
 use Rattle.wm_server.specs.Arguments.{root_alone}
 use Rattle.wm_server.specs.ClockLines.{since_request}
 use Rattle.wm_server.specs.ListingLines.{listing_request}
+use Rattle.wm_server.specs.QueryLines.{query_request}
 use Rattle.wm_server.specs.PairLines.{observe_request}
 use Rattle.wm_server.specs.declared.request.Request.TheVariants.{Version, Watch, WatchDel, WatchList, TriggerList, Clock}
 use Rattle.wm_server.specs.TriggerLines.{trigger_request, trigger_del_request}
@@ -51,7 +52,8 @@ command_named d (Some name) =
     else (if bytes_eq name (codes "listing") then listing_request d
     else (if bytes_eq name (codes "clock") then request_with (λ path. Clock path) (root_alone d)
     else (if bytes_eq name (codes "since") then since_request d
-    else Err BadCommand))))))))))
+    else (if bytes_eq name (codes "query") then query_request d
+    else Err BadCommand)))))))))))
 
 unfoldable pub request_of : Data → Result Request Refusal
 request_of d = command_named d (option_and_then as_str (at 0 d))

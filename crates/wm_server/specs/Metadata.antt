@@ -1,12 +1,13 @@
 -- Metadata as an object of a line.
-use Rattle.std.specs.Prelude.{ℕ, suc, List, Bool, false, ◌==◌, Option, Some, None, option_map, option_and_then, unwrap_or, codes, if◌then◌else◌}
+use Rattle.std.specs.Prelude.{ℕ, List, Option, Some, None, option_and_then, codes, if◌then◌else◌}
 use Rattle.std.specs.Str.{bytes_eq}
-use Rattle.serde_json.specs.Data.{Data, Members, no_members, member}
-use Rattle.serde_json.specs.Find.{get, as_str, as_object}
+use Rattle.serde_json.specs.Data.{Data}
+use Rattle.serde_json.specs.Find.{get, as_str}
 use Rattle.wm_names.specs.declared.entry.Kind.{Kind}
 use Rattle.wm_names.specs.declared.entry.Kind.TheVariants.{File, Folder, Link, Other}
 use Rattle.wm_names.specs.declared.entry.Meta.{Meta}
 use Rattle.wm_server.specs.Arguments.{count_of}
+use Rattle.wm_server.specs.Keys.{has_keys}
 
 abbrev pub kind_named : List ℕ → Option Kind
 kind_named text =
@@ -18,14 +19,6 @@ kind_named text =
 
 abbrev pub kind_of : Data → Option Kind
 kind_of d = option_and_then kind_named (option_and_then as_str (get (codes "type") d))
-
-abbrev pub members_len : Members → ℕ
-members_len no_members = 0
-members_len (member key d ms) = suc (members_len ms)
-
--- an object with so many keys
-abbrev pub has_keys : ℕ → Data → Bool
-has_keys n d = unwrap_or (option_map (λ ms. members_len ms == n) (as_object d)) false
 
 abbrev pub meta_from : Option Kind → Option ℕ → Option ℕ → Option Meta
 meta_from (Some kind) (Some size) (Some mtime_ms) = Some (record { kind = kind; size = size; mtime_ms = mtime_ms })

@@ -7,6 +7,7 @@ use Rattle.wm_disk.specs.Refusals.{text_of}
 use Rattle.wm_disk.specs.declared.refusal.Refusal.{Refusal}
 use Rattle.wm_clock.specs.Clocks.{clock_text}
 use Rattle.wm_clock.specs.declared.clock_id.ClockId.{ClockId}
+use Rattle.wm_since.specs.declared.field.Field.{Field}
 use Rattle.wm_since.specs.Rendered.{files_data}
 use Rattle.wm_since.specs.declared.query.Answer.{Answer}
 use Rattle.wm_registry.specs.declared.root.Root.{Root}
@@ -19,6 +20,7 @@ use Rattle.wm_registry.specs.declared.reply.Reply.TheVariants as reply
 use Rattle.wm_registry.specs.Registry.{is_change}
 use Rattle.wm_registry.specs.Triggers.{Definition}
 use Rattle.wm_names.specs.Paths.{Path}
+use Rattle.wm_server.specs.KeptExpressions.{expression_shown}
 
 -- each reply has `"version":"w1"`
 abbrev pub version_reply : Data
@@ -66,15 +68,19 @@ stdin_text NamePerLine = codes "NAME_PER_LINE"
 -- an expression that is missing isn't shown
 abbrev pub with_expression : Option (List ℕ) → Members → Members
 with_expression None ms = ms
-with_expression (Some text) ms = member (codes "expression") (string text) ms
+with_expression (Some text) ms = member (codes "expression") (expression_shown text) ms
 
-abbrev pub trigger_data : Definition → Data
-trigger_data t =
+-- a trigger, perhaps with one member more
+abbrev pub trigger_object : Definition → (Members → Members) → Data
+trigger_object t more =
     object (member (codes "append_files") (boolean t.append_files)
     (member (codes "command") (array (items_of (map (λ word. string word) t.command)))
-    (with_expression t.expression
+    (more
     (member (codes "name") (string t.name)
     (member (codes "stdin") (string (stdin_text t.stdin)) no_members)))))
+
+abbrev pub trigger_data : Definition → Data
+trigger_data t = trigger_object t (with_expression t.expression)
 
 abbrev pub triggers_reply : List Definition → Data
 triggers_reply triggers =
@@ -98,8 +104,8 @@ answer_reply clock files is_fresh =
     (member (codes "is_fresh_instance") (boolean is_fresh)
     (member (codes "version") (string (codes "w1")) no_members))))
 
-abbrev pub since_reply : Answer → Data
-since_reply answer = answer_reply (clock_text answer.clock) (files_data answer) answer.fresh
+abbrev pub query_reply : List Field → Answer → Data
+query_reply fields answer = answer_reply (clock_text answer.clock) (files_data fields answer) answer.fresh
 
 -- a reply and its newline
 unfoldable pub line_text : Data → List ℕ

@@ -6,11 +6,13 @@ use Rattle.wm_disk.specs.declared.refusal.Refusal.TheVariants.{BadArguments, Bad
 use Rattle.wm_names.specs.Paths.{Path}
 use Rattle.wm_clock.specs.declared.clock_id.ClockId.{ClockId}
 use Rattle.wm_clock.specs.declared.clock_spec.ClockSpec.{ClockSpec}
-use Rattle.wm_clock.specs.declared.clock_spec.ClockSpec.TheVariants.{Clock as Moment, Another}
+use Rattle.wm_clock.specs.declared.clock_spec.ClockSpec.TheVariants.{Cursor}
 use Rattle.wm_view.specs.declared.op.Op.{Op}
 use Rattle.wm_view.specs.declared.op.Op.TheVariants as op
-use Rattle.wm_view.specs.Summaries.{Summary}
-use Rattle.wm_since.specs.Answers.{Question}
+use Rattle.wm_since.specs.declared.query.Answer.{Answer}
+use Rattle.wm_server.specs.declared.query.Inquiry.{Inquiry}
+use Rattle.wm_server.specs.declared.watched.RootView.{RootView}
+use Rattle.wm_server.specs.Inquiries.{inquired}
 use Rattle.wm_registry.specs.declared.command.Command.{Command}
 use Rattle.wm_registry.specs.declared.command.Command.TheVariants as command
 use Rattle.wm_registry.specs.declared.reply.Reply.{Reply}
@@ -19,19 +21,19 @@ use Rattle.wm_registry.specs.declared.root.Root.{Root}
 use Rattle.wm_registry.specs.Registry as registry
 use Rattle.wm_registry.specs.Roots as roots
 use Rattle.wm_server.specs.declared.request.Request.{Request}
-use Rattle.wm_server.specs.declared.request.Request.TheVariants.{Version, Watch, WatchDel, WatchList, Trigger, TriggerList, TriggerDel, Observe, Listing, Clock, Since}
+use Rattle.wm_server.specs.declared.request.Request.TheVariants.{Version, Watch, WatchDel, WatchList, Trigger, TriggerList, TriggerDel, Observe, Listing, Clock, Query}
 use Rattle.wm_server.specs.Lines.{request_of_line}
 use Rattle.wm_store.specs.Batches.{is_begin}
-use Rattle.wm_server.specs.Replies.{version_reply, command_reply, roots_reply, triggers_reply, clock_reply, since_reply}
-use Rattle.wm_server.specs.Watched.{answer_of, clock_in, clock_answer, new_view, view_after, view_at, with_view, without_view}
+use Rattle.wm_server.specs.Replies.{version_reply, command_reply, roots_reply, triggers_reply, clock_reply, query_reply}
+use Rattle.wm_server.specs.Watched.{clock_in, clock_answer, new_view, view_after, view_at, with_cursor, with_view, without_view}
 
 -- what lines read and change
 pub record State : Type 0 where
   pub registry : roots.State
   -- the store has failed: each command is refused from then on
   pub has_failed : Bool
-  -- one view a root, in order of watching
-  pub views : List Summary
+  -- a view with its cursors a root, in order of watching
+  pub views : List RootView
 
 -- a reply or a refusal, the state after it, and whether a command was accepted
 pub record Outcome : Type 0 where
@@ -52,7 +54,7 @@ abbrev pub reply_to_command : State → Command → Reply
 reply_to_command s command = if is_begin command then reply.Refused BadArguments else (if s.has_failed then reply.Refused StoreFailed else registry.reply_to s.registry command)
 
 -- a root that begins to be watched has a new view, and one that isn't watched any longer has none
-abbrev pub views_after : State → Command → List Summary
+abbrev pub views_after : State → Command → List RootView
 views_after s command.Begin = s.views
 views_after s (command.Watch path) = s.views ++ new_view s.registry.incarnation s.registry.next ∷ []
 views_after s (command.WatchDel path) = without_view path s.registry.roots s.views
@@ -79,22 +81,22 @@ commanded s command = by_reply (reply_to_command s command) (command_reply comma
 -- ---- operations on views, and questions
 
 -- the view of a watched root
-abbrev pub view_of : State → Path → Option Summary
+abbrev pub view_of : State → Path → Option RootView
 view_of s root = view_at root s.registry.roots s.views
 
 -- the root has another view
-abbrev pub with_root : State → Path → Summary → State
+abbrev pub with_root : State → Path → RootView → State
 with_root s root view = record s { views = with_view root view s.registry.roots s.views }
 
 -- an operation's outcome: the clock after it, or a refusal that changes nothing
-abbrev pub operation_met : State → Path → Result Summary Refusal → Outcome
+abbrev pub operation_met : State → Path → Result RootView Refusal → Outcome
 operation_met s root (Ok view) = replied (clock_reply (clock_in view)) (with_root s root view)
 operation_met s root (Err r) = refused r s
 
 -- a listing is taken where the view isn't ready; later ones come with recrawls
-abbrev pub listing_met : State → Path → Option Summary → Op → Outcome
+abbrev pub listing_met : State → Path → Option RootView → Op → Outcome
 listing_met s root None o = refused NotWatched s
-listing_met s root (Some view) o = if view.ready then refused BadCommand s else operation_met s root (view_after (Some view) o)
+listing_met s root (Some view) o = if view.view.ready then refused BadCommand s else operation_met s root (view_after (Some view) o)
 
 -- a question's outcome
 abbrev pub question_met : {A : Type 0} → State → Result A Refusal → (A → Data) → Outcome
@@ -106,13 +108,20 @@ abbrev pub triggers_met : State → Option Root → Outcome
 triggers_met s None = refused NotWatched s
 triggers_met s (Some root) = replied (triggers_reply root.triggers) s
 
--- the since point that a text names: none in another instance
-abbrev pub since_point : ClockSpec → Option ClockId
-since_point (Moment c) = Some c
-since_point Another = None
+-- a root's cursor stands at the clock
+abbrev pub cursor_moved : State → Path → Option RootView → List ℕ → ClockId → State
+cursor_moved s root None name clock = s
+cursor_moved s root (Some view) name clock = with_root s root (with_cursor name clock view)
 
-abbrev pub since_question : ClockSpec → Question
-since_question spec = record { since = since_point spec; empty_on_fresh = false }
+-- after an answer the cursor by which was asked stands at the answer's clock
+abbrev pub answered : State → Path → Option ClockSpec → ClockId → State
+answered s root (Some (Cursor name)) clock = cursor_moved s root (view_of s root) name clock
+answered s root _ clock = s
+
+-- what is asked of the files of a root; a refused question moves no cursor
+abbrev pub inquiry_met : State → Path → Inquiry → Result Answer Refusal → Outcome
+inquiry_met s root q (Ok a) = replied (query_reply q.fields a) (answered s root q.since a.clock)
+inquiry_met s root q (Err r) = refused r s
 
 -- ---- lines
 
@@ -128,7 +137,7 @@ met s moment (Clock root) = question_met s (clock_answer (view_of s root)) clock
 met s moment (Trigger path trigger) = commanded s (command.Trigger path trigger)
 met s moment (TriggerList path) = triggers_met s (roots.root_at path s.registry)
 met s moment (TriggerDel path name) = commanded s (command.TriggerDel path name)
-met s moment (Since root spec) = question_met s (answer_of (view_of s root) (since_question spec)) since_reply
+met s moment (Query root q) = inquiry_met s root q (inquired (view_of s root) q)
 
 abbrev pub met_or_refused : State → ℕ → Result Request Refusal → Outcome
 met_or_refused s moment (Ok request) = met s moment request

@@ -7,7 +7,7 @@ use Rattle.wm_disk.specs.declared.refusal.Refusal.{Refusal}
 use Rattle.wm_disk.specs.declared.refusal.Refusal.TheVariants as refusals
 use Rattle.wm_checkpoint.specs.Machines.{replay_on}
 use Rattle.wm_checkpoint.specs.Meanings.{MeansState, MeansBeginning, IsDamaged, IsRetired}
-use Rattle.wm_view.specs.Summaries.{Summary}
+use Rattle.wm_server.specs.declared.watched.RootView.{RootView}
 use Rattle.wm_registry.specs.declared.command.Command.{Command}
 use Rattle.wm_registry.specs.declared.command.Command.TheVariants.{Begin}
 use Rattle.wm_registry.specs.declared.reply.Reply.{Reply}
@@ -17,6 +17,7 @@ use Rattle.wm_registry.specs.Roots as registry
 use Rattle.wm_registry.specs.MachineLaws.{watches}
 use Rattle.wm_store.specs.Openings.{IsFound}
 use Rattle.wm_store.specs.Stored.{Stored}
+use Rattle.wm_server.specs.KeptExpressions.{have_expressions}
 use Rattle.wm_server.specs.Sessions.{State, views_after}
 use Rattle.wm_server.specs.Faults.{Standing}
 
@@ -25,7 +26,7 @@ abbrev pub IsKeptOn : {D : Type 0} → Ghosts D → registry.State → D → Typ
 IsKeptOn disk state d = (c : List ℕ) → disk.may_leave d c → MeansState watches state c
 
 -- the views after a command with this reply
-abbrev pub views_met : Reply → State → Command → List Summary
+abbrev pub views_met : Reply → State → Command → List RootView
 views_met reply s command = if is_change reply then views_after s command else s.views
 
 module _ {D : Type 0} where
@@ -34,10 +35,10 @@ module _ {D : Type 0} where
   IsUp store = store.failed ≡ false → store.closed ≡ false
 
   -- what lines see of a store beside these views
-  abbrev pub state_with : Stored D → List Summary → State
+  abbrev pub state_with : Stored D → List RootView → State
   state_with store views = record { registry = store.registry; has_failed = store.failed; views = views }
 
-  abbrev pub standing_with : Ghosts D → Stored D → List Summary → Standing
+  abbrev pub standing_with : Ghosts D → Stored D → List RootView → Standing
   standing_with disk store views = record { state = state_with store views; failures = disk.failures store.disk; number = store.number }
 
   -- a disk after some calls: it isn't honest where it wasn't before, and the count of its failures didn't fall
@@ -64,9 +65,13 @@ module _ {D : Type 0} where
     pub cause : old.failed ≡ false → new.failed ≡ true → Rose (disk.failures old.disk) (disk.failures new.disk)
     pub commits : old.failed ≡ false → Commits disk old new
 
+  -- the store was begun, and a trigger keeps a text that is no expression
+  abbrev pub KeepsNoExpression : Ghosts D → D → D → Type 0
+  KeepsNoExpression disk old new = (found : registry.State) × (have_expressions found ≡ false) × IsFound disk old new found
+
   -- why a start was refused
   abbrev pub StartRefused : Ghosts D → Refusal → D → D → Type 0
-  StartRefused disk refusals.Damaged old new = disk.honest new → IsDamaged watches (disk.seen old)
+  StartRefused disk refusals.Damaged old new = disk.honest new → IsDamaged watches (disk.seen old) ⊎ KeepsNoExpression disk old new
   StartRefused disk refusals.Retired old new = disk.honest new → IsRetired (disk.seen old)
   StartRefused disk refusals.Exhausted old new = disk.honest new → (found : registry.State) × (m : MeansState watches found (disk.seen old)) × ((reply_to found Begin ≡ Refused refusals.Exhausted) ⊎ (9223372036854775807 ≤ m.number))
   StartRefused disk refusals.DeviceFailed old new = Rose (disk.failures old) (disk.failures new)

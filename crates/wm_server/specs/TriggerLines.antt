@@ -1,10 +1,10 @@
 -- Lines that define a trigger, or take one out.
-use Rattle.std.specs.Prelude.{ℕ, ◌+◌, List, Bool, true, false, Option, Some, None, option_and_then, is_none, is_some, Result, Ok, Err, codes, if◌then◌else◌}
+use Rattle.std.specs.Prelude.{ℕ, ◌+◌, List, Bool, Option, Some, None, option_and_then, is_none, is_some, Result, Ok, Err, codes, if◌then◌else◌}
 use Rattle.std.specs.Str.{bytes_eq}
 use Rattle.serde_json.specs.Data.{Data}
-use Rattle.serde_json.specs.Find.{at, get, as_str, as_bool, as_array, as_object}
+use Rattle.serde_json.specs.Find.{at, get, as_str, as_array}
 use Rattle.wm_disk.specs.declared.refusal.Refusal.{Refusal}
-use Rattle.wm_disk.specs.declared.refusal.Refusal.TheVariants.{BadArguments, BadExpression, BadPath, BadTrigger}
+use Rattle.wm_disk.specs.declared.refusal.Refusal.TheVariants.{BadArguments, BadPath, BadTrigger}
 use Rattle.wm_names.specs.Paths.{is_root_path}
 use Rattle.wm_registry.specs.declared.stdin.Stdin.{Stdin}
 use Rattle.wm_registry.specs.declared.stdin.Stdin.TheVariants.{DevNull, NamePerLine}
@@ -12,13 +12,9 @@ use Rattle.wm_registry.specs.Triggers.{Definition, definition, is_name, is_trigg
 use Rattle.wm_server.specs.declared.request.Request.{Request}
 use Rattle.wm_server.specs.declared.request.Request.TheVariants.{Trigger, TriggerDel}
 use Rattle.wm_server.specs.Arguments.{text_at}
-use Rattle.wm_server.specs.Metadata.{has_keys}
+use Rattle.wm_server.specs.KeptExpressions.{kept_text}
+use Rattle.wm_server.specs.Keys.{flag_in, has_keys, object_at, one_if}
 use Rattle.wm_server.specs.PairLines.{each}
-
--- false where it is missing
-abbrev pub flag_in : Option Data → Option Bool
-flag_in None = Some false
-flag_in (Some d) = as_bool d
 
 abbrev pub stdin_named : List ℕ → Option Stdin
 stdin_named text =
@@ -34,23 +30,20 @@ stdin_in (Some d) = option_and_then stdin_named (as_str d)
 abbrev pub words_in : Option Data → Option (List (List ℕ))
 words_in d = option_and_then (each as_str) (option_and_then as_array d)
 
-abbrev pub definition_from : Option (List ℕ) → Option (List (List ℕ)) → Option Bool → Option Stdin → Option Definition
-definition_from (Some name) (Some words) (Some append_files) (Some stdin) = Some (definition name words None append_files stdin)
-definition_from _ _ _ _ = None
+abbrev pub definition_from : Option (List ℕ) → Option (List ℕ) → Option (List (List ℕ)) → Option Bool → Option Stdin → Option Definition
+definition_from expression (Some name) (Some words) (Some append_files) (Some stdin) = Some (definition name words expression append_files stdin)
+definition_from expression _ _ _ _ = None
 
-abbrev pub one_if : Bool → ℕ
-one_if true = 1
-one_if false = 0
-
--- as many keys as there are of the four known ones, with `name` and `command` among them
+-- as many keys as there are of the five known ones, with `name` and `command` among them
 abbrev pub has_known_keys : Data → Bool
-has_known_keys d = has_keys (2 + (one_if (is_some (get (codes "append_files") d)) + one_if (is_some (get (codes "stdin") d)))) d
+has_known_keys d =
+    has_keys (2 + (one_if (is_some (get (codes "expression") d)) + (one_if (is_some (get (codes "append_files") d)) + one_if (is_some (get (codes "stdin") d))))) d
 
--- the keys `name` and `command`, perhaps `append_files` and `stdin`, and no other
-abbrev pub definition_in : Data → Option Definition
-definition_in d =
+-- the keys `name` and `command`, perhaps `expression`, which is kept as this text, `append_files` and `stdin`, and no other
+abbrev pub definition_in : Option (List ℕ) → Data → Option Definition
+definition_in expression d =
     if has_known_keys d
-    then definition_from (option_and_then as_str (get (codes "name") d)) (words_in (get (codes "command") d)) (flag_in (get (codes "append_files") d)) (stdin_in (get (codes "stdin") d))
+    then definition_from expression (option_and_then as_str (get (codes "name") d)) (words_in (get (codes "command") d)) (flag_in (get (codes "append_files") d)) (stdin_in (get (codes "stdin") d))
     else None
 
 -- the definition, where it keeps the rules of triggers
@@ -58,17 +51,17 @@ abbrev pub by_rules : Option Definition → Result Definition Refusal
 by_rules None = Err BadTrigger
 by_rules (Some t) = if is_trigger t then Ok t else Err BadTrigger
 
--- the trigger that an object defines; expressions come later
+abbrev pub trigger_keeping : Result (Option (List ℕ)) Refusal → Data → Result Definition Refusal
+trigger_keeping (Err e) d = Err e
+trigger_keeping (Ok expression) d = by_rules (definition_in expression d)
+
+-- the trigger that an object defines; a bad expression is told before another fault
 abbrev pub trigger_in : Data → Result Definition Refusal
-trigger_in d = if is_some (get (codes "expression") d) then Err BadExpression else by_rules (definition_in d)
+trigger_in d = trigger_keeping (kept_text (get (codes "expression") d)) d
 
 abbrev pub trigger_at : List ℕ → Result Definition Refusal → Result Request Refusal
 trigger_at root (Ok t) = Ok (Trigger root t)
 trigger_at root (Err e) = Err e
-
--- the object at a place
-abbrev pub object_at : ℕ → Data → Option Data
-object_at i d = option_and_then (λ v. if is_some (as_object v) then Some v else None) (at i d)
 
 abbrev pub trigger_with : Option (List ℕ) → Option Data → Result Request Refusal
 trigger_with (Some root) (Some d) = if is_root_path root then trigger_at root (trigger_in d) else Err BadPath

@@ -1,15 +1,18 @@
-ghost use Rattle.std.specs.Prelude.{◌≡◌, ◌≢◌, Ok, Err, IfOk, IfErr};
+ghost use Rattle.std.specs.Prelude.{◌≡◌, ◌≢◌, true, Ok, Err, IfOk, IfErr};
+ghost use Rattle.wm_expr.specs.Meanings.{holds};
+ghost use Rattle.wm_expr.specs.Views.{term};
 ghost use Rattle.wm_since.specs.Answers.{question};
 ghost use Rattle.wm_server.specs.Faults.{Operates, Standing, Submits};
-ghost use Rattle.wm_server.specs.Sessions.{view_of};
-ghost use Rattle.wm_server.specs.Watched.{answer_of, clock_answer};
+ghost use Rattle.wm_server.specs.Sessions.{cursor_moved, view_of};
+ghost use Rattle.wm_server.specs.Watched.{answer_of, clock_answer, cursor_answer, may_move};
 
 use std::alloc::Global;
-use wm_clock::ClockId;
+use wm_clock::{ClockId, CursorName};
 use wm_disk::Refusal;
+use wm_expr::Expr;
 use wm_names::RootPath;
 use wm_registry::{Command, Registry, Reply};
-use wm_since::{Answer, Every, Query};
+use wm_since::{Answer, Query};
 use wm_view::Op;
 
 /// What a session stands on: where its commands and operations go, and what it can ask.
@@ -40,16 +43,22 @@ pub trait Front {
     fn clock(&self, root: &RootPath) -> Result<ClockId, Refusal>
         ensures { result ≡ clock_answer (view_of (standing self.now).state root.now) };
 
-    /// What changed in a watched root since a clock. `NotWatched`, `NotReady` before the first whole
-    /// listing, and `NoMemory`.
-    fn answer(
-        &self,
-        alloc: Global,
-        root: &RootPath,
-        query: &Query<Every>,
-    ) -> Result<Answer, Refusal>
-        ensures ok { IfOk result (λ a. answer_of (view_of (standing self.now).state root.now) (question query.now) ≡ Ok a) }
-        ensures refused { IfErr result (λ e. e ≢ Refusal.NoMemory → answer_of (view_of (standing self.now).state root.now) (question query.now) ≡ Err e) };
+    /// What changed in a watched root since a clock, of the files for which the expression holds.
+    /// `NotWatched`, `NotReady` before the first whole listing, and `NoMemory`.
+    fn answer(&self, alloc: Global, root: &RootPath, query: &Query<Expr>) -> Result<Answer, Refusal>
+        ensures ok { IfOk result (λ a. answer_of (holds (term query.now.test)) (view_of (standing self.now).state root.now) (question query.now) ≡ Ok a) }
+        ensures refused { IfErr result (λ e. e ≢ Refusal.NoMemory → answer_of (holds (term query.now.test)) (view_of (standing self.now).state root.now) (question query.now) ≡ Err e) };
+
+    /// The clock at which a cursor of a watched root stands, `None` where it isn't there yet. `NotWatched`,
+    /// `NotReady` before the first whole listing, and `TooMany` where there is no room for a new one.
+    fn cursor(&self, root: &RootPath, name: &CursorName) -> Result<Option<ClockId>, Refusal>
+        ensures { result ≡ cursor_answer (view_of (standing self.now).state root.now) name.now };
+
+    /// Moves a cursor of a watched root to a clock, or makes it there. It takes no memory and can't fail.
+    fn move_cursor(&mut self, root: &RootPath, name: CursorName, clock: ClockId)
+        requires { may_move (view_of (standing self.old).state root.now) name ≡ true }
+        ensures met { standing self.new ≡ record (standing self.old) { state = cursor_moved (standing self.old).state root.now (view_of (standing self.old).state root.now) name clock } }
+        ensures later { leads_to self.old self.new };
 
     /// A front leads to itself.
     ghost stays: { (a : Self) → leads_to a a };

@@ -7,9 +7,12 @@
 
 mod arguments;
 mod clock;
+mod expression;
 pub mod file;
 mod front;
 mod input;
+mod kept_expression;
+mod keys;
 mod laws;
 pub mod lines;
 mod listing;
@@ -17,6 +20,7 @@ mod local;
 mod metadata;
 mod pairs;
 pub mod programs;
+mod query;
 mod record;
 mod reply;
 mod request;
@@ -28,9 +32,12 @@ mod triggers;
 mod watched;
 pub mod words;
 
+pub use expression::Expression;
 pub use front::Front;
 pub use laws::every_line;
 pub use local::LocalFront;
+pub use query::Inquiry;
 pub use reply::REFUSAL_ROOM;
 pub use request::{MAX_LINE, Request};
 pub use session::Session;
+pub use watched::RootView;

@@ -1,39 +1,42 @@
-ghost use Rattle.std.specs.Prelude.{◌≡◌, ◌<◌, false, List, vec_len, vec_capacity};
+ghost use Rattle.std.specs.Prelude.{◌≡◌, ◌⊎◌, ◌<◌, true, false, List, vec_len, vec_capacity, IfOk, IfErr};
 ghost use Rattle.wm_names.specs.Paths.{Path};
 ghost use Rattle.wm_registry.specs.declared.command.Command as commands;
 ghost use Rattle.wm_server.specs.Faults.{Submits};
 ghost use Rattle.wm_server.specs.Sessions.{State, views_after};
 ghost use Rattle.wm_server.specs.Stores.{IsUp, LeadsTo, standing_with, state_with, views_met};
+ghost use Rattle.wm_server.specs.KeptExpressions.{have_expressions};
 ghost use Rattle.wm_server.specs.ViewChanges.{change_of};
-ghost use Rattle.wm_server.specs.Watched.{new_view};
+ghost use Rattle.wm_server.specs.Watched.{first_views};
 ghost use Rattle.wm_store.specs.Batches.{is_begin};
-ghost use Rattle.wm_view.specs.Summaries.{Summary};
+ghost use Rattle.wm_server.specs.declared.watched.RootView.{RootView};
 
 use crate::front::Front;
-use crate::watched;
+use crate::watched::RootView;
+use crate::{kept_expression, watched};
 use std::alloc::Global;
-use wm_clock::ClockId;
-use wm_disk::{Disk, Refusal};
+use wm_clock::{ClockId, CursorName};
+use wm_disk::{Disk, NoMemory, Refusal};
+use wm_expr::Expr;
 use wm_names::RootPath;
 use wm_registry::{Command, Registry, Reply};
-use wm_since::{Answer, Every, Query, answer};
+use wm_since::{Answer, Query, answer};
 use wm_store::Store;
-use wm_view::{Op, View};
+use wm_view::Op;
 
 /// A front of one thread over a disk: a store, and a view of each watched root.
 #[derive(Drop)]
 pub struct LocalFront<D: Disk + Drop> {
     store: Store<D>,
-    views: Vec<View>,
+    views: Vec<RootView>,
     // closed by its close alone, which ends it
     ghost up: { store.failed ≡ false → store.closed ≡ false },
 }
 
 /// What a command does to the views, once it is accepted.
-#[derive(Clone, Copy)]
+#[derive(Drop)]
 enum ViewChange {
-    /// A new root gets one.
-    Begin,
+    /// A new root gets this one.
+    Begin(RootView),
     /// That at the place goes.
     End(Option<usize>),
     /// Nothing.
@@ -41,23 +44,24 @@ enum ViewChange {
 }
 
 impl<D: Disk + Drop> LocalFront<D> {
-    ghost use Rattle.std.specs.Prelude.{IfErr, IfOk, MatchResult, OnOk};
+    ghost use Rattle.std.specs.Prelude.{MatchResult, OnOk};
     ghost use Rattle.wm_registry.specs.Registry.{after, reply_to};
     ghost use Rattle.wm_registry.specs.Roots as registry;
     ghost use Rattle.wm_registry.specs.declared.command.Command.TheVariants.{Begin as begin};
     ghost use Rattle.wm_registry.specs.declared.reply.Reply.TheVariants.{Changed as changed};
     ghost use Rattle.wm_server.specs.Locals.{CloseRefused, disk_of, state_of};
     ghost use Rattle.wm_server.specs.Stores.{IsKeptOn, Later, StartCut, StartRefused};
-    ghost use Rattle.wm_server.specs.Watched.{first_views};
     ghost use Rattle.wm_store.specs.Openings.{IsFound};
 
     /// Takes up the registry that a disk means, and begins the next incarnation. The refusals are those
-    /// of [`Store::open`], and hand the disk back.
+    /// of [`Store::open`], and `Damaged` after it where a trigger keeps a text that is no expression; each
+    /// hands the disk back.
     pub fn open(alloc: Global, disk: D) -> Result<LocalFront<D>, (Refusal, D)>
         ensures begun { IfOk result (λ front. D.honest (disk_of front) → (found : registry.State) × (reply_to found begin ≡ changed) × ((state_of front).registry ≡ after found begin) × IsFound D.Disk disk (disk_of front) found) }
         ensures kept { IfOk result (λ front. D.honest (disk_of front) → IsKeptOn D.Disk (state_of front).registry (disk_of front)) }
         ensures working { IfOk result (λ front. ((state_of front).has_failed ≡ false) × (front.store.closed ≡ false)) }
         ensures views { IfOk result (λ front. (state_of front).views ≡ first_views (state_of front).registry) }
+        ensures expressions { IfOk result (λ front. have_expressions (state_of front).registry ≡ true) }
         ensures later { MatchResult result (λ front. Later D.Disk disk (disk_of front)) (λ e. Later D.Disk disk e.1) }
         ensures refused { IfErr result (λ e. StartRefused D.Disk e.0 disk e.1) }
         ensures cut { IfErr result (λ e. StartCut D.Disk disk e.1) }
@@ -66,9 +70,9 @@ impl<D: Disk + Drop> LocalFront<D> {
             Ok(store) => store,
             Err((refusal, disk)) => return Err((refusal, disk)),
         };
-        match watched::first_views(alloc, store.registry()) {
+        match views_for(alloc, store.registry()) {
             Ok(views) => Ok(LocalFront { store, views }),
-            Err(_) => Err((Refusal::NoMemory, store.into_disk())),
+            Err(refusal) => Err((refusal, store.into_disk())),
         }
     }
 
@@ -88,16 +92,20 @@ impl<D: Disk + Drop> LocalFront<D> {
     }
 
     /// What a command does to the views, once it is accepted.
-    fn view_change(&self, command: &Command) -> ViewChange
-        ensures { result ≡ change_of command.now self.now.store.registry.roots }
+    fn view_change(&self, alloc: Global, command: &Command) -> Result<ViewChange, NoMemory>
+        ensures { IfOk result (λ change. change ≡ change_of command.now self.now.store.registry) }
     {
+        let registry = self.store.registry();
         match command {
-            Command::Watch(_) => ViewChange::Begin,
+            Command::Watch(_) => {
+                let view = RootView::new(alloc, registry.incarnation(), registry.next_root())?;
+                Ok(ViewChange::Begin(view))
+            }
             Command::WatchDel(path) => {
-                ViewChange::End(watched::place_of(path, self.store.registry().roots()))
+                Ok(ViewChange::End(watched::place_of(path, registry.roots())))
             }
             Command::Begin | Command::Trigger(_, _) | Command::TriggerDel(_, _) => {
-                ViewChange::Nothing
+                Ok(ViewChange::Nothing)
             }
         }
     }
@@ -115,18 +123,15 @@ impl<D: Disk + Drop> Front for LocalFront<D> {
         if let Command::Begin = command {
             return Reply::Refused(Refusal::BadArguments);
         }
-        let change = self.view_change(&command);
-        let view = View::new(
-            alloc,
-            self.store.registry().incarnation(),
-            self.store.registry().next_root(),
-        );
+        let Ok(change) = self.view_change(alloc, &command) else {
+            return Reply::Refused(Refusal::NoMemory);
+        };
         if self.views.try_reserve(1).is_err() {
             return Reply::Refused(Refusal::NoMemory);
         }
         let reply = commit_alone(alloc, &mut self.store, command);
         if reply.is_change() {
-            change_views(change, view, &mut self.views);
+            change_views(change, &mut self.views);
         }
         reply
     }
@@ -141,25 +146,43 @@ impl<D: Disk + Drop> Front for LocalFront<D> {
     }
 
     fn clock(&self, root: &RootPath) -> Result<ClockId, Refusal> {
-        let Some(view) = watched::view_at(root, self.store.registry().roots(), &self.views) else {
+        let Some(root) = watched::view_at(root, self.store.registry().roots(), &self.views) else {
             return Err(Refusal::NotWatched);
         };
-        if !view.ready() {
+        if !root.view.ready() {
             return Err(Refusal::NotReady);
         }
-        Ok(watched::clock_of(view))
+        Ok(watched::clock_of(root))
     }
 
     fn answer(
         &self,
         alloc: Global,
         root: &RootPath,
-        query: &Query<Every>,
+        query: &Query<Expr>,
     ) -> Result<Answer, Refusal> {
-        let Some(view) = watched::view_at(root, self.store.registry().roots(), &self.views) else {
+        let Some(root) = watched::view_at(root, self.store.registry().roots(), &self.views) else {
             return Err(Refusal::NotWatched);
         };
-        answer(alloc, view, query)
+        answer(alloc, &root.view, query)
+    }
+
+    fn cursor(&self, root: &RootPath, name: &CursorName) -> Result<Option<ClockId>, Refusal> {
+        let Some(found) = watched::view_at(root, self.store.registry().roots(), &self.views) else {
+            return Err(Refusal::NotWatched);
+        };
+        if !found.view.ready() {
+            return Err(Refusal::NotReady);
+        }
+        if !found.cursors.has_room(name) {
+            return Err(Refusal::TooMany);
+        }
+        Ok(found.cursors.clock(name))
+    }
+
+    fn move_cursor(&mut self, root: &RootPath, name: CursorName, clock: ClockId) {
+        let roots = self.store.registry().roots();
+        watched::move_cursor(root, roots, &mut self.views, name, clock);
     }
 
     ghost stays = { λ a. stays_lem _ a.store };
@@ -167,13 +190,24 @@ impl<D: Disk + Drop> Front for LocalFront<D> {
     ghost goes_on = { λ a b c. goes_on_lem _ a.store b.store c.store };
 }
 
-/// Changes the views as an accepted command does; the new view is for a root that begins to be watched.
-fn change_views(change: ViewChange, view: View, views: &mut Vec<View>)
+/// The first views of a registry. `Damaged` where a trigger keeps a text that is no expression.
+fn views_for(alloc: Global, registry: &Registry) -> Result<Vec<RootView>, Refusal>
+    ensures ok { IfOk result (λ views. (have_expressions registry.now ≡ true) × (views.items ≡ first_views registry.now)) }
+    ensures refused { IfErr result (λ e. ((e ≡ Refusal.Damaged) × (have_expressions registry.now ≡ false)) ⊎ (e ≡ Refusal.NoMemory)) }
+{
+    if !kept_expression::have_expressions(alloc, registry)? {
+        return Err(Refusal::Damaged);
+    }
+    Ok(watched::first_views(alloc, registry)?)
+}
+
+/// Changes the views as an accepted command does.
+fn change_views(change: ViewChange, views: &mut Vec<RootView>)
     requires { vec_len views.old < vec_capacity views.old }
-    ensures { (s : State) (command : commands.Command) → change ≡ change_of command s.registry.roots → view ≡ new_view s.registry.incarnation s.registry.next → views.old.items ≡ s.views → views.new.items ≡ views_after s command }
+    ensures { (s : State) (command : commands.Command) → change ≡ change_of command s.registry → views.old.items ≡ s.views → views.new.items ≡ views_after s command }
 {
     match change {
-        ViewChange::Begin => views.push(view).unwrap(),
+        ViewChange::Begin(view) => views.push(view).unwrap(),
         ViewChange::End(place) => watched::forget(place, views),
         ViewChange::Nothing => {}
     }
@@ -183,7 +217,7 @@ fn change_views(change: ViewChange, view: View, views: &mut Vec<View>)
 fn commit_alone<D: Disk + Drop>(alloc: Global, store: &mut Store<D>, command: Command) -> Reply
     requires plain { is_begin command ≡ false }
     requires up { IsUp store.old }
-    ensures met { (views : List Summary) → Submits (standing_with D.Disk store.old views) command result (standing_with D.Disk store.new (views_met result (state_with store.old views) command)) }
+    ensures met { (views : List RootView) → Submits (standing_with D.Disk store.old views) command result (standing_with D.Disk store.new (views_met result (state_with store.old views) command)) }
     ensures later { LeadsTo D.Disk store.old store.new }
     ensures up { IsUp store.new }
 {

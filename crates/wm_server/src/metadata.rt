@@ -2,9 +2,10 @@ ghost use Rattle.std.specs.Prelude.{◌≡◌, codes, option_and_then};
 ghost use Rattle.serde_json.specs.Find.{get};
 ghost use Rattle.serde_json.specs.View.{view};
 ghost use Rattle.wm_server.specs.Arguments.{count_of};
-ghost use Rattle.wm_server.specs.Metadata.{has_keys as has_keys_lem, kind_named as kind_named_lem, kind_of, meta_of};
+ghost use Rattle.wm_server.specs.Metadata.{kind_named as kind_named_lem, kind_of, meta_of};
 
 use crate::arguments::count;
+use crate::keys::has_keys;
 use serde_json::Value;
 use wm_names::{Kind, Meta};
 
@@ -33,16 +34,6 @@ fn count_at(value: &Value, key: &str) -> Option<u64>
     ensures { result ≡ option_and_then count_of (get key.now (view value.now)) }
 {
     count(value.get(key)?)
-}
-
-/// Whether a value is an object with so many keys.
-pub(crate) fn has_keys(value: &Value, n: usize) -> bool
-    ensures { result ≡ has_keys_lem n (view value.now) }
-{
-    match value.as_object() {
-        Some(members) => members.len() == n,
-        None => false,
-    }
 }
 
 /// The metadata that an object with three keys is.

@@ -1,9 +1,11 @@
-ghost use Rattle.std.specs.Prelude.{◌≡◌, ◌++◌, ◌+◌, ◌≤◌, false, map, vec_len, vec_capacity, IfOk, OnOk, OnErr};
+ghost use Rattle.std.specs.Prelude.{◌≡◌, ◌++◌, ◌+◌, ◌≤◌, codes, false, map, vec_len, vec_capacity, IfOk, OnOk, OnErr};
 ghost use Rattle.serde_json.specs.Written.{has_float};
 ghost use Rattle.serde_json.specs.View.{items_of, items_view, view};
-ghost use Rattle.wm_server.specs.Replies.{answer_reply, clock_reply, command_reply, disposition_of, line_text, paths_of, refusal_reply, roots_reply, since_reply, trigger_data, trigger_del_reply, trigger_reply, triggers_reply, version_reply, watch_del_reply, watch_reply};
-ghost use Rattle.serde_json.specs.Data.{string};
+ghost use Rattle.wm_server.specs.Replies.{answer_reply, clock_reply, command_reply, disposition_of, line_text, paths_of, refusal_reply, roots_reply, query_reply, stdin_text, trigger_data, trigger_object, trigger_del_reply, trigger_reply, triggers_reply, version_reply, watch_del_reply, watch_reply};
+ghost use Rattle.serde_json.specs.Data.{member, string};
+ghost use Rattle.wm_server.specs.KeptExpressions.{expression_shown as expression_shown_lem};
 
+use crate::kept_expression::expression_in;
 use indexmap::IndexMap;
 use serde_json::{Value, json};
 use std::alloc::{AllocError, Global};
@@ -11,7 +13,7 @@ use wm_clock::ClockId;
 use wm_disk::{NoMemory, Refusal};
 use wm_names::RootPath;
 use wm_registry::{Command, Reply, Root, Stdin, Trigger, Word};
-use wm_since::{Answer, render};
+use wm_since::{Answer, Fields, render};
 
 /// The most bytes of a refusal's line.
 pub const REFUSAL_ROOM: usize = 64;
@@ -132,27 +134,61 @@ fn word_list(alloc: Global, words: &[Word]) -> Result<Vec<Value>, AllocError>
     Ok(list)
 }
 
-fn trigger_shown(alloc: Global, trigger: &Trigger) -> Result<Value, AllocError>
-    ensures { IfOk result (λ v. view v ≡ trigger_data trigger.now) }
+/// The text of an expression as JSON; a text that is none stays a text.
+fn expression_shown(alloc: Global, text: &str) -> Result<Value, NoMemory>
+    ensures { IfOk result (λ v. view v ≡ expression_shown_lem text.now) }
+{
+    match expression_in(alloc, text)? {
+        Some(value) => Ok(value),
+        None => Ok(Value::try_from_str(alloc, text)?),
+    }
+}
+
+/// What a program reads, as a trigger names it.
+fn stdin_shown(trigger: &Trigger) -> &'static str
+    ensures { result.now ≡ stdin_text trigger.now.stdin }
+{
+    match trigger.stdin() {
+        Stdin::DevNull => "/dev/null",
+        Stdin::NamePerLine => "NAME_PER_LINE",
+    }
+}
+
+/// A trigger with an expression.
+fn shown_with(alloc: Global, trigger: &Trigger, expression: Value) -> Result<Value, AllocError>
+    ensures { IfOk result (λ v. view v ≡ trigger_object trigger.now (λ ms. member (codes "expression") (view expression) ms)) }
 {
     let words = Value::Array(word_list(alloc, trigger.command())?);
     let append_files = trigger.append_files();
     let name = trigger.name().as_str();
-    let stdin = match trigger.stdin() {
-        Stdin::DevNull => "/dev/null",
-        Stdin::NamePerLine => "NAME_PER_LINE",
-    };
+    let stdin = stdin_shown(trigger);
+    json!(in alloc; {"append_files": append_files, "command": words, "expression": expression, "name": name, "stdin": stdin})
+}
+
+/// A trigger without an expression.
+fn shown_plain(alloc: Global, trigger: &Trigger) -> Result<Value, AllocError>
+    ensures { IfOk result (λ v. view v ≡ trigger_object trigger.now (λ ms. ms)) }
+{
+    let words = Value::Array(word_list(alloc, trigger.command())?);
+    let append_files = trigger.append_files();
+    let name = trigger.name().as_str();
+    let stdin = stdin_shown(trigger);
+    json!(in alloc; {"append_files": append_files, "command": words, "name": name, "stdin": stdin})
+}
+
+fn trigger_shown(alloc: Global, trigger: &Trigger) -> Result<Value, NoMemory>
+    ensures { IfOk result (λ v. view v ≡ trigger_data trigger.now) }
+{
     match trigger.expression() {
         Some(text) => {
-            json!(in alloc; {"append_files": append_files, "command": words, "expression": text, "name": name, "stdin": stdin})
+            let expression = expression_shown(alloc, text)?;
+            Ok(shown_with(alloc, trigger, expression)?)
         }
-        None => {
-            json!(in alloc; {"append_files": append_files, "command": words, "name": name, "stdin": stdin})
-        }
+        None => Ok(shown_plain(alloc, trigger)?),
     }
 }
 
-fn triggers_shown(alloc: Global, triggers: &[Trigger]) -> Result<Vec<Value>, AllocError>
+fn triggers_shown(alloc: Global, triggers: &[Trigger]) -> Result<Vec<Value>, NoMemory>
     ensures { IfOk result (λ v. items_view v.items ≡ items_of (map trigger_data triggers.now)) }
 {
     let mut list = Vec::with_capacity(alloc, triggers.len())?;
@@ -162,11 +198,11 @@ fn triggers_shown(alloc: Global, triggers: &[Trigger]) -> Result<Vec<Value>, All
     Ok(list)
 }
 
-fn trigger_list(alloc: Global, triggers: &[Trigger]) -> Result<Value, AllocError>
+fn trigger_list(alloc: Global, triggers: &[Trigger]) -> Result<Value, NoMemory>
     ensures { IfOk result (λ v. view v ≡ triggers_reply triggers.now) }
 {
     let list = Value::Array(triggers_shown(alloc, triggers)?);
-    json!(in alloc; {"triggers": list, "version": "w1"})
+    Ok(json!(in alloc; {"triggers": list, "version": "w1"})?)
 }
 
 /// Appends the reply to `trigger-list`.
@@ -218,14 +254,19 @@ fn since(alloc: Global, clock: &str, files: Value, is_fresh: bool) -> Result<Val
     json!(in alloc; {"clock": clock, "files": files, "is_fresh_instance": is_fresh, "version": "w1"})
 }
 
-/// Appends the reply to `since`.
-pub(crate) fn put_since(alloc: Global, answer: &Answer, out: &mut Vec<u8>) -> Result<(), NoMemory>
-    ensures ok { OnOk result (out.new.items ≡ out.old.items ++ line_text (since_reply answer.now)) }
+/// Appends the reply to `query` and `since`.
+pub(crate) fn put_answer(
+    alloc: Global,
+    answer: &Answer,
+    fields: &Fields,
+    out: &mut Vec<u8>,
+) -> Result<(), NoMemory>
+    ensures ok { OnOk result (out.new.items ≡ out.old.items ++ line_text (query_reply fields.now answer.now)) }
     ensures err { OnErr result (out.new.items ≡ out.old.items) }
     ensures room { vec_capacity out.old ≤ vec_capacity out.new }
 {
     let clock = answer.clock.text(alloc)?;
-    let files = render(alloc, answer)?;
+    let files = render(alloc, answer, fields)?;
     put_line(
         alloc,
         &since(alloc, clock.as_str(), files, answer.fresh)?,

@@ -6,10 +6,10 @@ use crate::arguments::{ends_at, root_alone, text_at};
 use crate::clock::since;
 use crate::listing::listing;
 use crate::pairs::observe;
+use crate::query::{Inquiry, query};
 use crate::triggers::{trigger, trigger_del};
 use serde_json::Value;
 use std::alloc::Global;
-use wm_clock::ClockSpec;
 use wm_disk::Refusal;
 use wm_names::RootPath;
 use wm_registry::{Trigger, TriggerName};
@@ -38,8 +38,8 @@ pub enum Request {
     Listing(RootPath, u64, Listing),
     /// The clock of a root.
     Clock(RootPath),
-    /// What changed in a root since a clock.
-    Since(RootPath, ClockSpec),
+    /// What changed in a root, or is there.
+    Query(RootPath, Inquiry),
 }
 
 /// The most bytes of a line, its newline among them.
@@ -107,6 +107,7 @@ fn request_in(alloc: Global, value: &Value) -> Result<Request, Refusal>
         "listing" => listing(alloc, value),
         "clock" => Ok(Request::Clock(root_alone(alloc, value)?)),
         "since" => since(alloc, value),
+        "query" => query(alloc, value),
         _ => Err(Refusal::BadCommand),
     }
 }
@@ -114,7 +115,7 @@ fn request_in(alloc: Global, value: &Value) -> Result<Request, Refusal>
 impl Request {
     /// The request that a line, with its newline, is. `BadLine` where it is cut, too long or no JSON
     /// text, `BadCommand`, `BadArguments`, `BadPath`, `BadClock`,
-    /// `BadExpression` and `BadTrigger` as the commands have it, in this
+    /// `BadExpression`, `BadField` and `BadTrigger` as the commands have it, in this
     /// order; and `NoMemory`.
     pub fn read(alloc: Global, line: &[u8]) -> Result<Request, Refusal>
         ensures ok { IfOk result (λ r. request_of_line line.now ≡ Ok r) }

@@ -1,21 +1,27 @@
-ghost use Rattle.std.specs.Prelude.{◌≡◌, ◌++◌, ◌+◌, ◌≤◌, ◌<◌, List, ℕ, vec_len, vec_capacity, IfOk, OnOk, OnErr};
+ghost use Rattle.std.specs.Prelude.{◌≡◌, ◌≢◌, Err, ◌++◌, ◌+◌, ◌≤◌, ◌<◌, List, ℕ, vec_len, vec_capacity, IfOk, IfErr, OnOk, OnErr};
 ghost use Rattle.wm_registry.specs.Roots.{root_at};
-ghost use Rattle.wm_server.specs.Sessions.{commanded, triggers_met, question_met, line_met, listing_met, met, operation_met, since_point as since_point_lem, since_question, view_of};
-ghost use Rattle.wm_server.specs.Replies.{clock_reply, since_reply};
+ghost use Rattle.wm_server.specs.Sessions.{commanded, triggers_met, question_met, line_met, inquiry_met, listing_met, met, operation_met, view_of};
+ghost use Rattle.wm_server.specs.Replies.{clock_reply};
 ghost use Rattle.wm_server.specs.Watched.{answer_of, clock_answer, view_after};
 ghost use Rattle.wm_server.specs.Faults.{Answers, Way, faults_of, is_fault as is_fault_lem};
-ghost use Rattle.wm_server.specs.Pages.{Meets, page};
+ghost use Rattle.wm_server.specs.Pages.{Meets, Told, page};
+ghost use Rattle.wm_server.specs.Inquiries.{inquired, point_answer};
+ghost use Rattle.wm_expr.specs.Meanings.{holds};
+ghost use Rattle.wm_expr.specs.Views.{term};
+ghost use Rattle.wm_since.specs.Answers.{question};
 
 use crate::front::Front;
+use crate::query::Inquiry;
 use crate::reply;
 use crate::reply::REFUSAL_ROOM;
 use crate::request::Request;
 use std::alloc::Global;
 use wm_clock::{ClockId, ClockSpec};
 use wm_disk::{NoMemory, Refusal};
+use wm_expr::Expr;
 use wm_names::RootPath;
 use wm_registry::{Command, Reply};
-use wm_since::{Every, Query};
+use wm_since::{Fields, Query};
 use wm_view::Op;
 
 /// One client's session on a front.
@@ -29,16 +35,6 @@ fn is_fault(refusal: Refusal) -> bool
     ensures { result ≡ is_fault_lem refusal }
 {
     matches!(refusal, Refusal::DeviceFailed | Refusal::NoMemory)
-}
-
-/// The since point that a text names: none in another instance.
-fn since_point(spec: ClockSpec) -> Option<ClockId>
-    ensures { result ≡ since_point_lem spec }
-{
-    match spec {
-        ClockSpec::Clock(clock) => Some(clock),
-        ClockSpec::Another => None,
-    }
 }
 
 impl<F: Front> Session<F> {
@@ -134,24 +130,65 @@ impl<F: Front> Session<F> {
         Ok(())
     }
 
-    /// Tells what changed in a root since a clock.
-    fn since(
+    /// The clock since which is asked: none in another instance, and none by a cursor that isn't there.
+    fn point(&self, root: &RootPath, since: &Option<ClockSpec>) -> Result<Option<ClockId>, Refusal>
+        ensures { result ≡ point_answer (view_of (F.standing self.now.front).state root.now) since.now }
+    {
+        match since {
+            Some(ClockSpec::Clock(clock)) => Ok(Some(*clock)),
+            Some(ClockSpec::Cursor(name)) => self.front.cursor(root, name),
+            Some(ClockSpec::Another) => Ok(None),
+            None => Ok(None),
+        }
+    }
+
+    /// Tells what changed in a root, and gives the answer's clock.
+    fn tell(
         &self,
         alloc: Global,
         root: &RootPath,
-        spec: ClockSpec,
+        query: &Query<Expr>,
+        fields: &Fields,
         out: &mut Vec<u8>,
-    ) -> Result<(), Refusal>
-        ensures met { let s = (F.standing self.now.front).state in Meets (question_met s (answer_of (view_of s root.now) (since_question spec)) since_reply) (page (F.standing self.now.front) out.old.items) result (page (F.standing self.now.front) out.new.items) }
+    ) -> Result<ClockId, Refusal>
+        ensures ok { IfOk result (λ clock. Told (answer_of (holds (term query.now.test)) (view_of (F.standing self.now.front).state root.now) (question query.now)) fields.now clock out.old.items out.new.items) }
+        ensures refused { IfErr result (λ e. e ≢ Refusal.NoMemory → answer_of (holds (term query.now.test)) (view_of (F.standing self.now.front).state root.now) (question query.now) ≡ Err e) }
+        ensures err { OnErr result (out.new.items ≡ out.old.items) }
         ensures room { vec_capacity out.old ≤ vec_capacity out.new }
     {
+        let answer = self.front.answer(alloc, root, query)?;
+        reply::put_answer(alloc, &answer, fields, out)?;
+        Ok(answer.clock)
+    }
+
+    /// Answers what is asked of the files of a root. The reply is written before the cursor moves by
+    /// which is asked.
+    fn inquire(
+        &mut self,
+        alloc: Global,
+        root: &RootPath,
+        inquiry: Inquiry,
+        out: &mut Vec<u8>,
+    ) -> Result<(), Refusal>
+        ensures met { let s = (F.standing self.old.front).state in Meets (inquiry_met s root.now inquiry (inquired (view_of s root.now) inquiry)) (page (F.standing self.old.front) out.old.items) result (page (F.standing self.new.front) out.new.items) }
+        ensures room { vec_capacity out.old ≤ vec_capacity out.new }
+        ensures later { F.leads_to self.old.front self.new.front }
+    {
+        let Inquiry {
+            since,
+            expression,
+            fields,
+            empty_on_fresh,
+        } = inquiry;
         let query = Query {
-            since: since_point(spec),
-            test: Every,
-            empty_on_fresh: false,
+            since: self.point(root, &since)?,
+            test: expression.into_expr(),
+            empty_on_fresh,
         };
-        let answer = self.front.answer(alloc, root, &query)?;
-        reply::put_since(alloc, &answer, out)?;
+        let clock = self.tell(alloc, root, &query, &fields, out)?;
+        if let Some(ClockSpec::Cursor(name)) = since {
+            self.front.move_cursor(root, name, clock);
+        }
         Ok(())
     }
 
@@ -187,7 +224,7 @@ impl<F: Front> Session<F> {
                 self.listing(alloc, &root, &op, out)?
             }
             Request::Clock(root) => self.clock(&root, out)?,
-            Request::Since(root, spec) => self.since(alloc, &root, spec, out)?,
+            Request::Query(root, inquiry) => self.inquire(alloc, &root, inquiry, out)?,
         }
         Ok(())
     }

@@ -9,7 +9,10 @@ use std::process::Abort;
 use std::test::Fail;
 use wm_disk::{Crashed, Disk, MemDisk};
 
+mod expressions;
 mod failures;
+mod queries;
+mod query_lines;
 mod requests;
 mod trigger_lines;
 mod triggers;

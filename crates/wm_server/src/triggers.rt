@@ -1,26 +1,17 @@
 ghost use Rattle.std.specs.Prelude.{◌≡◌, ◌≢◌, Ok, Err, Some, None, map, option_map, option_and_then, IfOk, IfErr};
 ghost use Rattle.serde_json.specs.Find.{as_array, as_str, get};
 ghost use Rattle.serde_json.specs.View.{items_view, view};
-ghost use Rattle.wm_server.specs.TriggerLines.{by_rules, definition_in, flag_in, has_known_keys as has_known_keys_lem, stdin_in, stdin_named as stdin_named_lem, trigger_del_request, trigger_in as trigger_in_lem, trigger_request, words_in};
+ghost use Rattle.wm_server.specs.TriggerLines.{by_rules, definition_in, has_known_keys as has_known_keys_lem, stdin_in, stdin_named as stdin_named_lem, trigger_del_request, trigger_in as trigger_in_lem, trigger_request, words_in};
 
 use crate::arguments::{ends_at, text_at};
-use crate::metadata::has_keys;
+use crate::kept_expression::kept_text;
+use crate::keys::{flag, has_keys, one_for};
 use crate::request::Request;
 use serde_json::Value;
 use std::alloc::Global;
 use wm_disk::Refusal;
 use wm_names::RootPath;
 use wm_registry::{Stdin, Trigger, TriggerName};
-
-/// A truth value that is false where it is missing.
-fn flag(value: Option<&Value>) -> Option<bool>
-    ensures { result ≡ flag_in (option_map (λ v. view v.now) value.entry) }
-{
-    match value {
-        Some(value) => value.as_bool(),
-        None => Some(false),
-    }
-}
 
 /// What a text names that a program is to read.
 fn stdin_named(text: &str) -> Option<Stdin>
@@ -68,14 +59,15 @@ fn words(alloc: Global, value: Option<&Value>) -> Result<Vec<&str>, Refusal>
     Ok(words)
 }
 
-/// Whether an object has as many keys as it has known ones: a name, a command, and perhaps the two
+/// Whether an object has as many keys as it has known ones: a name, a command, and perhaps the three
 /// others.
 fn has_known_keys(object: &Value) -> bool
     ensures { result ≡ has_known_keys_lem (view object.now) }
 {
-    let flags = usize::from(object.get("append_files").is_some());
-    let stdins = usize::from(object.get("stdin").is_some());
-    has_keys(object, 2 + (flags + stdins))
+    let expressions = one_for(object, "expression");
+    let flags = one_for(object, "append_files");
+    let stdins = one_for(object, "stdin");
+    has_keys(object, 2 + (expressions + (flags + stdins)))
 }
 
 /// The text at a key.
@@ -85,10 +77,10 @@ fn text_named<'a>(object: &'a Value, key: &str) -> Option<&'a str>
     object.get(key)?.as_str()
 }
 
-/// The trigger that an object without an expression defines.
-fn plain_trigger_in(alloc: Global, object: &Value) -> Result<Trigger, Refusal>
-    ensures ok { IfOk result (λ t. by_rules (definition_in (view object.now)) ≡ Ok t) }
-    ensures refused { IfErr result (λ e. e ≢ Refusal.NoMemory → by_rules (definition_in (view object.now)) ≡ Err e) }
+/// The trigger that an object defines, with this text of its expression.
+fn trigger_with(alloc: Global, object: &Value, expression: Option<&str>) -> Result<Trigger, Refusal>
+    ensures ok { IfOk result (λ t. by_rules (definition_in (option_map (λ t. t.now) expression.entry) (view object.now)) ≡ Ok t) }
+    ensures refused { IfErr result (λ e. e ≢ Refusal.NoMemory → by_rules (definition_in (option_map (λ t. t.now) expression.entry) (view object.now)) ≡ Err e) }
 {
     if !has_known_keys(object) {
         return Err(Refusal::BadTrigger);
@@ -101,7 +93,7 @@ fn plain_trigger_in(alloc: Global, object: &Value) -> Result<Trigger, Refusal>
         return Err(Refusal::BadTrigger);
     };
     let words = words(alloc, object.get("command"))?;
-    Trigger::new(alloc, name, &words, None, append_files, stdin)
+    Trigger::new(alloc, name, &words, expression, append_files, stdin)
 }
 
 /// The trigger that an object defines.
@@ -109,10 +101,13 @@ fn trigger_in(alloc: Global, object: &Value) -> Result<Trigger, Refusal>
     ensures ok { IfOk result (λ t. trigger_in_lem (view object.now) ≡ Ok t) }
     ensures refused { IfErr result (λ e. e ≢ Refusal.NoMemory → trigger_in_lem (view object.now) ≡ Err e) }
 {
-    if object.get("expression").is_some() {
-        return Err(Refusal::BadExpression);
+    match object.get("expression") {
+        Some(expression) => {
+            let text = kept_text(alloc, expression)?;
+            trigger_with(alloc, object, Some(text.as_str()))
+        }
+        None => trigger_with(alloc, object, None),
     }
-    plain_trigger_in(alloc, object)
 }
 
 /// `trigger` with a root path and an object.

@@ -1,23 +1,43 @@
-//! The views of the watched roots: one a root, in order of watching.
-ghost use Rattle.std.specs.Prelude.{◌≡◌, option_map, IfOk};
-ghost use Rattle.wm_server.specs.Watched.{Forgets, Operated, clock_in, first_views as first_views_lem, place_of as place_of_lem, view_at as view_at_lem};
+//! The views of the watched roots with their cursors: one a root, in order of watching.
+ghost use Rattle.std.specs.Prelude.{◌≡◌, true, option_map, IfOk};
+ghost use Rattle.wm_server.specs.Watched.{Forgets, Moved, Operated, clock_in, first_views as first_views_lem, may_move, new_view, place_of as place_of_lem, view_at as view_at_lem};
 
 use indexmap::IndexMap;
 use std::alloc::Global;
-use wm_clock::ClockId;
+use wm_clock::{ClockId, CursorName};
 use wm_disk::{NoMemory, Refusal};
 use wm_names::RootPath;
 use wm_registry::{Registry, Root};
+use wm_since::Cursors;
 use wm_view::{Op, View};
 
+/// The view of a watched root, and the clocks up to which those who ask by a name were told.
+#[derive(Drop)]
+pub struct RootView {
+    pub view: View,
+    pub cursors: Cursors,
+}
+
+impl RootView {
+    /// That of a root that has just begun.
+    pub(crate) fn new(alloc: Global, incarnation: u64, root: u64) -> Result<RootView, NoMemory>
+        ensures { IfOk result (λ r. r ≡ new_view incarnation root) }
+    {
+        Ok(RootView {
+            view: View::new(alloc, incarnation, root),
+            cursors: Cursors::new(alloc)?,
+        })
+    }
+}
+
 /// A view of each root, which begins with the registry's incarnation.
-pub(crate) fn first_views(alloc: Global, registry: &Registry) -> Result<Vec<View>, NoMemory>
+pub(crate) fn first_views(alloc: Global, registry: &Registry) -> Result<Vec<RootView>, NoMemory>
     ensures { IfOk result (λ views. views.items ≡ first_views_lem registry.now) }
 {
     let roots = registry.roots();
     let mut views = Vec::with_capacity(alloc, roots.len())?;
     for root in roots.values() {
-        views.push(View::new(alloc, registry.incarnation(), root.number))?;
+        views.push(RootView::new(alloc, registry.incarnation(), root.number)?)?;
     }
     Ok(views)
 }
@@ -33,8 +53,8 @@ pub(crate) fn place_of(path: &RootPath, roots: &IndexMap<RootPath, Root>) -> Opt
 pub(crate) fn view_at<'a>(
     path: &RootPath,
     roots: &IndexMap<RootPath, Root>,
-    views: &'a [View],
-) -> Option<&'a View>
+    views: &'a [RootView],
+) -> Option<&'a RootView>
     ensures { option_map (λ view. view.now) result ≡ view_at_lem path.now roots.now.entries views.now }
 {
     let Some(place) = place_of(path, roots) else {
@@ -48,7 +68,7 @@ pub(crate) fn view_at<'a>(
 }
 
 /// Takes the view at a root's place out.
-pub(crate) fn forget(place: Option<usize>, views: &mut Vec<View>)
+pub(crate) fn forget(place: Option<usize>, views: &mut Vec<RootView>)
     ensures { Forgets place views.old.items views.new.items }
 {
     if let Some(place) = place
@@ -58,14 +78,14 @@ pub(crate) fn forget(place: Option<usize>, views: &mut Vec<View>)
     }
 }
 
-/// The clock at which a view stands.
-pub(crate) fn clock_of(view: &View) -> ClockId
-    ensures { result ≡ clock_in view.now }
+/// The clock at which a root stands.
+pub(crate) fn clock_of(root: &RootView) -> ClockId
+    ensures { result ≡ clock_in root.now }
 {
     ClockId {
-        incarnation: view.incarnation(),
-        root: view.root(),
-        tick: view.tick(),
+        incarnation: root.view.incarnation(),
+        root: root.view.root(),
+        tick: root.view.tick(),
     }
 }
 
@@ -75,7 +95,7 @@ pub(crate) fn operate(
     alloc: Global,
     path: &RootPath,
     roots: &IndexMap<RootPath, Root>,
-    views: &mut Vec<View>,
+    views: &mut Vec<RootView>,
     op: &Op,
 ) -> Result<ClockId, Refusal>
     ensures { Operated path.now op.now roots.now.entries views.old.items result views.new.items }
@@ -86,9 +106,30 @@ pub(crate) fn operate(
     if place >= views.len() {
         return Err(Refusal::NotWatched);
     }
-    let view = &mut views[place];
-    match view.perform(alloc, op) {
-        Ok(()) => Ok(clock_of(view)),
+    let root = &mut views[place];
+    match root.view.perform(alloc, op) {
+        Ok(()) => Ok(clock_of(root)),
         Err(refusal) => Err(refusal),
     }
+}
+
+/// Moves a cursor of a watched root to a clock, or makes it there.
+pub(crate) fn move_cursor(
+    path: &RootPath,
+    roots: &IndexMap<RootPath, Root>,
+    views: &mut Vec<RootView>,
+    name: CursorName,
+    clock: ClockId,
+)
+    requires { may_move (view_at_lem path.now roots.now.entries views.old.items) name ≡ true }
+    ensures { Moved path.now name clock roots.now.entries (view_at_lem path.now roots.now.entries views.old.items) views.old.items views.new.items }
+{
+    let Some(place) = place_of(path, roots) else {
+        return;
+    };
+    if place >= views.len() {
+        return;
+    }
+    let root = &mut views[place];
+    root.cursors.moved(name, clock);
 }

@@ -16,8 +16,8 @@ use Rattle.wm_view.proofs.PathLaws.{up_to_before}
 use Rattle.wm_since.specs.declared.query.Answer.{Answer}
 use Rattle.wm_since.specs.declared.following.Step.{Step}
 use Rattle.wm_since.specs.declared.following.Step.TheVariants.{Operate, Ask}
-use Rattle.wm_since.specs.Answers.{clock_of, question, answer_to}
-use Rattle.wm_since.specs.Clients.{Client, new_client, next_query, received, files_after}
+use Rattle.wm_since.specs.Answers.{clock_of, answer_to}
+use Rattle.wm_since.specs.Clients.{Client, new_client, next_question, received, files_after}
 use Rattle.wm_since.specs.Follows.{operations, next_history, next_clock, there, files_at, Stands, Goes}
 use Rattle.wm_since.specs.Tests.{PathOnly}
 use Rattle.wm_since.proofs.Applies.{client_law}
@@ -99,7 +99,7 @@ module _ {T : Type 0} (passes : T → Entry → Bool) (view : Summary) (m : Clie
   }
 
   module _ (a : Answer) (only : PathOnly (passes m.test)) (ready : view.ready ≡ true)
-      (said : (h : History) → IsMade h → summary h ≡ view → a ≡ answer_to (passes m.test) h (question (next_query m))) where
+      (said : (h : History) → IsMade h → summary h ≡ view → a ≡ answer_to (passes m.test) h (next_question m)) where
     received_stands : (h : History) (clock : Option ClockId) → Stands passes view m h clock → Stands passes view (received m a) h (next_clock h clock Ask)
     received_stands h clock s =
         let right : a ≡ answer_to (passes m.test) h (record { since = clock; empty_on_fresh = false }) =

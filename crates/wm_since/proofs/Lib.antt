@@ -1,5 +1,7 @@
 pub mod Agree
 pub mod Applies
 pub mod Goings
+pub mod Moves
+pub mod Naming
 pub mod Renders
 pub mod Turns

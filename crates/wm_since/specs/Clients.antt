@@ -5,8 +5,8 @@ use Rattle.wm_names.specs.Paths.{Path, same_path}
 use Rattle.wm_clock.specs.declared.clock_id.ClockId.{ClockId}
 use Rattle.wm_view.specs.Files.{Paths, with_path}
 use Rattle.wm_since.specs.declared.listed.Listed.{Listed}
-use Rattle.wm_since.specs.declared.query.Query.{Query}
 use Rattle.wm_since.specs.declared.query.Answer.{Answer}
+use Rattle.wm_since.specs.Answers.{Question}
 
 pub record Client (T : Type 0) : Type 0 where
   pub root : Path
@@ -18,8 +18,9 @@ pub record Client (T : Type 0) : Type 0 where
 abbrev pub new_client : {T : Type 0} → Path → T → Client T
 new_client root test = record { root = root; test = test; files = []; clock = None; asked = false }
 
-abbrev pub next_query : {T : Type 0} → Client T → Query T
-next_query m = record { since = m.clock; test = m.test; empty_on_fresh = false }
+-- what it asks, of the files that pass its test
+abbrev pub next_question : {T : Type 0} → Client T → Question
+next_question m = record { since = m.clock; empty_on_fresh = false }
 
 abbrev pub closed : {T : Type 0} → Client T → Client T
 closed m = record m { asked = false }

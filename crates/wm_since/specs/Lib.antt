@@ -1,5 +1,7 @@
 pub mod Answers
 pub mod Clients
+pub mod Cursors
+pub mod Fields
 pub mod Follows
 pub mod Rendered
 pub mod Tests

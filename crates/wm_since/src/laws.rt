@@ -5,6 +5,7 @@ ghost use Rattle.wm_view.specs.Histories.{History, IsMade, tick_of};
 ghost use Rattle.wm_view.specs.Summaries.{summary};
 ghost use Rattle.wm_since.specs.Answers.{Question, answer_by, answer_to};
 ghost use Rattle.wm_since.specs.Clients.{files_after};
+ghost use Rattle.wm_since.specs.Cursors.{IsMoved, OthersStay};
 ghost use Rattle.wm_since.specs.Follows.{files_at, matching_at};
 ghost use Rattle.wm_since.specs.Tests.{PathOnly};
 
@@ -18,4 +19,10 @@ pub fn every_answer()
 pub fn every_client()
     ensures { (passes : Entry → Bool) (h : History) (clock : Option ClockId) → PathOnly passes →
         files_after (files_at h passes clock) (answer_to passes h (record { since = clock; empty_on_fresh = false })) ≡ matching_at h passes (tick_of h) }
+{}
+
+/// The laws of cursors: a cursor that is moved stands where it was moved to, and the others stay.
+pub fn cursor_laws()
+    ensures moved { IsMoved }
+    ensures others { OthersStay }
 {}

@@ -4,9 +4,16 @@
 //! and not only what a view's summary makes of it. A [`Mirror`] asks and applies answers
 //! (specs/Clients.antt), and [`follow`] ties the two: after any list of operations and questions the
 //! mirror has exactly the matching files at its clock (specs/Follows.antt).
+//!
+//! [`render`] makes an answer's files JSON, with the [`Fields`] that were asked for (specs/Fields.antt,
+//! specs/Rendered.antt). [`Cursors`] keeps for a name the clock up to which its client was told
+//! (specs/Cursors.antt).
 #![tactic(auto)]
 
 mod answering;
+mod cursors;
+mod field;
+mod fields;
 mod following;
 mod laws;
 mod listed;
@@ -18,8 +25,11 @@ mod test;
 mod tests;
 
 pub use answering::answer;
+pub use cursors::{Cursors, MAX_CURSORS};
+pub use field::Field;
+pub use fields::Fields;
 pub use following::{Step, follow};
-pub use laws::{every_answer, every_client};
+pub use laws::{cursor_laws, every_answer, every_client};
 pub use listed::{Listed, ListedFiles};
 pub use mirror::Mirror;
 pub use query::{Answer, Query};

@@ -1,7 +1,8 @@
 ghost use Rattle.std.specs.Prelude.{◌≡◌, ◌≢◌, ◌↔◌, ℕ, ◌≤◌, true, false, not, [], IfOk, IfErr, OnOk, OnErr, IsErrOf, MatchOption, length, filter};
 ghost use Rattle.std.specs.List.{insert};
 ghost use Rattle.wm_view.specs.Files.{with_path};
-ghost use Rattle.wm_since.specs.Clients.{closed, is_gone, is_put, new_client, next_query, put_in, received};
+ghost use Rattle.wm_since.specs.Answers.{question};
+ghost use Rattle.wm_since.specs.Clients.{closed, is_gone, is_put, new_client, next_question, put_in, received};
 
 use crate::listed::Listed;
 use crate::query::{Answer, Query};
@@ -149,8 +150,9 @@ impl<T: Test> Mirror<T> {
     /// Opens a question: what changed since the last answer. Want of memory changes nothing.
     pub fn ask(&mut self, alloc: Global) -> Result<Query<T>, NoMemory>
         requires { self.old.asked ≡ false }
-        ensures ok { IfOk result (λ q. (q ≡ next_query self.old) × (self.new ≡ record self.old { asked = true })) }
-        ensures path_only { IfOk result (λ q. T.path_only q.test ≡ true) }
+        ensures ok { IfOk result (λ q. (question q ≡ next_question self.old) × (self.new ≡ record self.old { asked = true })) }
+        ensures test { IfOk result (λ q. T.passes q.test ≡ T.passes self.old.test) }
+        ensures path_only { IfOk result (λ q. (T.path_only self.old.test ≡ true) × (T.path_only q.test ≡ true)) }
         ensures err { OnErr result (self.new ≡ self.old) }
     {
         let test = self.test.copy(alloc)?;

@@ -1,9 +1,13 @@
 ghost use Rattle.std.specs.Prelude.{◌≡◌, Bool, true, refl, IfOk};
 ghost use Rattle.wm_names.specs.declared.entry.Entry.{Entry};
+ghost use Rattle.wm_expr.specs.Meanings.{holds as holds_lem, is_path_only as is_path_only_lem};
+ghost use Rattle.wm_expr.specs.PathLaws.{reads_path_alone};
+ghost use Rattle.wm_expr.specs.Views.{term};
 ghost use Rattle.wm_since.specs.Tests.{PathOnly};
 
 use std::alloc::Global;
 use wm_disk::NoMemory;
+use wm_expr::Expr;
 use wm_names::Entry;
 
 /// A test on files, as an expression of a query is one.
@@ -22,9 +26,9 @@ pub trait Test: Drop {
     fn is_path_only(&self) -> bool
         ensures { result ≡ path_only self.now };
 
-    /// The same test again.
+    /// A test that passes the same entries.
     fn copy(&self, alloc: Global) -> Result<Self, NoMemory>
-        ensures { IfOk result (λ test. test ≡ self.now) };
+        ensures { IfOk result (λ test. (passes test ≡ passes self.now) × (path_only test ≡ path_only self.now)) };
 
     /// A test of paths alone has one value for any two entries of one path.
     ghost by_path: { (test : Self) → path_only test ≡ true → PathOnly (passes test) };
@@ -51,5 +55,25 @@ impl Test for Every {
 
     fn copy(&self, _alloc: Global) -> Result<Every, NoMemory> {
         Ok(Every)
+    }
+}
+
+impl Test for Expr {
+    ghost passes = { λ test. holds_lem (term test) };
+
+    ghost path_only = { λ test. is_path_only_lem (term test) };
+
+    ghost by_path = { λ test. reads_path_alone (term test) };
+
+    fn holds(&self, entry: &Entry) -> bool {
+        Expr::holds(self, entry)
+    }
+
+    fn is_path_only(&self) -> bool {
+        Expr::is_path_only(self)
+    }
+
+    fn copy(&self, alloc: Global) -> Result<Expr, NoMemory> {
+        Expr::copy(self, alloc)
     }
 }

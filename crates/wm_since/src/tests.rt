@@ -11,8 +11,11 @@ use wm_names::{Entry, Kind, Meta, RelPath, Subtree};
 use wm_view::{Listing, Op, Pairs};
 
 mod answers;
+mod cursors;
+mod expressions;
 mod following;
 mod mirrors;
+mod rendering;
 
 /// The test that a file of fewer bytes passes.
 #[derive(Clone, Copy)]

@@ -77,6 +77,25 @@ fn holds_of_metadata(rt: HostRuntime) -> Result<(), Fail> {
     Ok(())
 }
 
+// What exists, of which kind and how many bytes, and whether it is empty.
+#[test]
+fn tells_what_is_empty(rt: HostRuntime) -> Result<(), Fail> {
+    let expr = read(rt.alloc(), "\"empty\"")?;
+    for (exists, kind, size, want) in [
+        (true, Kind::File, 0, true),
+        (true, Kind::File, 1, false),
+        (true, Kind::Folder, 0, true),
+        (true, Kind::Folder, 4096, false),
+        (true, Kind::Link, 0, false),
+        (true, Kind::Other, 0, false),
+        (false, Kind::File, 0, false),
+    ] {
+        let entry = entry(rt.alloc(), "a", exists, kind, size)?;
+        assert_eq!(rt; expr.holds(&entry), want, "{kind:?} of {size}");
+    }
+    Ok(())
+}
+
 #[test]
 fn holds_of_parts(rt: HostRuntime) -> Result<(), Fail> {
     for (text, want) in [

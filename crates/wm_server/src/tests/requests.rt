@@ -1,4 +1,5 @@
 //! Lines with paths, metadata and clocks, and what is read of them.
+use crate::query::Inquiry;
 use crate::request::Request;
 use std::alloc::Global;
 use std::process::Abort;
@@ -46,6 +47,21 @@ fn show_clock(clock: &ClockSpec, text: &mut String) -> Result<(), NoMemory> {
             write!(text, " {} {} {}", clock.incarnation, clock.root, clock.tick)?
         }
         ClockSpec::Another => text.push_str(" another")?,
+        ClockSpec::Cursor(name) => write!(text, " @{}", name.as_str())?,
+    }
+    Ok(())
+}
+
+// The clock, then the names of the fields.
+fn show_inquiry(inquiry: &Inquiry, text: &mut String) -> Result<(), NoMemory> {
+    if let Some(clock) = &inquiry.since {
+        show_clock(clock, text)?;
+    }
+    for field in inquiry.fields.as_slice() {
+        write!(text, " {}", field.name())?;
+    }
+    if inquiry.empty_on_fresh {
+        text.push_str(" empty_on_fresh")?;
     }
     Ok(())
 }
@@ -55,6 +71,9 @@ fn show_trigger(trigger: &Trigger, text: &mut String) -> Result<(), NoMemory> {
     for (place, word) in trigger.command().iter().enumerate() {
         let bar = if place == 0 { "" } else { "|" };
         write!(text, "{bar}{}", word.as_str())?;
+    }
+    if let Some(expression) = trigger.expression() {
+        write!(text, " where {expression}")?;
     }
     if trigger.append_files() {
         text.push_str(" append_files")?;
@@ -88,9 +107,9 @@ fn show(request: &Request, text: &mut String) -> Result<(), NoMemory> {
             show_listing(listing, text)
         }
         Request::Clock(root) => Ok(write!(text, "clock {}", root.as_str())?),
-        Request::Since(root, clock) => {
-            write!(text, "since {}", root.as_str())?;
-            show_clock(clock, text)
+        Request::Query(root, inquiry) => {
+            write!(text, "query {}", root.as_str())?;
+            show_inquiry(inquiry, text)
         }
         _ => Ok(text.push_str("another request")?),
     }
@@ -112,7 +131,7 @@ pub(super) const ARGUMENTS: &str = "3 BadArguments";
 
 pub(super) const PATH: &str = "4 BadPath";
 
-const CLOCK: &str = "7 BadClock";
+pub(super) const CLOCK: &str = "7 BadClock";
 
 static OBSERVED: [(&str, &str); 40] = [
     (r#"["observe","/r",[]]"#, "observe /r"),
@@ -281,16 +300,25 @@ static LISTED: [(&str, &str); 31] = [
     ),
 ];
 
-static CLOCKS: [(&str, &str); 27] = [
+static CLOCKS: [(&str, &str); 29] = [
     (r#"["clock","/r"]"#, "clock /r"),
     (r#"["clock"]"#, ARGUMENTS),
     (r#"["clock",1]"#, ARGUMENTS),
     (r#"["clock","/r",1]"#, ARGUMENTS),
     (r#"["clock","r",1]"#, ARGUMENTS),
     (r#"["clock","r"]"#, PATH),
-    (r#"["since","/r","c:7:2:105"]"#, "since /r 7 2 105"),
-    (r#"["since","/r","c:"]"#, "since /r another"),
-    (r#"["since","/r","c:01:1:1"]"#, "since /r another"),
+    (
+        r#"["since","/r","c:7:2:105"]"#,
+        "query /r 7 2 105 exists name new size",
+    ),
+    (
+        r#"["since","/r","c:"]"#,
+        "query /r another exists name new size",
+    ),
+    (
+        r#"["since","/r","c:01:1:1"]"#,
+        "query /r another exists name new size",
+    ),
     (r#"["since"]"#, ARGUMENTS),
     (r#"["since","/r"]"#, ARGUMENTS),
     (r#"["since","/r","c:1:1:1",1]"#, ARGUMENTS),
@@ -306,6 +334,11 @@ static CLOCKS: [(&str, &str); 27] = [
     (r#"["since","/r",1]"#, CLOCK),
     (r#"["since","/r",-1.5e3]"#, CLOCK),
     (r#"["since","/r",0]"#, CLOCK),
+    (
+        r#"["since","/r","n:x"]"#,
+        "query /r @x exists name new size",
+    ),
+    (r#"["since","/r","n:"]"#, CLOCK),
     (r#"["since","/r",""]"#, CLOCK),
     (r#"["since","/r","1:1:1"]"#, CLOCK),
     (r#"["since","/r","C:1:1:1"]"#, CLOCK),

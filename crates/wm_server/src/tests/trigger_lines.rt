@@ -24,7 +24,7 @@ static ENDED: [(&str, &str); 15] = [
     (r#"["trigger-del","/r",""]"#, TRIGGER),
 ];
 
-static DEFINED: [(&str, &str); 33] = [
+static DEFINED: [(&str, &str); 39] = [
     (
         r#"["trigger","/r",{"command":["true"],"name":"t"}]"#,
         "trigger /r t true",
@@ -56,9 +56,33 @@ static DEFINED: [(&str, &str); 33] = [
     (r#"["trigger","r",{"expression":"true"}]"#, PATH),
     (
         r#"["trigger","/r",{"command":["true"],"name":"t","expression":"true"}]"#,
-        EXPRESSION,
+        r#"trigger /r t true where "true""#,
+    ),
+    (
+        r#"["trigger","/r",{"expression": [ "anyof", ["suffix", "c"], ["name", ["a\u0062", "\u0009"]] ],"command":["true"],"name":"t","stdin":"NAME_PER_LINE","append_files":true}]"#,
+        r#"trigger /r t true where ["anyof",["suffix","c"],["name",["ab","\t"]]] append_files NamePerLine"#,
     ),
     (r#"["trigger","/r",{"expression":null}]"#, EXPRESSION),
+    (
+        r#"["trigger","/r",{"command":["true"],"name":"t","expression":["suffix",1]}]"#,
+        EXPRESSION,
+    ),
+    (
+        r#"["trigger","/r",{"command":[],"name":"","expression":"no","chdir":1}]"#,
+        EXPRESSION,
+    ),
+    (
+        r#"["trigger","/r",{"command":[],"name":"t","expression":"true"}]"#,
+        TRIGGER,
+    ),
+    (
+        r#"["trigger","/r",{"command":["true"],"expression":"true","stdin":"/dev/null"}]"#,
+        TRIGGER,
+    ),
+    (
+        r#"["trigger","/r",{"command":["true"],"name":"t","expression":"true","chdir":"/r"}]"#,
+        TRIGGER,
+    ),
     (r#"["trigger","/r",{}]"#, TRIGGER),
     (r#"["trigger","/r",{"command":["true"]}]"#, TRIGGER),
     (r#"["trigger","/r",{"name":"t"}]"#, TRIGGER),

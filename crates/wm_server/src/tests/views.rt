@@ -7,7 +7,7 @@ use std::test::Fail;
 pub(super) type Row<'a> = (&'a str, &'a str);
 
 /// From the first watch of a root to the deleted file that comes back.
-static FIRST_SESSION: [Row<'static>; 27] = [
+static FIRST_SESSION: [Row<'static>; 29] = [
     (r#"["watch","/r"]"#, r#"{"version":"w1","watch":"/r"}"#),
     (r#"["watch-list"]"#, r#"{"roots":["/r"],"version":"w1"}"#),
     (
@@ -60,8 +60,14 @@ static FIRST_SESSION: [Row<'static>; 27] = [
         r#"{"error":"7 BadClock","version":"w1"}"#,
     ),
     (
-        r#"["since","/r","n:x"]"#,
+        r#"["since","/r","n:"]"#,
         r#"{"error":"7 BadClock","version":"w1"}"#,
+    ),
+    // A cursor that isn't there yet, and the same again.
+    (r#"["since","/r","n:x"]"#, FRESH),
+    (
+        r#"["since","/r","n:x"]"#,
+        r#"{"clock":"c:1:1:3","files":[],"is_fresh_instance":false,"version":"w1"}"#,
     ),
     // A file that comes and goes, and one that is deleted.
     (

@@ -1,6 +1,6 @@
 //! What is answered since a clock.
 use super::{Smaller, clock, found, seen};
-use crate::{Answer, Every, Query, answer, render};
+use crate::{Answer, Every, Fields, Query, answer, render};
 use std::alloc::Global;
 use std::test::Fail;
 use wm_clock::ClockId;
@@ -26,7 +26,8 @@ fn see(alloc: Global, view: &mut View, files: &[(&str, Option<u64>)]) -> Result<
 /// An answer as a text: its clock, whether it is fresh, and its files as JSON.
 fn shown(alloc: Global, answer: &Answer) -> Result<String, Fail> {
     let clock = answer.clock.text(alloc)?;
-    let files = render(alloc, answer)?.to_string(alloc)?;
+    let fields = Fields::default_fields(alloc)?;
+    let files = render(alloc, answer, &fields)?.to_string(alloc)?;
     let fresh = if answer.fresh { " fresh" } else { "" };
     Ok(format!(in alloc; "{clock}{fresh} {files}")?)
 }

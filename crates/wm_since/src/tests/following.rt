@@ -3,6 +3,7 @@ ghost use Rattle.std.specs.Prelude.{◌≡◌, true};
 ghost use Rattle.std.proofs.Common.{ap};
 ghost use Rattle.wm_names.specs.Paths.{is_under};
 
+use super::expressions::read;
 use super::{clock, found, names, seen};
 use crate::{Every, Mirror, Step, Test, follow};
 use std::alloc::Global;
@@ -70,19 +71,46 @@ static PLAN: [Planned; 9] = [
     Planned::Sees("d/late", Some(2)),
 ];
 
-#[test]
-fn follows_steps(rt: HostRuntime) -> Result<(), Fail> {
-    let alloc = rt.alloc();
+fn steps(alloc: Global) -> Result<Vec<Step>, Fail> {
     let mut steps = Vec::new(alloc);
     for planned in &PLAN {
         steps.push(step_of(alloc, planned)?)?;
     }
+    Ok(steps)
+}
+
+#[test]
+fn follows_steps(rt: HostRuntime) -> Result<(), Fail> {
+    let alloc = rt.alloc();
     let top = RelPath::read(alloc, "d")?;
     let mirror = Mirror::new(alloc, RootPath::read(alloc, "/r")?, Below { top })?;
-    let (view, mirror) = follow(alloc, 1, 1, mirror, &steps)?;
+    let (view, mirror) = follow(alloc, 1, 1, mirror, &steps(alloc)?)?;
     assert_eq!(rt; view.tick(), 4);
     assert_eq!(rt; mirror.clock(), Some(clock(1, 1, 3)));
     assert_eq!(rt; names(alloc, &mirror)?.as_str(), "d/a d/c ");
+    Ok(())
+}
+
+// At the last question there are `a`, `d/a` and `d/c`; the first one told of `d/b` as well.
+#[test]
+fn follows_steps_by_expressions(rt: HostRuntime) -> Result<(), Fail> {
+    let alloc = rt.alloc();
+    for (text, files) in [
+        ("\"true\"", "a d/a d/c "),
+        ("\"false\"", ""),
+        ("[\"name\",[\"a\",\"b\",\"late\"]]", "a d/a "),
+        ("[\"match\",\"d/*\",\"wholename\"]", "d/a d/c "),
+        (
+            "[\"allof\",[\"match\",\"**/?\",\"wholename\"],[\"not\",[\"name\",\"d/a\",\"wholename\"]]]",
+            "a d/c ",
+        ),
+    ] {
+        let mirror = Mirror::new(alloc, RootPath::read(alloc, "/r")?, read(alloc, text)?)?;
+        let (view, mirror) = follow(alloc, 1, 1, mirror, &steps(alloc)?)?;
+        assert_eq!(rt; view.tick(), 4, "{text}");
+        assert_eq!(rt; mirror.clock(), Some(clock(1, 1, 3)), "{text}");
+        assert_eq!(rt; names(alloc, &mirror)?.as_str(), files, "{text}");
+    }
     Ok(())
 }
 

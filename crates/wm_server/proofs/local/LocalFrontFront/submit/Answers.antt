@@ -10,6 +10,12 @@ returns-in-Begin g c = record {
   later = stays g.D.Disk c.args.self.now.store;
 }
 
+pub returns-in_default-view_change : goal.returns-in_default-view_change
+returns-in_default-view_change g c = record {
+  met = no_room (standing_of g.D.Disk c.args.self.now) c.args.command;
+  later = stays g.D.Disk c.args.self.now.store;
+}
+
 pub returns-then-is_err : goal.returns-then-is_err
 returns-then-is_err g c = record {
   met = rw c.try_reserve.ensures.items (no_room (standing_of g.D.Disk c.args.self.now) c.args.command);
@@ -20,11 +26,10 @@ pub returns-then-is_change : goal.returns-then-is_change
 returns-then-is_change g c =
     let s = state_of c.args.self.now in
     let reply = c.commit_alone-reply.result in
-    let view_is = c.new-view.ensures ∙ rw (c.incarnation.ensures, c.next_root.ensures, c.registry.ensures.value, c.registry-2.ensures.value) refl in
     record {
       met = met_with g.D.Disk c.args.self.now.store c.commit_alone-reply.new.store c.args.command reply c.args.self.now.views.items c.change_views.new.views.items
           (c.commit_alone-reply.ensures.met c.args.self.now.views.items)
-          (views_changed s c.args.command reply c.change_views.new.views.items (sym c.is_change.ensures ∙ c.if-is_change.true) (c.change_views.ensures s c.args.command c.view_change-change.ensures view_is c.try_reserve.ensures.items));
+          (views_changed s c.args.command reply c.change_views.new.views.items (sym c.is_change.ensures ∙ c.if-is_change.true) (c.change_views.ensures s c.args.command c.in-Ok.ensures c.try_reserve.ensures.items));
       later = c.commit_alone-reply.ensures.later;
     }
 
