@@ -3,7 +3,6 @@ use Rattle.std.proofs.Common.{◌≡◌, ℕ, true, false, cond, List, [], ◌�
 use Rattle.std.specs.Str.{bytes_eq}
 use Rattle.serde_json.specs.Data.{Data}
 use Rattle.wm_disk.specs.declared.refusal.Refusal.{Refusal}
-use Rattle.wm_disk.specs.declared.refusal.Refusal.TheVariants.{BadCommand}
 use Rattle.wm_names.specs.Paths.{Path}
 use Rattle.wm_view.specs.declared.op.Op.{Op}
 use Rattle.wm_view.specs.declared.op.Op.TheVariants as op
@@ -22,10 +21,10 @@ use Rattle.wm_registry.specs.declared.root.Root.{Root}
 use Rattle.wm_registry.specs.Registry.{is_change}
 use Rattle.wm_registry.specs.Roots as roots
 use Rattle.wm_server.specs.declared.request.Request.{Request}
-use Rattle.wm_server.specs.declared.request.Request.TheVariants.{Version, Watch, WatchDel, WatchList, Trigger, TriggerList, TriggerDel, Observe, Listing, Clock, Query}
+use Rattle.wm_server.specs.declared.request.Request.TheVariants.{Version, Watch, WatchDel, WatchList, Trigger, TriggerList, TriggerDel, Observe, Listing, AgeOut, Clock, Query}
 use Rattle.wm_server.specs.Lines.{request_of_line}
 use Rattle.wm_server.specs.Replies.{clock_reply, command_reply}
-use Rattle.wm_server.specs.Sessions.{State, accepted, answered, commanded, cursor_moved, inquiry_met, question_met, line_met, listing_met, met_or_refused, operation_met, refused, reply_to_command, state_after_command, triggers_met, view_of, views_after}
+use Rattle.wm_server.specs.Sessions.{State, accepted, answered, commanded, cursor_moved, inquiry_met, question_met, line_met, met_or_refused, operated, operation_met, reply_to_command, state_after_command, triggers_met, view_of, views_after}
 use Rattle.wm_server.specs.Watched.{AreOfHistories, IsOfHistory, of_history, clock_answer, first_views, new_view, unless, view_after, view_at, with_cursor, with_view, without_view}
 use Rattle.wm_server.proofs.SessionLemmas.{left_so}
 
@@ -135,20 +134,13 @@ module _ (operated_so : (h : History) (cursors : CursorList) (o : Op) → IsMade
   seen_is None new o is e = absurd cc
   seen_is (Some view) new o is e = after_is view new o (is view refl) e
 
-  operated_are : (s : State) (root : Path) (r : Result RootView Refusal) → AreOfHistories s.views → ((new : RootView) → r ≡ Ok new → IsOfHistory new) → AreOfHistories (operation_met s root r).state.views
-  operated_are s root (Ok new) are is = with_are root new s.registry.roots s.views are (is new refl)
-  operated_are s root (Err e) are is = are
+  operated_are : (s : State) (root : Path) (o : Op) (r : Result RootView Refusal) → AreOfHistories s.views → ((new : RootView) → r ≡ Ok new → IsOfHistory new) → AreOfHistories (operation_met s root o r).state.views
+  operated_are s root o (Ok new) are is = with_are root new s.registry.roots s.views are (is new refl)
+  operated_are s root o (Err e) are is = are
 
-  viewed_are : (s : State) (root : Path) (view : Option RootView) (o : Op) → AreOfHistories s.views → ((v : RootView) → view ≡ Some v → IsOfHistory v) → AreOfHistories (operation_met s root (view_after view o)).state.views
-  viewed_are s root view o are is = operated_are s root (view_after view o) are (λ new e. seen_is view new o is e)
-
-  listed_are : (s : State) (root : Path) (view : Option RootView) (o : Op) → AreOfHistories s.views → ((v : RootView) → view ≡ Some v → IsOfHistory v) → AreOfHistories (listing_met s root view o).state.views
-  listed_are s root None o are is = are
-  listed_are s root (Some view) o are is =
-      elim view.view.ready as (λ b. AreOfHistories (cond b (refused BadCommand s) (operation_met s root (view_after (Some view) o))).state.views) [
-        | true ↦ are
-        | false ↦ viewed_are s root (Some view) o are is
-      ]
+  viewed_are : (s : State) (root : Path) (o : Op) → AreOfHistories s.views → AreOfHistories (operated s root o).state.views
+  viewed_are s root o are =
+      operated_are s root o (view_after (view_of s root) o) are (λ new e. seen_is (view_of s root) new o (λ v f. found_is root s.registry.roots s.views v are f) e)
 
   met_are : (s : State) (moment : ℕ) (r : Result Request Refusal) → AreOfHistories s.views → AreOfHistories (met_or_refused s moment r).state.views
   met_are s moment (Ok Version) are = are
@@ -158,8 +150,9 @@ module _ (operated_so : (h : History) (cursors : CursorList) (o : Op) → IsMade
   met_are s moment (Ok (TriggerList path)) are = triggers_are s (roots.root_at path s.registry) are
   met_are s moment (Ok (TriggerDel path name)) are = commanded_are s (command.TriggerDel path name) are
   met_are s moment (Ok WatchList) are = are
-  met_are s moment (Ok (Observe root pairs)) are = viewed_are s root (view_of s root) (op.Observe moment pairs) are (λ v e. found_is root s.registry.roots s.views v are e)
-  met_are s moment (Ok (Listing root begun_at found)) are = listed_are s root (view_of s root) (op.Recrawl moment begun_at found) are (λ v e. found_is root s.registry.roots s.views v are e)
+  met_are s moment (Ok (Observe root pairs)) are = viewed_are s root (op.Observe moment pairs) are
+  met_are s moment (Ok (Listing root begun_at found)) are = viewed_are s root (op.Recrawl moment begun_at found) are
+  met_are s moment (Ok (AgeOut root age)) are = viewed_are s root (op.AgeOut moment age) are
   met_are s moment (Ok (Clock root)) are = asked_are s (clock_answer (view_of s root)) clock_reply are
   met_are s moment (Ok (Query root q)) are = inquired_are s root q (inquired (view_of s root) q) are
   met_are s moment (Err e) are = are

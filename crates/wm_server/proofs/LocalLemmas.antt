@@ -6,7 +6,7 @@ use Rattle.wm_disk.specs.declared.disk.Disk.{Ghosts}
 use Rattle.wm_disk.specs.declared.refusal.Refusal.{Refusal}
 use Rattle.wm_disk.specs.declared.refusal.Refusal.TheVariants as refusals
 use Rattle.wm_names.specs.Paths.{Path}
-use Rattle.wm_clock.specs.declared.clock_id.ClockId.{ClockId}
+use Rattle.wm_server.specs.declared.watched.Stand.{Stand}
 use Rattle.wm_view.specs.declared.op.Op.{Op}
 use Rattle.wm_server.specs.declared.watched.RootView.{RootView}
 use Rattle.wm_checkpoint.specs.Machines.{replay_on}
@@ -26,7 +26,7 @@ use Rattle.wm_server.specs.KeptExpressions.{have_expressions}
 use Rattle.wm_server.specs.LocalLaws.{stays}
 use Rattle.wm_server.specs.Sessions.{State, accepted, operation_met, reply_to_command, state_after_command, view_of, views_after}
 use Rattle.wm_server.specs.Stores.{IsUp, LeadsTo, StartRefused, standing_with, state_with, views_met}
-use Rattle.wm_server.specs.Watched.{Operated, clock_after, view_after}
+use Rattle.wm_server.specs.Watched.{Operated, stand_after, view_after}
 use Rattle.wm_server.proofs.KeptLemmas.{expressions_after_begin}
 
 -- ---- how a command is met
@@ -267,8 +267,8 @@ refuses : (old : Standing) (root : Path) (o : Op) (e : Refusal) → view_after (
 refuses old root o e is = record {
   way = Defined;
   cause = lasts_same old;
-  reply_is = sym (ap clock_after is);
-  state_is = sym (ap (λ r. (operation_met old.state root r).state) is);
+  reply_is = sym (ap stand_after is);
+  state_is = sym (ap (λ r. (operation_met old.state root o r).state) is);
 }
 
 refused_or_none : (old : Standing) (root : Path) (o : Op) (e : Refusal) → (e ≢ refusals.NoMemory → view_after (view_of old.state root) o ≡ Err e) → Operates old root o (Err e) old
@@ -279,12 +279,12 @@ refused_or_none old root o e h = refuses old root o e (h (λ bad. cc))
 abbrev viewing : Standing → List RootView → Standing
 viewing old views = record old { state = record old.state { views = views } }
 
-pub operates : (old : Standing) (root : Path) (o : Op) (r : Result ClockId Refusal) (views : List RootView) → Operated root o old.state.registry.roots old.state.views r views → Operates old root o r (viewing old views)
-operates old root o (Ok clock) views (view, is, clock_is, views_are) = record {
+pub operates : (old : Standing) (root : Path) (o : Op) (r : Result Stand Refusal) (views : List RootView) → Operated root o old.state.registry.roots old.state.views r views → Operates old root o r (viewing old views)
+operates old root o (Ok stand) views (view, is, stand_is, views_are) = record {
   way = Defined;
   cause = record { failures = omega arith; number = omega arith };
-  reply_is = ap Ok clock_is ∙ sym (ap clock_after is);
-  state_is = ap (λ vs. record old.state { views = vs }) views_are ∙ sym (ap (λ r. (operation_met old.state root r).state) is);
+  reply_is = ap Ok stand_is ∙ sym (ap stand_after is);
+  state_is = ap (λ vs. record old.state { views = vs }) views_are ∙ sym (ap (λ r. (operation_met old.state root o r).state) is);
 }
 operates old root o (Err e) views (h, views_are) = rw views_are (refused_or_none old root o e h)
 

@@ -12,7 +12,7 @@ use Rattle.wm_names.specs.Entries.{is_whole}
 use Rattle.wm_names.specs.declared.subtree.Subtree.{Subtree}
 use Rattle.wm_clock.specs.Clocks.{spec_of}
 use Rattle.wm_clock.specs.declared.clock_spec.ClockSpec.{ClockSpec}
-use Rattle.wm_disk.specs.declared.refusal.Refusal.TheVariants.{BadArguments, BadCommand, BadPath, BadTrigger, Exhausted, Full, NotReady, NotWatched, StoreFailed, TooMany, BadClock}
+use Rattle.wm_disk.specs.declared.refusal.Refusal.TheVariants.{BadArguments, BadPath, BadTrigger, Exhausted, Full, NotReady, NotWatched, StoreFailed, TooMany, BadClock}
 use Rattle.wm_registry.specs.declared.command.Command.{Command}
 use Rattle.wm_registry.specs.declared.command.Command.TheVariants as command
 use Rattle.wm_registry.specs.declared.reply.Reply.{Reply}
@@ -36,7 +36,8 @@ use Rattle.wm_view.specs.declared.op.Op.{Op}
 use Rattle.wm_view.specs.declared.op.Op.TheVariants as op
 use Rattle.wm_since.specs.Answers.{answer_by}
 use Rattle.wm_server.specs.declared.request.Request.{Request}
-use Rattle.wm_server.specs.declared.request.Request.TheVariants.{Version, Watch, WatchDel, WatchList, Trigger, TriggerList, TriggerDel, Observe, Listing, Clock, Query}
+use Rattle.wm_server.specs.declared.request.Request.TheVariants.{Version, Watch, WatchDel, WatchList, Trigger, TriggerList, TriggerDel, Observe, Listing, AgeOut, Clock, Query}
+use Rattle.wm_server.specs.AgeOutLines.{age_out_with}
 use Rattle.wm_server.specs.Arguments.{root_alone, root_named, text_at, count_of}
 use Rattle.wm_server.specs.ClockLines.{may_be_clock, since_clock, since_root}
 use Rattle.wm_server.specs.ListingLines.{are_below, files_of, found, listing_with, subtree_of}
@@ -52,7 +53,7 @@ use Rattle.wm_server.specs.Keys.{flag_in, object_at}
 use Rattle.wm_server.specs.TriggerLines.{by_rules, definition_in, trigger_at, trigger_del_with, trigger_in, trigger_keeping, trigger_with}
 use Rattle.wm_server.specs.Faults.{Standing, Way, Defined, Device, Memory, Spent, Answers, is_fault, faults_of, refusal_or}
 use Rattle.wm_server.specs.Pages.{Refuses, page}
-use Rattle.wm_server.specs.Sessions.{State, question_met, line_met, listing_met, met_or_refused, commanded, by_reply, operation_met, refused, reply_to_command, inquiry_met, state_after_command, triggers_met, view_of}
+use Rattle.wm_server.specs.Sessions.{State, question_met, line_met, met_or_refused, commanded, by_reply, operated, operation_met, reply_to_command, inquiry_met, state_after_command, triggers_met, view_of}
 use Rattle.wm_server.specs.Watched.{clock_in, clock_answer, unless, view_after}
 use Rattle.wm_server.specs.Replies.{clock_reply, command_reply, line_text, refusal_reply, reply_bytes}
 
@@ -88,6 +89,10 @@ observed_plain _ _ = refl
 found_plain : (root : List ℕ) (begun_at : ℕ) (subtree : Option Subtree) (files : Files) → tells_fault (found root begun_at subtree files) ≡ false
 found_plain root begun_at None files = refl
 found_plain root begun_at (Some subtree) files = either {A = Request} (is_root_path root && are_below subtree files) (Ok (Listing root begun_at (record { subtree = subtree; files = files }))) (Err BadPath) refl refl
+
+aged_plain : (root : Option (List ℕ)) (age : Option ℕ) → tells_fault (age_out_with root age) ≡ false
+aged_plain (Some root) (Some age) = either {A = Request} (is_root_path root) (Ok (AgeOut root age)) (Err BadPath) refl refl
+aged_plain _ _ = refl
 
 listed_plain : (root : Option (List ℕ)) (begun_at : Option ℕ) (top : Option (List ℕ)) (files : Option Files) → tells_fault (listing_with root begun_at top files) ≡ false
 listed_plain (Some root) (Some begun_at) (Some top) (Some files) = found_plain root begun_at (subtree_of top) files
@@ -187,9 +192,10 @@ command_plain d (Some name) =
     (either (bytes_eq name (codes "trigger-del")) _ _ (either (is_none (at 3 d)) _ _ (deleted_plain (text_at 1 d) (text_at 2 d)) refl)
     (either (bytes_eq name (codes "observe")) _ _ (either (is_none (at 3 d)) _ _ (observed_plain (text_at 1 d) (option_and_then pairs_of (at 2 d))) refl)
     (either (bytes_eq name (codes "listing")) _ _ (either (is_none (at 5 d)) _ _ (listed_plain (text_at 1 d) (option_and_then count_of (at 2 d)) (text_at 3 d) (option_and_then files_of (at 4 d))) refl)
+    (either (bytes_eq name (codes "age-out")) _ _ (either (is_none (at 3 d)) _ _ (aged_plain (text_at 1 d) (option_and_then count_of (at 2 d))) refl)
     (either (bytes_eq name (codes "clock")) _ _ (with_plain (λ path. Clock path) (root_alone d) (alone_plain d))
     (either (bytes_eq name (codes "since")) _ _ (either (is_none (at 3 d)) _ _ (since_plain (unwrap_or (option_map may_be_clock (at 2 d)) false) (text_at 1 d) (option_and_then spec_of (text_at 2 d))) refl)
-    (either (bytes_eq name (codes "query")) _ _ (either (is_none (at 3 d)) _ _ (queried_plain (text_at 1 d) (object_at 2 d)) refl) refl)))))))))))
+    (either (bytes_eq name (codes "query")) _ _ (either (is_none (at 3 d)) _ _ (queried_plain (text_at 1 d) (object_at 2 d)) refl) refl))))))))))))
 
 text_plain : (o : Option Data) → tells_fault (request_of_text o) ≡ false
 unfolding request_of
@@ -287,17 +293,12 @@ after_plain : (view : Option RootView) (o : Op) → tells_fault (view_after view
 after_plain None o = refl
 after_plain (Some root) o = unless_plain (refused_in root.view o) (record root { view = step root.view o }) (view_plain root.view o)
 
-operated_plain : (s : State) (root : List ℕ) (r : Result RootView Refusal) → tells_fault r ≡ false → tells_fault (operation_met s root r).reply ≡ false
-operated_plain s root (Ok view) h = refl
-operated_plain s root (Err e) h = h
+operated_plain : (s : State) (root : List ℕ) (o : Op) (r : Result RootView Refusal) → tells_fault r ≡ false → tells_fault (operation_met s root o r).reply ≡ false
+operated_plain s root o (Ok view) h = refl
+operated_plain s root o (Err e) h = h
 
-listing_plain : (s : State) (root : List ℕ) (view : Option RootView) (o : Op) → tells_fault (listing_met s root view o).reply ≡ false
-listing_plain s root None o = refl
-listing_plain s root (Some view) o =
-    elim view.view.ready as (λ b. tells_fault (cond b (refused BadCommand s) (operation_met s root (view_after (Some view) o))).reply ≡ false) [
-      | true ↦ refl
-      | false ↦ operated_plain s root (view_after (Some view) o) (after_plain (Some view) o)
-    ]
+viewed_plain : (s : State) (root : List ℕ) (o : Op) → tells_fault (operated s root o).reply ≡ false
+viewed_plain s root o = operated_plain s root o (view_after (view_of s root) o) (after_plain (view_of s root) o)
 
 asked_plain : {A : Type 0} (s : State) (r : Result A Refusal) (to_reply : A → Data) → tells_fault r ≡ false → tells_fault (question_met s r to_reply).reply ≡ false
 asked_plain s (Ok a) to_reply h = refl
@@ -325,8 +326,9 @@ met_plain s moment (Ok (Trigger path t)) h = commanded_plain s (command.Trigger 
 met_plain s moment (Ok (TriggerList path)) h = triggers_plain s (roots.root_at path s.registry)
 met_plain s moment (Ok (TriggerDel path name)) h = commanded_plain s (command.TriggerDel path name)
 met_plain s moment (Ok WatchList) h = refl
-met_plain s moment (Ok (Observe root pairs)) h = operated_plain s root (view_after (view_of s root) (op.Observe moment pairs)) (after_plain (view_of s root) (op.Observe moment pairs))
-met_plain s moment (Ok (Listing root begun_at files)) h = listing_plain s root (view_of s root) (op.Recrawl moment begun_at files)
+met_plain s moment (Ok (Observe root pairs)) h = viewed_plain s root (op.Observe moment pairs)
+met_plain s moment (Ok (Listing root begun_at files)) h = viewed_plain s root (op.Recrawl moment begun_at files)
+met_plain s moment (Ok (AgeOut root age)) h = viewed_plain s root (op.AgeOut moment age)
 met_plain s moment (Ok (Clock root)) h = asked_plain s (clock_answer (view_of s root)) clock_reply (clock_told_plain (view_of s root))
 met_plain s moment (Ok (Query root q)) h = inquiry_plain s root q (inquired (view_of s root) q) (inquired_plain (view_of s root) q)
 met_plain s moment (Err e) h = h

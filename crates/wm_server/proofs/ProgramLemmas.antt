@@ -1,5 +1,5 @@
 -- Lines over a file.
-use Rattle.std.proofs.Common.{◌≡◌, ◌≤◌, ℕ, ◌+◌, List, [], ◌∷◌, true, false, Option, Some, None, cond, Result, Ok, Err, refl, sym, ap, ◌∙◌, subst, arith}
+use Rattle.std.proofs.Common.{◌≡◌, ◌≤◌, ℕ, ◌+◌, List, [], ◌∷◌, true, false, Option, Some, None, Result, Ok, Err, refl, sym, ap, ◌∙◌, subst, arith}
 use Rattle.std.specs.List.{AllByRecursion}
 use Rattle.wm_disk.specs.declared.refusal.Refusal.{Refusal}
 use Rattle.wm_disk.specs.declared.refusal.Refusal.TheVariants.{BadCommand}
@@ -26,13 +26,13 @@ use Rattle.wm_registry.specs.Roots as registry
 use Rattle.wm_store.specs.Openings.{IsFound}
 use Rattle.wm_store.specs.Stored.{Stored}
 use Rattle.wm_server.specs.declared.request.Request.{Request}
-use Rattle.wm_server.specs.declared.request.Request.TheVariants.{Version, Watch, WatchDel, WatchList, Trigger, TriggerList, TriggerDel, Observe, Listing, Clock, Query}
+use Rattle.wm_server.specs.declared.request.Request.TheVariants.{Version, Watch, WatchDel, WatchList, Trigger, TriggerList, TriggerDel, Observe, Listing, AgeOut, Clock, Query}
 use Rattle.wm_server.specs.Inputs.{lines_of}
 use Rattle.wm_server.specs.Lines.{request_of_line}
 use Rattle.wm_server.specs.LocalLaws.{rose_later}
 use Rattle.wm_server.specs.Locals.{CloseRefused}
 use Rattle.wm_server.specs.declared.local.LocalFront.{LocalFront}
-use Rattle.wm_server.specs.Sessions.{State, question_met, line_met, listing_met, met_or_refused, operation_met, refused, answered, cursor_moved, inquiry_met, triggers_met, view_of}
+use Rattle.wm_server.specs.Sessions.{State, question_met, line_met, met_or_refused, operated, operation_met, answered, cursor_moved, inquiry_met, triggers_met, view_of}
 use Rattle.wm_server.specs.Stores.{IsKeptOn, Later, LeadsTo, LinesRefused, StartCut, StartRefused, standing_with, state_with}
 use Rattle.wm_server.specs.Replies.{clock_reply}
 use Rattle.wm_server.specs.Watched.{clock_answer, first_views, view_after}
@@ -42,17 +42,12 @@ use Rattle.wm_server.specs.Programs.{IsQuiet, Kept, LinesServed, first_state, li
 
 -- ---- a store that has failed stays so
 
-operated_failed : (s : State) (root : Path) (r : Result RootView Refusal) → (operation_met s root r).state.has_failed ≡ s.has_failed
-operated_failed s root (Ok view) = refl
-operated_failed s root (Err e) = refl
+operated_failed : (s : State) (root : Path) (o : Op) (r : Result RootView Refusal) → (operation_met s root o r).state.has_failed ≡ s.has_failed
+operated_failed s root o (Ok view) = refl
+operated_failed s root o (Err e) = refl
 
-listed_failed : (s : State) (root : Path) (view : Option RootView) (o : Op) → (listing_met s root view o).state.has_failed ≡ s.has_failed
-listed_failed s root None o = refl
-listed_failed s root (Some view) o =
-    elim view.view.ready as (λ b. (cond b (refused BadCommand s) (operation_met s root (view_after (Some view) o))).state.has_failed ≡ s.has_failed) [
-      | true ↦ refl
-      | false ↦ operated_failed s root (view_after (Some view) o)
-    ]
+viewed_failed : (s : State) (root : Path) (o : Op) → (operated s root o).state.has_failed ≡ s.has_failed
+viewed_failed s root o = operated_failed s root o (view_after (view_of s root) o)
 
 asked_failed : {A : Type 0} (s : State) (r : Result A Refusal) (to_reply : A → Data) → (question_met s r to_reply).state.has_failed ≡ s.has_failed
 asked_failed s (Ok a) to_reply = refl
@@ -84,8 +79,9 @@ met_failed s moment (Ok WatchList) e = e
 met_failed s moment (Ok (Trigger path trigger)) e = rw e refl
 met_failed s moment (Ok (TriggerList path)) e = listed_triggers_failed s (registry.root_at path s.registry) ∙ e
 met_failed s moment (Ok (TriggerDel path name)) e = rw e refl
-met_failed s moment (Ok (Observe root pairs)) e = operated_failed s root (view_after (view_of s root) (op.Observe moment pairs)) ∙ e
-met_failed s moment (Ok (Listing root begun_at found)) e = listed_failed s root (view_of s root) (op.Recrawl moment begun_at found) ∙ e
+met_failed s moment (Ok (Observe root pairs)) e = viewed_failed s root (op.Observe moment pairs) ∙ e
+met_failed s moment (Ok (Listing root begun_at found)) e = viewed_failed s root (op.Recrawl moment begun_at found) ∙ e
+met_failed s moment (Ok (AgeOut root age)) e = viewed_failed s root (op.AgeOut moment age) ∙ e
 met_failed s moment (Ok (Clock root)) e = asked_failed s (clock_answer (view_of s root)) clock_reply ∙ e
 met_failed s moment (Ok (Query root q)) e = inquired_failed s root q (inquired (view_of s root) q) ∙ e
 met_failed s moment (Err r) e = e

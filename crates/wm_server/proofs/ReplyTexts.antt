@@ -20,7 +20,7 @@ use Rattle.wm_registry.specs.declared.command.Command.TheVariants as command
 use Rattle.wm_registry.specs.declared.reply.Reply.{Reply}
 use Rattle.wm_registry.specs.Triggers.{Definition}
 use Rattle.wm_server.proofs.KeptLemmas.{shown_no_float}
-use Rattle.wm_server.specs.Replies.{clock_reply, command_reply, paths_of, roots_reply, line_text, refusal_reply, stdin_text, trigger_data, triggers_reply, with_expression}
+use Rattle.wm_server.specs.Replies.{clock_reply, command_reply, floor_reply, paths_of, roots_reply, line_text, refusal_reply, stdin_text, trigger_data, triggers_reply, with_expression}
 
 paths_no_float : (roots : List (Path × Root)) → items_have_float (items_of (paths_of roots)) ≡ false
 paths_no_float [] = refl
@@ -129,3 +129,9 @@ text_line s = ap (λ (t : List ℕ). codes "{\"clock\":\"" ++ t) (around (escape
 -- the line of a clock, around its text
 pub clock_line : (c : ClockId) → line_text (clock_reply c) ≡ (codes "{\"clock\":\"" ++ clock_text c) ++ codes "\",\"version\":\"w1\"}\n"
 clock_line c = text_line (clock_text c) ∙ ap (λ (s : List ℕ). (codes "{\"clock\":\"" ++ s) ++ codes "\",\"version\":\"w1\"}\n") (plain_clock c)
+
+-- ---- the line of a floor
+
+pub floor_line : (floor : ℕ) → line_text (floor_reply floor) ≡ (codes "{\"floor\":" ++ decimal floor) ++ codes ",\"version\":\"w1\"}\n"
+unfolding line_text serde_json_on_literals
+floor_line floor = ap (λ (t : List ℕ). codes "{\"floor\":" ++ t) (append_assoc (decimal floor) (codes ",\"version\":\"w1\"}") (10 ∷ []))

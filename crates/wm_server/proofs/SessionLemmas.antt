@@ -3,20 +3,20 @@ use Rattle.std.proofs.Common.{◌≡◌, ℕ, List, ◌++◌, false, Result, Ok,
 use Rattle.serde_json.specs.Data.{Data}
 use Rattle.wm_disk.specs.declared.refusal.Refusal.{Refusal}
 use Rattle.wm_names.specs.Paths.{Path}
-use Rattle.wm_clock.specs.declared.clock_id.ClockId.{ClockId}
+use Rattle.wm_server.specs.declared.watched.Stand.{Stand}
 use Rattle.wm_view.specs.declared.op.Op.{Op}
 use Rattle.wm_server.specs.declared.watched.RootView.{RootView}
 use Rattle.wm_registry.specs.declared.reply.Reply.{Reply}
 use Rattle.wm_registry.specs.declared.reply.Reply.TheVariants.{Changed, Replaced, Unchanged, Refused}
 use Rattle.wm_server.specs.Faults.{Standing, Way, Defined, Device, Memory, Spent, HasCause, Operates, refusal_or, state_or}
 use Rattle.wm_server.specs.Pages.{Grants, Refuses, page}
-use Rattle.wm_server.specs.Replies.{clock_reply, line_text, reply_bytes}
-use Rattle.wm_server.specs.Sessions.{State, by_reply, operation_met, view_of}
-use Rattle.wm_server.specs.Watched.{clock_after, view_after}
+use Rattle.wm_server.specs.Replies.{line_text, operation_reply, reply_bytes}
+use Rattle.wm_server.specs.Sessions.{State, by_reply, operated, operation_met, view_of}
+use Rattle.wm_server.specs.Watched.{stand_after, view_after}
 
-takes_no_command : (s : State) (root : Path) (r : Result RootView Refusal) → false ≡ (operation_met s root r).accepts
-takes_no_command s root (Ok view) = refl
-takes_no_command s root (Err e) = refl
+takes_no_command : (s : State) (root : Path) (o : Op) (r : Result RootView Refusal) → false ≡ (operation_met s root o r).accepts
+takes_no_command s root o (Ok view) = refl
+takes_no_command s root o (Err e) = refl
 
 -- ---- an operation that is refused
 
@@ -24,46 +24,47 @@ err_of : {A B : Type 0} → Refusal → Result A Refusal → Result B Refusal
 err_of e (Ok a) = Err e
 err_of e (Err x) = Err x
 
-refusal_told : (way : Way) (s : State) (root : Path) (r : Result RootView Refusal) (e : Refusal) → Err e ≡ refusal_or way (clock_after r) → refusal_or way (operation_met s root r).reply ≡ Err e
+refusal_told : (way : Way) (s : State) (root : Path) (o : Op) (r : Result RootView Refusal) (e : Refusal) → Err e ≡ refusal_or way (stand_after r) → refusal_or way (operation_met s root o r).reply ≡ Err e
 unfolding err_of
-refusal_told Defined s root (Ok view) e is = absurd cc
-refusal_told Defined s root (Err r) e is = ap (err_of e) (sym is)
-refusal_told Device s root r e is = ap (err_of e) (sym is)
-refusal_told Memory s root r e is = ap (err_of e) (sym is)
-refusal_told Spent s root r e is = ap (err_of e) (sym is)
+refusal_told Defined s root o (Ok view) e is = absurd cc
+refusal_told Defined s root o (Err r) e is = ap (err_of e) (sym is)
+refusal_told Device s root o r e is = ap (err_of e) (sym is)
+refusal_told Memory s root o r e is = ap (err_of e) (sym is)
+refusal_told Spent s root o r e is = ap (err_of e) (sym is)
 
 pub operation_refused : (old new : Standing) (root : Path) (o : Op) (e : Refusal) (bytes : List ℕ) → Operates old root o (Err e) new
-    → Refuses (operation_met old.state root (view_after (view_of old.state root) o)) e (page old bytes) (page new bytes)
+    → Refuses (operated old.state root o) e (page old bytes) (page new bytes)
 operation_refused old new root o e bytes m = record {
   way = m.way;
-  cause = subst (λ b. HasCause m.way b old new) (takes_no_command old.state root (view_after (view_of old.state root) o)) m.cause;
-  reply_is = refusal_told m.way old.state root (view_after (view_of old.state root) o) e m.reply_is;
+  cause = subst (λ b. HasCause m.way b old new) (takes_no_command old.state root o (view_after (view_of old.state root) o)) m.cause;
+  reply_is = refusal_told m.way old.state root o (view_after (view_of old.state root) o) e m.reply_is;
   state_is = m.state_is;
   bytes_are = refl;
 }
 
 -- ---- an operation that is done
 
-done_is : (way : Way) (s : State) (root : Path) (r : Result RootView Refusal) (clock : ClockId) → Ok clock ≡ refusal_or way (clock_after r) → (way ≡ Defined) × ((operation_met s root r).reply ≡ Ok (clock_reply clock))
-done_is Defined s root (Ok view) clock is = (refl, ap (λ (x : Result ClockId Refusal). reply_of x) (sym is))
+done_is : (way : Way) (s : State) (root : Path) (o : Op) (r : Result RootView Refusal) (stand : Stand) → Ok stand ≡ refusal_or way (stand_after r)
+    → (way ≡ Defined) × ((operation_met s root o r).reply ≡ Ok (operation_reply o stand))
+done_is Defined s root o (Ok view) stand is = (refl, ap (λ (x : Result Stand Refusal). reply_of x) (sym is))
   where
-    reply_of : Result ClockId Refusal → Result Data Refusal
-    reply_of (Ok c) = Ok (clock_reply c)
+    reply_of : Result Stand Refusal → Result Data Refusal
+    reply_of (Ok x) = Ok (operation_reply o x)
     reply_of (Err e) = Err e
-done_is Defined s root (Err r) clock is = absurd cc
-done_is Device s root r clock is = absurd cc
-done_is Memory s root r clock is = absurd cc
-done_is Spent s root r clock is = absurd cc
+done_is Defined s root o (Err r) stand is = absurd cc
+done_is Device s root o r stand is = absurd cc
+done_is Memory s root o r stand is = absurd cc
+done_is Spent s root o r stand is = absurd cc
 
-pub operation_done : (old new : Standing) (root : Path) (o : Op) (clock : ClockId) (bytes : List ℕ) → Operates old root o (Ok clock) new
-    → Grants (operation_met old.state root (view_after (view_of old.state root) o)) (page old bytes) (page new (bytes ++ line_text (clock_reply clock)))
-operation_done old new root o clock bytes m =
+pub operation_done : (old new : Standing) (root : Path) (o : Op) (stand : Stand) (bytes : List ℕ) → Operates old root o (Ok stand) new
+    → Grants (operated old.state root o) (page old bytes) (page new (bytes ++ line_text (operation_reply o stand)))
+operation_done old new root o stand bytes m =
     let r = view_after (view_of old.state root) o in
-    let is = done_is m.way old.state root r clock m.reply_is in
+    let is = done_is m.way old.state root o r stand m.reply_is in
     record {
-      cause = subst (λ b. HasCause Defined b old new) (takes_no_command old.state root r) (subst (λ w. HasCause w false old new) is.0 m.cause);
+      cause = subst (λ b. HasCause Defined b old new) (takes_no_command old.state root o r) (subst (λ w. HasCause w false old new) is.0 m.cause);
       bytes_are = ap (λ (x : Result Data Refusal). bytes ++ reply_bytes x) (sym is.1);
-      state_is = m.state_is ∙ ap (λ w. state_or w (operation_met old.state root r).state old.state) is.0;
+      state_is = m.state_is ∙ ap (λ w. state_or w (operated old.state root o).state old.state) is.0;
     }
 
 -- ---- a command

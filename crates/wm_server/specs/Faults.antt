@@ -4,7 +4,7 @@ use Rattle.wm_disk.specs.Contents.{Rose}
 use Rattle.wm_disk.specs.declared.refusal.Refusal.{Refusal}
 use Rattle.wm_disk.specs.declared.refusal.Refusal.TheVariants.{DeviceFailed, Exhausted, NoMemory}
 use Rattle.wm_names.specs.Paths.{Path}
-use Rattle.wm_clock.specs.declared.clock_id.ClockId.{ClockId}
+use Rattle.wm_server.specs.declared.watched.Stand.{Stand}
 use Rattle.wm_view.specs.declared.op.Op.{Op}
 use Rattle.wm_registry.specs.declared.command.Command.{Command}
 use Rattle.wm_registry.specs.declared.reply.Reply.{Reply}
@@ -12,7 +12,7 @@ use Rattle.wm_registry.specs.declared.reply.Reply.TheVariants as reply
 use Rattle.wm_registry.specs.Registry.{is_change}
 use Rattle.wm_server.specs.Replies.{reply_bytes}
 use Rattle.wm_server.specs.Sessions.{State, line_met, operation_met, reply_to_command, state_after_command, view_of}
-use Rattle.wm_server.specs.Watched.{clock_after, view_after}
+use Rattle.wm_server.specs.Watched.{stand_after, view_after}
 
 -- the state of a session, how often the device under it has failed, and the number of the slot in use
 pub record Standing : Type 0 where
@@ -86,8 +86,8 @@ is_fault NoMemory = true
 is_fault _ = false
 
 -- a front did an operation on a root's view
-pub record Operates (old : Standing) (root : Path) (o : Op) (result : Result ClockId Refusal) (new : Standing) : Type 0 where
+pub record Operates (old : Standing) (root : Path) (o : Op) (result : Result Stand Refusal) (new : Standing) : Type 0 where
   pub way : Way
   pub cause : HasCause way false old new
-  pub reply_is : result ≡ refusal_or way (clock_after (view_after (view_of old.state root) o))
-  pub state_is : new.state ≡ state_or way (operation_met old.state root (view_after (view_of old.state root) o)).state old.state
+  pub reply_is : result ≡ refusal_or way (stand_after (view_after (view_of old.state root) o))
+  pub state_is : new.state ≡ state_or way (operation_met old.state root o (view_after (view_of old.state root) o)).state old.state

@@ -1,3 +1,4 @@
+pub mod AgeOutLines
 pub mod Arguments
 pub mod ClockLines
 pub mod Endings

@@ -8,6 +8,7 @@ use Rattle.serde_json.specs.Find.{at, as_str}
 use Rattle.wm_disk.specs.declared.refusal.Refusal.{Refusal}
 use Rattle.wm_disk.specs.declared.refusal.Refusal.TheVariants.{BadLine, BadCommand, BadArguments}
 use Rattle.wm_server.specs.declared.request.Request.{Request}
+use Rattle.wm_server.specs.AgeOutLines.{age_out_request}
 use Rattle.wm_server.specs.Arguments.{root_alone}
 use Rattle.wm_server.specs.ClockLines.{since_request}
 use Rattle.wm_server.specs.ListingLines.{listing_request}
@@ -50,10 +51,11 @@ command_named d (Some name) =
     else (if bytes_eq name (codes "trigger-del") then trigger_del_request d
     else (if bytes_eq name (codes "observe") then observe_request d
     else (if bytes_eq name (codes "listing") then listing_request d
+    else (if bytes_eq name (codes "age-out") then age_out_request d
     else (if bytes_eq name (codes "clock") then request_with (λ path. Clock path) (root_alone d)
     else (if bytes_eq name (codes "since") then since_request d
     else (if bytes_eq name (codes "query") then query_request d
-    else Err BadCommand)))))))))))
+    else Err BadCommand))))))))))))
 
 unfoldable pub request_of : Data → Result Request Refusal
 request_of d = command_named d (option_and_then as_str (at 0 d))

@@ -1,6 +1,6 @@
 -- The replies, as JSON values and as lines. The keys of each are in the order of their bytes.
 use Rattle.std.specs.Prelude.{ℕ, Bool, true, List, [], ◌∷◌, ◌++◌, map, Option, Some, None, Result, Ok, Err, codes}
-use Rattle.serde_json.specs.Data.{Data, Members, boolean, string, array, object, member, no_members}
+use Rattle.serde_json.specs.Data.{Data, Members, boolean, string, number, unsigned, array, object, member, no_members}
 use Rattle.serde_json.specs.View.{items_of}
 use Rattle.serde_json.specs.Written.{compact_text}
 use Rattle.wm_disk.specs.Refusals.{text_of}
@@ -20,6 +20,9 @@ use Rattle.wm_registry.specs.declared.reply.Reply.TheVariants as reply
 use Rattle.wm_registry.specs.Registry.{is_change}
 use Rattle.wm_registry.specs.Triggers.{Definition}
 use Rattle.wm_names.specs.Paths.{Path}
+use Rattle.wm_view.specs.declared.op.Op.{Op}
+use Rattle.wm_view.specs.declared.op.Op.TheVariants as op
+use Rattle.wm_server.specs.declared.watched.Stand.{Stand}
 use Rattle.wm_server.specs.KeptExpressions.{expression_shown}
 
 -- each reply has `"version":"w1"`
@@ -96,6 +99,15 @@ roots_reply roots = object (member (codes "roots") (array (items_of (paths_of ro
 
 abbrev pub clock_reply : ClockId → Data
 clock_reply clock = object (member (codes "clock") (string (clock_text clock)) (member (codes "version") (string (codes "w1")) no_members))
+
+abbrev pub floor_reply : ℕ → Data
+floor_reply floor = object (member (codes "floor") (number (unsigned floor)) (member (codes "version") (string (codes "w1")) no_members))
+
+-- where a view stands after an operation: an age-out tells its floor, the others its clock
+abbrev pub operation_reply : Op → Stand → Data
+operation_reply (op.Observe moment pairs) stand = clock_reply stand.clock
+operation_reply (op.Recrawl moment begun_at found) stand = clock_reply stand.clock
+operation_reply (op.AgeOut now age) stand = floor_reply stand.floor
 
 abbrev pub answer_reply : List ℕ → Data → Bool → Data
 answer_reply clock files is_fresh =

@@ -2,7 +2,7 @@
 use Rattle.std.specs.Prelude.{ℕ, List, [], ◌∷◌, ◌++◌, Bool, true, false, Option, Some, None, Result, Ok, Err, if◌then◌else◌}
 use Rattle.serde_json.specs.Data.{Data}
 use Rattle.wm_disk.specs.declared.refusal.Refusal.{Refusal}
-use Rattle.wm_disk.specs.declared.refusal.Refusal.TheVariants.{BadArguments, BadCommand, NotWatched, StoreFailed}
+use Rattle.wm_disk.specs.declared.refusal.Refusal.TheVariants.{BadArguments, NotWatched, StoreFailed}
 use Rattle.wm_names.specs.Paths.{Path}
 use Rattle.wm_clock.specs.declared.clock_id.ClockId.{ClockId}
 use Rattle.wm_clock.specs.declared.clock_spec.ClockSpec.{ClockSpec}
@@ -21,11 +21,11 @@ use Rattle.wm_registry.specs.declared.root.Root.{Root}
 use Rattle.wm_registry.specs.Registry as registry
 use Rattle.wm_registry.specs.Roots as roots
 use Rattle.wm_server.specs.declared.request.Request.{Request}
-use Rattle.wm_server.specs.declared.request.Request.TheVariants.{Version, Watch, WatchDel, WatchList, Trigger, TriggerList, TriggerDel, Observe, Listing, Clock, Query}
+use Rattle.wm_server.specs.declared.request.Request.TheVariants.{Version, Watch, WatchDel, WatchList, Trigger, TriggerList, TriggerDel, Observe, Listing, AgeOut, Clock, Query}
 use Rattle.wm_server.specs.Lines.{request_of_line}
 use Rattle.wm_store.specs.Batches.{is_begin}
-use Rattle.wm_server.specs.Replies.{version_reply, command_reply, roots_reply, triggers_reply, clock_reply, query_reply}
-use Rattle.wm_server.specs.Watched.{clock_in, clock_answer, new_view, view_after, view_at, with_cursor, with_view, without_view}
+use Rattle.wm_server.specs.Replies.{version_reply, command_reply, operation_reply, roots_reply, triggers_reply, clock_reply, query_reply}
+use Rattle.wm_server.specs.Watched.{clock_answer, new_view, stand_in, view_after, view_at, with_cursor, with_view, without_view}
 
 -- what lines read and change
 pub record State : Type 0 where
@@ -88,15 +88,14 @@ view_of s root = view_at root s.registry.roots s.views
 abbrev pub with_root : State → Path → RootView → State
 with_root s root view = record s { views = with_view root view s.registry.roots s.views }
 
--- an operation's outcome: the clock after it, or a refusal that changes nothing
-abbrev pub operation_met : State → Path → Result RootView Refusal → Outcome
-operation_met s root (Ok view) = replied (clock_reply (clock_in view)) (with_root s root view)
-operation_met s root (Err r) = refused r s
+-- an operation's outcome: where the view stands after it, or a refusal that changes nothing
+abbrev pub operation_met : State → Path → Op → Result RootView Refusal → Outcome
+operation_met s root o (Ok view) = replied (operation_reply o (stand_in view)) (with_root s root view)
+operation_met s root o (Err r) = refused r s
 
--- a listing is taken where the view isn't ready; later ones come with recrawls
-abbrev pub listing_met : State → Path → Option RootView → Op → Outcome
-listing_met s root None o = refused NotWatched s
-listing_met s root (Some view) o = if view.view.ready then refused BadCommand s else operation_met s root (view_after (Some view) o)
+-- an operation on the view of a root
+abbrev pub operated : State → Path → Op → Outcome
+operated s root o = operation_met s root o (view_after (view_of s root) o)
 
 -- a question's outcome
 abbrev pub question_met : {A : Type 0} → State → Result A Refusal → (A → Data) → Outcome
@@ -131,8 +130,9 @@ met s moment Version = replied version_reply s
 met s moment (Watch path) = commanded s (command.Watch path)
 met s moment (WatchDel path) = commanded s (command.WatchDel path)
 met s moment WatchList = replied (roots_reply s.registry.roots) s
-met s moment (Observe root pairs) = operation_met s root (view_after (view_of s root) (op.Observe moment pairs))
-met s moment (Listing root begun_at found) = listing_met s root (view_of s root) (op.Recrawl moment begun_at found)
+met s moment (Observe root pairs) = operated s root (op.Observe moment pairs)
+met s moment (Listing root begun_at found) = operated s root (op.Recrawl moment begun_at found)
+met s moment (AgeOut root age) = operated s root (op.AgeOut moment age)
 met s moment (Clock root) = question_met s (clock_answer (view_of s root)) clock_reply
 met s moment (Trigger path trigger) = commanded s (command.Trigger path trigger)
 met s moment (TriggerList path) = triggers_met s (roots.root_at path s.registry)

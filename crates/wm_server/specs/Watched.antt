@@ -16,6 +16,7 @@ use Rattle.wm_since.specs.declared.query.Answer.{Answer}
 use Rattle.wm_since.specs.Cursors.{CursorList, cursor_at, has_room, moved_to}
 use Rattle.wm_names.specs.declared.entry.Entry.{Entry}
 use Rattle.wm_server.specs.declared.watched.RootView.{RootView}
+use Rattle.wm_server.specs.declared.watched.Stand.{Stand}
 use Rattle.wm_registry.specs.declared.root.Root.{Root}
 use Rattle.wm_registry.specs.Roots as registry
 
@@ -93,10 +94,14 @@ may_move (Some root) name = has_room name root.cursors
 abbrev pub with_cursor : List ℕ → ClockId → RootView → RootView
 with_cursor name clock root = record root { cursors = moved_to name clock root.cursors }
 
--- the clock after an operation
-abbrev pub clock_after : Result RootView Refusal → Result ClockId Refusal
-clock_after (Ok view) = Ok (clock_in view)
-clock_after (Err r) = Err r
+-- where a root's view stands
+abbrev pub stand_in : RootView → Stand
+stand_in root = record { clock = clock_in root; floor = root.view.floor }
+
+-- where it stands after an operation
+abbrev pub stand_after : Result RootView Refusal → Result Stand Refusal
+stand_after (Ok view) = Ok (stand_in view)
+stand_after (Err r) = Err r
 
 -- ---- for private clauses
 
@@ -108,9 +113,9 @@ place_of path roots = position (bytes_eq path) (keys_of roots)
 abbrev pub Forgets : Option ℕ → List RootView → List RootView → Type 0
 Forgets place old new = (path : Path) (roots : List (Path × Root)) → place ≡ place_of path roots → new ≡ without_view path roots old
 
--- an operation was done to a root's view, whose clock is told; or it was refused, and nothing changed
-abbrev pub Operated : Path → Op → List (Path × Root) → List RootView → Result ClockId Refusal → List RootView → Type 0
-Operated path o roots old (Ok clock) new = (view : RootView) × (view_after (view_at path roots old) o ≡ Ok view) × (clock ≡ clock_in view) × (new ≡ with_view path view roots old)
+-- an operation was done to a root's view, and it is told where that stands; or it was refused, and nothing changed
+abbrev pub Operated : Path → Op → List (Path × Root) → List RootView → Result Stand Refusal → List RootView → Type 0
+Operated path o roots old (Ok stand) new = (view : RootView) × (view_after (view_at path roots old) o ≡ Ok view) × (stand ≡ stand_in view) × (new ≡ with_view path view roots old)
 Operated path o roots old (Err e) new = (e ≢ NoMemory → view_after (view_at path roots old) o ≡ Err e) × (new ≡ old)
 
 -- the cursor of a root was moved

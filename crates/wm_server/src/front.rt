@@ -6,6 +6,7 @@ ghost use Rattle.wm_server.specs.Faults.{Operates, Standing, Submits};
 ghost use Rattle.wm_server.specs.Sessions.{cursor_moved, view_of};
 ghost use Rattle.wm_server.specs.Watched.{answer_of, clock_answer, cursor_answer, may_move};
 
+use crate::watched::Stand;
 use std::alloc::Global;
 use wm_clock::{ClockId, CursorName};
 use wm_disk::Refusal;
@@ -29,9 +30,9 @@ pub trait Front {
         ensures met { Submits (standing self.old) command result (standing self.new) }
         ensures later { leads_to self.old self.new };
 
-    /// Performs an operation on the view of a watched root, and gives the root's clock after it.
+    /// Performs an operation on the view of a watched root, and tells where that stands after it.
     /// `NotWatched`, what the view refuses, and `NoMemory`; a refusal changes nothing.
-    fn operate(&mut self, alloc: Global, root: &RootPath, op: &Op) -> Result<ClockId, Refusal>
+    fn operate(&mut self, alloc: Global, root: &RootPath, op: &Op) -> Result<Stand, Refusal>
         ensures met { Operates (standing self.old) root.now op.now result (standing self.new) }
         ensures later { leads_to self.old self.new };
 

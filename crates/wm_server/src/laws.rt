@@ -8,9 +8,13 @@ ghost use Rattle.wm_expr.specs.Meanings.{holds};
 ghost use Rattle.wm_server.specs.declared.query.Inquiry.{Inquiry};
 ghost use Rattle.wm_server.specs.Inquiries.{has_place, inquired, question_in};
 ghost use Rattle.wm_server.specs.Watched.{AreOfHistories, first_views, of_history, unless, view_after};
+ghost use Rattle.wm_server.specs.Programs.{Kept};
 ghost use Rattle.wm_server.specs.Sessions.{State, line_met};
 ghost use Rattle.wm_registry.specs.Roots as registry;
 
+use wm_checkpoint::every_content;
+use wm_disk::Disk;
+use wm_registry::Registry;
 use wm_since::every_answer;
 use wm_view::every_operation;
 
@@ -26,4 +30,12 @@ pub fn every_line()
 {
     every_operation();
     every_answer();
+}
+
+/// What holds of two sessions over one honest disk, one after the other: the second begins on what the first
+/// left, which is the replay of all that it accepted, and so with one more `Begin`.
+pub fn every_restart<D: Disk>()
+    ensures { (old middle new : D) (was left found last : registry.State) → D.honest middle → Kept D.Disk old was left middle → Kept D.Disk middle found last new → found ≡ left }
+{
+    every_content::<Registry>();
 }

@@ -5,6 +5,7 @@
 //! answered, and the state after it, is `line_met` of specs/Sessions.antt.
 #![tactic(auto)]
 
+mod age_out;
 mod arguments;
 mod clock;
 mod expression;
@@ -34,10 +35,10 @@ pub mod words;
 
 pub use expression::Expression;
 pub use front::Front;
-pub use laws::every_line;
+pub use laws::{every_line, every_restart};
 pub use local::LocalFront;
 pub use query::Inquiry;
 pub use reply::REFUSAL_ROOM;
 pub use request::{MAX_LINE, Request};
 pub use session::Session;
-pub use watched::RootView;
+pub use watched::{RootView, Stand};

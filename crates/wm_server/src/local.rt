@@ -11,7 +11,7 @@ ghost use Rattle.wm_store.specs.Batches.{is_begin};
 ghost use Rattle.wm_server.specs.declared.watched.RootView.{RootView};
 
 use crate::front::Front;
-use crate::watched::RootView;
+use crate::watched::{RootView, Stand};
 use crate::{kept_expression, watched};
 use std::alloc::Global;
 use wm_clock::{ClockId, CursorName};
@@ -136,7 +136,7 @@ impl<D: Disk + Drop> Front for LocalFront<D> {
         reply
     }
 
-    fn operate(&mut self, alloc: Global, root: &RootPath, op: &Op) -> Result<ClockId, Refusal> {
+    fn operate(&mut self, alloc: Global, root: &RootPath, op: &Op) -> Result<Stand, Refusal> {
         let roots = self.store.registry().roots();
         watched::operate(alloc, root, roots, &mut self.views, op)
     }

@@ -1,12 +1,14 @@
-ghost use Rattle.std.specs.Prelude.{◌≡◌, ◌++◌, ◌+◌, ◌≤◌, codes, false, map, vec_len, vec_capacity, IfOk, OnOk, OnErr};
+ghost use Rattle.std.specs.Prelude.{◌≡◌, ◌++◌, ◌+◌, ◌≤◌, codes, decimal, false, map, vec_len, vec_capacity, IfOk, OnOk, OnErr};
 ghost use Rattle.serde_json.specs.Written.{has_float};
 ghost use Rattle.serde_json.specs.View.{items_of, items_view, view};
-ghost use Rattle.wm_server.specs.Replies.{answer_reply, clock_reply, command_reply, disposition_of, line_text, paths_of, refusal_reply, roots_reply, query_reply, stdin_text, trigger_data, trigger_object, trigger_del_reply, trigger_reply, triggers_reply, version_reply, watch_del_reply, watch_reply};
+ghost use Rattle.wm_server.specs.Replies.{answer_reply, clock_reply, command_reply, disposition_of, floor_reply, line_text, operation_reply, paths_of, refusal_reply, roots_reply, query_reply, stdin_text, trigger_data, trigger_object, trigger_del_reply, trigger_reply, triggers_reply, version_reply, watch_del_reply, watch_reply};
 ghost use Rattle.serde_json.specs.Data.{member, string};
 ghost use Rattle.wm_server.specs.KeptExpressions.{expression_shown as expression_shown_lem};
 
 use crate::kept_expression::expression_in;
+use crate::watched::Stand;
 use indexmap::IndexMap;
+use itoa::Buffer;
 use serde_json::{Value, json};
 use std::alloc::{AllocError, Global};
 use wm_clock::ClockId;
@@ -14,6 +16,7 @@ use wm_disk::{NoMemory, Refusal};
 use wm_names::RootPath;
 use wm_registry::{Command, Reply, Root, Stdin, Trigger, Word};
 use wm_since::{Answer, Fields, render};
+use wm_view::Op;
 
 /// The most bytes of a refusal's line.
 pub const REFUSAL_ROOM: usize = 64;
@@ -42,18 +45,54 @@ fn put_line(alloc: Global, value: &Value, out: &mut Vec<u8>) -> Result<(), NoMem
     Ok(())
 }
 
-/// The most bytes of the line of a clock.
-pub(crate) const CLOCK_ROOM: usize = 96;
+/// The most bytes of the line of a clock or a floor.
+pub(crate) const STAND_ROOM: usize = 96;
 
 /// Appends the line of a clock, for which there is room.
 pub(crate) fn put_clock(clock: ClockId, out: &mut Vec<u8>)
-    requires { vec_len out.old + CLOCK_ROOM ≤ vec_capacity out.old }
+    requires { vec_len out.old + STAND_ROOM ≤ vec_capacity out.old }
     ensures value { out.new.items ≡ out.old.items ++ line_text (clock_reply clock) }
     ensures room { vec_capacity out.old ≤ vec_capacity out.new }
 {
     out.extend_from_slice(b"{\"clock\":\"").unwrap();
     clock.put(out);
     out.extend_from_slice(b"\",\"version\":\"w1\"}\n").unwrap();
+}
+
+/// Appends a number's digits, at most 20, for which there is room.
+fn put_number(number: u64, out: &mut Vec<u8>)
+    requires { vec_len out.old + 20 ≤ vec_capacity out.old }
+    ensures value { out.new.items ≡ out.old.items ++ decimal number }
+    ensures short { vec_len out.new ≤ vec_len out.old + 20 }
+    ensures room { vec_capacity out.old ≤ vec_capacity out.new }
+{
+    let mut digits = Buffer::new();
+    out.extend_from_slice(digits.format(number).as_bytes())
+        .unwrap();
+}
+
+/// Appends the line of a floor, for which there is room.
+fn put_floor(floor: u64, out: &mut Vec<u8>)
+    requires { vec_len out.old + STAND_ROOM ≤ vec_capacity out.old }
+    ensures value { out.new.items ≡ out.old.items ++ line_text (floor_reply floor) }
+    ensures room { vec_capacity out.old ≤ vec_capacity out.new }
+{
+    out.extend_from_slice(b"{\"floor\":").unwrap();
+    put_number(floor, out);
+    out.extend_from_slice(b",\"version\":\"w1\"}\n").unwrap();
+}
+
+/// Appends the line that tells where a view stands after an operation, for which there is room: an
+/// age-out tells its floor, the others its clock.
+pub(crate) fn put_stand(op: &Op, stand: Stand, out: &mut Vec<u8>)
+    requires { vec_len out.old + STAND_ROOM ≤ vec_capacity out.old }
+    ensures value { out.new.items ≡ out.old.items ++ line_text (operation_reply op.now stand) }
+    ensures room { vec_capacity out.old ≤ vec_capacity out.new }
+{
+    match op {
+        Op::Observe(_, _) | Op::Recrawl(_, _, _) => put_clock(stand.clock, out),
+        Op::AgeOut(_, _) => put_floor(stand.floor, out),
+    }
 }
 
 fn version(alloc: Global) -> Result<Value, AllocError>

@@ -2,6 +2,7 @@ ghost use Rattle.std.specs.Prelude.{◌≡◌, ◌≢◌, Ok, Err, Some, None, I
 ghost use Rattle.serde_json.specs.View.{view};
 ghost use Rattle.wm_server.specs.Lines.{is_whole_line, plain_request, request_of, request_of_line, text_of};
 
+use crate::age_out::age_out;
 use crate::arguments::{ends_at, root_alone, text_at};
 use crate::clock::since;
 use crate::listing::listing;
@@ -36,6 +37,8 @@ pub enum Request {
     Observe(RootPath, Pairs),
     /// What a reading found that began at this tick of a root.
     Listing(RootPath, u64, Listing),
+    /// That what was deleted below a root so many seconds ago be forgotten.
+    AgeOut(RootPath, u64),
     /// The clock of a root.
     Clock(RootPath),
     /// What changed in a root, or is there.
@@ -105,6 +108,7 @@ fn request_in(alloc: Global, value: &Value) -> Result<Request, Refusal>
         "trigger-del" => trigger_del(alloc, value),
         "observe" => observe(alloc, value),
         "listing" => listing(alloc, value),
+        "age-out" => age_out(alloc, value),
         "clock" => Ok(Request::Clock(root_alone(alloc, value)?)),
         "since" => since(alloc, value),
         "query" => query(alloc, value),

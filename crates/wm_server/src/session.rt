@@ -1,8 +1,8 @@
 ghost use Rattle.std.specs.Prelude.{◌≡◌, ◌≢◌, Err, ◌++◌, ◌+◌, ◌≤◌, ◌<◌, List, ℕ, vec_len, vec_capacity, IfOk, IfErr, OnOk, OnErr};
 ghost use Rattle.wm_registry.specs.Roots.{root_at};
-ghost use Rattle.wm_server.specs.Sessions.{commanded, triggers_met, question_met, line_met, inquiry_met, listing_met, met, operation_met, view_of};
+ghost use Rattle.wm_server.specs.Sessions.{commanded, triggers_met, question_met, line_met, inquiry_met, met, operated, view_of};
 ghost use Rattle.wm_server.specs.Replies.{clock_reply};
-ghost use Rattle.wm_server.specs.Watched.{answer_of, clock_answer, view_after};
+ghost use Rattle.wm_server.specs.Watched.{answer_of, clock_answer};
 ghost use Rattle.wm_server.specs.Faults.{Answers, Way, faults_of, is_fault as is_fault_lem};
 ghost use Rattle.wm_server.specs.Pages.{Meets, Told, page};
 ghost use Rattle.wm_server.specs.Inquiries.{inquired, point_answer};
@@ -78,7 +78,7 @@ impl<F: Front> Session<F> {
         Ok(())
     }
 
-    /// Performs an operation on a root's view. The reply's room is made first.
+    /// Performs an operation on a root's view, and tells where that stands. The reply's room is made first.
     fn operate(
         &mut self,
         alloc: Global,
@@ -86,35 +86,16 @@ impl<F: Front> Session<F> {
         op: &Op,
         out: &mut Vec<u8>,
     ) -> Result<(), Refusal>
-        ensures met { let s = (F.standing self.old.front).state in Meets (operation_met s root.now (view_after (view_of s root.now) op.now)) (page (F.standing self.old.front) out.old.items) result (page (F.standing self.new.front) out.new.items) }
+        ensures met { let s = (F.standing self.old.front).state in Meets (operated s root.now op.now) (page (F.standing self.old.front) out.old.items) result (page (F.standing self.new.front) out.new.items) }
         ensures room { vec_capacity out.old ≤ vec_capacity out.new }
         ensures later { F.leads_to self.old.front self.new.front }
     {
-        out.try_reserve(reply::CLOCK_ROOM)?;
+        out.try_reserve(reply::STAND_ROOM)?;
         match self.front.operate(alloc, root, op) {
-            Ok(clock) => {
-                reply::put_clock(clock, out);
+            Ok(stand) => {
+                reply::put_stand(op, stand, out);
                 Ok(())
             }
-            Err(refusal) => Err(refusal),
-        }
-    }
-
-    /// Takes the first whole listing of a root; later ones come with recrawls.
-    fn listing(
-        &mut self,
-        alloc: Global,
-        root: &RootPath,
-        op: &Op,
-        out: &mut Vec<u8>,
-    ) -> Result<(), Refusal>
-        ensures met { let s = (F.standing self.old.front).state in Meets (listing_met s root.now (view_of s root.now) op.now) (page (F.standing self.old.front) out.old.items) result (page (F.standing self.new.front) out.new.items) }
-        ensures room { vec_capacity out.old ≤ vec_capacity out.new }
-        ensures later { F.leads_to self.old.front self.new.front }
-    {
-        match self.front.clock(root) {
-            Ok(_) => Err(Refusal::BadCommand),
-            Err(Refusal::NotReady) => self.operate(alloc, root, op, out),
             Err(refusal) => Err(refusal),
         }
     }
@@ -125,7 +106,7 @@ impl<F: Front> Session<F> {
         ensures room { vec_capacity out.old ≤ vec_capacity out.new }
     {
         let clock = self.front.clock(root)?;
-        out.try_reserve(reply::CLOCK_ROOM)?;
+        out.try_reserve(reply::STAND_ROOM)?;
         reply::put_clock(clock, out);
         Ok(())
     }
@@ -220,8 +201,10 @@ impl<F: Front> Session<F> {
                 self.operate(alloc, &root, &Op::Observe(moment, pairs), out)?
             }
             Request::Listing(root, begun_at, listing) => {
-                let op = Op::Recrawl(moment, begun_at, listing);
-                self.listing(alloc, &root, &op, out)?
+                self.operate(alloc, &root, &Op::Recrawl(moment, begun_at, listing), out)?
+            }
+            Request::AgeOut(root, age) => {
+                self.operate(alloc, &root, &Op::AgeOut(moment, age), out)?
             }
             Request::Clock(root) => self.clock(&root, out)?,
             Request::Query(root, inquiry) => self.inquire(alloc, &root, inquiry, out)?,

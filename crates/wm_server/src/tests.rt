@@ -11,8 +11,11 @@ use wm_disk::{Crashed, Disk, MemDisk};
 
 mod expressions;
 mod failures;
+mod generated;
+mod plain;
 mod queries;
 mod query_lines;
+mod recrawls;
 mod requests;
 mod trigger_lines;
 mod triggers;

@@ -1,6 +1,6 @@
 //! The views of the watched roots with their cursors: one a root, in order of watching.
 ghost use Rattle.std.specs.Prelude.{◌≡◌, true, option_map, IfOk};
-ghost use Rattle.wm_server.specs.Watched.{Forgets, Moved, Operated, clock_in, first_views as first_views_lem, may_move, new_view, place_of as place_of_lem, view_at as view_at_lem};
+ghost use Rattle.wm_server.specs.Watched.{Forgets, Moved, Operated, clock_in, first_views as first_views_lem, may_move, new_view, place_of as place_of_lem, stand_in, view_at as view_at_lem};
 
 use indexmap::IndexMap;
 use std::alloc::Global;
@@ -16,6 +16,14 @@ use wm_view::{Op, View};
 pub struct RootView {
     pub view: View,
     pub cursors: Cursors,
+}
+
+/// Where the view of a root stands.
+#[derive(Clone, Copy, Debug, PartialEq, Eq)]
+pub struct Stand {
+    pub clock: ClockId,
+    /// The tick from which on all changes can be told.
+    pub floor: u64,
 }
 
 impl RootView {
@@ -89,7 +97,17 @@ pub(crate) fn clock_of(root: &RootView) -> ClockId
     }
 }
 
-/// Performs an operation on the view of a watched root, and gives the root's clock. A refusal changes
+/// Where a root stands.
+fn stand_of(root: &RootView) -> Stand
+    ensures { result ≡ stand_in root.now }
+{
+    Stand {
+        clock: clock_of(root),
+        floor: root.view.floor(),
+    }
+}
+
+/// Performs an operation on the view of a watched root, and tells where that stands. A refusal changes
 /// nothing.
 pub(crate) fn operate(
     alloc: Global,
@@ -97,7 +115,7 @@ pub(crate) fn operate(
     roots: &IndexMap<RootPath, Root>,
     views: &mut Vec<RootView>,
     op: &Op,
-) -> Result<ClockId, Refusal>
+) -> Result<Stand, Refusal>
     ensures { Operated path.now op.now roots.now.entries views.old.items result views.new.items }
 {
     let Some(place) = place_of(path, roots) else {
@@ -108,7 +126,7 @@ pub(crate) fn operate(
     }
     let root = &mut views[place];
     match root.view.perform(alloc, op) {
-        Ok(()) => Ok(clock_of(root)),
+        Ok(()) => Ok(stand_of(root)),
         Err(refusal) => Err(refusal),
     }
 }

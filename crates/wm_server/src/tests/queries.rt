@@ -178,7 +178,7 @@ static SIZES: [Row<'static>; 6] = [
 ];
 
 /// A session with the rows of two tables, one after the other.
-fn assert_answers(
+pub(super) fn assert_answers(
     rt: &impl Abort,
     alloc: Global,
     first: &[Row<'_>],

@@ -106,6 +106,7 @@ fn show(request: &Request, text: &mut String) -> Result<(), NoMemory> {
             write!(text, "listing {} {begun_at}", root.as_str())?;
             show_listing(listing, text)
         }
+        Request::AgeOut(root, age) => Ok(write!(text, "age-out {} {age}", root.as_str())?),
         Request::Clock(root) => Ok(write!(text, "clock {}", root.as_str())?),
         Request::Query(root, inquiry) => {
             write!(text, "query {}", root.as_str())?;
@@ -300,7 +301,21 @@ static LISTED: [(&str, &str); 31] = [
     ),
 ];
 
-static CLOCKS: [(&str, &str); 29] = [
+static CLOCKS: [(&str, &str); 40] = [
+    (r#"["age-out","/r",0]"#, "age-out /r 0"),
+    (
+        r#"["age-out","/r",9223372036854775807]"#,
+        "age-out /r 9223372036854775807",
+    ),
+    (r#"["age-out"]"#, ARGUMENTS),
+    (r#"["age-out","/r"]"#, ARGUMENTS),
+    (r#"["age-out","/r",1,1]"#, ARGUMENTS),
+    (r#"["age-out","/r",9223372036854775808]"#, ARGUMENTS),
+    (r#"["age-out","/r",-1]"#, ARGUMENTS),
+    (r#"["age-out","/r",1.0]"#, ARGUMENTS),
+    (r#"["age-out","/r","1"]"#, ARGUMENTS),
+    (r#"["age-out","r",null]"#, ARGUMENTS),
+    (r#"["age-out","r",1]"#, PATH),
     (r#"["clock","/r"]"#, "clock /r"),
     (r#"["clock"]"#, ARGUMENTS),
     (r#"["clock",1]"#, ARGUMENTS),

@@ -2,6 +2,10 @@
 use super::{assert_ends, end_of, file_after, new_file};
 use std::alloc::{AllocError, Global};
 use std::test::Fail;
+use wm_disk::{Crashed, MemDisk};
+use wm_names::RootPath;
+use wm_registry::Command;
+use wm_store::Store;
 
 /// A line and its reply.
 pub(super) type Row<'a> = (&'a str, &'a str);
@@ -106,7 +110,7 @@ const FRESH: &str =
     r#"{"clock":"c:1:1:3","files":[{"exists":true,"name":"b.c","new":true,"size":4},{"exists":true,"name":"a.c","new":true,"size":3}],"is_fresh_instance":true,"version":"w1"}"#;
 
 /// Roots that aren't watched or not ready, bad paths, and what is taken of several faults.
-static REFUSED: [Row<'static>; 17] = [
+static REFUSED: [Row<'static>; 20] = [
     (r#"["clock","/r"]"#, "5 NotWatched"),
     (r#"["since","/r","c:1:1:1"]"#, "5 NotWatched"),
     (r#"["observe","/r",[]]"#, "5 NotWatched"),
@@ -118,6 +122,9 @@ static REFUSED: [Row<'static>; 17] = [
     (r#"["observe","/w",[]]"#, "6 NotReady"),
     (r#"["since","/w","c:1:1:1"]"#, "6 NotReady"),
     (r#"["listing","/w",1,"",[]]"#, "6 NotReady"),
+    (r#"["age-out","/w",0]"#, "6 NotReady"),
+    (r#"["age-out","/r",0]"#, "5 NotWatched"),
+    (r#"["age-out","r",0]"#, "4 BadPath"),
     (r#"["listing","/w",0,"x",[]]"#, "6 NotReady"),
     (r#"["observe","/w",[["a//b",null]]]"#, "4 BadPath"),
     (r#"["observe","/w",[["/a",null],["a"]]]"#, "3 BadArguments"),
@@ -185,9 +192,10 @@ fn keeps_roots_and_starts_apart(rt: HostRuntime) -> Result<(), Fail> {
             r#"["listing","/s",0,"",[["x",{"mtime_ms":7,"size":0,"type":"d"}],["x/y",{"mtime_ms":8,"size":2,"type":"l"}]]]"#,
             r#"{"clock":"c:2:2:1","version":"w1"}"#,
         ),
+        // read while nothing had changed, so it says all
         (
-            r#"["listing","/s",0,"",[]]"#,
-            r#"{"error":"2 BadCommand","version":"w1"}"#,
+            r#"["listing","/s",1,"",[["x",{"mtime_ms":7,"size":0,"type":"d"}],["x/y",{"mtime_ms":8,"size":2,"type":"l"}]]]"#,
+            r#"{"clock":"c:2:2:1","version":"w1"}"#,
         ),
         (
             r#"["listing","/r",0,"",[["a.c",{"mtime_ms":0,"size":3,"type":"f"}]]]"#,
@@ -216,6 +224,37 @@ fn keeps_roots_and_starts_apart(rt: HostRuntime) -> Result<(), Fail> {
     let end = end_of(alloc, disk, &mut input.as_bytes())?;
     let content = b"\xa5\x00\xa5\x01\x00\x00\x00\x02/r\xa5\x00\xa5\x01\x00\x00\x00\x02/s\x00";
     assert_ends(&rt, &end, (0, &output, "", content), "two roots");
+    Ok(())
+}
+
+/// The file that a killed process leaves, which had watched a root and wasn't closed.
+fn file_left(alloc: Global) -> Result<MemDisk, Fail> {
+    let Ok(mut store) = Store::open(alloc, new_file(alloc)?) else {
+        return Err("the file can't be opened".into());
+    };
+    let batch = vec![in alloc; Command::Watch(RootPath::read(alloc, "/r")?)]?;
+    store.commit_batch(alloc, batch)?;
+    Ok(store.into_disk().stop())
+}
+
+/// A start on the file of a process that was killed is another incarnation: each older clock is fresh.
+#[test]
+fn starts_again_after_a_kill(rt: HostRuntime) -> Result<(), Fail> {
+    let alloc = rt.alloc();
+    let rows = [
+        (
+            r#"["listing","/r",0,"",[["a.c",{"mtime_ms":0,"size":3,"type":"f"}]]]"#,
+            r#"{"clock":"c:2:1:1","version":"w1"}"#,
+        ),
+        (
+            r#"["since","/r","c:1:1:3"]"#,
+            r#"{"clock":"c:2:1:1","files":[{"exists":true,"name":"a.c","new":true,"size":3}],"is_fresh_instance":true,"version":"w1"}"#,
+        ),
+    ];
+    let (input, output) = texts(alloc, &rows)?;
+    let end = end_of(alloc, file_left(alloc)?, &mut input.as_bytes())?;
+    let used = b"\xa5\x00\xa5\x01\x00\x00\x00\x02/r\xa5\x00\x00";
+    assert_ends(&rt, &end, (0, &output, "", used), "a killed process");
     Ok(())
 }
 

@@ -32,7 +32,7 @@ returns-in-Ok c =
     let new = with_summary view c.perform.new.self in (
       new,
       ap (λ v. view_after v c.args.op.now) at ∙ ap (λ r. unless r (stepped view c.args.op.now)) moved.0 ∙ ap (λ v. Ok (with_summary view v)) (sym moved.1),
-      c.clock_of.ensures,
+      c.stand_of.ensures,
       set_at_place c.args.path.now c.args.roots.now.entries c.args.views.now.items c.in-Some.place new (sym c.in-Some.is ∙ c.place_of.ensures),
     )
 
