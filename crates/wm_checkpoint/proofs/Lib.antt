@@ -4,5 +4,6 @@ pub mod Switching
 pub mod Reading
 pub mod Deciding
 pub mod Keeping
+pub mod Numbering
 pub mod Committing
 pub mod Formatted

@@ -38,6 +38,7 @@ impl<D: Disk + Drop, M: Machine> Keeper<D, M> {
     ghost use Rattle.wm_checkpoint.specs.declared.layout.Slot.TheVariants.{A};
     ghost use Rattle.wm_checkpoint.specs.Meanings.{Means, MeansState, MeansBeginning, IsRetired, IsDamaged};
     ghost use Rattle.wm_checkpoint.specs.Kept.{disk_of, state_of, slot_of, number_of, has_failed, room_left, Keeps};
+    ghost use Rattle.wm_checkpoint.specs.Numbers.{IsNumberedTo};
     ghost use Rattle.wm_disk.specs.declared.refusal.Refusal.TheVariants.{DeviceFailed as device_failed, NoMemory as no_memory, Exhausted as exhausted, Damaged as damaged, Retired as retired, StoreFailed as store_failed};
 
     /// Makes a file that means the first state, in slot A with number 1, over whatever the disk holds. A
@@ -149,6 +150,8 @@ impl<D: Disk + Drop, M: Machine> Keeper<D, M> {
         ensures unchanged { OnErr result (state_of self.new ≡ state_of self.old) }
         // A crash at any moment of the call leaves the state after a beginning of the commands.
         ensures any_moment { has_failed self.old ≡ false → D.honest (disk_of self.new) → LeavesOnly D.moment D.left_since (disk_of self.old) (disk_of self.new) (MeansBeginning (meaning M.Machine M.State.Wire M.Command.Wire) (state_of self.old) commands.now) }
+        // And each slot that stands open in it has a number of at most the keeper's.
+        ensures numbered { has_failed self.old ≡ false → D.honest (disk_of self.new) → (c : List ℕ) → D.may_leave (disk_of self.new) c → IsNumberedTo (number_of self.old) c }
         ensures memory { IsErrOf result no_memory → self.new ≡ self.old }
         ensures down { IsErrOf result store_failed → (has_failed self.old ≡ true) × (self.new ≡ self.old) }
         ensures stays_down { has_failed self.old ≡ true → IsErrOf result store_failed }
@@ -192,6 +195,8 @@ impl<D: Disk + Drop, M: Machine> Keeper<D, M> {
         ensures state { state_of self.new ≡ state_of self.old }
         // A crash at any moment of the call leaves the state.
         ensures any_moment { has_failed self.old ≡ false → D.honest (disk_of self.new) → LeavesOnly D.moment D.left_since (disk_of self.old) (disk_of self.new) (MeansState (meaning M.Machine M.State.Wire M.Command.Wire) (state_of self.old)) }
+        // And each slot that stands open in it has a number of at most the next.
+        ensures numbered { has_failed self.old ≡ false → D.honest (disk_of self.new) → (c : List ℕ) → D.may_leave (disk_of self.new) c → IsNumberedTo (number_of self.old + 1) c }
         ensures exhausted { IsErrOf result exhausted → (9223372036854775807 ≤ number_of self.old) × (self.new ≡ self.old) }
         ensures spent { has_failed self.old ≡ false → 9223372036854775807 ≤ number_of self.old → IsErrOf result exhausted }
         ensures memory { IsErrOf result no_memory → self.new ≡ self.old }

@@ -6,6 +6,7 @@
 
 mod components;
 mod entry;
+mod path_text;
 mod rel_path;
 mod root_path;
 mod subtree;

@@ -1,13 +1,15 @@
-ghost use Rattle.std.specs.Prelude.{◌≡◌, ◌≢◌, ℕ, List, true, false, string_bytes, IfOk, IfErr, IsErrOf, IsUtf8, ◌↔◌, ◌==◌, not};
+ghost use Rattle.std.specs.Prelude.{◌≡◌, ◌≢◌, ℕ, List, true, false, IfOk, IfErr, IsErrOf, IsUtf8, ◌↔◌, ◌==◌, not};
 ghost use Rattle.std.proofs.Common.{rules};
 ghost use Rattle.std.specs.Cmp.{partial_equiv_from_equiv};
 ghost use Rattle.std.specs.Cmp.Lexicographic.{nat_list_eq_equiv};
 ghost use Rattle.std.specs.Cmp.Rules.{hashing};
 ghost use Rattle.std.specs.Hash as fed;
 ghost use Rattle.std.specs.Str.{bytes_eq};
+ghost use Rattle.wm_names.specs.PathTexts.{text_bytes};
 ghost use Rattle.wm_names.specs.Paths.{is_root_path};
 
 use crate::components::are_components;
+use crate::path_text::PathText;
 use std::alloc::Global;
 use std::hash::{Hash, Hasher};
 use std::marker::Model;
@@ -20,15 +22,15 @@ pub const MAX_ROOT_PATH: usize = 1024;
 /// between slashes aren't empty, `.` or `..` and hold no zero byte. Contracts see its bytes.
 #[derive(Drop)]
 pub struct RootPath {
-    text: String,
+    text: PathText,
 }
 
 impl Model for RootPath {
     ghost Value = { List ℕ };
 
-    ghost view = { λ p. string_bytes p.text };
+    ghost view = { λ p. text_bytes p.text };
 
-    ghost invariant = { λ p. is_root_path (string_bytes p.text) ≡ true };
+    ghost invariant = { λ p. is_root_path (text_bytes p.text) ≡ true };
 }
 
 /// Whether the text keeps the rules of a root path.
@@ -52,7 +54,7 @@ impl RootPath {
         if !keeps_rules(text) {
             return Err(Refusal::BadPath);
         }
-        let text = String::from_str(alloc, text)?;
+        let text = PathText::new(alloc, text)?;
         Ok(RootPath { text })
     }
 
@@ -69,7 +71,7 @@ impl RootPath {
     pub fn copy(&self, alloc: Global) -> Result<RootPath, NoMemory>
         ensures { IfOk result (λ p. p ≡ self.now) }
     {
-        let text = String::from_str(alloc, &self.text)?;
+        let text = self.text.copy(alloc)?;
         Ok(RootPath { text })
     }
 }
@@ -80,7 +82,7 @@ impl PartialEq for RootPath {
     ghost laws = { partial_equiv_from_equiv nat_list_eq_equiv };
 
     fn eq(&self, other: &RootPath) -> bool {
-        self.text == other.text
+        self.as_str() == other.as_str()
     }
 }
 
@@ -94,7 +96,7 @@ impl Hash for RootPath {
     ghost respects_eq = { Prim.search (hashing, rules) };
 
     fn hash<H: Hasher>(&self, state: &mut H) {
-        self.text.hash(state);
+        self.as_str().hash(state);
     }
 }
 
@@ -114,8 +116,12 @@ mod tests {
 
     #[test]
     fn reads_paths(rt: HostRuntime) -> Result<(), Fail> {
+        let inside = long(rt.alloc(), 24)?;
+        let outside = long(rt.alloc(), 25)?;
         let longest = long(rt.alloc(), 1024)?;
         for text in [
+            inside.as_str(),
+            outside.as_str(),
             "/r",
             "/a/b",
             "/.x",

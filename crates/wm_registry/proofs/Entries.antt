@@ -1,6 +1,7 @@
 -- What stays true of a list, and of a map's entries, when one is put behind, replaced or taken out.
 use Rattle.std.proofs.Common.{◌≡◌, ℕ, ◌+◌, ◌≤◌, Bool, true, false, cond, List, [], ◌∷◌, ◌++◌, length, map, flat_map, Some, refl, sym, ap, subst, ◌∙◌, arith}
 use Rattle.std.proofs.lemmas.List.{length-append}
+use Rattle.indexmap.specs.IndexMap.{insert_entry}
 use Rattle.std.specs.List.{AllByRecursion, IsDistinct}
 use Rattle.std.specs.Map.{lookup, set_value, remove_entry}
 
@@ -133,3 +134,16 @@ module _ {K X : Type 0} (test : K → Bool) where
           omega (arith, length-append (f x) (flat_map f es), here)
       by rest false t q =
           omega (arith, length-append (f x) (flat_map f (remove_entry test es)), length-append (f x) (flat_map f es), rest q)
+
+-- ---- a value in the place of another, which is then written back
+
+pub restored : {K X : Type 0} (eq : K → K → Bool) (es : List (K × X)) (k : K) (v old : X) → lookup (eq k) es ≡ Some old → set_value (eq k) (insert_entry eq es k v) old ≡ es
+restored eq [] k v old e = absurd cc
+restored {K} {X} eq (x ∷ es) k v old e = by (λ q. restored eq es k v old q) (eq k x.0) refl e
+  where
+    by : (lookup (eq k) es ≡ Some old → set_value (eq k) (insert_entry eq es k v) old ≡ es) → (b : Bool) → eq k x.0 ≡ b → cond b (Some x.1) (lookup (eq k) es) ≡ Some old → set_value (eq k) (cond b ((x.0, v) ∷ es) (x ∷ insert_entry eq es k v)) old ≡ x ∷ es
+    by rest true t q =
+        let same : old ≡ x.1 = cc in
+        ap (λ c. cond c ((x.0, old) ∷ es) ((x.0, v) ∷ set_value (eq k) es old)) t ∙ ap (λ w. (x.0, w) ∷ es) same
+    by rest false t q =
+        ap (λ c. cond c ((x.0, old) ∷ insert_entry eq es k v) (x ∷ set_value (eq k) (insert_entry eq es k v) old)) t ∙ ap (λ ys. x ∷ ys) (rest q)

@@ -1,6 +1,7 @@
 pub mod Branches
 pub mod Changing
 pub mod Entries
+pub mod Fronts
 pub mod Keys
 pub mod Lengths
 pub mod Named

@@ -1,5 +1,5 @@
 -- A registry's state, and its roots by path.
-use Rattle.std.specs.Prelude.{ℕ, Bool, List, Option, is_some}
+use Rattle.std.specs.Prelude.{ℕ, Bool, List, Option, drop, is_some}
 use Rattle.std.specs.Map.{lookup, set_value, remove_entry}
 use Rattle.std.specs.Str.{bytes_eq}
 use Rattle.wm_registry.specs.declared.root.Root.{Root}
@@ -26,3 +26,7 @@ with_triggers s path root triggers = record s { roots = set_value (bytes_eq path
 -- the state without the root at the path
 abbrev pub without_root : State → List ℕ → State
 without_root s path = record s { roots = remove_entry (bytes_eq path) s.roots }
+
+-- the state without its first roots
+abbrev pub without_first : ℕ → State → State
+without_first count s = record s { roots = drop count s.roots }

@@ -1,67 +1,92 @@
-ghost use Rattle.std.specs.Prelude.{◌≡◌, true, OnOk, OnErr};
+ghost use Rattle.std.specs.Prelude.{◌≡◌, ◌≢◌, ◌≤◌, ◌+◌, length, true, OnOk, OnErr};
+ghost use Rattle.wm_registry.specs.Roots.{without_first};
+ghost use Rattle.wm_registry.specs.Spelling.{IsState, state_spelling};
 ghost use Rattle.wm_registry.specs.declared.command.Command.TheVariants as commands;
-ghost use Rattle.wm_registry.specs.Registry.{changed, is_change, reply_to};
+ghost use Rattle.wm_registry.specs.Registry.{after, changed, is_change, reply_to};
 
-use crate::command::Command;
 use crate::path_spelling::path_size;
 use crate::registry::Registry;
+use crate::reply::Reply;
 use crate::root::{self, Root};
+use crate::roots::put_new;
 use crate::trigger::Trigger;
 use crate::trigger_name::TriggerName;
 use std::alloc::Global;
-use wm_disk::NoMemory;
+use wm_disk::{NoMemory, Refusal};
 use wm_names::RootPath;
 use wm_wire::{List, Wire};
 
 impl Registry {
-    /// What an accepted command makes of the registry.
-    pub(crate) fn change(&mut self, alloc: Global, command: &Command) -> Result<(), NoMemory>
-        requires { is_change (reply_to self.old command.now) ≡ true }
-        ensures ok { OnOk result (self.new ≡ changed self.old command.now) }
-        ensures err { OnErr result (self.new ≡ self.old) }
+    /// Begins the next incarnation, where it isn't the last.
+    pub(crate) fn begin(&mut self) -> Reply
+        ensures reply { result ≡ reply_to self.old commands.Begin }
+        ensures state { self.new ≡ after self.old commands.Begin }
     {
-        match command {
-            Command::Begin => {
-                self.incarnation += 1;
-                Ok(())
-            }
-            Command::Watch(path) => self.watch(alloc, path),
-            Command::WatchDel(path) => {
-                self.unwatch(path);
-                Ok(())
-            }
-            Command::Trigger(path, trigger) => self.define(alloc, path, trigger),
-            Command::TriggerDel(path, name) => {
-                self.forget(path, name);
-                Ok(())
-            }
+        let reply = self.reply_to_begin();
+        if reply.is_change() {
+            self.incarnation += 1;
         }
+        reply
     }
 
-    fn watch(&mut self, alloc: Global, path: &RootPath) -> Result<(), NoMemory>
-        requires { is_change (reply_to self.old (commands.Watch path.now)) ≡ true }
-        ensures ok { OnOk result (self.new ≡ changed self.old (commands.Watch path.now)) }
-        ensures err { OnErr result (self.new ≡ self.old) }
+    /// Watches a root, by one look-up where another may come.
+    pub(crate) fn watch(&mut self, alloc: Global, path: &RootPath) -> Reply
+        ensures reply { result ≢ Reply.Refused Refusal.NoMemory → result ≡ reply_to self.old (commands.Watch path.now) }
+        ensures state { result ≢ Reply.Refused Refusal.NoMemory → self.new ≡ after self.old (commands.Watch path.now) }
+        ensures memory { result ≡ Reply.Refused Refusal.NoMemory → self.new ≡ self.old }
+        ensures asked { result ≡ Reply.Refused Refusal.NoMemory → is_change (reply_to self.old (commands.Watch path.now)) ≡ true }
     {
+        let reply = self.reply_to_another(path);
+        if !reply.is_change() {
+            return self.reply_to_watch(path);
+        }
         let root = Root {
             number: self.next,
             triggers: List::new(alloc),
         };
-        self.roots.insert(path.copy(alloc)?, root)?;
-        self.next += 1;
-        self.size += path_size(path) + 12;
-        Ok(())
-    }
-
-    fn unwatch(&mut self, path: &RootPath)
-        ensures { self.new ≡ changed self.old (commands.WatchDel path.now) }
-    {
-        if let Some(root) = self.roots.shift_remove(path) {
-            self.size -= root::root_size(path, &root);
+        match put_new(alloc, &mut self.roots, path, root) {
+            Ok(true) => {
+                self.next += 1;
+                self.size += path_size(path) + 12;
+                reply
+            }
+            Ok(false) => Reply::Unchanged,
+            Err(NoMemory) => Reply::Refused(Refusal::NoMemory),
         }
     }
 
-    fn define(&mut self, alloc: Global, path: &RootPath, trigger: &Trigger) -> Result<(), NoMemory>
+    /// Takes a root out, where it is there.
+    pub(crate) fn unwatch(&mut self, path: &RootPath) -> Reply
+        ensures reply { result ≡ reply_to self.old (commands.WatchDel path.now) }
+        ensures state { self.new ≡ after self.old (commands.WatchDel path.now) }
+    {
+        match self.roots.shift_remove(path) {
+            Some(root) => {
+                self.size -= root::root_size(path, &root);
+                Reply::Changed
+            }
+            None => Reply::Refused(Refusal::NotWatched),
+        }
+    }
+
+    /// Takes the first roots out, without which the spelling has so many bytes less.
+    pub(crate) fn cut_front(&mut self, count: usize, less: u64)
+        requires within { count ≤ length self.old.roots }
+        requires state { IsState (without_first count self.old) }
+        requires size { less + length (state_spelling (without_first count self.old)) ≡ length (state_spelling self.old) }
+        ensures { self.new ≡ without_first count self.old }
+    {
+        drop(self.roots.drain(..count));
+        self.size -= less;
+    }
+
+    /// Defines a trigger that is to be accepted.
+    pub(crate) fn define(
+        &mut self,
+        alloc: Global,
+        path: &RootPath,
+        trigger: &Trigger,
+    ) -> Result<(), NoMemory>
         requires { is_change (reply_to self.old (commands.Trigger path.now trigger.now)) ≡ true }
         ensures ok { OnOk result (self.new ≡ changed self.old (commands.Trigger path.now trigger.now)) }
         ensures err { OnErr result (self.new ≡ self.old) }
@@ -75,7 +100,8 @@ impl Registry {
         Ok(())
     }
 
-    fn forget(&mut self, path: &RootPath, name: &TriggerName)
+    /// Takes a trigger out, where it is there.
+    pub(crate) fn forget(&mut self, path: &RootPath, name: &TriggerName)
         ensures { self.new ≡ changed self.old (commands.TriggerDel path.now name.now) }
     {
         if let Some(root) = self.roots.get_mut(path) {

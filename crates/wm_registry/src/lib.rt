@@ -7,6 +7,7 @@
 
 mod changes;
 mod command;
+mod draft;
 mod entry;
 mod machine;
 mod path_spelling;
@@ -14,12 +15,14 @@ mod registry;
 mod replies;
 mod reply;
 mod root;
+mod roots;
 mod stdin;
 mod trigger;
 mod trigger_name;
 mod wire;
 
 pub use command::Command;
+pub use draft::Draft;
 pub use registry::Registry;
 pub use reply::Reply;
 pub use root::Root;

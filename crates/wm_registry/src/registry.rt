@@ -1,4 +1,4 @@
-ghost use Rattle.std.specs.Prelude.{◌≡◌, ◌≢◌, IfOk};
+ghost use Rattle.std.specs.Prelude.{◌≡◌, ◌≢◌, true, IfOk};
 
 use crate::command::Command;
 use crate::reply::Reply;
@@ -56,7 +56,7 @@ fn copied(
 }
 
 impl Registry {
-    ghost use Rattle.wm_registry.specs.Registry.{after, fresh, reply_to};
+    ghost use Rattle.wm_registry.specs.Registry.{after, fresh, is_change, reply_to};
 
     /// The registry of a new file: no roots, incarnation 0, and 1 as the next root number.
     pub fn new(alloc: Global) -> Registry
@@ -110,14 +110,29 @@ impl Registry {
         ensures reply { result ≢ Reply.Refused Refusal.NoMemory → result ≡ reply_to self.old command.now }
         ensures state { result ≢ Reply.Refused Refusal.NoMemory → self.new ≡ after self.old command.now }
         ensures memory { result ≡ Reply.Refused Refusal.NoMemory → self.new ≡ self.old }
+        ensures asked { result ≡ Reply.Refused Refusal.NoMemory → is_change (reply_to self.old command.now) ≡ true }
     {
-        let reply = self.reply_to(command);
-        if !reply.is_change() {
-            return reply;
-        }
-        match self.change(alloc, command) {
-            Ok(()) => reply,
-            Err(NoMemory) => Reply::Refused(Refusal::NoMemory),
+        match command {
+            Command::Begin => self.begin(),
+            Command::Watch(path) => self.watch(alloc, path),
+            Command::WatchDel(path) => self.unwatch(path),
+            Command::Trigger(path, trigger) => {
+                let reply = self.reply_to(command);
+                if !reply.is_change() {
+                    return reply;
+                }
+                match self.define(alloc, path, trigger) {
+                    Ok(()) => reply,
+                    Err(NoMemory) => Reply::Refused(Refusal::NoMemory),
+                }
+            }
+            Command::TriggerDel(path, name) => {
+                let reply = self.reply_to(command);
+                if reply.is_change() {
+                    self.forget(path, name);
+                }
+                reply
+            }
         }
     }
 }
@@ -154,7 +169,7 @@ pub(crate) mod tests {
     }
 
     // The incarnation and the next root number, and each root's path, number and triggers.
-    fn shown(alloc: Global, registry: &Registry) -> Result<String, AllocError> {
+    pub(crate) fn shown(alloc: Global, registry: &Registry) -> Result<String, AllocError> {
         let mut text = format!(in alloc; "{} {}", registry.incarnation(), registry.next_root())?;
         for (path, root) in registry.roots().iter() {
             let part = format!(in alloc; "; {} {}", path.as_str(), root.number)?;

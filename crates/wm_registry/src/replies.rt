@@ -1,7 +1,7 @@
-ghost use Rattle.std.specs.Prelude.{◌≡◌, ◌+◌, ◌-◌, ◌^◌, ◌<◌, ◌≤◌, if◌then◌else◌, length, nat_lt, Some};
+ghost use Rattle.std.specs.Prelude.{◌≡◌, ◌+◌, ◌-◌, ◌^◌, ◌<◌, ◌≤◌, if◌then◌else◌, false, length, nat_lt, Some};
 ghost use Rattle.wm_registry.specs.declared.command.Command.TheVariants as commands;
 ghost use Rattle.wm_registry.specs.Registry.{reply_to as reply_to_lem, reply_to_trigger as reply_to_trigger_lem};
-ghost use Rattle.wm_registry.specs.Roots.{root_at};
+ghost use Rattle.wm_registry.specs.Roots.{is_watched, root_at};
 ghost use Rattle.wm_registry.specs.Spelling.{state_spelling};
 ghost use Rattle.wm_registry.specs.Triggers.{has_trigger};
 
@@ -40,13 +40,7 @@ impl Registry {
         ensures { result ≡ reply_to_lem self.now command.now }
     {
         match command {
-            Command::Begin => {
-                if self.incarnation < LAST {
-                    Reply::Changed
-                } else {
-                    Reply::Refused(Refusal::Exhausted)
-                }
-            }
+            Command::Begin => self.reply_to_begin(),
             Command::Watch(path) => self.reply_to_watch(path),
             Command::WatchDel(path) => {
                 if self.roots.contains_key(path) {
@@ -79,12 +73,29 @@ impl Registry {
         }
     }
 
-    fn reply_to_watch(&self, path: &RootPath) -> Reply
+    pub(crate) fn reply_to_begin(&self) -> Reply
+        ensures { result ≡ reply_to_lem self.now commands.Begin }
+    {
+        if self.incarnation < LAST {
+            Reply::Changed
+        } else {
+            Reply::Refused(Refusal::Exhausted)
+        }
+    }
+
+    pub(crate) fn reply_to_watch(&self, path: &RootPath) -> Reply
         ensures { result ≡ reply_to_lem self.now (commands.Watch path.now) }
     {
         if self.roots.contains_key(path) {
             return Reply::Unchanged;
         }
+        self.reply_to_another(path)
+    }
+
+    /// The reply to a watch, where no root is at its path.
+    pub(crate) fn reply_to_another(&self, path: &RootPath) -> Reply
+        ensures { is_watched path.now self.now ≡ false → result ≡ reply_to_lem self.now (commands.Watch path.now) }
+    {
         if self.roots.len() >= MAX_ROOTS {
             return Reply::Refused(Refusal::TooMany);
         }

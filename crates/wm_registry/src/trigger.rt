@@ -26,6 +26,13 @@ type Expression = Optional<Text<4096>>;
 /// files. Contracts see it as a `Definition`.
 #[derive(Drop)]
 pub struct Trigger {
+    // boxed, so that a command is moved as few words
+    parts: Box<Parts>,
+}
+
+/// The parts of a trigger.
+#[derive(Drop)]
+struct Parts {
     name: TriggerName,
     command: Words,
     expression: Expression,
@@ -39,9 +46,9 @@ impl Model for Trigger {
 
     ghost Value = { Definition };
 
-    ghost view = { λ t. record { name = t.name; command = t.command; expression = t.expression; append_files = t.append_files; stdin = t.stdin } };
+    ghost view = { λ t. record { name = t.parts.value.name; command = t.parts.value.command; expression = t.parts.value.expression; append_files = t.parts.value.append_files; stdin = t.parts.value.stdin } };
 
-    ghost invariant = { λ t. has_program t.command ≡ true };
+    ghost invariant = { λ t. has_program t.parts.value.command ≡ true };
 }
 
 /// Whether there is a first word, and it isn't empty.
@@ -80,34 +87,36 @@ impl Trigger {
         let name = TriggerName::read(alloc, name)?;
         let command = read_words(alloc, command)?;
         let expression = read_expression(alloc, expression)?;
-        Ok(Trigger {
+        let parts = Parts {
             name,
             command,
             expression,
             append_files,
             stdin,
-        })
+        };
+        let parts = Box::new(alloc, parts)?;
+        Ok(Trigger { parts })
     }
 
     /// Its name.
     pub fn name(&self) -> &TriggerName
         ensures { result.now ≡ self.now.name }
     {
-        &self.name
+        &self.parts.name
     }
 
     /// The program and its words.
     pub fn command(&self) -> &[Word]
         ensures { result.now ≡ self.now.command }
     {
-        self.command.as_slice()
+        self.parts.command.as_slice()
     }
 
     /// The text of its expression.
     pub fn expression(&self) -> Option<&str>
         ensures { option_map (λ t. t.now) result ≡ self.now.expression }
     {
-        match self.expression.as_option() {
+        match self.parts.expression.as_option() {
             Some(text) => Some(text.as_str()),
             None => None,
         }
@@ -117,41 +126,43 @@ impl Trigger {
     pub fn append_files(&self) -> bool
         ensures { result ≡ self.now.append_files }
     {
-        self.append_files
+        self.parts.append_files
     }
 
     /// What the program is to read.
     pub fn stdin(&self) -> Stdin
         ensures { result ≡ self.now.stdin }
     {
-        self.stdin
+        self.parts.stdin
     }
 
     /// Whether the other is defined in the same way.
     pub(crate) fn is_same(&self, other: &Trigger) -> bool
         ensures { result ≡ same_definition self.now other.now }
     {
-        self.name.as_str() == other.name.as_str()
+        self.parts.name.as_str() == other.parts.name.as_str()
             && self.command() == other.command()
             && self.expression() == other.expression()
-            && self.append_files == other.append_files
-            && self.stdin.is_same(other.stdin)
+            && self.parts.append_files == other.parts.append_files
+            && self.parts.stdin.is_same(other.parts.stdin)
     }
 
     /// The same trigger again.
     pub fn copy(&self, alloc: Global) -> Result<Trigger, NoMemory>
         ensures { IfOk result (λ t. t ≡ self.now) }
     {
-        let name = self.name.copy(alloc)?;
-        let command = copied(alloc, &self.command)?;
-        let expression = copied_expression(alloc, &self.expression)?;
-        Ok(Trigger {
+        let name = self.parts.name.copy(alloc)?;
+        let command = copied(alloc, &self.parts.command)?;
+        let expression = copied_expression(alloc, &self.parts.expression)?;
+        let parts = Parts {
             name,
             command,
             expression,
-            append_files: self.append_files,
-            stdin: self.stdin,
-        })
+            append_files: self.parts.append_files,
+            stdin: self.parts.stdin,
+        };
+        let parts = Box::new(alloc, parts)?;
+        Ok(Trigger { parts })
     }
 
     /// Appends the parts one after another, and may stop between two.
@@ -159,16 +170,16 @@ impl Trigger {
         ensures ok { OnOk result (out.new.items ≡ out.old.items ++ trigger_spelling self.now) }
         ensures err { OnErr result (take (length out.old.items) out.new.items ≡ out.old.items) }
     {
-        self.name.put(out)?;
-        self.command.put(out)?;
-        self.expression.put(out)?;
-        self.append_files.put(out)?;
-        self.stdin.put(out)
+        self.parts.name.put(out)?;
+        self.parts.command.put(out)?;
+        self.parts.expression.put(out)?;
+        self.parts.append_files.put(out)?;
+        self.parts.stdin.put(out)
     }
 }
 
 /// The parts of a trigger, in the order of its spelling.
-type Parts = Pair<TriggerName, Pair<Words, Pair<Expression, Pair<bool, Stdin>>>>;
+type Spelled = Pair<TriggerName, Pair<Words, Pair<Expression, Pair<bool, Stdin>>>>;
 
 impl Wire for Trigger {
     ghost fits = { IsTrigger };
@@ -185,11 +196,11 @@ impl Wire for Trigger {
     }
 
     fn size(&self) -> u64 {
-        self.name.size() + self.command.size() + self.expression.size() + 2
+        self.parts.name.size() + self.parts.command.size() + self.parts.expression.size() + 2
     }
 
     fn take(alloc: Global, bytes: &[u8]) -> Result<Option<(Self, usize)>, NoMemory> {
-        let Some((parts, size)) = Parts::take(alloc, bytes)? else {
+        let Some((parts, size)) = Spelled::take(alloc, bytes)? else {
             return Ok(None);
         };
         let (name, rest) = parts.into_parts();
@@ -199,13 +210,15 @@ impl Wire for Trigger {
         if !has_program(command.as_slice()) {
             return Ok(None);
         }
-        let trigger = Trigger {
+        let parts = Parts {
             name,
             command,
             expression,
             append_files,
             stdin,
         };
+        let parts = Box::new(alloc, parts)?;
+        let trigger = Trigger { parts };
         Ok(Some((trigger, size)))
     }
 

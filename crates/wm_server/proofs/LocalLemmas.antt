@@ -19,7 +19,7 @@ use Rattle.wm_registry.specs.MachineLaws.{watches}
 use Rattle.wm_registry.specs.Roots as registry
 use Rattle.wm_registry.specs.Registry.{after, changed, is_change, reply_to}
 use Rattle.wm_store.specs.Batches.{AreAnswered, IsBatch, accepted_of, is_begin, unless_begin}
-use Rattle.wm_store.specs.Openings.{IsFound}
+use Rattle.wm_store.specs.Openings.{IsBegun}
 use Rattle.wm_store.specs.Stored.{Stored}
 use Rattle.wm_server.specs.Faults.{Standing, Submits, Operates, Lasts, Defined, Device, Memory, Spent}
 use Rattle.wm_server.specs.KeptExpressions.{have_expressions}
@@ -399,13 +399,12 @@ start_refused disk old new e damaged retired exhausted failed kinds =
     ]
 
 -- after a store was begun: a trigger keeps a text that is no expression, or memory is wanted
-pub views_refused : {D : Type 0} (disk : Ghosts D) (old new : D) (begun : registry.State) (e : Refusal)
-    → (disk.honest new → (found : registry.State) × (reply_to found Begin ≡ Changed) × (begun ≡ after found Begin) × IsFound disk old new found)
-    → ((e ≡ refusals.Damaged) × (have_expressions begun ≡ false)) ⊎ (e ≡ refusals.NoMemory)
-    → StartRefused disk e old new
-views_refused disk old new begun e found why =
+pub views_refused : {D : Type 0} (disk : Ghosts D) (old : D) (store : Stored D) (e : Refusal) → (disk.honest store.disk → IsBegun disk old store)
+    → ((e ≡ refusals.Damaged) × (have_expressions store.registry ≡ false)) ⊎ (e ≡ refusals.NoMemory)
+    → StartRefused disk e old store.disk
+views_refused disk old store e begun why =
     elim why [
-      | inl none ↦ subst (λ (x : Refusal). StartRefused disk x old new) (sym none.0)
-          (λ h. (let f = found h in inr (f.0, sym (expressions_after_begin f.0) ∙ ap have_expressions (sym f.2) ∙ none.1, f.3)))
-      | inr memory ↦ subst (λ (x : Refusal). StartRefused disk x old new) (sym memory) tt
+      | inl none ↦ subst (λ (x : Refusal). StartRefused disk x old store.disk) (sym none.0)
+          (λ h. (let b = begun h in inr (b.found, sym (expressions_after_begin b.found) ∙ ap have_expressions (sym b.registry) ∙ none.1, b.opened)))
+      | inr memory ↦ subst (λ (x : Refusal). StartRefused disk x old store.disk) (sym memory) tt
     ]

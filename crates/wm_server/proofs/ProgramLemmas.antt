@@ -23,7 +23,7 @@ use Rattle.wm_registry.specs.declared.root.Root.{Root}
 use Rattle.wm_registry.specs.MachineLaws.{watches}
 use Rattle.wm_registry.specs.Registry.{after, reply_to}
 use Rattle.wm_registry.specs.Roots as registry
-use Rattle.wm_store.specs.Openings.{IsFound}
+use Rattle.wm_store.specs.Openings.{IsBegun}
 use Rattle.wm_store.specs.Stored.{Stored}
 use Rattle.wm_server.specs.declared.request.Request.{Request}
 use Rattle.wm_server.specs.declared.request.Request.TheVariants.{Version, Watch, WatchDel, WatchList, Trigger, TriggerList, TriggerDel, Observe, Listing, AgeOut, Clock, Query}
@@ -127,28 +127,29 @@ module _ {D : Type 0} (disk : Ghosts D) where
   -- a store was opened, went on to left, and what it had then was kept
   pub record Session (old : D) (begun left : Stored D) (new : D) : Type 0 where
     pub works : begun.failed ≡ false
-    pub start : (found : registry.State) × (reply_to found Begin ≡ Changed) × (begun.registry ≡ after found Begin) × IsFound disk old begun.disk found
+    pub start : IsBegun disk old begun
     pub leads : LeadsTo disk begun left
     pub kept : IsKeptOn disk left.registry new
 
-  pub keeps : (old : D) (begun left : Stored D) (new : D) → (s : Session old begun left new) → Kept disk old s.start.0 left.registry new
+  pub keeps : (old : D) (begun left : Stored D) (new : D) → (s : Session old begun left new) → Kept disk old s.start.found left.registry new
   keeps old begun left new s =
       let commits = s.leads.commits s.works in
       record {
-        means = s.start.3.means;
-        begins = s.start.1;
+        means = s.start.opened.means;
+        begins = s.start.changed;
         accepted = commits.accepted;
-        replayed = commits.registry ∙ ap (λ (r : registry.State). replay_on watches r commits.accepted) s.start.2;
+        replayed = commits.registry ∙ ap (λ (r : registry.State). replay_on watches r commits.accepted) s.start.registry;
         kept = s.kept;
       }
 
   pub lines_served : (old : D) (begun left : Stored D) (views views' : List RootView) (new : D) (faults : ℕ) (input : List ℕ) (held holds : Option (List ℕ))
       → Session old begun left new → views ≡ first_views begun.registry → left.failed ≡ false
       → Served (standing_with disk begun views) line_number 0 input faults held holds (standing_with disk left views') → LinesServed disk old input held holds new
+  unfolding keeps
   lines_served old begun left views views' new faults input held holds s views_are worked served =
-      let start : state_with begun views ≡ first_state s.start.0 = same_state (state_with begun views) s.start.0 s.start.2 s.works views_are in
+      let start : state_with begun views ≡ first_state s.start.found = same_state (state_with begun views) s.start.found s.start.registry s.works views_are in
       record {
-        was = s.start.0;
+        was = s.start.found;
         before = disk.failures begun.disk;
         number = begun.number;
         ways = served.ways;
@@ -158,6 +159,7 @@ module _ {D : Type 0} (disk : Ghosts D) where
         run = subst (λ (t : State). Run (record { state = t; failures = disk.failures begun.disk; number = begun.number }) line_number 0 (lines_of input) served.ways served.bytes (standing_with disk left views')) start served.run;
         appends = served.appends;
         kept = keeps old begun left new s;
+        number_is = s.start.number;
       }
 
   -- ---- a refusal

@@ -1,5 +1,5 @@
 -- `lines`: what is written for an input, and what the file is left to mean.
-use Rattle.std.specs.Prelude.{◌≡◌, ℕ, ◌+◌, List, ◌++◌, false, Option, codes}
+use Rattle.std.specs.Prelude.{◌≡◌, ℕ, ◌+◌, ◌≤◌, List, ◌++◌, false, Option, codes}
 use Rattle.std.specs.List.{AllByRecursion}
 use Rattle.std.specs.Io.KnownBytes.{Appends}
 use Rattle.wm_disk.specs.Refusals.{text_of}
@@ -57,6 +57,8 @@ pub record LinesServed {D : Type 0} (disk : Ghosts D) (old : D) (input : List �
   pub run : Run (record { state = first_state was; failures = before; number = number }) line_number 0 (lines_of input) ways bytes left
   pub appends : Appends held holds bytes
   pub kept : Kept disk old was left.state.registry new
+  -- a start raises the number of the file's slot by one at most
+  pub number_is : number ≤ kept.means.number + 1
 
 -- what a program that is refused tells: its name, and the number and name of the refusal
 abbrev pub message_of : Refusal → List ℕ

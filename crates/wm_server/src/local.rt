@@ -45,19 +45,15 @@ enum ViewChange {
 
 impl<D: Disk + Drop> LocalFront<D> {
     ghost use Rattle.std.specs.Prelude.{MatchResult, OnOk};
-    ghost use Rattle.wm_registry.specs.Registry.{after, reply_to};
-    ghost use Rattle.wm_registry.specs.Roots as registry;
-    ghost use Rattle.wm_registry.specs.declared.command.Command.TheVariants.{Begin as begin};
-    ghost use Rattle.wm_registry.specs.declared.reply.Reply.TheVariants.{Changed as changed};
     ghost use Rattle.wm_server.specs.Locals.{CloseRefused, disk_of, state_of};
     ghost use Rattle.wm_server.specs.Stores.{IsKeptOn, Later, StartCut, StartRefused};
-    ghost use Rattle.wm_store.specs.Openings.{IsFound};
+    ghost use Rattle.wm_store.specs.Openings.{IsBegun};
 
     /// Takes up the registry that a disk means, and begins the next incarnation. The refusals are those
     /// of [`Store::open`], and `Damaged` after it where a trigger keeps a text that is no expression; each
     /// hands the disk back.
     pub fn open(alloc: Global, disk: D) -> Result<LocalFront<D>, (Refusal, D)>
-        ensures begun { IfOk result (λ front. D.honest (disk_of front) → (found : registry.State) × (reply_to found begin ≡ changed) × ((state_of front).registry ≡ after found begin) × IsFound D.Disk disk (disk_of front) found) }
+        ensures begun { IfOk result (λ front. D.honest (disk_of front) → IsBegun D.Disk disk front.store) }
         ensures kept { IfOk result (λ front. D.honest (disk_of front) → IsKeptOn D.Disk (state_of front).registry (disk_of front)) }
         ensures working { IfOk result (λ front. ((state_of front).has_failed ≡ false) × (front.store.closed ≡ false)) }
         ensures views { IfOk result (λ front. (state_of front).views ≡ first_views (state_of front).registry) }

@@ -17,6 +17,7 @@ mod queries;
 mod query_lines;
 mod recrawls;
 mod requests;
+mod shown;
 mod trigger_lines;
 mod triggers;
 mod views;

@@ -18,7 +18,7 @@ use Rattle.wm_since.specs.declared.listed.Listed.{Listed}
 use Rattle.wm_since.specs.declared.query.Answer.{Answer}
 use Rattle.wm_since.specs.Answers.{clock_of, can_tell, entry_of, listed, down_from, by_change, matches_now, all_existing, difference, answer_to}
 use Rattle.wm_since.specs.Clients.{put_in, is_put, is_gone, files_after}
-use Rattle.wm_since.specs.Follows.{there, matching_at, files_at}
+use Rattle.wm_since.specs.Matching.{there, matching_at, files_at}
 use Rattle.wm_since.specs.Tests.{PathOnly}
 
 -- p exists in this state, and passes

@@ -1,6 +1,5 @@
 pub mod Agree
 pub mod Applies
-pub mod Goings
 pub mod Moves
 pub mod Naming
 pub mod Renders

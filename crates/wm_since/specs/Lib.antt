@@ -2,6 +2,6 @@ pub mod Answers
 pub mod Clients
 pub mod Cursors
 pub mod Fields
-pub mod Follows
+pub mod Matching
 pub mod Rendered
 pub mod Tests

@@ -6,7 +6,7 @@ ghost use Rattle.wm_view.specs.Summaries.{summary};
 ghost use Rattle.wm_since.specs.Answers.{Question, answer_by, answer_to};
 ghost use Rattle.wm_since.specs.Clients.{files_after};
 ghost use Rattle.wm_since.specs.Cursors.{IsMoved, OthersStay};
-ghost use Rattle.wm_since.specs.Follows.{files_at, matching_at};
+ghost use Rattle.wm_since.specs.Matching.{files_at, matching_at};
 ghost use Rattle.wm_since.specs.Tests.{PathOnly};
 
 /// What holds of every history that operations made: an answer from its summary is the answer about it.

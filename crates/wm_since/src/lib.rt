@@ -2,8 +2,9 @@
 //!
 //! An answer is defined on the root's history (specs/Answers.antt), so [`answer`] says what it means,
 //! and not only what a view's summary makes of it. A [`Mirror`] asks and applies answers
-//! (specs/Clients.antt), and [`follow`] ties the two: after any list of operations and questions the
-//! mirror has exactly the matching files at its clock (specs/Follows.antt).
+//! (specs/Clients.antt), and [`every_client`] ties the two: a mirror that had exactly the matching files at
+//! its last clock has exactly those at the answer's (specs/Matching.antt). The crate `wm_world` has that
+//! over whole runs.
 //!
 //! [`render`] makes an answer's files JSON, with the [`Fields`] that were asked for (specs/Fields.antt,
 //! specs/Rendered.antt). [`Cursors`] keeps for a name the clock up to which its client was told
@@ -14,7 +15,6 @@ mod answering;
 mod cursors;
 mod field;
 mod fields;
-mod following;
 mod laws;
 mod listed;
 mod mirror;
@@ -28,7 +28,6 @@ pub use answering::answer;
 pub use cursors::{Cursors, MAX_CURSORS};
 pub use field::Field;
 pub use fields::Fields;
-pub use following::{Step, follow};
 pub use laws::{cursor_laws, every_answer, every_client};
 pub use listed::{Listed, ListedFiles};
 pub use mirror::Mirror;

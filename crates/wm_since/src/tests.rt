@@ -13,7 +13,6 @@ use wm_view::{Listing, Op, Pairs};
 mod answers;
 mod cursors;
 mod expressions;
-mod following;
 mod mirrors;
 mod rendering;
 

@@ -16,6 +16,7 @@ use Rattle.wm_registry.specs.declared.reply.Reply.{Reply}
 use Rattle.wm_registry.specs.Registry.{after}
 use Rattle.wm_registry.specs.Roots.{State}
 use Rattle.wm_registry.specs.MachineLaws.{watches}
+use Rattle.wm_checkpoint.proofs.Numbering.{numbered_more}
 use Rattle.wm_checkpoint.specs.Machines.{replay_on, Accepts}
 use Rattle.wm_checkpoint.specs.Meanings.{MeansState, MeansBeginning}
 use Rattle.wm_checkpoint.specs.Kept.{disk_of, state_of, has_failed, number_of, room_left, Keeps}
@@ -158,6 +159,7 @@ module _ {D : Type 0} (disk : disks.Ghosts D) where
     most = subst (λ k. number_of k ≤ number_of old + n) (sym same) (omega arith);
     honest = λ h. subst (λ k. disk.honest (disk_of k)) same h;
     later = subst (λ k. disk.failures (disk_of old) ≤ disk.failures (disk_of k)) (sym same) (omega arith);
+    numbered = λ h m le all x left. numbered_more m (m + n) x (omega arith) (all x (subst (λ k. disk.may_leave (disk_of k) x) same left));
   }
 
   pub whole_none : (old new : K disk) → new ≡ old → Keeps watches old → has_failed old ≡ false → IsWhole disk old new
@@ -179,10 +181,17 @@ module _ {D : Type 0} (disk : disks.Ghosts D) where
     most = omega (arith, a.most, b.most);
     honest = λ h. a.honest (b.honest h);
     later = omega (arith, a.later, b.later);
+    numbered = λ h k le all x left. numbered_more ((k + m) + n) (k + (m + n)) x (omega arith) (b.numbered h (k + m) (omega (arith, a.most, le)) (a.numbered (b.honest h) k le all) x left);
   }
 
   pub calls_more : (m n : ℕ) (old new : K disk) → m ≤ n → AreCalls disk m old new → AreCalls disk n old new
-  calls_more m n old new le a = record { least = a.least; most = omega (arith, a.most, le); honest = a.honest; later = a.later }
+  calls_more m n old new le a = record {
+    least = a.least;
+    most = omega (arith, a.most, le);
+    honest = a.honest;
+    later = a.later;
+    numbered = λ h k low all x left. numbered_more (k + m) (k + n) x (omega (arith, le)) (a.numbered h k low all x left);
+  }
 
   -- the same group on a keeper that is equal, or has the same state and room
   pub ready_on : (old new : K disk) (a b : Batch) → IsReady disk old a → Keeps watches new → has_failed new ≡ false → state_of new ≡ state_of old → a.size ≤ room_left new → b.next ≡ a.next → b.group ≡ a.group → b.size ≡ a.size → b.replies ≡ a.replies → IsReady disk new b

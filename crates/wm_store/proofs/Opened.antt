@@ -1,5 +1,5 @@
 -- How a store is opened over what its keeper found.
-use Rattle.std.proofs.Common.{◌≡◌, ◌⊎◌, inl, inr, subst, ℕ, ◌≤◌, List, [], ◌∷◌}
+use Rattle.std.proofs.Common.{◌≡◌, ◌⊎◌, inl, inr, subst, ℕ, ◌+◌, ◌≤◌, List, [], ◌∷◌}
 use Rattle.std.specs.Prelude.{Result, Ok, Err, IfOk, IfErr}
 use Rattle.wm_disk.specs.declared.disk.Disk as disks
 use Rattle.wm_disk.specs.declared.refusal.Refusal.{Refusal}
@@ -7,14 +7,17 @@ use Rattle.wm_disk.specs.declared.refusal.Refusal.TheVariants.{DeviceFailed, NoM
 use Rattle.wm_registry.specs.declared.command.Command.{Command}
 use Rattle.wm_registry.specs.declared.command.Command.TheVariants.{Begin}
 use Rattle.wm_registry.specs.declared.reply.Reply.{Reply}
-use Rattle.wm_registry.specs.declared.reply.Reply.TheVariants.{Refused}
-use Rattle.wm_registry.specs.Registry.{reply_to}
+use Rattle.wm_registry.specs.declared.reply.Reply.TheVariants.{Changed, Refused}
+use Rattle.wm_registry.specs.Registry.{after, reply_to}
 use Rattle.wm_registry.specs.Roots.{State}
 use Rattle.wm_registry.specs.MachineLaws.{watches}
 use Rattle.wm_checkpoint.specs.Meanings.{Means, MeansState, MeansBeginning}
 use Rattle.wm_checkpoint.specs.Kept.{disk_of, state_of, number_of, IsKept}
+use Rattle.wm_checkpoint.specs.Numbers.{IsNumberedTo}
+use Rattle.wm_checkpoint.proofs.Numbering.{number_within}
 use Rattle.wm_checkpoint.specs.declared.keeper.Keeper.{Keeper}
-use Rattle.wm_store.specs.Openings.{IsFound}
+use Rattle.wm_store.specs.Openings.{IsBegun, IsFound}
+use Rattle.wm_store.specs.Stored.{Stored}
 use Rattle.wm_store.proofs.Runs.{Leaves}
 
 module _ {D : Type 0} (disk : disks.Ghosts D) (old : D) (keeper : Keeper D State State Command Reply disk) (k : IsKept watches keeper) (seen : disk.seen (disk_of keeper) ≡ disk.seen old) where
@@ -35,6 +38,15 @@ module _ {D : Type 0} (disk : disks.Ghosts D) (old : D) (keeper : Keeper D State
   pub spent : (reply_to (state_of keeper) Begin ≡ Refused Exhausted) ⊎ (9223372036854775807 ≤ number_of keeper) → (s : State) × (m : MeansState watches s (disk.seen old)) × ((reply_to s Begin ≡ Refused Exhausted) ⊎ (9223372036854775807 ≤ m.number))
   unfolding means_seen
   spent why = (state_of keeper, means_seen, why)
+
+  pub is_begun : Leaves disk old (disk_of keeper) (disk.may_leave old) → (store : Stored D) → Leaves disk (disk_of keeper) store.disk (MeansBeginning watches (state_of keeper) (Begin ∷ []))
+      → reply_to (state_of keeper) Begin ≡ Changed → store.registry ≡ after (state_of keeper) Begin → store.number ≤ number_of keeper + 1 → IsBegun disk old store
+  unfolding means_seen found
+  is_begun until store run is led le = record { found = state_of keeper; changed = is; registry = led; opened = found until store.disk run; number = le }
+
+  pub number_of_found : (n : ℕ) → IsNumberedTo n (disk.seen old) → number_of keeper ≤ n
+  unfolding means_seen
+  number_of_found n all = number_within (disk.seen old) means_seen n all
 
 pub if_ok_both : {T E : Type 0} {P Q R : T → Type 0} (r : Result T E) → ((x : T) → P x → Q x → R x) → IfOk r P → IfOk r Q → IfOk r R
 if_ok_both (Ok x) f p q = f x p q

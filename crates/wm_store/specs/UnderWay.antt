@@ -16,6 +16,7 @@ use Rattle.wm_registry.specs.Registry.{is_change, reply_to}
 use Rattle.wm_registry.specs.MachineLaws.{watches}
 use Rattle.wm_checkpoint.specs.Machines.{Accepts, replay_on}
 use Rattle.wm_checkpoint.specs.Meanings.{MeansBeginning}
+use Rattle.wm_checkpoint.specs.Numbers.{IsNumberedTo}
 use Rattle.wm_checkpoint.specs.Kept.{disk_of, state_of, has_failed, number_of, room_left, Keeps}
 use Rattle.wm_checkpoint.specs.declared.keeper.Keeper.{Keeper}
 use Rattle.wm_store.specs.Batches.{IsMet, IsShort, AreAnswered, accepted_of, in_batch, is_begin, met, unless_begin}
@@ -139,6 +140,9 @@ module _ {D : Type 0} (disk : disks.Ghosts D) where
     pub most : number_of new ≤ number_of old + checkpoints
     pub honest : disk.honest (disk_of new) → disk.honest (disk_of old)
     pub later : disk.failures (disk_of old) ≤ disk.failures (disk_of new)
+    -- no number of an open slot rises by more
+    pub numbered : disk.honest (disk_of new) → (n : ℕ) → number_of old ≤ n → ((c : List ℕ) → disk.may_leave (disk_of old) c → IsNumberedTo n c)
+        → (c : List ℕ) → disk.may_leave (disk_of new) c → IsNumberedTo (n + checkpoints) c
 
   pub record IsWhole (old new : K) : Type 0 where
     pub kept : Keeps watches new

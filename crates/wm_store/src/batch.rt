@@ -13,14 +13,14 @@ ghost use Rattle.wm_store.specs.UnderWay.{AreCalls, AreMet, HasRoom, IsCut, IsDo
 use std::alloc::Global;
 use wm_checkpoint::Keeper;
 use wm_disk::{DeviceFailed, Disk, NoMemory, Refusal};
-use wm_registry::{Command, Registry, Reply};
+use wm_registry::{Command, Draft, Registry, Reply};
 use wm_wire::Wire;
 
 /// A batch, as far as its commands were met.
 #[derive(Drop)]
 pub(crate) struct Batch {
     // the registry that the commands so far have made
-    next: Registry,
+    next: Draft,
     // the accepted commands that aren't committed yet, and how many bytes they take in the journal
     group: Vec<Command>,
     size: u64,
@@ -38,7 +38,7 @@ impl Batch {
     pub(crate) fn new(alloc: Global, registry: &Registry, len: usize) -> Result<Batch, NoMemory>
         ensures { IfOk result (IsNew registry.now len) }
     {
-        let next = registry.copy(alloc)?;
+        let next = Draft::new(alloc, registry)?;
         let group = Vec::with_capacity(alloc, len)?;
         let replies = Vec::with_capacity(alloc, len)?;
         Ok(Batch {
@@ -129,12 +129,12 @@ impl Batch {
         requires small { self.old.size ≤ 1000000 }
         ensures { IsPushed command reply self.old self.new }
     {
-        self.replies.push(reply).unwrap();
+        self.replies.push_reserved(reply);
         if !reply.is_change() {
             return;
         }
         self.size += command.size() + 1;
-        self.group.push(command).unwrap();
+        self.group.push_reserved(command);
     }
 
     /// Commits the group and makes a checkpoint; or refuses the rest of the batch.
@@ -280,7 +280,7 @@ impl Batch {
         if group.is_empty() {
             return Ok(replies);
         }
-        match keeper.commit(alloc, &group, self.next) {
+        match keeper.commit(alloc, &group, self.next.into_registry()) {
             Ok(()) => Ok(replies),
             Err(refusal) => match refusal {
                 Refusal::NoMemory => {
@@ -294,7 +294,7 @@ impl Batch {
 }
 
 /// Answers a command: with this refusal, or as the registry has it.
-fn answer(alloc: Global, next: &mut Registry, refusal: Option<Refusal>, command: &Command) -> Reply
+fn answer(alloc: Global, next: &mut Draft, refusal: Option<Refusal>, command: &Command) -> Reply
     ensures refused { IfSome refusal (λ r. (result ≡ Reply.Refused r) × (next.new ≡ next.old)) }
     ensures asked { refusal ≡ None → ((result ≡ Reply.Refused no_memory) × (next.new ≡ next.old)) ⊎ ((result ≡ reply_to next.old command.now) × (next.new ≡ after next.old command.now)) }
 {

@@ -6,6 +6,7 @@ ghost use Rattle.wm_checkpoint.specs.Kept.{disk_of, state_of, has_failed, number
 ghost use Rattle.wm_checkpoint.specs.Meanings.{MeansBeginning, MeansState};
 ghost use Rattle.wm_registry.specs.MachineLaws.{watches};
 ghost use Rattle.wm_registry.specs.Registry.{after, reply_to};
+ghost use Rattle.wm_store.specs.UnderWay.{AreCalls};
 
 use std::alloc::Global;
 use wm_checkpoint::Keeper;
@@ -26,6 +27,7 @@ pub(crate) fn begin_in<D: Disk + Drop>(
     ensures any_moment { D.honest (disk_of keeper.new) → LeavesOnly D.moment D.left_since (disk_of keeper.old) (disk_of keeper.new) (MeansBeginning watches (state_of keeper.old) (Command.Begin ∷ [])) }
     ensures unbegun { IfErr result (λ e. e ≢ device_failed → (state_of keeper.new ≡ state_of keeper.old) × (has_failed keeper.new ≡ false) × (D.failures (disk_of keeper.new) ≡ D.failures (disk_of keeper.old))) }
     ensures exhausted { IsErrOf result exhausted → (reply_to (state_of keeper.old) Command.Begin ≡ Reply.Refused exhausted) ⊎ (9223372036854775807 ≤ number_of keeper.old) }
+    ensures calls { AreCalls D.Disk 1 keeper.old keeper.new }
     ensures honest { D.honest (disk_of keeper.new) → D.honest (disk_of keeper.old) }
     ensures later { D.failures (disk_of keeper.old) ≤ D.failures (disk_of keeper.new) }
     ensures whole { OnOk result (D.failures (disk_of keeper.new) ≡ D.failures (disk_of keeper.old)) }
@@ -57,6 +59,7 @@ fn find_room<D: Disk + Drop>(alloc: Global, keeper: &mut Keeper<D, Registry>) ->
     ensures any_moment { D.honest (disk_of keeper.new) → LeavesOnly D.moment D.left_since (disk_of keeper.old) (disk_of keeper.new) (MeansState watches (state_of keeper.old)) }
     ensures unbegun { IfErr result (λ e. e ≢ device_failed → (has_failed keeper.new ≡ false) × (D.failures (disk_of keeper.new) ≡ D.failures (disk_of keeper.old))) }
     ensures exhausted { IsErrOf result exhausted → 9223372036854775807 ≤ number_of keeper.old }
+    ensures calls { AreCalls D.Disk 1 keeper.old keeper.new }
     ensures honest { D.honest (disk_of keeper.new) → D.honest (disk_of keeper.old) }
     ensures later { D.failures (disk_of keeper.old) ≤ D.failures (disk_of keeper.new) }
     ensures whole { OnOk result (D.failures (disk_of keeper.new) ≡ D.failures (disk_of keeper.old)) }

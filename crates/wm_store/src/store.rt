@@ -4,11 +4,12 @@ ghost use Rattle.wm_disk.specs.Moments.{LeavesOnly};
 ghost use Rattle.wm_disk.specs.declared.refusal.Refusal.TheVariants.{DeviceFailed as device_failed, NoMemory as no_memory, Exhausted as exhausted, Damaged as damaged, Retired as retired, StoreFailed as store_failed};
 ghost use Rattle.wm_checkpoint.specs.Machines.{replay_on};
 ghost use Rattle.wm_checkpoint.specs.Kept.{disk_of, state_of, has_failed, number_of, Keeps};
+ghost use Rattle.wm_checkpoint.specs.Numbers.{IsNumberedTo};
 ghost use Rattle.wm_checkpoint.specs.Meanings.{Means, MeansState, MeansBeginning, IsDamaged, IsRetired};
 ghost use Rattle.wm_registry.specs.MachineLaws.{watches};
 ghost use Rattle.wm_registry.specs.Registry.{after, reply_to};
 ghost use Rattle.wm_store.specs.Batches.{IsBatch, IsShort, accepted_of};
-ghost use Rattle.wm_store.specs.Openings.{IsFound};
+ghost use Rattle.wm_store.specs.Openings.{IsBegun, IsFound};
 ghost use Rattle.wm_store.specs.Stored.{IsStored};
 
 use crate::batch::{Batch, run};
@@ -50,10 +51,10 @@ impl<D: Disk + Drop> Model for Store<D> {
 }
 
 impl<D: Disk + Drop> Store<D> {
-    ghost use Rattle.wm_registry.specs.Registry.{after, reply_to};
+    ghost use Rattle.wm_registry.specs.Registry.{reply_to};
     ghost use Rattle.wm_registry.specs.Roots.{State};
     ghost use Rattle.wm_registry.specs.declared.command.Command.TheVariants.{Begin as begin};
-    ghost use Rattle.wm_registry.specs.declared.reply.Reply.TheVariants.{Changed as changed, Refused as refused};
+    ghost use Rattle.wm_registry.specs.declared.reply.Reply.TheVariants.{Refused as refused};
     ghost use Rattle.wm_checkpoint.specs.declared.layout.Slot.{Slot};
 
     /// Takes up the registry that the disk means, and begins the next incarnation, which is durable before
@@ -63,7 +64,7 @@ impl<D: Disk + Drop> Store<D> {
     /// device failed; `16 NoMemory` for want of memory. After `15` and `16` the disk means the registry
     /// that it meant, and after `13` that, or that with one more `Begin`, once its first sync succeeded.
     pub fn open(alloc: Global, disk: D) -> Result<Store<D>, (Refusal, D)>
-        ensures begun { IfOk result (λ s. D.honest s.disk → (found : State) × (reply_to found begin ≡ changed) × (s.registry ≡ after found begin) × IsFound D.Disk disk s.disk found) }
+        ensures begun { IfOk result (λ s. D.honest s.disk → IsBegun D.Disk disk s) }
         // Every content that a crash may leave then means the registry.
         ensures means { IfOk result (λ s. D.honest s.disk → (c : List ℕ) → D.may_leave s.disk c → MeansState watches s.registry c) }
         ensures up { IfOk result (λ s. (s.failed ≡ false) × (s.closed ≡ false)) }
@@ -74,6 +75,10 @@ impl<D: Disk + Drop> Store<D> {
         ensures damaged { IfErr result (λ e. D.honest e.1 → e.0 ≡ damaged → IsDamaged watches (D.seen disk)) }
         ensures retired { IfErr result (λ e. D.honest e.1 → e.0 ≡ retired → IsRetired (D.seen disk)) }
         ensures exhausted { IfErr result (λ e. D.honest e.1 → e.0 ≡ exhausted → (found : State) × (m : MeansState watches found (D.seen disk)) × ((reply_to found begin ≡ refused exhausted) ⊎ (9223372036854775807 ≤ m.number))) }
+        // The state is found also where the Begin is refused.
+        ensures refused { IfErr result (λ e. D.honest e.1 → e.0 ≡ exhausted → (found : State) × MeansState watches found (D.seen disk) × ((c : List ℕ) → D.may_leave e.1 c → MeansState watches found c)) }
+        // No slot that stands open in what a crash may leave then has a number that rose by more.
+        ensures numbered { IfOk result (λ s. D.honest s.disk → (c : List ℕ) → D.may_leave s.disk c → IsNumberedTo s.number c) × IfErr result (λ e. D.honest e.1 → (n : ℕ) → ((c : List ℕ) → D.may_leave disk c → IsNumberedTo n c) → (c : List ℕ) → D.may_leave e.1 c → IsNumberedTo (n + 1) c) }
         ensures honest { IfOk result (λ s. D.honest s.disk → D.honest disk) × IfErr result (λ e. D.honest e.1 → D.honest disk) }
         ensures later { IfOk result (λ s. D.failures disk ≤ D.failures s.disk) × IfErr result (λ e. D.failures disk ≤ D.failures e.1) }
         ensures whole { IfOk result (λ s. D.failures s.disk ≡ D.failures disk) }
@@ -137,6 +142,8 @@ impl<D: Disk + Drop> Store<D> {
         ensures memory { IsErrOf result no_memory → self.new ≡ self.old }
         ensures down { IsErrOf result store_failed → ((self.old.failed ≡ true) ⊎ (self.old.closed ≡ true)) × (self.new ≡ self.old) }
         ensures stays_down { (self.old.failed ≡ true) ⊎ (self.old.closed ≡ true) → IsErrOf result store_failed }
+        // No slot that stands open in what a crash may leave then has a greater number.
+        ensures numbered { self.old.failed ≡ false → D.honest self.new.disk → (c : List ℕ) → D.may_leave self.new.disk c → IsNumberedTo (self.old.number + length commands.items) c }
         ensures number { (self.old.number ≤ self.new.number) × (self.new.number ≤ self.old.number + length commands.items) }
         ensures honest { D.honest self.new.disk → D.honest self.old.disk }
         ensures later { D.failures self.old.disk ≤ D.failures self.new.disk }
@@ -167,6 +174,7 @@ impl<D: Disk + Drop> Store<D> {
         // Every content that a crash may leave then has the registry in its slot, and no command behind it.
         ensures fresh { D.honest self.new.disk → OnOk result ((slot : Slot) × ((c : List ℕ) → D.may_leave self.new.disk c → Means watches c slot self.new.number self.new.registry [])) }
         ensures number { OnOk result (self.new.number ≡ self.old.number + 1) × OnErr result (self.new.number ≡ self.old.number) }
+        ensures numbered { self.old.failed ≡ false → D.honest self.new.disk → (c : List ℕ) → D.may_leave self.new.disk c → IsNumberedTo (self.old.number + 1) c }
         ensures registry { self.new.registry ≡ self.old.registry }
         // A crash at any moment of the call leaves the registry.
         ensures any_moment { self.old.failed ≡ false → D.honest self.new.disk → LeavesOnly D.moment D.left_since self.old.disk self.new.disk (MeansState watches self.old.registry) }
@@ -224,12 +232,14 @@ fn begin<D: Disk + Drop>(
     requires whole { has_failed keeper ≡ false }
     ensures begun { IfOk result (λ s. s.registry ≡ after (state_of keeper) Command.Begin) }
     ensures changed { IfOk result (λ s. reply_to (state_of keeper) Command.Begin ≡ Reply.Changed) }
+    ensures number { IfOk result (λ s. s.number ≤ number_of keeper + 1) }
     ensures any_moment { IfOk result (λ s. D.honest s.disk → LeavesOnly D.moment D.left_since (disk_of keeper) s.disk (MeansBeginning watches (state_of keeper) (Command.Begin ∷ []))) }
     ensures means { IfOk result (λ s. D.honest s.disk → (c : List ℕ) → D.may_leave s.disk c → MeansState watches s.registry c) }
     ensures up { IfOk result (λ s. (s.failed ≡ false) × (s.closed ≡ false)) }
     ensures cut { IfErr result (λ e. D.honest e.1 → LeavesOnly D.moment D.left_since (disk_of keeper) e.1 (MeansBeginning watches (state_of keeper) (Command.Begin ∷ []))) }
     ensures unbegun { IfErr result (λ e. D.honest e.1 → e.0 ≢ device_failed → (c : List ℕ) → D.may_leave e.1 c → MeansState watches (state_of keeper) c) }
     ensures exhausted { IfErr result (λ e. e.0 ≡ exhausted → (reply_to (state_of keeper) Command.Begin ≡ Reply.Refused exhausted) ⊎ (9223372036854775807 ≤ number_of keeper)) }
+    ensures numbered { IfOk result (λ s. D.honest s.disk → (c : List ℕ) → D.may_leave s.disk c → IsNumberedTo s.number c) × IfErr result (λ e. D.honest e.1 → (n : ℕ) → number_of keeper ≤ n → ((c : List ℕ) → D.may_leave (disk_of keeper) c → IsNumberedTo n c) → (c : List ℕ) → D.may_leave e.1 c → IsNumberedTo (n + 1) c) }
     ensures honest { IfOk result (λ s. D.honest s.disk → D.honest (disk_of keeper)) × IfErr result (λ e. D.honest e.1 → D.honest (disk_of keeper)) }
     ensures later { IfOk result (λ s. D.failures (disk_of keeper) ≤ D.failures s.disk) × IfErr result (λ e. D.failures (disk_of keeper) ≤ D.failures e.1) }
     ensures whole { IfOk result (λ s. D.failures s.disk ≡ D.failures (disk_of keeper)) }

@@ -9,7 +9,7 @@ use wm_expr::Expr;
 use wm_names::RootPath;
 use wm_view::View;
 
-pub(super) fn read(alloc: Global, text: &str) -> Result<Expr, Fail> {
+fn read(alloc: Global, text: &str) -> Result<Expr, Fail> {
     let value = Value::from_slice(alloc, text.as_bytes())?;
     Ok(Expr::read(alloc, &value)?)
 }

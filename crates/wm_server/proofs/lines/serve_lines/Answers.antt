@@ -27,7 +27,7 @@ returns-in-Ok-Err-clause-refused g c = λ h.
     let leads = c.run-ran.ensures.later in
     let found = rw (← c.new-session.ensures) at c.in-Ok.ensures in
     let start = found.begun (leads.later.honest (c.close-closed.ensures.later.honest h)) in (
-      start.0,
+      start.found,
       left.store.registry,
       keeps g.D.Disk c.args.disk begun.store left.store c.close-closed.result.1 (record {
         works = found.working.0;
@@ -44,7 +44,7 @@ returns-in-Ok-Ok-clause-refused g c = λ h.
     let leads = c.run-ran.ensures.later in
     let found = rw (← c.new-session.ensures) at c.in-Ok.ensures in
     let start = found.begun (leads.later.honest (c.close-closed.ensures.later.honest h)) in (
-      start.0,
+      start.found,
       left.store.registry,
       keeps g.D.Disk c.args.disk begun.store left.store c.close-closed.result.1 (record {
         works = found.working.0;

@@ -1,7 +1,7 @@
-use Rattle.std.proofs.Common.{◌≡◌, ◌≢◌, ◌≤◌, ◌⊎◌, ⊎_elim, inl, inr, refl, ap, sym, ◌∙◌, arith, ℕ, List, [], ◌∷◌, subst}
+use Rattle.std.proofs.Common.{◌+◌, ◌≡◌, ◌≢◌, ◌≤◌, ◌⊎◌, ⊎_elim, inl, inr, refl, ap, sym, ◌∙◌, arith, ℕ, List, [], ◌∷◌, subst}
 use Rattle.std.specs.Prelude.{true, false}
 use Rattle.std.proofs.lemmas.Result.{on_ok_weaker}
-use Rattle.wm_checkpoint.specs.Kept.{disk_of, state_of, has_failed, room_left}
+use Rattle.wm_checkpoint.specs.Kept.{disk_of, state_of, has_failed, number_of, room_left}
 use Rattle.wm_checkpoint.specs.Machines.{Accepts, replay_on}
 use Rattle.wm_checkpoint.specs.Meanings.{MeansBeginning}
 use Rattle.wm_disk.specs.Contents.{Rose}
@@ -17,6 +17,8 @@ use Rattle.wm_registry.specs.declared.reply.Reply.{Reply}
 use Rattle.wm_registry.specs.declared.reply.Reply.TheVariants.{Refused}
 use Rattle.wm_registry.specs.Registry.{reply_to, after, changes}
 use Rattle.wm_registry.specs.Roots.{State}
+use Rattle.wm_checkpoint.proofs.Numbering.{numbered_more}
+use Rattle.wm_store.proofs.Batching.{calls_none, calls_then}
 use Rattle.wm_store.proofs.Replies.{begin_refused, begin_accepted, begin_changed}
 use Rattle.wm_store.proofs.Runs.{stood, unbegun, then_begun, ok_told, two_kinds, three_kinds, told_three}
 use Rattle.wm_store.proofs.begin.begin_in.Goals as goal
@@ -31,6 +33,7 @@ returns-in_default g c =
       any_moment = λ h. unbegun g.D.Disk (disk_of k) (disk_of k) (state_of k) (Begin ∷ []) (stood g.D.Disk g.met.D.Disk.only_now k c.requires.kept c.requires.whole h);
       unbegun = λ no. (refl, c.requires.whole, refl);
       exhausted = λ e. absurd cc;
+      calls = calls_none g.D.Disk 1 k k refl;
       honest = λ h. h;
       later = omega arith;
       whole = tt;
@@ -55,6 +58,7 @@ returns-in-Refused g c =
       any_moment = λ h. unbegun g.D.Disk (disk_of k) (disk_of k) (state_of k) (Begin ∷ []) (stood g.D.Disk g.met.D.Disk.only_now k c.requires.kept c.requires.whole h);
       unbegun = λ no. (refl, c.requires.whole, refl);
       exhausted = λ e. ⊎_elim (λ n. absurd cc) (λ x. inl x.1) why;
+      calls = calls_none g.D.Disk 1 k k refl;
       honest = λ h. h;
       later = omega arith;
       whole = tt;
@@ -73,6 +77,7 @@ returns-in-Err g c =
       any_moment = λ h. unbegun g.D.Disk (disk_of k) (disk_of c.find_room.new.keeper) (state_of k) (Begin ∷ []) (f.any_moment h);
       unbegun = λ no. let u = f.unbegun no in (f.state, u.0, u.1);
       exhausted = λ e. inr (f.exhausted e);
+      calls = f.calls;
       honest = f.honest;
       later = f.later;
       whole = tt;
@@ -91,6 +96,7 @@ returns-in_default-vec g c =
       any_moment = λ h. unbegun g.D.Disk (disk_of k) (disk_of c.find_room.new.keeper) (state_of k) (Begin ∷ []) (f.any_moment h);
       unbegun = λ no. (f.state, (ok_told c.find_room.result c.in_default-find_room.not-Err f.room).1, ok_told c.find_room.result c.in_default-find_room.not-Err f.whole);
       exhausted = λ e. absurd cc;
+      calls = f.calls;
       honest = f.honest;
       later = f.later;
       whole = tt;
@@ -134,6 +140,13 @@ returns g c =
           (λ e. (ap (λ y. state_of y) (m.memory e) ∙ f.state, ap (λ y. has_failed y) (m.memory e) ∙ room.1, ap (λ y. g.D.Disk.failures (disk_of y)) (m.memory e) ∙ same))
           (λ e. (ap (λ y. state_of y) (m.down e).1 ∙ f.state, ap (λ y. has_failed y) (m.down e).1 ∙ room.1, ap (λ y. g.D.Disk.failures (disk_of y)) (m.down e).1 ∙ same));
       exhausted = λ e. absurd (three_kinds c.commit.result m.kinds (λ x. let up : true ≡ false = sym (m.down x).0 ∙ room.1 in absurd cc) e);
+      calls = calls_then g.D.Disk 1 0 k mid c.commit.new.self f.calls (record {
+        least = omega (arith, m.slot.1);
+        most = omega (arith, m.slot.1);
+        honest = m.honest;
+        later = m.later;
+        numbered = λ h n le all x left. numbered_more (number_of mid) (n + 0) x (omega (arith, le)) (m.numbered room.1 h x left);
+      });
       honest = λ h. f.honest (m.honest h);
       later = omega (arith, f.later, m.later);
       whole = on_ok_weaker c.commit.result (λ h. h ∙ same) m.whole;

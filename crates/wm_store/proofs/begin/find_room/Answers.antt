@@ -1,7 +1,9 @@
-use Rattle.std.proofs.Common.{◌≡◌, refl, ap, sym, ◌∙◌, arith}
+use Rattle.std.proofs.Common.{◌≡◌, ◌≤◌, ◌+◌, ℕ, Result, Ok, Err, OnOk, OnErr, refl, ap, sym, ◌∙◌, arith}
 use Rattle.std.specs.Prelude.{true, false}
-use Rattle.std.proofs.lemmas.Result.{on_ok_weaker}
-use Rattle.wm_checkpoint.specs.Kept.{disk_of, has_failed}
+use Rattle.std.proofs.lemmas.Result.{on_ok_weaker, on_err_weaker}
+use Rattle.wm_checkpoint.specs.Kept.{disk_of, has_failed, number_of}
+use Rattle.wm_checkpoint.proofs.Numbering.{numbered_more}
+use Rattle.wm_store.proofs.Batching.{calls_none}
 use Rattle.wm_store.proofs.Runs.{stood, kinds_up, told_four}
 use Rattle.wm_store.proofs.begin.find_room.Goals as goal
 
@@ -13,12 +15,17 @@ returns-then-room-ge2 g c = record {
   any_moment = λ h. stood g.D.Disk g.met.D.Disk.only_now c.args.keeper.now c.requires.kept c.requires.whole h;
   unbegun = tt;
   exhausted = λ e. absurd cc;
+  calls = calls_none g.D.Disk 1 c.args.keeper.now c.args.keeper.now refl;
   honest = λ h. h;
   later = omega arith;
   whole = refl;
   failed = λ e. absurd cc;
   kinds = tt;
 }
+
+one_more_at_most : {T E : Type 0} (r : Result T E) (m n : ℕ) → OnOk r (n ≡ m + 1) → OnErr r (n ≡ m) → (m ≤ n) × (n ≤ m + 1)
+one_more_at_most (Ok x) m n a b = (omega (arith, a), omega (arith, a))
+one_more_at_most (Err e) m n a b = (omega (arith, b), omega (arith, b))
 
 pub returns : goal.returns
 returns g c =
@@ -33,6 +40,13 @@ returns g c =
           (λ e. (ap (λ y. has_failed y) (k.exhausted e).1 ∙ c.requires.whole, ap (λ y. g.D.Disk.failures (disk_of y)) (k.exhausted e).1))
           (λ e. (ap (λ y. has_failed y) (k.down e).1 ∙ c.requires.whole, ap (λ y. g.D.Disk.failures (disk_of y)) (k.down e).1));
       exhausted = λ e. (k.exhausted e).0;
+      calls = let between = one_more_at_most c.checkpoint.result (number_of c.args.keeper.now) (number_of c.checkpoint.new.self) (on_ok_weaker c.checkpoint.result (λ h. h.1) k.slot) (on_err_weaker c.checkpoint.result (λ h. h.1) k.stays) in record {
+        least = between.0;
+        most = between.1;
+        honest = k.honest;
+        later = k.later;
+        numbered = λ h n le all x left. numbered_more (number_of c.args.keeper.now + 1) (n + 1) x (omega (arith, le)) (k.numbered c.requires.whole h x left);
+      };
       honest = k.honest;
       later = k.later;
       whole = k.whole;

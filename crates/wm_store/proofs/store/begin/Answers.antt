@@ -3,6 +3,7 @@ use Rattle.std.specs.Prelude.{false, Err}
 use Rattle.wm_registry.specs.Roots.{State}
 use Rattle.wm_registry.specs.MachineLaws.{watches}
 use Rattle.wm_checkpoint.specs.Meanings.{MeansState}
+use Rattle.wm_checkpoint.proofs.Numbering.{kept_numbered}
 use Rattle.wm_store.proofs.Stores.{up, means_up}
 use Rattle.wm_store.proofs.store.begin.Goals as goal
 
@@ -24,6 +25,8 @@ returns-in-Ok g c =
       cut = tt;
       unbegun = tt;
       exhausted = tt;
+      number = k.calls.most;
+      numbered = (λ h x left. kept_numbered g.D.Disk watches c.begin_in.new.keeper (k.kept.kept k.begun.1 h) x left, tt);
       honest = (k.honest, tt);
       later = (k.later, tt);
       whole = k.whole;
@@ -46,6 +49,8 @@ returns-in-Err g c =
       cut = k.any_moment;
       unbegun = λ h no x left. let u = k.unbegun no in subst (λ (t : State). MeansState watches t x) u.0 (means_up D c.begin_in.new.keeper k.kept u.1 h x left);
       exhausted = λ e. k.exhausted (ap (λ x. Err x) e);
+      number = tt;
+      numbered = (tt, λ h n le all x left. k.calls.numbered h n le all x left);
       honest = (tt, k.honest);
       later = (tt, k.later);
       whole = tt;

@@ -8,6 +8,7 @@ use Rattle.wm_checkpoint.specs.Meanings.{Means, MeansState, IsSlotText}
 use Rattle.wm_checkpoint.specs.declared.layout.Slot.{Slot}
 use Rattle.wm_checkpoint.proofs.Switching.{slot_bounds}
 use Rattle.wm_checkpoint.proofs.Keeping.{kept_means, untouched, switch_leaves, switch_means, journal_at_rest}
+use Rattle.wm_checkpoint.proofs.Numbering.{kept_numbered, numbered_more, switch_now}
 use Rattle.wm_checkpoint.proofs.keeper.Keeper.checkpoint.Goals as goal
 
 pub returns-then-self-ge-LAST-clause-any_moment : goal.returns-then-self-ge-LAST-clause-any_moment
@@ -87,3 +88,41 @@ returns-in-Ok-clause-kept g c =
 
 pub returns-in-Ok-clause-means : goal.returns-in-Ok-clause-means
 returns-in-Ok-clause-means g c = λ h x left. kept_means g.D.Disk (meaning g.M.Machine g.M.State.Wire g.M.Command.Wire) _ ((returns-in-Ok-clause-kept g c).kept c.if-self.false h) x left
+
+pub returns-then-self-ge-LAST-clause-numbered : goal.returns-then-self-ge-LAST-clause-numbered
+returns-then-self-ge-LAST-clause-numbered g c = λ alive h x left.
+    let self = c.args.self.now in
+    numbered_more self.number (self.number + 1) x (omega arith) (kept_numbered g.D.Disk (meaning g.M.Machine g.M.State.Wire g.M.Command.Wire) self (c.requires.kept.kept alive h) x left)
+
+pub returns-in_err-bytes-clause-numbered : goal.returns-in_err-bytes-clause-numbered
+returns-in_err-bytes-clause-numbered g c = λ alive h x left.
+    let self = c.args.self.now in
+    numbered_more self.number (self.number + 1) x (omega arith) (kept_numbered g.D.Disk (meaning g.M.Machine g.M.State.Wire g.M.Command.Wire) self (c.requires.kept.kept alive h) x left)
+
+pub returns-clause-numbered : goal.returns-clause-numbered
+returns-clause-numbered g c = λ alive h x left.
+    let D = g.D.Disk in
+    let m = meaning g.M.Machine g.M.State.Wire g.M.Command.Wire in
+    let self = c.args.self.now in
+    let kp = c.requires.kept in
+    let there = h in
+    let k = kp.kept alive (c.switch_half.ensures.honest there) in
+    let at : c.place.result ≡ slot_place (other_slot self.slot) = c.place.ensures ∙ ap slot_place c.other-slot.ensures in
+    let less : self.number < 9223372036854775807 = omega (arith, c.if-self-ge-LAST.false) in
+    let bytes = c.deref.result.now in
+    let s : IsSlotText m (self.number + 1) self.state bytes = subst (λ (l : List ℕ). IsSlotText m (self.number + 1) self.state l) (sym c.deref.ensures.value) c.in_ok-bytes.ensures.text in
+    switch_now D m self k g.met.D.Disk.counts_now c.switch_half.new.disk there c.place.result bytes at less s (c.switch_half.ensures.any_moment there k.at_rest.durable) x left
+
+pub returns-in-Ok-clause-numbered : goal.returns-in-Ok-clause-numbered
+returns-in-Ok-clause-numbered g c = λ alive h x left.
+    let D = g.D.Disk in
+    let m = meaning g.M.Machine g.M.State.Wire g.M.Command.Wire in
+    let self = c.args.self.now in
+    let kp = c.requires.kept in
+    let there = subst D.honest c.go_to.ensures.disk h in
+    let k = kp.kept alive (c.switch_half.ensures.honest there) in
+    let at : c.place.result ≡ slot_place (other_slot self.slot) = c.place.ensures ∙ ap slot_place c.other-slot.ensures in
+    let less : self.number < 9223372036854775807 = omega (arith, c.if-self-ge-LAST.false) in
+    let bytes = c.deref.result.now in
+    let s : IsSlotText m (self.number + 1) self.state bytes = subst (λ (l : List ℕ). IsSlotText m (self.number + 1) self.state l) (sym c.deref.ensures.value) c.in_ok-bytes.ensures.text in
+    switch_now D m self k g.met.D.Disk.counts_now c.switch_half.new.disk there c.place.result bytes at less s (c.switch_half.ensures.any_moment there k.at_rest.durable) x (subst (λ d. D.may_leave d x) c.go_to.ensures.disk left)

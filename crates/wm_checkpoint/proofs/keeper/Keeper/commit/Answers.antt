@@ -1,6 +1,7 @@
 use Rattle.std.proofs.Common.{◌∙◌, sym, ◌++◌}
 use Rattle.wm_checkpoint.specs.Machines.{meaning}
 use Rattle.wm_checkpoint.proofs.Keeping.{kept_means, group_leaves, group_means, group_leads}
+use Rattle.wm_checkpoint.proofs.Numbering.{group_now}
 use Rattle.wm_checkpoint.proofs.keeper.Keeper.commit.Goals as goal
 
 pub returns-in-Ok-clause-kept : goal.returns-in-Ok-clause-kept
@@ -52,3 +53,27 @@ returns-clause-any_moment g c = λ alive h.
 
 pub returns-in-Ok-clause-means : goal.returns-in-Ok-clause-means
 returns-in-Ok-clause-means g c = λ h x left. kept_means g.D.Disk (meaning g.M.Machine g.M.State.Wire g.M.Command.Wire) _ ((returns-in-Ok-clause-kept g c).kept c.if-self.false h) x left
+
+pub returns-in-Ok-clause-numbered : goal.returns-in-Ok-clause-numbered
+returns-in-Ok-clause-numbered g c = λ alive h x left.
+    let m = meaning g.M.Machine g.M.State.Wire g.M.Command.Wire in
+    let self = c.args.self.now in
+    let kp = c.requires.kept in
+    let k = kp.kept alive (c.commit_group.ensures.honest h) in
+    group_now g.D.Disk m self k g.met.D.Disk.counts_now c.commit_group.new.region.disk h c.args.commands.now kp.place (c.commit_group.ensures.any_moment k.commands h k.at_rest) x left
+
+pub returns-in-NoMemory-clause-numbered : goal.returns-in-NoMemory-clause-numbered
+returns-in-NoMemory-clause-numbered g c = λ alive h x left.
+    let m = meaning g.M.Machine g.M.State.Wire g.M.Command.Wire in
+    let self = c.args.self.now in
+    let kp = c.requires.kept in
+    let k = kp.kept alive (c.commit_group.ensures.honest h) in
+    group_now g.D.Disk m self k g.met.D.Disk.counts_now c.commit_group.new.region.disk h c.args.commands.now kp.place (c.commit_group.ensures.any_moment k.commands h k.at_rest) x left
+
+pub returns-clause-numbered : goal.returns-clause-numbered
+returns-clause-numbered g c = λ alive h x left.
+    let m = meaning g.M.Machine g.M.State.Wire g.M.Command.Wire in
+    let self = c.args.self.now in
+    let kp = c.requires.kept in
+    let k = kp.kept alive (c.commit_group.ensures.honest h) in
+    group_now g.D.Disk m self k g.met.D.Disk.counts_now c.commit_group.new.region.disk h c.args.commands.now kp.place (c.commit_group.ensures.any_moment k.commands h k.at_rest) x left

@@ -12,7 +12,7 @@ returns-in-Err-clause-refused g c =
 
 pub returns-in-Err-views_for-clause-cut : goal.returns-in-Err-views_for-clause-cut
 returns-in-Err-views_for-clause-cut g c =
-    subst (λ d. StartCut g.D.Disk c.args.disk d) (sym c.into_disk.ensures.value) (λ h. let begun = c.in-Ok.ensures.begun h in inr (begun.0, begun.3))
+    subst (λ d. StartCut g.D.Disk c.args.disk d) (sym c.into_disk.ensures.value) (λ h. let begun = c.in-Ok.ensures.begun h in inr (begun.found, begun.opened))
 
 pub returns-in-Err-views_for-clause-later : goal.returns-in-Err-views_for-clause-later
 returns-in-Err-views_for-clause-later g c =
@@ -25,4 +25,4 @@ returns-in-Err-views_for-clause-refused g c =
     let store = c.in-Ok.store in
     let why = subst (λ r. ((e ≡ refusals.Damaged) × (have_expressions r ≡ false)) ⊎ (e ≡ refusals.NoMemory)) c.registry.ensures.value c.in-Err-views_for.ensures.refused in
     subst (λ d. StartRefused g.D.Disk e c.args.disk d) (sym c.into_disk.ensures.value)
-    (views_refused g.D.Disk c.args.disk store.disk store.registry e c.in-Ok.ensures.begun why)
+    (views_refused g.D.Disk c.args.disk store e c.in-Ok.ensures.begun why)

@@ -1,4 +1,4 @@
-use Rattle.std.proofs.Common.{◌≡◌, ◌≤◌, ⊎_elim, inl, inr, refl, sym, ◌∙◌, ap, arith, ℕ, true, false, List, [], ◌∷◌, ◌++◌}
+use Rattle.std.proofs.Common.{◌≡◌, ◌≤◌, ⊎_elim, inl, inr, refl, sym, ◌∙◌, ap, subst, arith, ℕ, true, false, List, [], ◌∷◌, ◌++◌}
 use Rattle.std.specs.Prelude.{Some}
 use Rattle.wm_disk.specs.declared.refusal.Refusal.{Refusal}
 use Rattle.wm_disk.specs.declared.refusal.Refusal.TheVariants.{NoMemory, Exhausted, BadArguments}
@@ -7,7 +7,10 @@ use Rattle.wm_registry.specs.Commands.{IsCommand, command_spelling}
 use Rattle.wm_registry.specs.CommandLaws.{small_command}
 use Rattle.wm_registry.specs.declared.command.Command.{Command}
 use Rattle.wm_registry.specs.Registry.{is_change, reply_to}
+use Rattle.wm_registry.specs.Roots.{State}
 use Rattle.wm_store.specs.Batches.{is_begin}
+use Rattle.wm_store.specs.UnderWay.{IsPast, IsReady}
+use Rattle.wm_store.specs.declared.batch.Batch.{Batch}
 use Rattle.wm_checkpoint.specs.Kept.{room_left}
 use Rattle.wm_store.proofs.Replies.{not_begin}
 use Rattle.wm_store.proofs.Replying.{taken_append}
@@ -71,14 +74,15 @@ returns-then-not-is_change g c =
     let D = g.D.Disk in
     let old = c.args.keeper.now in
     let none = c.in_default-refused.is in
-    let idle : is_change (reply_to c.args.self.now.next c.args.command.now) ≡ false = ap is_change (sym c.reply_to.ensures) ∙ sym c.if-not-is_change.ensures in
+    let idle : is_change (reply_to c.args.self.now.next c.args.command.now) ≡ false = ap is_change (sym c.reply_to.ensures.reply) ∙ sym c.if-not-is_change.ensures in
+    let asked : c.args.self.now ≡ record c.args.self.now { next = c.reply_to.new.self } = ap (λ (n : State). record c.args.self.now { next = n }) (sym c.reply_to.ensures.same) in
     record {
-      ready = c.requires.ready;
-      same = (refl, refl);
+      ready = subst (λ (b : Batch). IsReady D old b) asked c.requires.ready;
+      same = (c.reply_to.ensures.same, refl);
       room = record { replies = omega arith; group = omega arith };
       open_yet = λ e. (none, none, not_begin c.args.command.now c.in_default.not-Begin, inl refl, λ h. let clash : true ≡ false = sym h ∙ idle in absurd cc);
       refused = λ r e. absurd cc;
-      past = λ start done p. p;
+      past = λ start done p. subst (λ (b : Batch). IsPast D start done old b) asked p;
       cut = tt;
       asked = tt;
       calls = calls_none D 1 old old refl;
@@ -118,11 +122,12 @@ returns-in-Ok g c =
     let m = c.in-Ok.ensures in
     let none = c.in_default-refused.is in
     let other = not_begin command c.in_default.not-Begin in
-    let accepted : is_change (reply_to a.next command) ≡ true = ap is_change (sym c.reply_to.ensures) ∙ sym c.if-not-is_change.ensures in
+    let accepted : is_change (reply_to a.next command) ≡ true = ap is_change (sym c.reply_to.ensures.reply) ∙ sym c.if-not-is_change.ensures in
+    let asked : c.args.self.now ≡ record c.args.self.now { next = c.reply_to.new.self } = ap (λ (n : State). record c.args.self.now { next = n }) (sym c.reply_to.ensures.same) in
     record {
       ready = m.ready;
-      same = m.same;
-      room = m.room;
+      same = (m.same.0 ∙ c.reply_to.ensures.same, m.same.1);
+      room = record { replies = m.room.replies; group = m.room.group };
       open_yet = λ e. (
         e,
         none,
@@ -140,7 +145,7 @@ returns-in-Ok g c =
           (λ x. inr (inr (other, same_inside Exhausted r (sym x.0 ∙ e), x.0, x.3, inl (none, accepted, x.2, x.1))))
           w)
           m.made;
-      past = m.past;
+      past = λ start done p. m.past start done (subst (λ (x : Batch). IsPast D start done old x) asked p);
       cut = tt;
       asked = tt;
       calls = m.calls;
@@ -150,8 +155,10 @@ returns-in-Ok g c =
 
 pub returns-in-Err : goal.returns-in-Err
 returns-in-Err g c =
+    let D = g.D.Disk in
     let m = c.in-Err.ensures in
-    let accepted : is_change (reply_to c.args.self.now.next c.args.command.now) ≡ true = ap is_change (sym c.reply_to.ensures) ∙ sym c.if-not-is_change.ensures in
+    let accepted : is_change (reply_to c.args.self.now.next c.args.command.now) ≡ true = ap is_change (sym c.reply_to.ensures.reply) ∙ sym c.if-not-is_change.ensures in
+    let asked : c.args.self.now ≡ record c.args.self.now { next = c.reply_to.new.self } = ap (λ (n : State). record c.args.self.now { next = n }) (sym c.reply_to.ensures.same) in
     record {
       ready = tt;
       same = tt;
@@ -159,7 +166,7 @@ returns-in-Err g c =
       open_yet = tt;
       refused = tt;
       past = tt;
-      cut = m.cut;
+      cut = λ start done p. m.cut start done (subst (λ (b : Batch). IsPast D start done c.args.keeper.now b) asked p);
       asked = (c.in_default-refused.is, not_begin c.args.command.now c.in_default.not-Begin, accepted);
       calls = m.calls;
       whole = tt;

@@ -1,4 +1,4 @@
-use Rattle.std.proofs.Common.{◌≡◌, ◌≤◌, ◌⊎◌, inl, inr, refl, sym, ◌∙◌, ap, subst, arith, true, false, List, [], vec_len, vec_capacity, Err}
+use Rattle.std.proofs.Common.{◌+◌, ◌≡◌, ◌≤◌, ◌⊎◌, inl, inr, refl, sym, ◌∙◌, ap, subst, arith, true, false, List, [], vec_len, vec_capacity, Err}
 use Rattle.std.specs.Prelude.{Option, Some, None}
 use Rattle.std.specs.Option.{unwrap_or}
 use Rattle.wm_disk.specs.declared.refusal.Refusal.{Refusal}
@@ -9,9 +9,10 @@ use Rattle.wm_registry.specs.Commands.{command_spelling}
 use Rattle.wm_registry.specs.declared.command.Command.{Command}
 use Rattle.wm_registry.specs.MachineLaws.{watches}
 use Rattle.wm_registry.specs.Roots.{State}
-use Rattle.wm_checkpoint.specs.Kept.{disk_of, state_of, room_left}
+use Rattle.wm_checkpoint.specs.Kept.{disk_of, state_of, room_left, number_of}
 use Rattle.wm_checkpoint.specs.Machines.{Accepts, replay_on}
 use Rattle.wm_checkpoint.specs.Meanings.{MeansBeginning}
+use Rattle.wm_checkpoint.proofs.Numbering.{numbered_more}
 use Rattle.wm_store.proofs.Batching.{past_same, past_committed, cut_committing, remembered, calls_none, whole_none, ready_same, is_device_two}
 use Rattle.wm_store.proofs.batch.Batch.commit_so_far.Goals as goal
 
@@ -100,7 +101,7 @@ returns-in-Ok-commit g c =
           none (ap (λ b. b.replies) same) (c.len-self.ensures ∙ ap (λ b. vec_len b.replies) same ∙ a.replies.ok.0)
           (remembered D start done old a r.before p (kept_before a.before r.before (state_of old) c.state.result.now c.state.ensures c.in-Ok-remember.ensures.ok));
       cut = tt;
-      calls = record { least = omega (arith, k.slot.1); most = omega (arith, k.slot.1); honest = k.honest; later = k.later };
+      calls = record { least = omega (arith, k.slot.1); most = omega (arith, k.slot.1); honest = k.honest; later = k.later; numbered = λ h n le all x left. numbered_more (number_of old) (n + 0) x (omega (arith, le)) (k.numbered c.requires.ready.whole h x left) };
       whole = record { kept = k.kept; up = k.state.1; count = k.whole };
       down = tt;
     }
@@ -151,7 +152,7 @@ returns-in_default-refusal g c =
           let before = remembered D start done old a r.before p (kept_before a.before r.before (state_of old) c.state.result.now c.state.ensures c.in-Ok-remember.ensures.ok) in
           cut_committing D start done old new a r.before p (ap (λ (o : Option State). unwrap_or o (state_of new)) before) k.honest
           (λ h. subst (λ (l : List Command). LeavesOnly D.moment D.left_since (disk_of old) (disk_of new) (MeansBeginning watches (state_of old) l)) group (k.any_moment c.requires.ready.whole h));
-      calls = record { least = omega (arith, k.slot.1); most = omega (arith, k.slot.1); honest = k.honest; later = k.later };
+      calls = record { least = omega (arith, k.slot.1); most = omega (arith, k.slot.1); honest = k.honest; later = k.later; numbered = λ h n le all x left. numbered_more (number_of old) (n + 0) x (omega (arith, le)) (k.numbered c.requires.ready.whole h x left) };
       whole = tt;
       down = record { kept = k.kept; down = fell.1; rose = fell.0 };
     }

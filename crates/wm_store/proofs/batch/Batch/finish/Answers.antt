@@ -1,4 +1,4 @@
-use Rattle.std.proofs.Common.{◌≡◌, ◌≤◌, refl, sym, ◌∙◌, ap, subst, arith, true, false, List, Err}
+use Rattle.std.proofs.Common.{◌+◌, ◌≡◌, ◌≤◌, refl, sym, ◌∙◌, ap, subst, arith, true, false, List, Err}
 use Rattle.wm_disk.specs.declared.refusal.Refusal.{Refusal}
 use Rattle.wm_disk.specs.declared.refusal.Refusal.TheVariants.{DeviceFailed}
 use Rattle.wm_disk.specs.Moments.{LeavesOnly}
@@ -7,9 +7,10 @@ use Rattle.wm_registry.specs.Commands.{command_spelling}
 use Rattle.wm_registry.specs.declared.command.Command.{Command}
 use Rattle.wm_registry.specs.declared.reply.Reply.{Reply}
 use Rattle.wm_registry.specs.MachineLaws.{watches}
-use Rattle.wm_checkpoint.specs.Kept.{disk_of, state_of, room_left}
+use Rattle.wm_checkpoint.specs.Kept.{disk_of, state_of, room_left, number_of}
 use Rattle.wm_checkpoint.specs.Machines.{Accepts, replay_on}
 use Rattle.wm_checkpoint.specs.Meanings.{MeansBeginning}
+use Rattle.wm_checkpoint.proofs.Numbering.{numbered_more}
 use Rattle.wm_store.specs.UnderWay.{IsDone}
 use Rattle.wm_store.proofs.Batching.{calls_none, whole_none, is_device_two}
 use Rattle.wm_store.proofs.Finishing.{no_group, some_group, done_empty, done_committed, done_short, cut_last}
@@ -24,7 +25,7 @@ commit-requires g c =
     record {
       kept = ready.kept;
       fits = subst (λ (l : List Command). taken command_spelling l ≤ room_left old) (sym group) (omega (arith, ready.size, ready.fits));
-      next = ready.next ∙ ap (λ (l : List Command). replay_on watches (state_of old) l) (sym group);
+      next = c.into_registry.ensures ∙ ready.next ∙ ap (λ (l : List Command). replay_on watches (state_of old) l) (sym group);
       accepted = subst (λ (l : List Command). Accepts watches (state_of old) l) (sym group) ready.accepted;
     }
 
@@ -56,11 +57,11 @@ returns-in-Ok g c =
     let ready = c.requires.ready in
     let group : c.deref.result.now ≡ b.group.items = c.deref.ensures.value in
     record {
-      done = λ start commands p f idle. done_committed D start commands old new b (some_group b c.if-is_empty.ensures) p f k.slot.1 (k.state.0 ∙ ready.next) k.honest
+      done = λ start commands p f idle. done_committed D start commands old new b (some_group b c.if-is_empty.ensures) p f k.slot.1 (k.state.0 ∙ c.into_registry.ensures ∙ ready.next) k.honest
           (λ h. subst (λ (l : List Command). LeavesOnly D.moment D.left_since (disk_of old) (disk_of new) (MeansBeginning watches (state_of old) l)) group (k.any_moment ready.whole h));
       cut = tt;
       asked = tt;
-      calls = record { least = omega (arith, k.slot.1); most = omega (arith, k.slot.1); honest = k.honest; later = k.later };
+      calls = record { least = omega (arith, k.slot.1); most = omega (arith, k.slot.1); honest = k.honest; later = k.later; numbered = λ h n le all x left. numbered_more (number_of old) (n + 0) x (omega (arith, le)) (k.numbered c.requires.ready.whole h x left) };
       whole = record { kept = k.kept; up = k.state.1; count = k.whole };
       down = tt;
     }
@@ -98,7 +99,7 @@ returns-in_default g c =
       cut = λ start commands p. cut_last D start commands old new b p k.unchanged k.honest
           (λ h. subst (λ (l : List Command). LeavesOnly D.moment D.left_since (disk_of old) (disk_of new) (MeansBeginning watches (state_of old) l)) group (k.any_moment c.requires.ready.whole h));
       asked = some_group b c.if-is_empty.ensures;
-      calls = record { least = omega (arith, k.slot.1); most = omega (arith, k.slot.1); honest = k.honest; later = k.later };
+      calls = record { least = omega (arith, k.slot.1); most = omega (arith, k.slot.1); honest = k.honest; later = k.later; numbered = λ h n le all x left. numbered_more (number_of old) (n + 0) x (omega (arith, le)) (k.numbered c.requires.ready.whole h x left) };
       whole = tt;
       down = record { kept = k.kept; down = fell.1; rose = fell.0 };
     }

@@ -24,21 +24,17 @@ pub returns : goal.returns
 returns c =
     let old = c.args.self.now in
     let is : is_change c.args.reply ≡ true = sym c.if-not-is_change.ensures in
-    let group = c.push-2.ensures in
-    let pushed = c.push.ensures in
-    let items = rw c.unwrap-2.ensures at group.items in
-    let group_len = rw c.unwrap-2.ensures at group.len in
-    let replies = rw c.unwrap.ensures at pushed.items in
-    let len = rw c.unwrap.ensures at pushed.len in
+    let group = c.push_reserved-2.ensures in
+    let pushed = c.push_reserved.ensures in
     record {
       next = refl;
-      group = items ∙ grown old.group.items c.args.command c.args.reply is;
+      group = group.items ∙ grown old.group.items c.args.command c.args.reply is;
       size = takes old.size c.size.result c.args.command c.args.reply c.size.ensures.exact is;
-      replies = replies;
+      replies = pushed.items;
       first = refl;
       refused = refl;
       before = refl;
-      len = len;
-      group_len = omega (arith, group_len, len, c.requires.len);
-      room = record { replies = pushed.capacity; group = group.capacity };
+      len = pushed.len;
+      group_len = omega (arith, group.len, pushed.len, c.requires.len);
+      room = record { replies = omega (arith, pushed.capacity); group = omega (arith, group.capacity) };
     }

@@ -1,8 +1,9 @@
-use Rattle.std.proofs.Common.{◌≡◌, ◌≤◌, ⊎_elim, inl, inr, refl, sym, ◌∙◌, ap, subst, arith, true, false, Err}
+use Rattle.std.proofs.Common.{◌+◌, ◌≡◌, ◌≤◌, ⊎_elim, inl, inr, refl, sym, ◌∙◌, ap, subst, arith, true, false, Err}
 use Rattle.std.specs.Prelude.{Some}
 use Rattle.wm_disk.specs.declared.refusal.Refusal.{Refusal}
 use Rattle.wm_disk.specs.declared.refusal.Refusal.TheVariants.{DeviceFailed}
 use Rattle.wm_checkpoint.specs.Kept.{number_of}
+use Rattle.wm_checkpoint.proofs.Numbering.{numbered_more}
 use Rattle.wm_store.proofs.Batching.{past_same, past_switched, cut_switching, calls_none, whole_none, ready_on, ready_same, empty_size, is_device}
 use Rattle.wm_store.proofs.batch.Batch.switch.Goals as goal
 
@@ -24,7 +25,7 @@ returns-in-Ok g c =
       made = inl (c.requires.open_yet, none, k.slot.2);
       past = λ start done p. past_switched D start done old new b p k.state k.honest (k.any_moment c.requires.ready.whole);
       cut = tt;
-      calls = record { least = omega (arith, k.slot.1); most = omega (arith, k.slot.1); honest = k.honest; later = k.later };
+      calls = record { least = omega (arith, k.slot.1); most = omega (arith, k.slot.1); honest = k.honest; later = k.later; numbered = λ h n le all x left. numbered_more (number_of old + 1) (n + 1) x (omega (arith, le)) (k.numbered c.requires.ready.whole h x left) };
       whole = record { kept = k.kept; up = k.slot.3; count = k.whole };
       down = tt;
     }
@@ -70,7 +71,7 @@ returns-in_default g c =
       made = tt;
       past = tt;
       cut = λ start done p. cut_switching D start done old new b p c.requires.none k.state k.honest (k.any_moment c.requires.ready.whole);
-      calls = record { least = omega (arith, k.stays.1); most = omega (arith, k.stays.1); honest = k.honest; later = k.later };
+      calls = record { least = omega (arith, k.stays.1); most = omega (arith, k.stays.1); honest = k.honest; later = k.later; numbered = λ h n le all x left. numbered_more (number_of old + 1) (n + 1) x (omega (arith, le)) (k.numbered c.requires.ready.whole h x left) };
       whole = tt;
       down = record { kept = k.kept; down = fell.1; rose = fell.0 };
     }

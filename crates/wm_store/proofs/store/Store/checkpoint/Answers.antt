@@ -8,6 +8,7 @@ use Rattle.wm_checkpoint.specs.Meanings.{Means, MeansState}
 use Rattle.wm_checkpoint.specs.Kept.{disk_of, state_of, slot_of, number_of, has_failed, room_left}
 use Rattle.wm_checkpoint.specs.Layout.{other_slot}
 use Rattle.wm_disk.specs.Moments.{LeavesOnly}
+use Rattle.wm_checkpoint.proofs.Numbering.{kept_numbered, numbered_more}
 use Rattle.wm_store.proofs.Runs.{stood, both_ok}
 use Rattle.wm_store.proofs.Stores.{stored, inside_after}
 use Rattle.wm_store.proofs.store.Store.checkpoint.Goals as goal
@@ -30,6 +31,7 @@ returns-then-self g c =
       fresh = λ h. tt;
       number = (tt, refl);
       registry = refl;
+      numbered = λ alive h x left. numbered_more (number_of i.keeper) (number_of i.keeper + 1) x (omega arith) (kept_numbered g.D.Disk watches i.keeper (c.self.invariant.0.kept alive h) x left);
       any_moment = λ alive h. subst (λ (b : Option State). LeavesOnly g.D.Disk.moment g.D.Disk.left_since (disk_of i.keeper) (disk_of i.keeper) (MeansState watches (unwrap_or b (state_of i.keeper)))) (sym (c.self.invariant.1 alive)) (stood g.D.Disk g.met.D.Disk.only_now i.keeper c.self.invariant.0 alive h);
       exhausted = λ e. absurd cc;
       spent = λ alive shut. let clash : true ≡ false = sym c.if-self.true ∙ shut in absurd cc;
@@ -61,6 +63,7 @@ returns g c =
           (k.fresh h) k.slot;
       number = (on_ok_weaker c.checkpoint.result (λ s. s.1) k.slot, on_err_weaker c.checkpoint.result (λ s. s.1) k.stays);
       registry = ap (unwrap_or i.before) k.state;
+      numbered = λ alive h x left. k.numbered alive h x left;
       any_moment = λ alive h. subst (λ (b : Option State). LeavesOnly D.moment D.left_since (disk_of i.keeper) (disk_of new) (MeansState watches (unwrap_or b (state_of i.keeper)))) (sym (c.self.invariant.1 alive)) (k.any_moment alive h);
       exhausted = λ e. let x = k.exhausted e in (x.0, ap (λ y. stored D y i.before i.closed) x.1);
       spent = λ alive shut n. k.spent alive n;

@@ -1,10 +1,11 @@
-use Rattle.std.proofs.Common.{◌≡◌, ◌⊎◌, ⊎_elim, inl, inr, refl, sym, ◌∙◌, subst, arith, ℕ, List, [], true, false, vec_len}
+use Rattle.std.proofs.Common.{◌≡◌, ◌⊎◌, ⊎_elim, inl, inr, refl, sym, ◌∙◌, subst, arith, ℕ, ◌+◌, length, List, [], true, false, vec_len}
 use Rattle.std.specs.Prelude.{Option, None}
 use Rattle.std.specs.Option.{unwrap_or}
 use Rattle.wm_registry.specs.Roots.{State}
 use Rattle.wm_registry.specs.MachineLaws.{watches}
 use Rattle.wm_checkpoint.specs.Meanings.{MeansBeginning, MeansState}
-use Rattle.wm_checkpoint.specs.Kept.{disk_of, state_of, has_failed}
+use Rattle.wm_checkpoint.specs.Kept.{disk_of, state_of, has_failed, number_of}
+use Rattle.wm_checkpoint.proofs.Numbering.{kept_numbered, numbered_more}
 use Rattle.wm_store.specs.Batches.{accepted_of}
 use Rattle.wm_store.specs.UnderWay.{IsNew}
 use Rattle.wm_store.proofs.Replying.{short_replies}
@@ -68,6 +69,7 @@ returns-then-self g c =
       down = λ e. (why, refl);
       stays_down = λ e. refl;
       number = (omega arith, omega arith);
+      numbered = λ alive h x left. numbered_more (number_of i.keeper) (number_of i.keeper + length commands) x (omega arith) (kept_numbered D watches i.keeper (c.self.invariant.0.kept alive h) x left);
       honest = λ h. h;
       later = omega arith;
       whole = tt;
@@ -92,6 +94,7 @@ returns-in_default g c =
       down = λ e. absurd cc;
       stays_down = λ e. ⊎_elim (λ down. let clash : true ≡ false = sym down ∙ alive in absurd cc) (λ shut. let clash : true ≡ false = sym shut ∙ c.if-self.false in absurd cc) e;
       number = (omega arith, omega arith);
+      numbered = λ alive h x left. numbered_more (number_of i.keeper) (number_of i.keeper + length commands) x (omega arith) (kept_numbered D watches i.keeper (c.self.invariant.0.kept alive h) x left);
       honest = λ h. h;
       later = omega arith;
       whole = tt;
@@ -121,6 +124,7 @@ returns-in-Ok-run g c =
       down = λ e. absurd cc;
       stays_down = λ e. ⊎_elim (λ down. let clash : true ≡ false = sym down ∙ alive in absurd cc) (λ shut. let clash : true ≡ false = sym shut ∙ c.if-self.false in absurd cc) e;
       number = (m.calls.least, m.calls.most);
+      numbered = λ _ h x left. m.calls.numbered h (number_of old) (omega arith) (kept_numbered D watches old (c.self.invariant.0.kept alive (m.calls.honest h))) x left;
       honest = m.calls.honest;
       later = m.calls.later;
       whole = (m.whole.count, m.whole.up, c.if-self.false);
@@ -150,6 +154,7 @@ returns-in-Err g c =
       down = λ e. absurd cc;
       stays_down = λ e. ⊎_elim (λ down. let clash : true ≡ false = sym down ∙ alive in absurd cc) (λ shut. let clash : true ≡ false = sym shut ∙ c.if-self.false in absurd cc) e;
       number = (m.calls.least, m.calls.most);
+      numbered = λ _ h x left. m.calls.numbered h (number_of old) (omega arith) (kept_numbered D watches old (c.self.invariant.0.kept alive (m.calls.honest h))) x left;
       honest = m.calls.honest;
       later = m.calls.later;
       whole = tt;

@@ -1,4 +1,4 @@
-use Rattle.std.proofs.Common.{◌≡◌, ◌≤◌, ◌⊎◌, inl, inr, ◌∙◌, subst, arith, ℕ, List, [], ◌∷◌}
+use Rattle.std.proofs.Common.{◌≡◌, ◌≤◌, ◌+◌, ◌⊎◌, inl, inr, sym, ◌∙◌, subst, arith, ℕ, List, [], ◌∷◌}
 use Rattle.std.proofs.lemmas.Result.{IfOk-weaker, IfErr-weaker}
 use Rattle.wm_disk.specs.Contents.{Rose}
 use Rattle.wm_disk.specs.declared.refusal.Refusal.{Refusal}
@@ -9,9 +9,12 @@ use Rattle.wm_registry.specs.declared.reply.Reply.TheVariants.{Changed, Refused}
 use Rattle.wm_registry.specs.MachineLaws.{watches}
 use Rattle.wm_checkpoint.specs.Meanings.{MeansBeginning, MeansState}
 use Rattle.wm_checkpoint.specs.Kept.{disk_of, state_of, number_of}
+use Rattle.wm_checkpoint.specs.Numbers.{IsNumberedTo}
+use Rattle.wm_checkpoint.proofs.Numbering.{numbered_more}
+use Rattle.wm_store.proofs.Stores.{left_now}
 use Rattle.wm_store.specs.Stored.{Stored}
 use Rattle.wm_store.proofs.Runs.{Leaves}
-use Rattle.wm_store.proofs.Opened.{found, means_seen, spent, if_ok_both, if_err_both, kinds_found, kinds_begun, not_exhausted, not_damaged, not_retired}
+use Rattle.wm_store.proofs.Opened.{found, is_begun, means_seen, number_of_found, spent, if_ok_both, if_err_both, kinds_found, kinds_begun, not_exhausted, not_damaged, not_retired}
 use Rattle.wm_store.proofs.store.Store.open.Goals as goal
 
 pub begin-requires : goal.begin-requires
@@ -28,9 +31,10 @@ returns-in-Ok g c =
     let kept = λ (h : D.honest (disk_of keeper)). k.kept.0.kept k.kept.1 h in
     record {
       begun = if_ok_both r
-          (λ (s : Stored g.row.D.Denot) (is : (reply_to (state_of keeper) Begin ≡ Changed) × (s.registry ≡ after (state_of keeper) Begin)) (both : (D.honest s.disk → D.honest (disk_of keeper)) × (D.honest s.disk → Leaves D (disk_of keeper) s.disk (MeansBeginning watches (state_of keeper) (Begin ∷ [])))).
-          λ h. let there = both.0 h in (state_of keeper, is.0, is.1, found D old keeper (kept there) (k.seen.0 there) (k.any_moment.0 there) s.disk (both.1 h)))
-          (if_ok_both r (λ (s : Stored g.row.D.Denot) (p : reply_to (state_of keeper) Begin ≡ Changed) (q : s.registry ≡ after (state_of keeper) Begin). (p, q)) b.changed b.begun)
+          (λ (s : Stored g.row.D.Denot) (is : (reply_to (state_of keeper) Begin ≡ Changed) × (s.registry ≡ after (state_of keeper) Begin) × (s.number ≤ number_of keeper + 1)) (both : (D.honest s.disk → D.honest (disk_of keeper)) × (D.honest s.disk → Leaves D (disk_of keeper) s.disk (MeansBeginning watches (state_of keeper) (Begin ∷ [])))).
+          λ h. let there = both.0 h in is_begun D old keeper (kept there) (k.seen.0 there) (k.any_moment.0 there) s (both.1 h) is.0 is.1 is.2)
+          (if_ok_both r (λ (s : Stored g.row.D.Denot) (p : reply_to (state_of keeper) Begin ≡ Changed) (q : (s.registry ≡ after (state_of keeper) Begin) × (s.number ≤ number_of keeper + 1)). (p, q.0, q.1)) b.changed
+          (if_ok_both r (λ (s : Stored g.row.D.Denot) (p : s.registry ≡ after (state_of keeper) Begin) (q : s.number ≤ number_of keeper + 1). (p, q)) b.begun b.number))
           (if_ok_both r (λ (s : Stored g.row.D.Denot) (p : D.honest s.disk → D.honest (disk_of keeper)) (q : D.honest s.disk → Leaves D (disk_of keeper) s.disk (MeansBeginning watches (state_of keeper) (Begin ∷ []))). (p, q)) b.honest.0 b.any_moment);
       means = b.means;
       up = b.up;
@@ -48,6 +52,21 @@ returns-in-Ok g c =
           (λ (e : Refusal × g.row.D.Denot) (there : D.honest e.1 → D.honest (disk_of keeper)) (why : e.0 ≡ Exhausted → (reply_to (state_of keeper) Begin ≡ Refused Exhausted) ⊎ (9223372036854775807 ≤ number_of keeper)).
           λ h is. spent D old keeper (kept (there h)) (k.seen.0 (there h)) (why is))
           b.honest.1 b.exhausted;
+      refused = if_err_both r
+          (λ (e : Refusal × g.row.D.Denot) (there : D.honest e.1 → D.honest (disk_of keeper)) (ub : D.honest e.1 → (e.0 ≡ DeviceFailed → ⊥) → (x : List ℕ) → D.may_leave e.1 x → MeansState watches (state_of keeper) x).
+          λ h is. (state_of keeper, means_seen D old keeper (kept (there h)) (k.seen.0 (there h)), ub h (λ d. let clash : Exhausted ≡ DeviceFailed = sym is ∙ d in absurd cc)))
+          b.honest.1 b.unbegun;
+      numbered = (
+        b.numbered.0,
+        if_err_both r
+            (λ (e : Refusal × g.row.D.Denot) (there : D.honest e.1 → D.honest (disk_of keeper)) (rise : D.honest e.1 → (n : ℕ) → number_of keeper ≤ n → ((x : List ℕ) → D.may_leave (disk_of keeper) x → IsNumberedTo n x) → (x : List ℕ) → D.may_leave e.1 x → IsNumberedTo (n + 1) x).
+            λ h n all.
+            let mid = there h in
+            rise h n
+            (number_of_found D old keeper (kept mid) (k.seen.0 mid) n (all (D.seen old) (g.met.D.Disk.reads_stand old (k.honest.0 mid))))
+            (λ x left. all x (left_now D g.met.D.Disk.counts_now old (disk_of keeper) (D.may_leave old) mid (k.any_moment.0 mid) x left)))
+            b.honest.1 b.numbered.1,
+      );
       honest = (IfOk-weaker r _ _ (λ s f h. k.honest.0 (f h)) b.honest.0, IfErr-weaker r _ _ (λ e f h. k.honest.0 (f h)) b.honest.1);
       later = (IfOk-weaker r _ _ (λ s le. omega (arith, k.later.0, le)) b.later.0, IfErr-weaker r _ _ (λ e le. omega (arith, k.later.0, le)) b.later.1);
       whole = IfOk-weaker r _ _ (λ s same. same ∙ k.whole) b.whole;
@@ -68,6 +87,8 @@ returns-in-Err g c =
       damaged = k.damaged;
       retired = k.retired;
       exhausted = λ h is. absurd (not_exhausted c.in-Err.refusal k.kinds is);
+      refused = λ h is. absurd (not_exhausted c.in-Err.refusal k.kinds is);
+      numbered = (tt, λ h n all x left. numbered_more n (n + 1) x (omega arith) (all x (left_now g.D.Disk g.met.D.Disk.counts_now c.args.disk c.in-Err.disk (g.D.Disk.may_leave c.args.disk) h (k.any_moment.1 h) x left)));
       honest = (tt, k.honest.1);
       later = (tt, k.later.1);
       whole = tt;

@@ -1,0 +1,50 @@
+ghost use Rattle.std.specs.Prelude.{◌≡◌, IfOk};
+ghost use Rattle.wm_names.specs.PathTexts.{text_bytes};
+
+use arrayvec::ArrayString;
+use std::alloc::Global;
+use wm_disk::NoMemory;
+
+/// The text of a path. A short one lies in the value itself, so that its copy takes no memory.
+#[derive(Drop)]
+pub(crate) enum PathText {
+    /// At most 24 bytes.
+    Short(ArrayString<24>),
+    Long(String),
+}
+
+impl PathText {
+    /// The same bytes.
+    pub(crate) fn new(alloc: Global, text: &str) -> Result<PathText, NoMemory>
+        ensures { IfOk result (λ t. text_bytes t ≡ text.now) }
+    {
+        if let Ok(short) = ArrayString::from(text) {
+            return Ok(PathText::Short(short));
+        }
+        let long = String::from_str(alloc, text)?;
+        Ok(PathText::Long(long))
+    }
+
+    /// The text.
+    pub(crate) fn as_str(&self) -> &str
+        ensures { result.now ≡ text_bytes self.now }
+    {
+        match self {
+            PathText::Short(text) => text.as_str(),
+            PathText::Long(text) => text.as_str(),
+        }
+    }
+
+    /// The same text again.
+    pub(crate) fn copy(&self, alloc: Global) -> Result<PathText, NoMemory>
+        ensures { IfOk result (λ t. text_bytes t ≡ text_bytes self.now) }
+    {
+        match self {
+            PathText::Short(text) => Ok(PathText::Short(*text)),
+            PathText::Long(text) => {
+                let text = String::from_str(alloc, text)?;
+                Ok(PathText::Long(text))
+            }
+        }
+    }
+}

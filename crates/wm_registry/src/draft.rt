@@ -1,0 +1,174 @@
+ghost use Rattle.std.specs.Prelude.{◌≡◌, ◌≢◌, ◌≤◌, ◌+◌, true, length, IfOk};
+ghost use Rattle.std.specs.Bool.{OnTrue, OnFalse};
+ghost use Rattle.wm_registry.specs.declared.command.Command.TheVariants as commands;
+ghost use Rattle.wm_registry.specs.Registry.{after, is_change, reply_to};
+ghost use Rattle.wm_registry.specs.Roots.{without_first};
+ghost use Rattle.wm_registry.specs.Spelling.{IsState, state_spelling};
+
+use crate::command::Command;
+use crate::registry::Registry;
+use crate::reply::Reply;
+use crate::root;
+use std::alloc::Global;
+use std::marker::Model;
+use wm_disk::{NoMemory, Refusal};
+use wm_names::RootPath;
+use wm_wire::Wire;
+
+/// A registry under commands that are tried one after another. Roots that go from the front one after
+/// another are taken out together, since each that goes alone moves all behind it. Contracts see the
+/// registry.
+#[derive(Drop)]
+pub struct Draft {
+    registry: Registry,
+    // how many of its first roots are gone, and how many bytes the spelling has less without them
+    gone: usize,
+    less: u64,
+}
+
+impl Model for Draft {
+    ghost use Rattle.std.specs.Prelude.{◌≡◌, ◌≤◌, ◌+◌, length};
+    ghost use Rattle.wm_registry.specs.Roots.{State, without_first};
+    ghost use Rattle.wm_registry.specs.Spelling.{IsState, state_spelling};
+
+    ghost Value = { State };
+
+    ghost view = { λ d. without_first d.gone d.registry };
+
+    ghost invariant = { λ d. (d.gone ≤ length d.registry.roots) × IsState (without_first d.gone d.registry) × (d.less + length (state_spelling (without_first d.gone d.registry)) ≡ length (state_spelling d.registry)) };
+}
+
+/// Takes the roots that are gone out of the registry.
+fn settle(registry: &mut Registry, gone: &mut usize, less: &mut u64)
+    requires within { gone.old ≤ length registry.old.roots }
+    requires state { IsState (without_first gone.old registry.old) }
+    requires size { less.old + length (state_spelling (without_first gone.old registry.old)) ≡ length (state_spelling registry.old) }
+    ensures registry { registry.new ≡ without_first gone.old registry.old }
+    ensures gone { gone.new ≡ 0 }
+    ensures less { less.new ≡ 0 }
+{
+    if *gone > 0 {
+        registry.cut_front(*gone, *less);
+    }
+    *gone = 0;
+    *less = 0;
+}
+
+impl Draft {
+    ghost use Rattle.wm_registry.specs.Roots.{without_root};
+
+    /// A draft of this registry.
+    pub fn new(alloc: Global, registry: &Registry) -> Result<Draft, NoMemory>
+        ensures { IfOk result (λ d. d ≡ registry.now) }
+    {
+        let registry = registry.copy(alloc)?;
+        Ok(Draft {
+            registry,
+            gone: 0,
+            less: 0,
+        })
+    }
+
+    /// Takes the first root out, where it is at the path, and tells whether it did.
+    fn unwatches_first(&mut self, path: &RootPath) -> bool
+        ensures did { OnTrue result ((reply_to self.old (commands.WatchDel path.now) ≡ Reply.Changed) × (self.new ≡ after self.old (commands.WatchDel path.now))) }
+        ensures not { OnFalse result (self.new ≡ self.old) }
+    {
+        // the size tells the proof that the registry is within its limits
+        let _size = self.registry.size();
+        let Some((first, root)) = self.registry.roots().get_index(self.gone) else {
+            return false;
+        };
+        if path != first {
+            return false;
+        }
+        self.less += root::root_size(path, root);
+        self.gone += 1;
+        true
+    }
+
+    /// As [`Registry::apply`].
+    pub fn apply(&mut self, alloc: Global, command: &Command) -> Reply
+        ensures reply { result ≢ Reply.Refused Refusal.NoMemory → result ≡ reply_to self.old command.now }
+        ensures state { result ≢ Reply.Refused Refusal.NoMemory → self.new ≡ after self.old command.now }
+        ensures memory { result ≡ Reply.Refused Refusal.NoMemory → self.new ≡ self.old }
+        ensures asked { result ≡ Reply.Refused Refusal.NoMemory → is_change (reply_to self.old command.now) ≡ true }
+    {
+        if let Command::WatchDel(path) = command {
+            if self.unwatches_first(path) {
+                return Reply::Changed;
+            }
+        }
+        settle(&mut self.registry, &mut self.gone, &mut self.less);
+        let reply = self.registry.apply(alloc, command);
+        // the size tells the proof that the new state is within its limits
+        let _size = self.registry.size();
+        reply
+    }
+
+    /// As [`Registry::reply_to`].
+    pub fn reply_to(&mut self, command: &Command) -> Reply
+        ensures reply { result ≡ reply_to self.old command.now }
+        ensures same { self.new ≡ self.old }
+    {
+        settle(&mut self.registry, &mut self.gone, &mut self.less);
+        self.registry.reply_to(command)
+    }
+
+    /// The registry so far.
+    pub fn copy(&self, alloc: Global) -> Result<Registry, NoMemory>
+        ensures { IfOk result (λ r. r ≡ self.now) }
+    {
+        let mut copy = self.registry.copy(alloc)?;
+        let (mut gone, mut less) = (self.gone, self.less);
+        settle(&mut copy, &mut gone, &mut less);
+        Ok(copy)
+    }
+
+    /// The registry.
+    pub fn into_registry(self) -> Registry
+        ensures { result ≡ self }
+    {
+        let mut draft = self;
+        settle(&mut draft.registry, &mut draft.gone, &mut draft.less);
+        draft.registry
+    }
+}
+
+#[cfg(test)]
+mod tests {
+    use super::*;
+    use crate::registry::tests::{command, shown};
+    use std::test::Fail;
+
+    #[test]
+    fn takes_roots_out(rt: HostRuntime) -> Result<(), Fail> {
+        let (changed, unknown) = (Reply::Changed, Reply::Refused(Refusal::NotWatched));
+        let mut registry = Registry::new(rt.alloc());
+        for line in ["watch /a", "watch /b", "watch /c", "watch /d"] {
+            let command = command(rt.alloc(), line)?;
+            assert_eq!(rt; registry.apply(rt.alloc(), &command), changed);
+        }
+        let mut draft = Draft::new(rt.alloc(), &registry)?;
+        for (line, reply, state) in [
+            ("watch-del /a", changed, "0 5; /b 2; /c 3; /d 4"),
+            ("watch-del /b", changed, "0 5; /c 3; /d 4"),
+            ("watch-del /a", unknown, "0 5; /c 3; /d 4"),
+            ("watch-del /d", changed, "0 5; /c 3"),
+            ("watch-del /c", changed, "0 5"),
+            ("watch /a", changed, "0 6; /a 5"),
+        ] {
+            let command = command(rt.alloc(), line)?;
+            assert_eq!(rt; draft.apply(rt.alloc(), &command), reply, "{line}");
+            let copy = draft.copy(rt.alloc())?;
+            assert_eq!(rt; shown(rt.alloc(), &copy)?.as_str(), state, "{line}");
+        }
+        assert_eq!(rt;
+            draft.reply_to(&command(rt.alloc(), "watch /a")?),
+            Reply::Unchanged
+        );
+        let registry = draft.into_registry();
+        assert_eq!(rt; shown(rt.alloc(), &registry)?.as_str(), "0 6; /a 5");
+        Ok(())
+    }
+}

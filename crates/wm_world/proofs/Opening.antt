@@ -1,0 +1,278 @@
+-- Opening a store, and what it makes of the world.
+use Rattle.std.proofs.Common.{◌≡◌, ◌≢◌, ◌⊎◌, inl, inr, ℕ, zero, suc, ◌+◌, ◌<◌, ◌≤◌, Bool, true, false, cond, List, [], ◌∷◌, ◌++◌, map, take, drop, refl, sym, ap, subst, ◌∙◌, arith, true≢false, le-leb, append-nil, MatchBool}
+use Rattle.std.specs.List.{AllByRecursion}
+use Rattle.wm_disk.specs.Contents.{Rose}
+use Rattle.wm_disk.specs.Moments.{LeavesOnly, then_runs}
+use Rattle.wm_disk.specs.declared.disk.Disk as disks
+use Rattle.wm_disk.specs.declared.refusal.Refusal.{Refusal}
+use Rattle.wm_disk.specs.declared.refusal.Refusal.TheVariants as refusals
+use Rattle.wm_checkpoint.specs.Machines.{replay_on}
+use Rattle.wm_checkpoint.specs.Meanings.{IsDamaged, IsRetired, MeansBeginning, MeansState}
+use Rattle.wm_checkpoint.proofs.Deciding.{one_header}
+use Rattle.wm_clock.specs.Clocks.{limit}
+use Rattle.wm_journal.specs.Areas.{area}
+use Rattle.wm_registry.specs.declared.command.Command.{Command}
+use Rattle.wm_registry.specs.declared.command.Command.TheVariants.{Begin}
+use Rattle.wm_registry.specs.declared.reply.Reply.TheVariants.{Refused}
+use Rattle.wm_registry.specs.declared.root.Root.{Root}
+use Rattle.wm_registry.specs.MachineLaws.{watches}
+use Rattle.wm_registry.specs.Registry.{after, changed, changes, fresh, is_change, reply_to}
+use Rattle.wm_registry.specs.Roots.{State}
+use Rattle.wm_store.specs.Openings.{IsBegun, IsFound}
+use Rattle.wm_store.specs.Stored.{Stored}
+use Rattle.wm_view.specs.Histories.{History, begun}
+use Rattle.wm_view.specs.Summaries.{summary}
+use Rattle.wm_checkpoint.specs.Numbers.{IsNumberedTo}
+use Rattle.wm_world.specs.declared.world.World.{World as Running}
+use Rattle.wm_world.specs.declared.world.Server.TheVariants.{Up, Down}
+use Rattle.wm_world.specs.Worlds.{World, begun_all, cannot_rise, registry, replay}
+use Rattle.wm_world.specs.Steps.{Begins, Finds, OpenCutEarly, OpenCutLate, OpenDone, OpenSpent, Opened, begin_on, opened}
+use Rattle.wm_world.specs.Standings.{IsDown, IsServer, KeepsPrefix, Meets, Stands, disk_of_server}
+use Rattle.wm_world.specs.Passes.{KeepsBetween, Starts}
+use Rattle.wm_journal.proofs.Opening.{weaker}
+use Rattle.wm_world.proofs.Between.{between_before, between_from, take-drop}
+use Rattle.wm_world.proofs.Calls.{prefix_same}
+use Rattle.wm_world.proofs.Moments.{Within, ids_reached}
+use Rattle.wm_world.proofs.Numbers.{began, replay_more, rises_more}
+use Rattle.wm_checkpoint.proofs.Numbering.{number_within, numbered_more}
+use Rattle.wm_world.proofs.Stores.{CountsNow, none_yet, now}
+
+-- where the Begin isn't accepted, it is nothing
+begin_kept : (s : State) (c : List ℕ) → MeansBeginning watches s (Begin ∷ []) c → MeansBeginning watches s (cond (changes s Begin) (Begin ∷ []) []) c
+begin_kept s c m = by (changes s Begin) refl
+  where
+    unmoved : changes s Begin ≡ false → (n : ℕ) → n ≤ 1 → MeansState watches (replay_on watches s (take n (Begin ∷ []))) c → MeansState watches s c
+    unmoved e zero le k = k
+    unmoved e (suc zero) le k = subst (λ t. MeansState watches t c) (ap (λ b. cond b (changed s Begin) s) e) k
+    unmoved e (suc (suc n)) le k = absurd (omega (arith, le))
+
+    by : (b : Bool) → changes s Begin ≡ b → MeansBeginning watches s (cond b (Begin ∷ []) []) c
+    by true e = m
+    by false e = none_yet s [] c (unmoved e m.count m.within m.means)
+
+all_now : (i : ℕ) (roots : List (List ℕ × Root)) → AllByRecursion (λ (h : History). h.incarnation ≡ i) (map (λ r. begun i r.1.number) roots)
+all_now i [] = tt
+all_now i (r ∷ roots) = (refl, all_now i roots)
+
+all_over : (s : State) (i : ℕ) → s.incarnation < i → (hs : List History) → AllByRecursion (Within s) hs → AllByRecursion (λ (h : History). h.incarnation < i) hs
+all_over s i low [] all = tt
+all_over s i low (h ∷ hs) all = (omega (arith, all.0.incarnation, low), all_over s i low hs all.1)
+
+-- one content has one meaning
+abbrev pub OneMeaning : Type 0
+OneMeaning = (c : List ℕ) (s t : State) → MeansState watches s c → MeansState watches t c → s ≡ t
+
+module _ {D : Type 0} (disk : disks.Ghosts D) where
+  -- a disk's law
+  abbrev pub ReadsStand : Type 0
+  ReadsStand = (d : D) → disk.honest d → disk.may_leave d (disk.seen d)
+
+  module _ (old new : Running D) (d : D) (is_down : old.server ≡ Down d) (one : OneMeaning) (stand : ReadsStand) where
+    down_of : (w : World) → Stands disk old w → IsDown disk d old.shown.views.items w
+    down_of w s = subst (λ x. IsServer disk x old.shown.views.items w) is_down s.server
+
+    -- what the disk means, of the commands kept and in flight
+    pub record Known (w : World) : Type 0 where
+      pub found : List Command
+      pub finds : Finds w found
+      pub means : MeansState watches (replay found) (disk.seen d)
+      pub numbered : IsNumberedTo w.slot (disk.seen d)
+
+    known : (w : World) → Stands disk old w → disk.honest d → Known w
+    known w s h =
+        let k : KeepsPrefix w (disk.seen d) = (down_of w s).on.prefix (disk.seen d) (stand d h) in
+        let part : List Command = take k.means.count w.pending in
+        record {
+          found = w.kept ++ part;
+          finds = (part, (drop k.means.count w.pending, take-drop k.means.count w.pending), refl);
+          means = subst (λ r. MeansState watches r (disk.seen d)) (sym (replay_more fresh w.kept part)) k.means.means;
+          numbered = k.numbered;
+        }
+
+    -- before the content was durable, a crash leaves what one before might have left
+    early_leaves : (e : D) (w : World) (afterwards : List Command) → Stands disk old w → LeavesOnly disk.moment disk.left_since d e (disk.may_leave d) → LeavesOnly disk.moment disk.left_since d e (KeepsBetween w afterwards)
+    early_leaves e w afterwards s run =
+        weaker disk.moment disk.left_since d e (disk.may_leave d) (KeepsBetween w afterwards) run (λ c left. between_before w afterwards c ((down_of w s).on.prefix c left).means)
+
+    -- from then on the registry that was found, or that with a Begin
+    found_leaves : (e : D) (w : World) (afterwards : List Command) → Stands disk old w → (k : Known w) → Begins (k.found ++ Begin ∷ []) afterwards → (found : State) → IsFound disk d e found
+        → LeavesOnly disk.moment disk.left_since d e (KeepsBetween w afterwards)
+    found_leaves e w afterwards s k behind found f =
+        let at : found ≡ replay k.found = one (disk.seen d) found (replay k.found) f.means k.means in
+        then_runs disk.moment disk.left_since d f.synced e (KeepsBetween w afterwards) (MeansBeginning watches found (Begin ∷ [])) (early_leaves f.synced w afterwards s f.until) f.from
+        (λ c m. between_from w afterwards k.found (Begin ∷ []) (k.finds.0, sym k.finds.2) behind c (subst (λ r. MeansBeginning watches r (Begin ∷ []) c) at m))
+
+    -- the disk of the store that was opened, or of the refusal
+    started_on : (e : D) (w v : World) → disk_of_server disk new.server ≡ e → LeavesOnly disk.moment disk.left_since d e (KeepsBetween w (v.kept ++ Begin ∷ [])) → Starts disk (disk_of_server disk old.server) w (disk_of_server disk new.server) v
+    started_on e w v there run = subst (λ x. Starts disk (disk_of_server disk x) w (disk_of_server disk new.server) v) (sym is_down) (subst (λ x. Starts disk d w x v) (sym there) run)
+
+    pub open_done : (fresh_store : Stored D) → new.server ≡ Up fresh_store → new.shown.replies ≡ old.shown.replies → new.shown.clients ≡ old.shown.clients → new.shown.views.items ≡ map summary (begun_all fresh_store.registry)
+        → (disk.honest fresh_store.disk → disk.honest d) → disk.failures fresh_store.disk ≡ disk.failures d → fresh_store.failed ≡ false → fresh_store.closed ≡ false
+        → (disk.honest fresh_store.disk → IsBegun disk d fresh_store)
+        → (disk.honest fresh_store.disk → (c : List ℕ) → disk.may_leave fresh_store.disk c → MeansState watches fresh_store.registry c)
+        → (disk.honest fresh_store.disk → (c : List ℕ) → disk.may_leave fresh_store.disk c → IsNumberedTo fresh_store.number c)
+        → Meets disk opened (Starts disk) old new
+    open_done store server said clients views honest faults whole open_yet begins means numbered = record {
+      honest = λ h. subst (λ x. disk.honest (disk_of_server disk x)) (sym is_down) (honest (subst (λ x. disk.honest (disk_of_server disk x)) server h));
+      goes = λ h w reached s.
+          let there : disk.honest store.disk = subst (λ x. disk.honest (disk_of_server disk x)) server h in
+          let k = known w s (honest there) in
+          let b = begins there in
+          let at : b.found ≡ replay k.found = one (disk.seen d) b.found (replay k.found) b.opened.means k.means in
+          let accepts : changes (replay k.found) Begin ≡ true = subst (λ r. changes r Begin ≡ true) at (ap is_change b.changed) in
+          let kept : List Command = k.found ++ Begin ∷ [] in
+          let led : store.registry ≡ replay kept = b.registry ∙ ap (λ r. after r Begin) at ∙ sym (replay_more fresh k.found (Begin ∷ [])) in
+          let next : (replay kept).incarnation ≡ (replay k.found).incarnation + 1 = ap (λ (r : State). r.incarnation) (replay_more fresh k.found (Begin ∷ [])) ∙ began (replay k.found) accepts in
+          let rise : (registry w).incarnation ≤ (replay k.found).incarnation = subst (λ cs. (registry w).incarnation ≤ (replay cs).incarnation) (sym k.finds.2) (rises_more w.kept k.finds.0).incarnation in
+          let low : b.opened.means.number ≤ w.slot = number_within (disk.seen d) b.opened.means w.slot k.numbered in
+          let high : store.number ≤ w.slot + 1 = omega (arith, b.number, low) in
+          let v : World = record w { kept = kept; pending = []; up = true; slot = w.slot + 1; histories = w.histories ++ begun_all (replay kept) } in
+          let row : Opened w v = (k.found, k.finds, (omega arith, omega arith), accepts, refl) in (
+            v,
+            subst (λ u. MatchBool u (v ≡ w) (OpenDone w v)) (sym (down_of w s).down) (inl row),
+            record {
+              server = subst (λ x. IsServer disk x new.shown.views.items v) (sym server) (record {
+                up = refl;
+                whole = whole;
+                open_yet = open_yet;
+                registry_is = led;
+                number = high;
+                on = record {
+                  prefix = λ c left. record {
+                    means = none_yet (replay kept) [] c (subst (λ r. MeansState watches r c) led (means there c left));
+                    numbered = numbered_more store.number (w.slot + 1) c high (numbered there c left);
+                  };
+                  faults = faults ∙ (down_of w s).on.faults;
+                };
+                views_are = record {
+                  past = w.histories;
+                  present = begun_all (replay kept);
+                  all = refl;
+                  over = all_over (registry w) (replay kept).incarnation (omega (arith, next, rise)) w.histories (ids_reached w reached).within;
+                  now = all_now (replay kept).incarnation (replay kept).roots;
+                  shown = views ∙ ap (λ r. map summary (begun_all r)) led;
+                };
+              });
+              replies = ap (λ r. r.items) said ∙ s.replies;
+              clients = ap (λ r. r.items) clients ∙ s.clients;
+            },
+            started_on store.disk w v (ap (disk_of_server disk) server) (found_leaves store.disk w (kept ++ Begin ∷ []) s k (Begin ∷ [], refl) b.found b.opened),
+          );
+    }
+
+    module _ (later_disk : D) (server : new.server ≡ Down later_disk) (same_views : new.shown.views ≡ old.shown.views) (said : new.shown.replies ≡ old.shown.replies) (clients : new.shown.clients ≡ old.shown.clients) (honest : disk.honest later_disk → disk.honest d) where
+      stands_down : (w v : World) → v.up ≡ false → v.replies ≡ w.replies → v.clients ≡ w.clients → disk.failures later_disk ≡ v.faults → ((c : List ℕ) → disk.may_leave later_disk c → KeepsPrefix v c) → Stands disk old w → Stands disk new v
+      stands_down w v down replies cs faults prefix s = record {
+        server = subst (λ x. IsServer disk x new.shown.views.items v) (sym server) (record { down = down; none = ap (λ r. r.items) same_views ∙ (down_of w s).none; on = record { prefix = prefix; faults = faults } });
+        replies = ap (λ r. r.items) said ∙ s.replies ∙ sym replies;
+        clients = ap (λ r. r.items) clients ∙ s.clients ∙ sym cs;
+      }
+
+      abbrev Open : World → Type 0
+      Open w = (v : World) × opened w v × Stands disk new v × Starts disk (disk_of_server disk old.server) w (disk_of_server disk new.server) v
+
+      as_row : (w v : World) → Stands disk old w → OpenDone w v → opened w v
+      as_row w v s row = subst (λ u. MatchBool u (v ≡ w) (OpenDone w v)) (sym (down_of w s).down) row
+
+      -- before the content was durable
+      early : (w : World) → Stands disk old w → Rose (disk.failures d) (disk.failures later_disk) → disk.failures d ≤ disk.failures later_disk → ((c : List ℕ) → disk.may_leave later_disk c → disk.may_leave d c)
+          → LeavesOnly disk.moment disk.left_since d later_disk (disk.may_leave d) → Open w
+      early w s rose later less run =
+          let down = down_of w s in
+          let v : World = record w { faults = disk.failures later_disk } in
+          let row : OpenCutEarly w v = (subst (λ n. Rose n (disk.failures later_disk)) down.on.faults rose, subst (λ n. n ≤ disk.failures later_disk) down.on.faults later, refl) in (
+            v,
+            as_row w v s (inr (inl row)),
+            stands_down w v down.down refl refl refl (λ c left. prefix_same w v c refl refl refl (down.on.prefix c (less c left))) s,
+            started_on later_disk w v (ap (disk_of_server disk) server) (early_leaves later_disk w (w.kept ++ Begin ∷ []) s run),
+          )
+
+      -- after it was
+      late : (w : World) → Stands disk old w → (h : disk.honest later_disk) → Rose (disk.failures d) (disk.failures later_disk) → disk.failures d ≤ disk.failures later_disk
+          → (found : State) (f : IsFound disk d later_disk found) → ((c : List ℕ) → disk.may_leave later_disk c → MeansBeginning watches found (Begin ∷ []) c)
+          → ((c : List ℕ) → disk.may_leave later_disk c → IsNumberedTo (w.slot + 1) c) → Open w
+      late w s h rose later found f left_means numbered =
+          let down = down_of w s in
+          let k = known w s (honest h) in
+          let at : found ≡ replay k.found = one (disk.seen d) found (replay k.found) f.means k.means in
+          let v : World = record w { kept = k.found; pending = begin_on k.found; faults = disk.failures later_disk; slot = w.slot + 1 } in
+          let row : OpenCutLate w v = (subst (λ n. Rose n (disk.failures later_disk)) down.on.faults rose, subst (λ n. n ≤ disk.failures later_disk) down.on.faults later, (omega arith, omega arith), (k.found, k.finds, refl)) in (
+            v,
+            as_row w v s (inr (inr (inl row))),
+            stands_down w v down.down refl refl refl
+                (λ c left. record { means = begin_kept (replay k.found) c (subst (λ r. MeansBeginning watches r (Begin ∷ []) c) at (left_means c left)); numbered = numbered c left }) s,
+            started_on later_disk w v (ap (disk_of_server disk) server) (found_leaves later_disk w (k.found ++ Begin ∷ []) s k ([], append-nil (k.found ++ Begin ∷ [])) found f),
+          )
+
+      -- a counter is spent
+      spent : (w : World) → Stands disk old w → (h : disk.honest later_disk) → disk.failures later_disk ≡ disk.failures d
+          → (found : State) (m : MeansState watches found (disk.seen d)) → (reply_to found Begin ≡ Refused refusals.Exhausted) ⊎ (limit ≤ m.number)
+          → ((c : List ℕ) → disk.may_leave later_disk c → MeansState watches found c) → ((c : List ℕ) → disk.may_leave later_disk c → IsNumberedTo (w.slot + 1) c)
+          → LeavesOnly disk.moment disk.left_since d later_disk (disk.may_leave d) ⊎ ((some : State) × IsFound disk d later_disk some) → Open w
+      spent w s h stood found m why left_means numbered cut =
+          let down = down_of w s in
+          let k = known w s (honest h) in
+          let at : found ≡ replay k.found = one (disk.seen d) found (replay k.found) m k.means in
+          let v : World = record w { kept = k.found; pending = []; slot = w.slot + 1 } in
+          let row : OpenSpent w v = ((omega arith, omega arith), (k.found, k.finds, reason k at why, refl)) in (
+            v,
+            as_row w v s (inr (inr (inr row))),
+            stands_down w v down.down refl refl (stood ∙ down.on.faults)
+                (λ c left. record { means = none_yet (replay k.found) [] c (subst (λ r. MeansState watches r c) at (left_means c left)); numbered = numbered c left }) s,
+            started_on later_disk w v (ap (disk_of_server disk) server) (leaves k cut),
+          )
+        where
+          leaves : (k : Known w) → LeavesOnly disk.moment disk.left_since d later_disk (disk.may_leave d) ⊎ ((some : State) × IsFound disk d later_disk some)
+              → LeavesOnly disk.moment disk.left_since d later_disk (KeepsBetween w (k.found ++ Begin ∷ []))
+          leaves k (inl run) = early_leaves later_disk w (k.found ++ Begin ∷ []) s run
+          leaves k (inr (some, f)) = found_leaves later_disk w (k.found ++ Begin ∷ []) s k ([], append-nil (k.found ++ Begin ∷ [])) some f
+
+          reason : (k : Known w) → found ≡ replay k.found → (reply_to found Begin ≡ Refused refusals.Exhausted) ⊎ (limit ≤ m.number) → (changes (replay k.found) Begin ≡ false) ⊎ (cannot_rise w.slot ≡ true)
+          reason k at (inl refused) = inl (subst (λ r. changes r Begin ≡ false) at (ap is_change refused))
+          reason k at (inr high) =
+              let low : m.number ≤ w.slot = number_within (disk.seen d) m w.slot k.numbered in
+              inr (le-leb limit w.slot (omega (arith, high, low)))
+
+      pub open_failed : CountsNow disk → (e : Refusal) → e ≢ refusals.NoMemory
+          → (e ≡ refusals.DeviceFailed) ⊎ (e ≡ refusals.NoMemory) ⊎ (e ≡ refusals.Exhausted) ⊎ (e ≡ refusals.Damaged) ⊎ (e ≡ refusals.Retired)
+          → (disk.honest later_disk → LeavesOnly disk.moment disk.left_since d later_disk (disk.may_leave d) ⊎ ((found : State) × IsFound disk d later_disk found))
+          → (disk.honest later_disk → e ≡ refusals.Damaged → IsDamaged watches (disk.seen d)) → (disk.honest later_disk → e ≡ refusals.Retired → IsRetired (disk.seen d))
+          → (disk.honest later_disk → e ≡ refusals.Exhausted → (found : State) × (m : MeansState watches found (disk.seen d)) × ((reply_to found Begin ≡ Refused refusals.Exhausted) ⊎ (limit ≤ m.number)))
+          → (e ≡ refusals.DeviceFailed → Rose (disk.failures d) (disk.failures later_disk)) → (e ≢ refusals.DeviceFailed → disk.failures later_disk ≡ disk.failures d) → disk.failures d ≤ disk.failures later_disk
+          → (disk.honest later_disk → e ≡ refusals.Exhausted → (found : State) × MeansState watches found (disk.seen d) × ((c : List ℕ) → disk.may_leave later_disk c → MeansState watches found c))
+          → (disk.honest later_disk → (n : ℕ) → ((c : List ℕ) → disk.may_leave d c → IsNumberedTo n c) → (c : List ℕ) → disk.may_leave later_disk c → IsNumberedTo (n + 1) c)
+          → Meets disk opened (Starts disk) old new
+      open_failed law e memory kinds cut damaged retired exhausted failed stood later only numbered = record {
+        honest = λ h. subst (λ x. disk.honest (disk_of_server disk x)) (sym is_down) (honest (subst (λ x. disk.honest (disk_of_server disk x)) server h));
+        goes = λ h w reached s. by (subst (λ x. disk.honest (disk_of_server disk x)) server h) w s kinds;
+      }
+        where
+          all_numbered : (h : disk.honest later_disk) (w : World) → Stands disk old w → (c : List ℕ) → disk.may_leave later_disk c → IsNumberedTo (w.slot + 1) c
+          all_numbered h w s = numbered h w.slot (λ c left. ((down_of w s).on.prefix c left).numbered)
+
+          device : (h : disk.honest later_disk) (w : World) → Stands disk old w → e ≡ refusals.DeviceFailed → LeavesOnly disk.moment disk.left_since d later_disk (disk.may_leave d) ⊎ ((found : State) × IsFound disk d later_disk found) → Open w
+          device h w s is (inl run) = early w s (failed is) later (now disk law d later_disk (disk.may_leave d) h run) run
+          device h w s is (inr (found, f)) = late w s h (failed is) later found f (now disk law f.synced later_disk (MeansBeginning watches found (Begin ∷ [])) h f.from) (all_numbered h w s)
+
+          not_device : e ≡ refusals.Exhausted → e ≢ refusals.DeviceFailed
+          not_device is d = absurd (apart (sym is ∙ d))
+            where
+              is_exhausted : Refusal → Bool
+              is_exhausted refusals.Exhausted = true
+              is_exhausted _ = false
+
+              apart : refusals.Exhausted ≡ refusals.DeviceFailed → ⊥
+              apart x = true≢false (ap is_exhausted x)
+
+          by : disk.honest later_disk → (w : World) → Stands disk old w → (e ≡ refusals.DeviceFailed) ⊎ (e ≡ refusals.NoMemory) ⊎ (e ≡ refusals.Exhausted) ⊎ (e ≡ refusals.Damaged) ⊎ (e ≡ refusals.Retired) → Open w
+          by h w s (inl is) = device h w s is (cut h)
+          by h w s (inr (inl is)) = absurd (memory is)
+          by h w s (inr (inr (inl is))) =
+              let x = exhausted h is in
+              let o = only h is in
+              let same : o.0 ≡ x.0 = one (disk.seen d) o.0 x.0 o.1 x.1 in
+              spent w s h (stood (not_device is)) x.0 x.1 x.2 (λ c left. subst (λ r. MeansState watches r c) same (o.2 c left)) (all_numbered h w s) (cut h)
+          by h w s (inr (inr (inr (inl is)))) = let k = known w s (honest h) in absurd ((damaged h is).0 (replay k.found) k.means)
+          by h w s (inr (inr (inr (inr is)))) =
+              let k = known w s (honest h) in
+              absurd (k.means.means.header.1 (one_header (area 0 4096 (disk.seen d)) k.means.means.header.0 165 k.means.means.header.2 (retired h is).1))

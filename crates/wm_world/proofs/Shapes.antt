@@ -1,0 +1,178 @@
+-- What each step leaves of the commands, and how it makes the histories grow.
+use Rattle.std.proofs.Common.{◌≡◌, ◌⊎◌, inl, inr, ℕ, ◌+◌, ◌<◌, ◌≤◌, Bool, true, false, cond, ◌&&◌, List, [], ◌∷◌, ◌++◌, length, nat_le, Option, Some, None, refl, sym, ap, subst, ◌∙◌, arith, true≢false, append_assoc, append-nil, MatchBool}
+use Rattle.wm_names.specs.Paths.{Path}
+use Rattle.wm_registry.specs.declared.command.Command.{Command}
+use Rattle.wm_registry.specs.declared.command.Command.TheVariants.{Begin}
+use Rattle.wm_registry.specs.declared.root.Root.{Root}
+use Rattle.wm_registry.specs.Registry.{fresh}
+use Rattle.wm_registry.specs.Roots.{State, root_at}
+use Rattle.std.specs.Option.{option_map_or}
+use Rattle.wm_expr.specs.Meanings.{is_path_only}
+use Rattle.wm_expr.specs.Views.{term}
+use Rattle.wm_store.specs.Batches.{accepted_of}
+use Rattle.wm_view.specs.Histories.{History, after}
+use Rattle.wm_view.specs.declared.op.Op.{Op}
+use Rattle.wm_view.specs.declared.op.Op.TheVariants as ops
+use Rattle.wm_world.specs.declared.event.Event.{Event}
+use Rattle.wm_world.specs.declared.event.Event.TheVariants as events
+use Rattle.wm_world.specs.Worlds.{World, at_first, begun_all, begun_between, is_of, registry, replay}
+use Rattle.wm_world.specs.Steps.{BatchCut, BatchDone, Checkpointed, Cut, OpenDone, Opened, Run, Step, begin_on, down, operated}
+use Rattle.wm_world.proofs.Growing.{Grows, extends_after, grows_append, grows_at, grows_same, grows_then}
+use Rattle.wm_world.proofs.Numbers.{began, replay_more, rises_more}
+
+-- the server was up before, or it has just been opened
+abbrev pub IsUp : World → World → Type 0
+IsUp old new = ((old.up ≡ true) × (new.pending ≡ old.pending)) ⊎ ((new.pending ≡ []) × (0 < (registry new).incarnation))
+
+-- the same, one that has gone on, those of a batch, or those of a start
+abbrev pub IsGrown : World → World → Type 0
+IsGrown old new =
+    (new.histories ≡ old.histories)
+    ⊎ ((test : History → Bool) × (op : Op) × (new.histories ≡ at_first test (λ h. after h op) old.histories))
+    ⊎ ((old.up ≡ true) × (new.histories ≡ old.histories ++ begun_between (registry old) (registry new)))
+    ⊎ (((registry old).incarnation < (registry new).incarnation) × (new.histories ≡ old.histories ++ begun_all (registry new)))
+
+pub record Shape (old new : World) : Type 0 where
+  pub more : List Command
+  pub kept : new.kept ≡ old.kept ++ more
+  pub histories : IsGrown old new
+  pub up : new.up ≡ true → IsUp old new
+
+like : (old v w : World) → w ≡ v → Shape old v → Shape old w
+like old v w e h = subst (λ u. Shape old u) (sym e) h
+
+-- the same commands and histories, and no less up
+as_it_was : (old v w : World) → w ≡ v → v.kept ≡ old.kept → v.histories ≡ old.histories → (v.up ≡ true → IsUp old v) → Shape old w
+as_it_was old v w e k h up = like old v w e (record { more = []; kept = k ∙ sym (append-nil old.kept); histories = inl h; up = up })
+
+stays_up : (old v : World) → v.up ≡ old.up → v.pending ≡ old.pending → v.up ≡ true → IsUp old v
+stays_up old v u p t = inl (sym u ∙ t, p)
+
+same : (old new : World) → new ≡ old → Shape old new
+same old new e = as_it_was old old new e refl refl (stays_up old old refl refl)
+
+not_up : (old v : World) → v.up ≡ false → v.up ≡ true → IsUp old v
+not_up old v f t = absurd (true≢false (sym t ∙ f))
+
+-- ---- views
+
+one_goes_on : (old : World) (test : History → Bool) (op : Op) → Shape old (record old { histories = at_first test (λ h. after h op) old.histories })
+one_goes_on old test op = record {
+  more = [];
+  kept = sym (append-nil old.kept);
+  histories = inr (inl (test, op, refl));
+  up = stays_up old (record old { histories = at_first test (λ h. after h op) old.histories }) refl refl;
+}
+
+operation : (old new : World) (path : Path) (op : Op) → new ≡ cond old.up (operated path op old) old → Shape old new
+operation old new path op e = like old _ new e (either old.up)
+  where
+    by : (o : Option Root) → Shape old (option_map_or (λ root. record old { histories = at_first (is_of (registry old).incarnation root.number) (λ h. after h op) old.histories }) o old)
+    by None = same old old refl
+    by (Some root) = one_goes_on old (is_of (registry old).incarnation root.number) op
+
+    either : (b : Bool) → Shape old (cond b (operated path op old) old)
+    either true = by (root_at path (registry old))
+    either false = same old old refl
+
+-- ---- commands
+
+batch_done : (old : World) (commands : List Command) (new : World) → old.up ≡ true → BatchDone old commands new → Shape old new
+batch_done old commands new up (replies, answered, long, raise, e) =
+    like old _ new e (record { more = accepted_of commands replies; kept = refl; histories = inr (inr (inl (up, refl))); up = λ t. inl (up, refl) })
+
+cut : (by : ℕ) (old : World) (commands : List Command) (new : World) → Cut by old commands new → Shape old new
+cut by old commands new (rose, later, raise, e) = let v : World = record (down old) { pending = commands; faults = new.faults; slot = new.slot } in as_it_was old v new e refl refl (not_up old v refl)
+
+batch : (old : World) (commands : List Command) (new : World) → MatchBool (old.up && nat_le (length commands) 64) (BatchDone old commands new ⊎ BatchCut old commands new) (new ≡ old) → Shape old new
+batch old commands new = either old.up refl (nat_le (length commands) 64)
+  where
+    either : (u : Bool) → old.up ≡ u → (b : Bool) → MatchBool (u && b) (BatchDone old commands new ⊎ BatchCut old commands new) (new ≡ old) → Shape old new
+    either true up true (inl d) = batch_done old commands new up d
+    either true up true (inr (replies, answered, some, c)) = cut (length commands) old (accepted_of commands replies) new c
+    either true up false e = same old new e
+    either false up b e = same old new e
+
+checkpoint : (old new : World) → MatchBool old.up (Checkpointed old new ⊎ Cut 1 old [] new) (new ≡ old) → Shape old new
+checkpoint old new = either old.up
+  where
+    either : (u : Bool) → MatchBool u (Checkpointed old new ⊎ Cut 1 old [] new) (new ≡ old) → Shape old new
+    either true (inl (inl e)) = as_it_was old (record old { slot = old.slot + 1 }) new e refl refl (stays_up old (record old { slot = old.slot + 1 }) refl refl)
+    either true (inl (inr (spent, e))) = same old new e
+    either true (inr c) = cut 1 old [] new c
+    either false e = same old new e
+
+-- ---- a start
+
+opened : (old new : World) → Opened old new → Shape old new
+opened old new (found, (part, begins, is), raise, accepts, e) =
+    let more : List Command = part ++ Begin ∷ [] in
+    let whole : found ++ Begin ∷ [] ≡ old.kept ++ more = ap (λ cs. cs ++ Begin ∷ []) is ∙ append_assoc old.kept part (Begin ∷ []) in
+    let next : (replay (found ++ Begin ∷ [])).incarnation ≡ (replay found).incarnation + 1 =
+    ap (λ (s : State). s.incarnation) (replay_more fresh found (Begin ∷ [])) ∙ began (replay found) accepts in
+    let rise : (registry old).incarnation ≤ (replay found).incarnation = subst (λ cs. (registry old).incarnation ≤ (replay cs).incarnation) (sym is) (rises_more old.kept part).incarnation in
+    like old _ new e (record {
+      more = more;
+      kept = whole;
+      histories = inr (inr (inr (omega (arith, next, rise), refl)));
+      up = λ t. inr (refl, omega (arith, next));
+    })
+
+opening : (old new : World) → old.up ≡ false → OpenDone old new → Shape old new
+opening old new is_down (inl o) = opened old new o
+opening old new is_down (inr (inl (rose, later, e))) = let v : World = record old { faults = new.faults } in as_it_was old v new e refl refl (not_up old v is_down)
+opening old new is_down (inr (inr (inl (rose, later, raise, (found, (part, begins, is), e))))) =
+    let v : World = record old { kept = found; pending = begin_on found; faults = new.faults; slot = new.slot } in like old v new e (record { more = part; kept = is; histories = inl refl; up = not_up old v is_down })
+opening old new is_down (inr (inr (inr (raise, (found, (part, begins, is), why, e))))) =
+    let v : World = record old { kept = found; pending = []; slot = new.slot } in like old v new e (record { more = part; kept = is; histories = inl refl; up = not_up old v is_down })
+
+start : (old new : World) → MatchBool old.up (new ≡ old) (OpenDone old new) → Shape old new
+start old new = either old.up refl
+  where
+    either : (u : Bool) → old.up ≡ u → MatchBool u (new ≡ old) (OpenDone old new) → Shape old new
+    either true up e = same old new e
+    either false down o = opening old new down o
+
+-- ---- clients: they touch neither commands nor histories
+
+only_clients : (old new : World) (b : Bool) (v : World) → new ≡ cond b v old → v.kept ≡ old.kept → v.histories ≡ old.histories → v.up ≡ old.up → v.pending ≡ old.pending → Shape old new
+only_clients old new true v e k h u p = as_it_was old v new e k h (stays_up old v u p)
+only_clients old new false v e k h u p = same old new e
+
+pub shape : (old : World) (event : Event) (new : World) → Step old event new → Shape old new
+shape old (events.Commands commands) new s = batch old commands.items new s
+shape old events.Checkpoint new s = checkpoint old new s
+shape old events.Open new s = start old new s
+shape old (events.Arm calls) new s = same old new s
+shape old events.Crash new (found, (part, begins, is), e) = let v : World = record (down old) { kept = found; pending = [] } in like old v new e (record { more = part; kept = is; histories = inl refl; up = not_up old v refl })
+shape old events.Stop new s = as_it_was old (down old) new s refl refl (not_up old (down old) refl)
+shape old (events.Observe path moment pairs) new s = operation old new path (ops.Observe moment pairs) s
+shape old (events.Recrawl path moment begun_at found) new s = operation old new path (ops.Recrawl moment begun_at found) s
+shape old (events.AgeOut path time age) new s = operation old new path (ops.AgeOut time age) s
+shape old (events.Client path test) new s = only_clients old new (is_path_only (term test)) _ s refl refl refl refl
+shape old (events.Ask n) new s = only_clients old new old.up _ s refl refl refl refl
+shape old (events.Receive n) new s = only_clients old new true _ s refl refl refl refl
+shape old (events.Lose n) new s = only_clients old new true _ s refl refl refl refl
+
+-- ---- what grows
+
+pub grows_shape : (old new : World) → Shape old new → Grows old.histories new.histories
+grows_shape old new s = by s.histories
+  where
+    to : (hs : List History) → new.histories ≡ hs → Grows old.histories hs → Grows old.histories new.histories
+    to hs e g = subst (λ ks. Grows old.histories ks) (sym e) g
+
+    by : IsGrown old new → Grows old.histories new.histories
+    by (inl e) = to old.histories e (grows_same old.histories)
+    by (inr (inl (test, op, e))) = to _ e (grows_at test (λ h. after h op) (λ h. extends_after h op) old.histories)
+    by (inr (inr (inl (up, e)))) = to _ e (grows_append old.histories (begun_between (registry old) (registry new)))
+    by (inr (inr (inr (later, e)))) = to _ e (grows_append old.histories (begun_all (registry new)))
+
+pub grows_run : (old : World) (events : List Event) (new : World) → Run old events new → Grows old.histories new.histories
+grows_run old [] new e = subst (λ (w : World). Grows old.histories w.histories) e (grows_same old.histories)
+grows_run old (event ∷ events) new (mid, step, run) =
+    grows_then old.histories mid.histories new.histories (grows_shape old mid (shape old event mid step)) (grows_run mid events new run)
+
+pub runs_on : (a : World) (es : List Event) (b : World) (fs : List Event) (c : World) → Run a es b → Run b fs c → Run a (es ++ fs) c
+runs_on a [] b fs c e r = subst (λ w. Run w fs c) (sym e) r
+runs_on a (x ∷ es) b fs c (mid, step, rest) r = (mid, step, runs_on mid es b fs c rest r)

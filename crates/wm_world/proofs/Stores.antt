@@ -1,0 +1,338 @@
+-- Calls of the store, and what they make of the world.
+use Rattle.std.proofs.Common.{◌≡◌, ◌≢◌, ◌⊎◌, inl, inr, ℕ, ◌+◌, ◌-◌, ◌<◌, ◌≤◌, Bool, true, false, ◌&&◌, List, [], ◌∷◌, ◌++◌, length, map, nat_le, refl, sym, ap, subst, ◌∙◌, arith, true≢false, append_assoc, append-nil, le-leb, MatchBool}
+use Rattle.std.proofs.lemmas.Bool.{lt-leb}
+use Rattle.std.proofs.lemmas.List.{map-append}
+use Rattle.std.specs.List.{AllByRecursion, range_with_len}
+use Rattle.wm_disk.specs.Contents.{Rose}
+use Rattle.wm_disk.specs.Moments.{LeavesOnly}
+use Rattle.wm_disk.specs.declared.disk.Disk as disks
+use Rattle.wm_disk.specs.declared.refusal.Refusal.{Refusal}
+use Rattle.wm_disk.specs.declared.refusal.Refusal.TheVariants as refusals
+use Rattle.wm_checkpoint.specs.Machines.{replay_on}
+use Rattle.wm_checkpoint.specs.Meanings.{Means, MeansBeginning, MeansState}
+use Rattle.wm_checkpoint.specs.declared.layout.Slot.{Slot}
+use Rattle.wm_checkpoint.proofs.Numbering.{means_numbered, numbered_more}
+use Rattle.wm_clock.specs.Clocks.{limit}
+use Rattle.wm_registry.specs.declared.command.Command.{Command}
+use Rattle.wm_registry.specs.declared.reply.Reply.{Reply}
+use Rattle.wm_registry.specs.MachineLaws.{watches}
+use Rattle.wm_registry.specs.Registry.{fresh}
+use Rattle.wm_registry.specs.Roots.{State}
+use Rattle.wm_store.specs.Batches.{AreAnswered, IsShort, accepted_of}
+use Rattle.wm_store.specs.Stored.{Stored}
+use Rattle.wm_view.specs.Histories.{History, begun}
+use Rattle.wm_view.specs.Summaries.{Summary, summary}
+use Rattle.wm_checkpoint.specs.Numbers.{IsNumberedTo}
+use Rattle.wm_world.specs.declared.world.World.{World as Running}
+use Rattle.wm_world.specs.declared.world.Server.TheVariants.{Up, Down}
+use Rattle.wm_world.specs.Worlds.{World, begun_between, registry, replay, without_answer}
+use Rattle.wm_world.specs.Steps.{BatchCut, BatchDone, Checkpointed, Cut, batch, checkpointed, down}
+use Rattle.wm_world.specs.Standings.{AreViews, IsServer, IsUp, Meets, Stands, disk_of_server}
+use Rattle.wm_world.specs.Passes.{KeepsBetween, Leaves}
+use Rattle.wm_journal.proofs.Opening.{weaker}
+use Rattle.wm_store.proofs.Runs.{OnlyNow}
+use Rattle.wm_world.proofs.Batching.{answered_more, same_incarnation}
+use Rattle.wm_world.proofs.Between.{between_before, between_more}
+use Rattle.wm_world.proofs.Calls.{nothing}
+use Rattle.wm_world.proofs.Moments.{pending_is_own}
+use Rattle.wm_world.proofs.Numbers.{replay_more}
+
+-- ---- contents
+
+-- nothing of the commands is there yet
+pub none_yet : (s : State) (commands : List Command) (c : List ℕ) → MeansState watches s c → MeansBeginning watches s commands c
+none_yet s commands c m = record { count = 0; within = omega arith; means = m }
+
+-- ---- views of a batch
+
+all_begun_in : (i : ℕ) (ns : List ℕ) → AllByRecursion (λ (h : History). h.incarnation ≡ i) (map (begun i) ns)
+all_begun_in i [] = tt
+all_begun_in i (n ∷ ns) = (refl, all_begun_in i ns)
+
+all_both : {A : Type 0} (P : A → Type 0) (xs ys : List A) → AllByRecursion P xs → AllByRecursion P ys → AllByRecursion P (xs ++ ys)
+all_both P [] ys a b = b
+all_both P (x ∷ xs) ys a b = (a.0, all_both P xs ys a.1 b)
+
+all_each : {A : Type 0} (P Q : A → Type 0) → ((x : A) → P x → Q x) → (xs : List A) → AllByRecursion P xs → AllByRecursion Q xs
+all_each P Q f [] h = tt
+all_each P Q f (x ∷ xs) h = (f x h.0, all_each P Q f xs h.1)
+
+-- more histories of this incarnation
+views_more : (views : List Summary) (w v : World) (more : List History) → (registry v).incarnation ≡ (registry w).incarnation → v.histories ≡ w.histories ++ more
+    → AllByRecursion (λ (h : History). h.incarnation ≡ (registry v).incarnation) more → AreViews views w → AreViews (views ++ map summary more) v
+views_more views w v more same grown these a = record {
+  past = a.past;
+  present = a.present ++ more;
+  all = grown ∙ ap (λ hs. hs ++ more) a.all ∙ append_assoc a.past a.present more;
+  over = subst (λ i. AllByRecursion (λ (h : History). h.incarnation < i) a.past) (sym same) a.over;
+  now = all_both (λ (h : History). h.incarnation ≡ (registry v).incarnation) a.present more (subst (λ i. AllByRecursion (λ (h : History). h.incarnation ≡ i) a.present) (sym same) a.now) these;
+  shown = ap (λ vs. vs ++ map summary more) a.shown ∙ sym (map-append summary a.present more);
+}
+
+module _ {D : Type 0} (disk : disks.Ghosts D) where
+  -- a disk's law
+  abbrev pub CountsNow : Type 0
+  CountsNow = (d : D) (t : ℕ) (c : List ℕ) → disk.honest d → t ≤ disk.moment d → disk.may_leave d c → disk.left_since d t c
+
+  pub now : CountsNow → (old new : D) (P : List ℕ → Type 0) → disk.honest new → LeavesOnly disk.moment disk.left_since old new P → (c : List ℕ) → disk.may_leave new c → P c
+  now law old new P h run c left = run.each c (law new (disk.moment old) c h run.later left)
+
+  up_of : (old : Running D) (before : Stored D) (w : World) → old.server ≡ Up before → Stands disk old w → IsUp disk before old.shown.views.items w
+  up_of old before w is s = subst (λ x. IsServer disk x old.shown.views.items w) is s.server
+
+  fits : (w : World) (commands : List Command) → w.up ≡ true → length commands ≤ 64 → (w.up && nat_le (length commands) 64) ≡ true
+  fits w commands up short = λ i. up i && le-leb (length commands) 64 short i
+
+  -- a call that leaves what was meant
+  stays_meant : (w : World) (registry_then : State) (before after : D) (afterwards : List Command) → registry_then ≡ registry w → LeavesOnly disk.moment disk.left_since before after (MeansState watches registry_then)
+      → LeavesOnly disk.moment disk.left_since before after (KeepsBetween w afterwards)
+  stays_meant w registry_then before after afterwards is run =
+      weaker disk.moment disk.left_since before after (MeansState watches registry_then) (KeepsBetween w afterwards) run
+      (λ c m. between_before w afterwards c (none_yet (registry w) w.pending c (subst (λ r. MeansState watches r c) is m)))
+
+  -- calls of a store that is up
+  module _ (old new : Running D) (before : Stored D) (after : D) (P : List ℕ → Type 0) (is_up : old.server ≡ Up before) (there : disk_of_server disk new.server ≡ after) where
+    moved : LeavesOnly disk.moment disk.left_since before.disk after P → LeavesOnly disk.moment disk.left_since (disk_of_server disk old.server) (disk_of_server disk new.server) P
+    moved run =
+        subst (λ x. LeavesOnly disk.moment disk.left_since (disk_of_server disk x) (disk_of_server disk new.server) P) (sym is_up)
+        (subst (λ x. LeavesOnly disk.moment disk.left_since before.disk x P) (sym there) run)
+
+  -- ---- commands
+
+  module _ (old new : Running D) (before after : Stored D) (commands : List Command) (replies : List Reply) (is_up : old.server ≡ Up before) (short : length commands ≤ 64) where
+    pub batch_done : new.server ≡ Up after → new.shown.replies.items ≡ replies → new.shown.clients ≡ old.shown.clients
+        → new.shown.views.items ≡ old.shown.views.items ++ map summary (map (begun after.registry.incarnation) (range_with_len before.registry.next (after.registry.next - before.registry.next)))
+        → AreAnswered after.number before.registry commands replies → (IsShort replies → ⊥)
+        → after.registry ≡ replay_on watches before.registry (accepted_of commands replies)
+        → (disk.honest after.disk → disk.honest before.disk) → disk.failures after.disk ≡ disk.failures before.disk
+        → after.failed ≡ false → after.closed ≡ false → after.number ≤ before.number + length commands
+        → (disk.honest after.disk → (c : List ℕ) → disk.may_leave after.disk c → MeansState watches after.registry c)
+        → (before.failed ≡ false → disk.honest after.disk → (c : List ℕ) → disk.may_leave after.disk c → IsNumberedTo (before.number + length commands) c)
+        → (disk.honest after.disk → LeavesOnly disk.moment disk.left_since before.disk after.disk (MeansBeginning watches before.registry (accepted_of commands replies)))
+        → Meets disk (batch commands) (Leaves disk) old new
+    batch_done server said clients views answered long led honest faults whole open_yet number means numbered leaves = record {
+      honest = λ h. subst (λ x. disk.honest (disk_of_server disk x)) (sym is_up) (honest (subst (λ x. disk.honest (disk_of_server disk x)) server h));
+      goes = λ h w reached s.
+          let up = up_of old before w is_up s in
+          let there : disk.honest after.disk = subst (λ x. disk.honest (disk_of_server disk x)) server h in
+          let more : List Command = accepted_of commands replies in
+          let led_to : after.registry ≡ replay (w.kept ++ more) = led ∙ ap (λ r. replay_on watches r more) up.registry_is ∙ sym (replay_more fresh w.kept more) in
+          let high : after.number ≤ w.slot + length commands = omega (arith, number, up.number) in
+          let v : World = record w {
+            kept = w.kept ++ more;
+            replies = replies;
+            slot = w.slot + length commands;
+            histories = w.histories ++ begun_between (registry w) (replay (w.kept ++ more));
+          } in
+          let met : AreAnswered v.slot (registry w) commands replies = subst (λ r. AreAnswered v.slot r commands replies) up.registry_is (answered_more after.number v.slot before.registry commands replies high answered) in
+          let same : (replay (w.kept ++ more)).incarnation ≡ (registry w).incarnation = ap (λ (r : State). r.incarnation) (replay_more fresh w.kept more) ∙ same_incarnation v.slot (registry w) commands replies met in
+          let done : BatchDone w commands v = (replies, met, long, (omega arith, omega arith), refl) in (
+            v,
+            subst (λ b. MatchBool b (BatchDone w commands v ⊎ BatchCut w commands v) (v ≡ w)) (sym (fits w commands up.up short)) (inl done),
+            record {
+              server = subst (λ x. IsServer disk x new.shown.views.items v) (sym server) (record {
+                up = up.up;
+                whole = whole;
+                open_yet = open_yet;
+                registry_is = led_to;
+                number = high;
+                on = record {
+                  prefix = λ c left. record {
+                    means = none_yet (replay (w.kept ++ more)) w.pending c (subst (λ r. MeansState watches r c) led_to (means there c left));
+                    numbered = numbered_more (before.number + length commands) v.slot c (omega (arith, up.number)) (numbered up.whole there c left);
+                  };
+                  faults = faults ∙ up.on.faults;
+                };
+                views_are = subst (λ vs. AreViews vs v) (sym (views ∙ (λ i. old.shown.views.items ++ map summary (map (begun (led_to i).incarnation) (range_with_len (up.registry_is i).next ((led_to i).next - (up.registry_is i).next))))))
+                    (views_more old.shown.views.items w v (begun_between (registry w) (replay (w.kept ++ more))) same refl (all_begun_in (replay (w.kept ++ more)).incarnation _) up.views_are);
+              });
+              replies = said;
+              clients = ap (λ r. r.items) clients ∙ s.clients;
+            },
+            moved old new before after.disk (KeepsBetween w (v.kept ++ v.pending)) is_up (ap (disk_of_server disk) server)
+                (weaker disk.moment disk.left_since before.disk after.disk (MeansBeginning watches before.registry more) (KeepsBetween w (v.kept ++ v.pending)) (leaves there)
+                (λ c m. between_more w (v.kept ++ v.pending) more (ap (λ p. (w.kept ++ more) ++ p) (pending_is_own w reached up.up) ∙ append-nil (w.kept ++ more)) c (subst (λ r. MeansBeginning watches r more c) up.registry_is m))),
+          );
+    }
+
+  -- what a store that failed leaves: the server is down with these commands in flight
+  module _ (old new : Running D) (before after : Stored D) (is_up : old.server ≡ Up before) (server : new.server ≡ Down after.disk) (gone : new.shown.views.items ≡ []) (said : new.shown.replies ≡ old.shown.replies)
+      (lost : new.shown.clients.items ≡ map without_answer old.shown.clients.items) (honest : disk.honest after.disk → disk.honest before.disk) where
+    abbrev cut_to : World → ℕ → List Command → World
+    cut_to w by pending = record (down w) { pending = pending; faults = disk.failures after.disk; slot = w.slot + by }
+
+    cut_stands : (w : World) (by : ℕ) (pending : List Command) → Stands disk old w
+        → ((c : List ℕ) → disk.may_leave after.disk c → MeansBeginning watches before.registry pending c)
+        → ((c : List ℕ) → disk.may_leave after.disk c → IsNumberedTo (before.number + by) c) → Stands disk new (cut_to w by pending)
+    cut_stands w by pending s means numbered =
+        let up = up_of old before w is_up s in
+        record {
+          server = subst (λ x. IsServer disk x new.shown.views.items (cut_to w by pending)) (sym server) (record {
+            down = refl;
+            none = gone;
+            on = record {
+              prefix = λ c left. record {
+                means = subst (λ r. MeansBeginning watches r pending c) up.registry_is (means c left);
+                numbered = numbered_more (before.number + by) (w.slot + by) c (omega (arith, up.number)) (numbered c left);
+              };
+              faults = refl;
+            };
+          });
+          replies = ap (λ r. r.items) said ∙ s.replies;
+          clients = lost ∙ ap (λ cs. map without_answer cs) s.clients;
+        }
+
+    is_cut : (w : World) (by : ℕ) (pending : List Command) → Stands disk old w → Rose (disk.failures before.disk) (disk.failures after.disk) → disk.failures before.disk ≤ disk.failures after.disk
+        → Cut by w pending (cut_to w by pending)
+    is_cut w by pending s rose later =
+        let faults = (up_of old before w is_up s).on.faults in
+        (subst (λ n. Rose n (disk.failures after.disk)) faults rose, subst (λ n. n ≤ disk.failures after.disk) faults later, (omega arith, omega arith), refl)
+
+    is_honest : disk.honest (disk_of_server disk new.server) → disk.honest (disk_of_server disk old.server)
+    is_honest h = subst (λ x. disk.honest (disk_of_server disk x)) (sym is_up) (honest (subst (λ x. disk.honest (disk_of_server disk x)) server h))
+
+    still_there : disk.honest (disk_of_server disk new.server) → disk.honest after.disk
+    still_there h = subst (λ x. disk.honest (disk_of_server disk x)) server h
+
+    -- only a failure of the device takes down a store that was whole
+    device : (w : World) (e : Refusal) → Stands disk old w → (e ≡ refusals.DeviceFailed) ⊎ (e ≡ refusals.NoMemory) ⊎ (e ≡ refusals.StoreFailed) → e ≢ refusals.NoMemory
+        → (e ≡ refusals.StoreFailed → (before.failed ≡ true) ⊎ (before.closed ≡ true)) → e ≡ refusals.DeviceFailed
+    device w e s (inl d) memory closed = d
+    device w e s (inr (inl m)) memory closed = absurd (memory m)
+    device w e s (inr (inr x)) memory closed = by (closed x)
+      where
+        up : IsUp disk before old.shown.views.items w
+        up = up_of old before w is_up s
+
+        by : (before.failed ≡ true) ⊎ (before.closed ≡ true) → e ≡ refusals.DeviceFailed
+        by (inl f) = absurd (true≢false (sym f ∙ up.whole))
+        by (inr f) = absurd (true≢false (sym f ∙ up.open_yet))
+
+    pub batch_cut : CountsNow → (commands : List Command) (e : Refusal) → length commands ≤ 64
+        → (e ≡ refusals.DeviceFailed) ⊎ (e ≡ refusals.NoMemory) ⊎ (e ≡ refusals.StoreFailed) → e ≢ refusals.NoMemory → (e ≡ refusals.StoreFailed → (before.failed ≡ true) ⊎ (before.closed ≡ true))
+        → (before.failed ≡ false → (replies : List Reply) × (AreAnswered after.number before.registry commands replies
+        × (disk.honest after.disk → LeavesOnly disk.moment disk.left_since before.disk after.disk (MeansBeginning watches before.registry (accepted_of commands replies)))
+        × (e ≡ refusals.DeviceFailed → accepted_of commands replies ≡ [] → ⊥)))
+        → (e ≡ refusals.DeviceFailed → Rose (disk.failures before.disk) (disk.failures after.disk)) → disk.failures before.disk ≤ disk.failures after.disk
+        → after.number ≤ before.number + length commands
+        → (before.failed ≡ false → disk.honest after.disk → (c : List ℕ) → disk.may_leave after.disk c → IsNumberedTo (before.number + length commands) c)
+        → Meets disk (batch commands) (Leaves disk) old new
+    batch_cut law commands e short kinds memory closed flight rose later number numbered = record {
+      honest = is_honest;
+      goes = λ h w reached s.
+          let up = up_of old before w is_up s in
+          let d : e ≡ refusals.DeviceFailed = device w e s kinds memory closed in
+          let f = flight up.whole in
+          let replies : List Reply = f.0 in
+          let pending : List Command = accepted_of commands replies in
+          let v : World = cut_to w (length commands) pending in
+          let high : after.number ≤ v.slot = omega (arith, number, up.number) in
+          let met : AreAnswered v.slot (registry w) commands replies = subst (λ r. AreAnswered v.slot r commands replies) up.registry_is (answered_more after.number v.slot before.registry commands replies high f.1.0) in
+          let there = still_there h in
+          let cut : BatchCut w commands v = (replies, met, f.1.2 d, is_cut w (length commands) pending s (rose d) later) in (
+            v,
+            subst (λ b. MatchBool b (BatchDone w commands v ⊎ BatchCut w commands v) (v ≡ w)) (sym (fits w commands up.up short)) (inr cut),
+            cut_stands w (length commands) pending s (λ c left. now law before.disk after.disk (MeansBeginning watches before.registry pending) there (f.1.1 there) c left) (numbered up.whole there),
+            moved old new before after.disk (KeepsBetween w (w.kept ++ pending)) is_up (ap (disk_of_server disk) server)
+                (weaker disk.moment disk.left_since before.disk after.disk (MeansBeginning watches before.registry pending) (KeepsBetween w (w.kept ++ pending)) (f.1.1 there)
+                (λ c m. between_more w (w.kept ++ pending) pending refl c (subst (λ r. MeansBeginning watches r pending c) up.registry_is m))),
+          );
+    }
+
+    pub checkpoint_cut : CountsNow → (e : Refusal) → (e ≡ refusals.DeviceFailed) ⊎ (e ≡ refusals.NoMemory) ⊎ (e ≡ refusals.Exhausted) ⊎ (e ≡ refusals.StoreFailed) → e ≢ refusals.NoMemory → e ≢ refusals.Exhausted
+        → (e ≡ refusals.StoreFailed → (before.failed ≡ true) ⊎ (before.closed ≡ true))
+        → (before.failed ≡ false → disk.honest after.disk → LeavesOnly disk.moment disk.left_since before.disk after.disk (MeansState watches before.registry))
+        → (e ≡ refusals.DeviceFailed → Rose (disk.failures before.disk) (disk.failures after.disk)) → disk.failures before.disk ≤ disk.failures after.disk
+        → (before.failed ≡ false → disk.honest after.disk → (c : List ℕ) → disk.may_leave after.disk c → IsNumberedTo (before.number + 1) c)
+        → Meets disk checkpointed (Leaves disk) old new
+    checkpoint_cut law e kinds memory counter closed leaves rose later numbered = record {
+      honest = is_honest;
+      goes = λ h w reached s.
+          let up = up_of old before w is_up s in
+          let d : e ≡ refusals.DeviceFailed = device w e s (three kinds) memory closed in
+          let v : World = cut_to w 1 [] in
+          let there = still_there h in (
+            v,
+            subst (λ b. MatchBool b (Checkpointed w v ⊎ Cut 1 w [] v) (v ≡ w)) (sym up.up) (inr (is_cut w 1 [] s (rose d) later)),
+            cut_stands w 1 [] s (λ c left. none_yet before.registry [] c (now law before.disk after.disk (MeansState watches before.registry) there (leaves up.whole there) c left)) (numbered up.whole there),
+            moved old new before after.disk (KeepsBetween w (w.kept ++ [])) is_up (ap (disk_of_server disk) server) (stays_meant w before.registry before.disk after.disk (w.kept ++ []) up.registry_is (leaves up.whole there)),
+          );
+    }
+      where
+        three : (e ≡ refusals.DeviceFailed) ⊎ (e ≡ refusals.NoMemory) ⊎ (e ≡ refusals.Exhausted) ⊎ (e ≡ refusals.StoreFailed) → (e ≡ refusals.DeviceFailed) ⊎ (e ≡ refusals.NoMemory) ⊎ (e ≡ refusals.StoreFailed)
+        three (inl a) = inl a
+        three (inr (inl a)) = inr (inl a)
+        three (inr (inr (inl a))) = absurd (counter a)
+        three (inr (inr (inr a))) = inr (inr a)
+
+  -- ---- a checkpoint
+
+  module _ (old new : Running D) (before after : Stored D) (is_up : old.server ≡ Up before) (server : new.server ≡ Up after) (said : new.shown.replies ≡ old.shown.replies) (clients : new.shown.clients ≡ old.shown.clients) (views : new.shown.views ≡ old.shown.views) where
+    pub checkpoint_done : (disk.honest after.disk → disk.honest before.disk) → disk.failures after.disk ≡ disk.failures before.disk → after.failed ≡ false → after.closed ≡ false
+        → after.number ≡ before.number + 1 → after.registry ≡ before.registry
+        → (disk.honest after.disk → (slot : Slot) × ((c : List ℕ) → disk.may_leave after.disk c → Means watches c slot after.number after.registry []))
+        → (before.failed ≡ false → disk.honest after.disk → LeavesOnly disk.moment disk.left_since before.disk after.disk (MeansState watches before.registry)) → Meets disk checkpointed (Leaves disk) old new
+    checkpoint_done honest faults whole open_yet number same means leaves = record {
+      honest = λ h. subst (λ x. disk.honest (disk_of_server disk x)) (sym is_up) (honest (subst (λ x. disk.honest (disk_of_server disk x)) server h));
+      goes = λ h w reached s.
+          let up = up_of old before w is_up s in
+          let there : disk.honest after.disk = subst (λ x. disk.honest (disk_of_server disk x)) server h in
+          let m = means there in
+          let v : World = record w { slot = w.slot + 1 } in
+          let led : after.registry ≡ registry w = same ∙ up.registry_is in
+          let high : after.number ≤ w.slot + 1 = omega (arith, number, up.number) in (
+            v,
+            subst (λ b. MatchBool b (Checkpointed w v ⊎ Cut 1 w [] v) (v ≡ w)) (sym up.up) (inl (inl refl)),
+            record {
+              server = subst (λ x. IsServer disk x new.shown.views.items v) (sym server) (record {
+                up = up.up;
+                whole = whole;
+                open_yet = open_yet;
+                registry_is = led;
+                number = high;
+                on = record {
+                  prefix = λ c left. record {
+                    means = none_yet (registry w) w.pending c (subst (λ r. MeansState watches r c) led (record { slot = m.0; number = after.number; base = after.registry; commands = []; means = m.1 c left; is = refl }));
+                    numbered = numbered_more after.number (w.slot + 1) c high (means_numbered watches c m.0 after.number after.registry [] (m.1 c left));
+                  };
+                  faults = faults ∙ up.on.faults;
+                };
+                views_are = subst (λ vs. AreViews vs.items v) (sym views) (record { past = up.views_are.past; present = up.views_are.present; all = up.views_are.all; over = up.views_are.over; now = up.views_are.now; shown = up.views_are.shown });
+              });
+              replies = ap (λ r. r.items) said ∙ s.replies;
+              clients = ap (λ r. r.items) clients ∙ s.clients;
+            },
+            moved old new before after.disk (KeepsBetween w (w.kept ++ w.pending)) is_up (ap (disk_of_server disk) server) (stays_meant w before.registry before.disk after.disk (w.kept ++ w.pending) up.registry_is (leaves up.whole there)),
+          );
+    }
+
+    -- the counter is spent: nothing happens
+    pub checkpoint_spent : after ≡ before → limit ≤ before.number
+        → (before.failed ≡ false → disk.honest after.disk → LeavesOnly disk.moment disk.left_since before.disk after.disk (MeansState watches before.registry)) → Meets disk checkpointed (Leaves disk) old new
+    checkpoint_spent same spent leaves = record {
+      honest = subst (λ x. disk.honest (disk_of_server disk x) → disk.honest (disk_of_server disk old.server)) (sym (server ∙ ap Up same ∙ sym is_up)) (λ h. h);
+      goes = λ h w reached s.
+          let up = up_of old before w is_up s in (
+            w,
+            subst (λ b. MatchBool b (Checkpointed w w ⊎ Cut 1 w [] w) (w ≡ w)) (sym up.up) (inl (inr (le-leb limit w.slot (omega (arith, spent, up.number)), refl))),
+            record {
+              server = subst (λ vs. IsServer disk new.server vs.items w) (sym views) (subst (λ x. IsServer disk x old.shown.views.items w) (sym (server ∙ ap Up same ∙ sym is_up)) s.server);
+              replies = ap (λ r. r.items) said ∙ s.replies;
+              clients = ap (λ r. r.items) clients ∙ s.clients;
+            },
+            moved old new before after.disk (KeepsBetween w (w.kept ++ w.pending)) is_up (ap (disk_of_server disk) server)
+                (stays_meant w before.registry before.disk after.disk (w.kept ++ w.pending) up.registry_is (leaves up.whole (subst (λ x. disk.honest (disk_of_server disk x)) server h))),
+          );
+    }
+
+  pub too_long : OnlyNow disk → (world : Running D) (commands : List Command) → 64 < length commands → Meets disk (batch commands) (Leaves disk) world world
+  too_long only world commands long =
+      nothing disk only world (batch commands)
+      (λ w reached s. subst (λ b. MatchBool b (BatchDone w commands w ⊎ BatchCut w commands w) (w ≡ w)) (sym (unfit w.up (nat_le (length commands) 64) (leb-not (length commands) long))) refl)
+    where
+      unfit : (a b : Bool) → b ≡ false → (a && b) ≡ false
+      unfit true b e = e
+      unfit false b e = refl
+
+      leb-not : (n : ℕ) → 64 < n → nat_le n 64 ≡ false
+      leb-not n low = lt-leb n 64 low

@@ -1,0 +1,40 @@
+use Rattle.std.proofs.Common.{◌≡◌, ◌-◌, ◌++◌, map, sym, ap, ◌∙◌, refl, subst, arith}
+use Rattle.std.specs.List.{range_with_len}
+use Rattle.wm_registry.specs.Roots.{State}
+use Rattle.wm_store.specs.Batches.{IsShort}
+use Rattle.wm_view.specs.Histories.{begun}
+use Rattle.wm_view.specs.Summaries.{summary}
+use Rattle.std.specs.Prelude.{Err}
+use Rattle.wm_world.specs.declared.world.Server.TheVariants.{Down}
+use Rattle.wm_world.proofs.Stores.{batch_cut, batch_done, too_long}
+use Rattle.wm_world.proofs.Calls.{commands_down}
+use Rattle.wm_world.proofs.world.World.commands.Goals as goal
+
+pub returns-then-len-gt-MAX_BATCH : goal.returns-then-len-gt-MAX_BATCH
+returns-then-len-gt-MAX_BATCH g c = too_long g.D.Disk g.met.D.Disk.only_now c.args.self c.args.commands.items (omega (arith, c.if-len-gt-MAX_BATCH.true, c.len.ensures))
+
+pub returns-in_ok-begin_views-in-Ok : goal.returns-in_ok-begin_views-in-Ok
+returns-in_ok-begin_views-in-Ok g c =
+    let e = c.commit_batch.ensures in
+    let r = c.in-Ok.ensures in
+    let from : c.next_root-next.result ≡ c.in-Up.store.registry.next = c.next_root-next.ensures ∙ ap (λ (x : State). x.next) c.registry.ensures.value in
+    let to : c.next_root.result ≡ c.commit_batch.new.self.registry.next = c.next_root.ensures ∙ ap (λ (x : State). x.next) c.registry-registry.ensures.value in
+    let incarnation : c.incarnation-incarnation.result ≡ c.commit_batch.new.self.registry.incarnation = c.incarnation-incarnation.ensures ∙ ap (λ (x : State). x.incarnation) c.registry-registry.ensures.value in
+    batch_done g.D.Disk c.args.self _ c.in-Up.store c.commit_batch.new.self c.args.commands.items c.in-Ok.replies.items c.in-Up.is (omega (arith, c.if-len-gt-MAX_BATCH.false, c.len.ensures))
+    refl refl refl
+    (c.in_ok-begin_views-in-Ok.ensures ∙ (λ i. c.args.self.shown.views.items ++ map summary (map (begun (incarnation i)) (range_with_len (from i) (to i - from i)))))
+    r.answered.answered (λ is. c.in_ok-unless_short-in-Ok.ensures (subst IsShort (sym c.deref.ensures.value) is)) r.registry e.honest r.whole.0 r.whole.1 r.whole.2 e.number.1 r.means
+    e.numbered r.answered.any_moment
+
+pub returns-in_ok-unless_memory-in-Err : goal.returns-in_ok-unless_memory-in-Err
+returns-in_ok-unless_memory-in-Err g c =
+    let e = c.commit_batch.ensures in
+    let r = c.in-Err.ensures in
+    batch_cut g.D.Disk c.args.self _ c.in-Up.store c.commit_batch.new.self c.in-Up.is (c.fallen.ensures.down ∙ ap Down c.into_disk.ensures.value) c.fallen.ensures.views c.fallen.ensures.replies c.fallen.ensures.clients e.honest
+    g.met.D.Disk.counts_now c.args.commands.items c.in-Err.refusal (omega (arith, c.if-len-gt-MAX_BATCH.false, c.len.ensures))
+    r.kinds c.in_ok-unless_memory-in-Err.ensures (λ is. (r.down (ap Err is)).0)
+    (λ whole. let f = r.cut whole in (f.0, (f.1.answered, f.1.any_moment, f.2))) (λ is. (r.failed (ap Err is)).0) e.later e.number.1
+    e.numbered
+
+pub returns-in-Down : goal.returns-in-Down
+returns-in-Down g c = commands_down g.D.Disk g.met.D.Disk.only_now c.args.self _ c.in-Down.disk c.in-Down.is refl refl c.args.commands.items

@@ -1,0 +1,50 @@
+-- How the disk goes on within an event.
+use Rattle.std.specs.Prelude.{◌≡◌, ◌⊎◌, ℕ, List, [], ◌∷◌, ◌++◌}
+use Rattle.wm_disk.specs.Contents.{NoMore, Only}
+use Rattle.wm_disk.specs.Moments.{LeavesOnly}
+use Rattle.wm_disk.specs.declared.disk.Disk as disks
+use Rattle.wm_checkpoint.specs.Meanings.{MeansState}
+use Rattle.wm_registry.specs.declared.command.Command.{Command}
+use Rattle.wm_registry.specs.declared.command.Command.TheVariants.{Begin}
+use Rattle.wm_registry.specs.MachineLaws.{watches}
+use Rattle.wm_world.specs.declared.event.Event.{Event}
+use Rattle.wm_world.specs.declared.event.Event.TheVariants as events
+use Rattle.wm_world.specs.Worlds.{World, replay}
+use Rattle.wm_world.specs.Steps.{Begins}
+
+-- A content that a crash within an event may leave: it means the replay of what was kept and a beginning of what was in flight, or of
+-- what is kept and in flight afterwards.
+pub record KeepsBetween (w : World) (afterwards : List Command) (content : List ℕ) : Type 0 where
+  pub found : List Command
+  pub stays : Begins w.kept found
+  pub known : Begins found (w.kept ++ w.pending) ⊎ Begins found afterwards
+  pub means : MeansState watches (replay found) content
+
+-- from the disk d and the world w to the disk e and the world v
+module _ {D : Type 0} (disk : disks.Ghosts D) where
+  -- a crash at any moment in between leaves what keeps the prefix
+  abbrev pub Leaves : D → World → D → World → Type 0
+  Leaves d w e v = LeavesOnly disk.moment disk.left_since d e (KeepsBetween w (v.kept ++ v.pending))
+
+  -- in a start a Begin is in flight
+  abbrev pub Starts : D → World → D → World → Type 0
+  Starts d w e v = LeavesOnly disk.moment disk.left_since d e (KeepsBetween w (v.kept ++ Begin ∷ []))
+
+  -- a plan of failures
+  abbrev pub Armed : D → World → D → World → Type 0
+  Armed d w e v = NoMore (disk.may_leave d) (disk.may_leave e)
+
+  -- a loss of power: what it left is there, and durable
+  abbrev pub PowerLost : D → World → D → World → Type 0
+  PowerLost d w e v = disk.may_leave d (disk.seen e) × Only (disk.seen e) (disk.may_leave e)
+
+  -- a stop: the disk reads as before
+  abbrev pub Halted : D → World → D → World → Type 0
+  Halted d w e v = (disk.seen e ≡ disk.seen d) × NoMore (disk.may_leave d) (disk.may_leave e)
+
+  abbrev pub Passes : Event → D → World → D → World → Type 0
+  Passes events.Open d w e v = Starts d w e v
+  Passes (events.Arm calls) d w e v = Armed d w e v
+  Passes events.Crash d w e v = PowerLost d w e v
+  Passes events.Stop d w e v = Halted d w e v
+  Passes _ d w e v = Leaves d w e v

@@ -1,0 +1,18 @@
+ghost use Rattle.wm_world.specs.Laws.{AcknowledgedStays, ClientsHold, InRange, KeptStays, NothingInvented, OneMoment, OneMomentOfAnswers, PendingIsOwn, RestartFinds, SlotBound};
+
+/// What holds of every run, whatever the events are.
+pub fn every_run()
+    // Each client holds exactly the matching files in the view at its last clock.
+    ensures clients { ClientsHold }
+    // No clock text names two moments.
+    ensures one_moment { OneMoment }
+    ensures answers { OneMomentOfAnswers }
+    ensures in_range { InRange }
+    // Of commands nothing is invented, nothing that was acknowledged is lost, and a restart finds it.
+    ensures invented { NothingInvented }
+    ensures acknowledged { AcknowledgedStays }
+    ensures kept { KeptStays }
+    ensures pending { PendingIsOwn }
+    ensures bound { SlotBound }
+    ensures restart { RestartFinds }
+{}

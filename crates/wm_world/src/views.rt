@@ -1,0 +1,63 @@
+ghost use Rattle.std.specs.Prelude.{◌≡◌, ◌≢◌, IfErr, OnOk, position, find, option_map};
+ghost use Rattle.wm_view.specs.Steps.{step};
+ghost use Rattle.wm_world.specs.Worlds.{at_first};
+ghost use Rattle.wm_world.specs.Standings.{is_root, view_at as view_at_lem};
+
+use std::alloc::Global;
+use wm_disk::{NoMemory, Refusal};
+use wm_names::RootPath;
+use wm_registry::Registry;
+use wm_view::{Op, View};
+
+/// The place of the view of the root with the number.
+fn place_of(views: &[View], number: u64) -> Option<usize>
+    ensures { result ≡ position (is_root number) views.now }
+{
+    views.iter().position(|view| view.root() == number)
+}
+
+/// Another refusal than want of memory changes nothing, and is no fault.
+fn unless_memory(done: Result<(), Refusal>) -> Result<(), NoMemory>
+    ensures { OnOk result (IfErr done (λ e. e ≢ Refusal.NoMemory)) }
+{
+    match done {
+        Err(Refusal::NoMemory) => Err(NoMemory),
+        _ => Ok(()),
+    }
+}
+
+/// Does the operation to the view of the root with the number. One that is refused changes nothing.
+pub(crate) fn perform(
+    alloc: Global,
+    views: &mut Vec<View>,
+    number: u64,
+    op: &Op,
+) -> Result<(), NoMemory>
+    ensures { OnOk result (views.new.items ≡ at_first (is_root number) (λ s. step s op.now) views.old.items) }
+{
+    let Some(place) = place_of(views, number) else {
+        return Ok(());
+    };
+    unless_memory(views[place].perform(alloc, op))
+}
+
+/// The view of the root with the number.
+fn view_of(views: &[View], number: u64) -> Option<&View>
+    ensures { option_map (λ v. v.now) result ≡ find (is_root number) views.now }
+{
+    views.iter().find(|view| view.root() == number)
+}
+
+/// The view of the root that is watched at the path.
+pub(crate) fn view_at<'a>(
+    registry: &Registry,
+    views: &'a [View],
+    path: &RootPath,
+) -> Option<&'a View>
+    ensures { option_map (λ v. v.now) result ≡ view_at_lem registry.now views.now path.now }
+{
+    match registry.roots().get(path) {
+        Some(root) => view_of(views, root.number),
+        None => None,
+    }
+}

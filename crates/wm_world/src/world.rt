@@ -1,0 +1,364 @@
+ghost use Rattle.std.specs.Prelude.{◌≡◌, ◌++◌, ◌∷◌, [], cond, map, option_map, IfOk, OnOk};
+ghost use Rattle.wm_expr.specs.Meanings.{is_path_only};
+ghost use Rattle.wm_expr.specs.Views.{term};
+ghost use Rattle.wm_world.specs.Worlds.{connected, nothing_yet, without_answer};
+ghost use Rattle.wm_world.specs.Steps.{Crashed as IsCrashed, Step, asking, batch, checkpointed, opened, down, operated, receiving, with_client};
+ghost use Rattle.wm_world.specs.Standings.{Meets, Stands, disk_of, disk_of_server, clients_of, number_at as number_at_lem, registry_of, replies_of, views_of};
+ghost use Rattle.wm_world.specs.Passes.{Armed, Halted, Leaves, Passes, PowerLost, Starts};
+ghost use Rattle.wm_world.specs.Headline.{IsFormatted};
+
+use crate::connection::Connection;
+use crate::event::Event;
+use crate::{connection, store, views};
+use std::alloc::Global;
+use wm_checkpoint::every_content;
+use wm_disk::{Crashed, NoMemory};
+use wm_expr::Expr;
+use wm_names::RootPath;
+use wm_registry::{Command, Registry, Reply};
+use wm_since::Mirror;
+use wm_store::{MAX_BATCH, Store};
+use wm_view::{Op, View};
+
+/// A server that is up with its store, or down.
+#[derive(Drop)]
+pub(crate) enum Server<D: Crashed + Drop> {
+    Up(Store<D>),
+    Down(D),
+}
+
+impl<D: Crashed + Drop> Server<D> {
+    /// The number of the root that is watched at the path, while the server is up.
+    fn number_at(&self, path: &RootPath) -> Option<u64>
+        ensures { result ≡ number_at_lem self.now path.now }
+    {
+        let Server::Up(store) = self else {
+            return None;
+        };
+        match store.registry().roots().get(path) {
+            Some(root) => Some(root.number),
+            None => None,
+        }
+    }
+
+    fn into_disk(self) -> D
+        ensures { result ≡ disk_of_server D.Disk self }
+    {
+        match self {
+            Server::Up(store) => store.into_disk(),
+            Server::Down(disk) => disk,
+        }
+    }
+}
+
+/// What a world shows beside its server.
+#[derive(Drop)]
+pub(crate) struct Shown {
+    // those to the last batch that was done
+    pub(crate) replies: Vec<Reply>,
+    // while the server is up, one for each root that its start found or that was watched since
+    pub(crate) views: Vec<View>,
+    pub(crate) clients: Vec<Connection>,
+}
+
+/// A server on a disk, its views, and its clients with the answers on their way.
+#[derive(Drop)]
+pub struct World<D: Crashed + Drop> {
+    pub(crate) server: Server<D>,
+    pub(crate) shown: Shown,
+}
+
+impl<D: Crashed + Drop> World<D> {
+    /// One on a disk as a `format` that succeeded left it: down, with nothing accepted.
+    pub(crate) fn new(alloc: Global, disk: D) -> World<D>
+        ensures disk { disk_of D.Disk result ≡ disk }
+        ensures stands { IsFormatted D.Disk disk → Stands D.Disk result (nothing_yet (D.failures disk)) }
+    {
+        World {
+            server: Server::Down(disk),
+            shown: Shown {
+                replies: Vec::new(alloc),
+                views: Vec::new(alloc),
+                clients: Vec::new(alloc),
+            },
+        }
+    }
+
+    /// One event more.
+    pub(crate) fn step(mut self, alloc: Global, event: Event) -> Result<World<D>, NoMemory>
+        ensures { IfOk result (Meets D.Disk (λ w v. Step w event v) (Passes D.Disk event) self) }
+    {
+        match event {
+            Event::Open => self.open(alloc),
+            Event::Commands(commands) => self.commands(alloc, commands),
+            Event::Checkpoint => self.checkpoint(alloc),
+            Event::Crash => Ok(self.crash()),
+            Event::Stop => Ok(self.stop()),
+            Event::Lose(n) => Ok(self.lose(n)),
+            Event::Arm(calls) => {
+                self.arm(calls);
+                Ok(self)
+            }
+            Event::Observe(path, moment, pairs) => {
+                self.operate(alloc, &path, &Op::Observe(moment, pairs))?;
+                Ok(self)
+            }
+            Event::Recrawl(path, moment, begun_at, listing) => {
+                self.operate(alloc, &path, &Op::Recrawl(moment, begun_at, listing))?;
+                Ok(self)
+            }
+            Event::AgeOut(path, time, age) => {
+                self.operate(alloc, &path, &Op::AgeOut(time, age))?;
+                Ok(self)
+            }
+            Event::Client(path, test) => {
+                self.connect(alloc, path, test)?;
+                Ok(self)
+            }
+            Event::Ask(n) => {
+                self.ask(alloc, n)?;
+                Ok(self)
+            }
+            Event::Receive(n) => {
+                self.receive(alloc, n)?;
+                Ok(self)
+            }
+        }
+    }
+
+    /// The registry, while the server is up.
+    pub fn registry(&self) -> Option<&Registry>
+        ensures { option_map (λ r. r.now) result ≡ registry_of self.now }
+    {
+        match &self.server {
+            Server::Up(store) => Some(store.registry()),
+            Server::Down(_) => None,
+        }
+    }
+
+    /// The replies to the last batch that was done.
+    pub fn replies(&self) -> &[Reply]
+        ensures { result.now ≡ replies_of self.now }
+    {
+        self.shown.replies.as_slice()
+    }
+
+    /// The clients, each with the answer on its way to it.
+    pub fn clients(&self) -> &[Connection]
+        ensures { result.now ≡ clients_of self.now }
+    {
+        self.shown.clients.as_slice()
+    }
+
+    /// The views, in order of their roots' numbers: of each root that the last start found, and of each that
+    /// was watched since. None while the server is down.
+    pub fn views(&self) -> &[View]
+        ensures { result.now ≡ views_of self.now }
+    {
+        self.shown.views.as_slice()
+    }
+
+    /// Does the operation to the view of the root at the path.
+    fn operate(&mut self, alloc: Global, path: &RootPath, op: &Op) -> Result<(), NoMemory>
+        ensures { OnOk result (Meets D.Disk (λ w v. v ≡ cond w.up (operated path.now op.now w) w) (Leaves D.Disk) self.old self.new) }
+    {
+        let Some(number) = self.server.number_at(path) else {
+            return Ok(());
+        };
+        views::perform(alloc, &mut self.shown.views, number, op)
+    }
+
+    /// A new client of the root at the path.
+    fn connect(&mut self, alloc: Global, path: RootPath, test: Expr) -> Result<(), NoMemory>
+        ensures { OnOk result (Meets D.Disk (λ w v. v ≡ cond (is_path_only (term test)) (record w { clients = w.clients ++ connected path test ∷ [] }) w) (Leaves D.Disk) self.old self.new) }
+    {
+        let Ok(mirror) = Mirror::new(alloc, path, test) else {
+            return Ok(());
+        };
+        self.shown.clients.push(Connection {
+            mirror,
+            answer: None,
+        })?;
+        Ok(())
+    }
+
+    /// The client with this number asks.
+    fn ask(&mut self, alloc: Global, n: usize) -> Result<(), NoMemory>
+        ensures { OnOk result (Meets D.Disk (λ w v. v ≡ cond w.up (with_client (asking w) n w) w) (Leaves D.Disk) self.old self.new) }
+    {
+        let Server::Up(store) = &self.server else {
+            return Ok(());
+        };
+        if n >= self.shown.clients.len() {
+            return Ok(());
+        }
+        connection::ask(
+            alloc,
+            store.registry(),
+            &self.shown.views,
+            &mut self.shown.clients[n],
+        )
+    }
+
+    /// The answer on its way to the client with this number comes.
+    fn receive(&mut self, alloc: Global, n: usize) -> Result<(), NoMemory>
+        ensures { OnOk result (Meets D.Disk (λ w v. v ≡ with_client receiving n w) (Leaves D.Disk) self.old self.new) }
+    {
+        if n >= self.shown.clients.len() {
+            return Ok(());
+        }
+        connection::receive(alloc, &mut self.shown.clients[n])
+    }
+
+    /// The answer on its way to the client with this number is lost.
+    fn lose(mut self, n: usize) -> World<D>
+        ensures { Meets D.Disk (λ w v. v ≡ with_client without_answer n w) (Leaves D.Disk) self result }
+    {
+        if n >= self.shown.clients.len() {
+            return self;
+        }
+        connection::lose(&mut self.shown.clients[n]);
+        self
+    }
+
+    /// So many calls of the disk pass, and then each fails.
+    fn arm(&mut self, calls: u64)
+        ensures { Meets D.Disk (λ w v. v ≡ w) (Armed D.Disk) self.old self.new }
+    {
+        match &mut self.server {
+            Server::Up(store) => store.arm(calls),
+            Server::Down(disk) => disk.arm(calls),
+        }
+    }
+
+    /// A batch of commands.
+    fn commands(self, alloc: Global, commands: Vec<Command>) -> Result<World<D>, NoMemory>
+        ensures { IfOk result (Meets D.Disk (batch commands.items) (Leaves D.Disk) self) }
+    {
+        if commands.len() > MAX_BATCH {
+            return Ok(self);
+        }
+        let World { server, mut shown } = self;
+        let mut store = match server {
+            Server::Up(store) => store,
+            Server::Down(disk) => return Ok(World {
+                server: Server::Down(disk),
+                shown,
+            }),
+        };
+        let next = store.registry().next_root();
+        match store.commit_batch(alloc, commands) {
+            Ok(replies) => {
+                store::unless_short(&replies)?;
+                let registry = store.registry();
+                let incarnation = registry.incarnation();
+                store::begin_views(
+                    alloc,
+                    &mut shown.views,
+                    incarnation,
+                    next,
+                    registry.next_root(),
+                )?;
+                shown.replies = replies;
+                Ok(World {
+                    server: Server::Up(store),
+                    shown,
+                })
+            }
+            Err(refusal) => {
+                store::unless_memory(refusal)?;
+                Ok(fallen(store.into_disk(), shown))
+            }
+        }
+    }
+
+    /// The state goes into the other slot.
+    fn checkpoint(self, alloc: Global) -> Result<World<D>, NoMemory>
+        ensures { IfOk result (Meets D.Disk checkpointed (Leaves D.Disk) self) }
+    {
+        let World { server, shown } = self;
+        let mut store = match server {
+            Server::Up(store) => store,
+            Server::Down(disk) => return Ok(World {
+                server: Server::Down(disk),
+                shown,
+            }),
+        };
+        match store.checkpoint(alloc) {
+            Ok(()) => Ok(World {
+                server: Server::Up(store),
+                shown,
+            }),
+            Err(refusal) => {
+                if store::takes_down(refusal)? {
+                    return Ok(fallen(store.into_disk(), shown));
+                }
+                Ok(World {
+                    server: Server::Up(store),
+                    shown,
+                })
+            }
+        }
+    }
+
+    /// A start.
+    fn open(self, alloc: Global) -> Result<World<D>, NoMemory>
+        ensures { IfOk result (Meets D.Disk opened (Starts D.Disk) self) }
+    {
+        let World { server, mut shown } = self;
+        let disk = match server {
+            Server::Up(store) => return Ok(World {
+                server: Server::Up(store),
+                shown,
+            }),
+            Server::Down(disk) => disk,
+        };
+        every_content::<Registry>();
+        match Store::open(alloc, disk) {
+            Ok(store) => {
+                shown.views = store::first_views(alloc, store.registry())?;
+                Ok(World {
+                    server: Server::Up(store),
+                    shown,
+                })
+            }
+            Err((refusal, disk)) => {
+                store::unless_memory(refusal)?;
+                Ok(World {
+                    server: Server::Down(disk),
+                    shown,
+                })
+            }
+        }
+    }
+
+    /// A loss of power.
+    fn crash(self) -> World<D>
+        ensures { Meets D.Disk IsCrashed (PowerLost D.Disk) self result }
+    {
+        fallen(self.server.into_disk().crash(), self.shown)
+    }
+
+    /// A stop of the process.
+    fn stop(self) -> World<D>
+        ensures { Meets D.Disk (λ w v. v ≡ down w) (Halted D.Disk) self result }
+    {
+        fallen(self.server.into_disk().stop(), self.shown)
+    }
+}
+
+/// The world when its server has gone down.
+fn fallen<D: Crashed + Drop>(disk: D, shown: Shown) -> World<D>
+    ensures down { result.server ≡ Server.Down disk }
+    ensures views { result.shown.views.items ≡ [] }
+    ensures replies { result.shown.replies ≡ shown.replies }
+    ensures clients { result.shown.clients.items ≡ map without_answer shown.clients.items }
+{
+    let mut shown = shown;
+    shown.views.clear();
+    connection::lose_all(&mut shown.clients);
+    World {
+        server: Server::Down(disk),
+        shown,
+    }
+}
