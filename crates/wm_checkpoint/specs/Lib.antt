@@ -6,4 +6,3 @@ pub mod Found
 pub mod Formatting
 pub mod Halves
 pub mod Kept
-pub mod Registers

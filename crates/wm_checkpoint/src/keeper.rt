@@ -16,9 +16,6 @@ use std::alloc::Global;
 use wm_disk::{Crashed, Disk, Refusal};
 use wm_journal::Region;
 
-#[cfg(test)]
-mod tests;
-
 /// The last number that a checkpoint gives to a slot.
 const LAST: u64 = 9_223_372_036_854_775_807;
 

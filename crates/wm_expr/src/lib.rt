@@ -13,8 +13,6 @@ mod meaning;
 mod pattern;
 mod reading;
 mod simple;
-#[cfg(test)]
-mod tests;
 mod words;
 
 pub use expr::{Comparison, Expr, Scope};

@@ -13,8 +13,6 @@ mod gates;
 mod group;
 mod read;
 mod region;
-#[cfg(test)]
-mod tests;
 
 pub use read::read_records;
 pub use region::Region;

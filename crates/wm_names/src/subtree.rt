@@ -33,29 +33,3 @@ impl Subtree {
         }
     }
 }
-
-#[cfg(test)]
-mod tests {
-    use super::*;
-    use std::test::Fail;
-
-    #[test]
-    fn covers_what_stands_below(rt: HostRuntime) -> Result<(), Fail> {
-        let whole = Subtree::Whole;
-        let below = Subtree::Below(RelPath::read(rt.alloc(), "x")?);
-        assert!(rt; whole.is_whole());
-        assert!(rt; !below.is_whole());
-        for (path, want) in [
-            ("x", false),
-            ("x/a", true),
-            ("x/y/z", true),
-            ("xy", false),
-            ("y/x/a", false),
-        ] {
-            let path = RelPath::read(rt.alloc(), path)?;
-            assert!(rt; whole.covers(&path));
-            assert_eq!(rt; below.covers(&path), want, "{}", path.as_str());
-        }
-        Ok(())
-    }
-}

@@ -122,29 +122,3 @@ apart-nil (x ∷ xs) few = absurd (omega (arith, few))
 pub none_is : {X : Type 0} (found : Option X) → is_some found ≡ false → found ≡ None
 none_is None e = refl
 none_is (Some x) e = absurd cc
-
--- ---- with one trigger more there is at most one more, and each still fits
-
-pub length-defined : (trigger : Definition) (triggers : List Definition) → length (defined trigger triggers) ≤ length triggers + 1
-length-defined trigger [] = omega arith
-length-defined trigger (old ∷ rest) = by (is_named trigger.name old) (length-defined trigger rest)
-  where
-    by : (b : Bool) → length (defined trigger rest) ≤ length rest + 1 → length (if b then trigger ∷ rest else old ∷ defined trigger rest) ≤ length (old ∷ rest) + 1
-    by true h = omega arith
-    by false h = omega (arith, h)
-
-pub IsTrigger-defined : (trigger : Definition) (triggers : List Definition) → IsTrigger trigger → AllByRecursion IsTrigger triggers → AllByRecursion IsTrigger (defined trigger triggers)
-IsTrigger-defined trigger [] fits h = (fits, tt)
-IsTrigger-defined trigger (old ∷ rest) fits h = by (is_named trigger.name old) (IsTrigger-defined trigger rest fits h.1)
-  where
-    by : (b : Bool) → AllByRecursion IsTrigger (defined trigger rest) → AllByRecursion IsTrigger (if b then trigger ∷ rest else old ∷ defined trigger rest)
-    by true each = (fits, h.1)
-    by false each = (h.0, each)
-
--- so their spelling isn't too long for a list
-pub short-defined : (trigger : Definition) (triggers : List Definition) → IsTrigger trigger → IsList 64 IsTrigger trigger_spelling triggers → length (list_spelling trigger_spelling (defined trigger triggers)) < 2 ^ 32
-short-defined trigger triggers fits h =
-    let each = IsTrigger-defined trigger triggers fits h.each in
-    let count = length-defined trigger triggers in
-    let bytes = length-flat_map-at_most IsTrigger trigger_spelling 21000 small_trigger (defined trigger triggers) each in
-    omega (arith, h.count, count, bytes)

@@ -40,24 +40,3 @@ impl Machine for Registry {
 
     ghost small = { small_registry };
 }
-
-#[cfg(test)]
-mod tests {
-    use super::*;
-    use std::test::Fail;
-
-    #[test]
-    fn copies_a_state(rt: HostRuntime) -> Result<(), Fail> {
-        let mut state = Registry::new(rt.alloc());
-        let (reply, changed) = <Registry as Machine>::apply(
-            rt.alloc(),
-            &mut state,
-            &Command::Begin,
-        )?;
-        assert_eq!(rt; reply, Reply::Changed);
-        assert!(rt; changed);
-        let copy = <Registry as Machine>::copy(rt.alloc(), &state)?;
-        assert_eq!(rt; copy.incarnation(), 1);
-        Ok(())
-    }
-}

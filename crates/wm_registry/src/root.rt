@@ -125,6 +125,3 @@ pub(crate) fn are_apart(triggers: &[Trigger]) -> bool
         [] => true,
     }
 }
-
-#[cfg(test)]
-mod tests;

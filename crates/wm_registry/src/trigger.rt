@@ -309,6 +309,3 @@ fn copied_expression(alloc: Global, expression: &Expression) -> Result<Expressio
         Err(_) => Err(NoMemory),
     }
 }
-
-#[cfg(test)]
-pub(crate) mod tests;

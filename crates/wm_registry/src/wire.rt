@@ -110,6 +110,3 @@ impl Wire for Registry {
 
     ghost short = { short_state };
 }
-
-#[cfg(test)]
-mod tests;

@@ -2,7 +2,7 @@
 //!
 //! No contract can say what a file holds. So a file keeps a record of its calls with their answers, which
 //! only clauses read, and the disk is honest where each answer is that of the model.
-ghost use Rattle.std.specs.Prelude.{◌≡◌, ◌+◌, ◌≤◌, ◌∷◌, [], ℕ, List, length, IfOk, OnOk, MatchResult};
+ghost use Rattle.std.specs.Prelude.{◌≡◌, ◌∷◌, [], ℕ, List, length, IfOk, MatchResult};
 ghost use Rattle.std.proofs.Common.{inl, refl};
 ghost use Rattle.wm_disk.specs.Points.{MayLeave};
 ghost use Rattle.wm_server.specs.FileEvents.{measured, read, wrote, synced, measure_failed, read_failed, write_failed, sync_failed, replay, raised, failures_of, IsHonest, LeftSince};
@@ -242,122 +242,5 @@ impl<S: Start> Disk for FileDisk<S> {
             Ok(()) => Ok(()),
             Err(_) => Err(fault(&mut self.failures)),
         }
-    }
-}
-
-#[cfg(test)]
-mod tests {
-    use super::*;
-    use std::fs;
-    use std::test::Fail;
-
-    // Writes and syncs, and then reads the bytes back, through the trait. It gives the new length.
-    fn write_back<D: Disk>(
-        disk: &mut D,
-        at: u64,
-        bytes: &[u8],
-        back: &mut [u8],
-    ) -> Result<u64, DeviceFailed>
-        requires { length back.old ≡ length bytes.now }
-        ensures { D.honest disk.new → OnOk result (at + length bytes.now ≤ length (D.seen disk.new)) }
-    {
-        if disk.len()? < at {
-            return Err(DeviceFailed);
-        }
-        disk.write_at(at, bytes)?;
-        disk.sync()?;
-        disk.read_at(at, back)?;
-        disk.len()
-    }
-
-    #[test]
-    fn gives_back_what_was_written(rt: HostRuntime) -> Result<(), Fail> {
-        const PATH: &str = "wm_server_file_written";
-        let _ = fs::remove_file(&rt, PATH);
-        let mut disk = FileDisk::<Unknown>::create(&rt, PATH)?;
-        for (at, bytes, len, text) in [
-            (0, b"abc", 3, "abc"),
-            (3, b"def", 6, "abcdef"),
-            (1, b"XYZ", 6, "aXYZef"),
-            (5, b"!!!", 8, "aXYZe!!!"),
-        ] {
-            let mut back = [0; 3];
-            assert_eq!(rt;
-                write_back(&mut disk, at, bytes, &mut back)?,
-                len,
-                "at {at}"
-            );
-            assert_eq!(rt; &back, bytes, "at {at}");
-            assert_eq!(rt; fs::read_to_string(&rt, PATH)?.as_str(), text, "at {at}");
-        }
-        assert_eq!(rt; disk.failures, 0);
-        fs::remove_file(&rt, PATH)?;
-        Ok(())
-    }
-
-    #[test]
-    fn tells_a_read_past_the_end(rt: HostRuntime) -> Result<(), Fail> {
-        const PATH: &str = "wm_server_file_short";
-        let _ = fs::remove_file(&rt, PATH);
-        let mut disk = FileDisk::<Unknown>::create(&rt, PATH)?;
-        let mut back = [0; 4];
-        write_back(&mut disk, 0, b"abcd", &mut back)?;
-        // Another writer cuts the file.
-        fs::write(&rt, PATH, b"ab".as_slice())?;
-        assert_eq!(rt; disk.read_at(0, &mut back), Err(DeviceFailed));
-        assert_eq!(rt; disk.failures, 1);
-        assert_eq!(rt; disk.read_at(0, &mut back), Err(DeviceFailed));
-        assert_eq!(rt; disk.failures, 2);
-        assert_eq!(rt; disk.len()?, 2);
-        assert_eq!(rt; disk.failures, 2);
-        fs::remove_file(&rt, PATH)?;
-        Ok(())
-    }
-
-    #[test]
-    fn tells_a_write_that_the_system_refuses(rt: HostRuntime) -> Result<(), Fail> {
-        const PATH: &str = "wm_server_file_refused";
-        fs::write(&rt, PATH, b"abc".as_slice())?;
-        // The system gave this handle no right to write.
-        let mut disk = FileDisk::<Unknown>::fresh(File::open(&rt, PATH)?);
-        assert_eq!(rt; disk.write_at(0, b"XYZ"), Err(DeviceFailed));
-        assert_eq!(rt; disk.failures, 1);
-        assert_eq!(rt; fs::read_to_string(&rt, PATH)?.as_str(), "abc");
-        fs::remove_file(&rt, PATH)?;
-        Ok(())
-    }
-
-    #[test]
-    fn opens_regular_files_alone(rt: HostRuntime) -> Result<(), Fail> {
-        const PATH: &str = "wm_server_file_there";
-        const FOLDER: &str = "wm_server_file_folder";
-        let _ = fs::remove_file(&rt, PATH);
-        let _ = fs::remove_dir(&rt, FOLDER);
-        fs::write(&rt, PATH, b"abc".as_slice())?;
-        fs::create_dir(&rt, FOLDER)?;
-        for (path, opens, makes) in [
-            (PATH, true, false),
-            ("./wm_server_file_there", true, false),
-            (FOLDER, false, false),
-            ("/dev/null", false, false),
-            ("wm_server_file_missing/file", false, false),
-            ("", false, false),
-        ] {
-            assert_eq!(rt;
-                FileDisk::<Unknown>::open(&rt, path).is_ok(),
-                opens,
-                "open {path}"
-            );
-            assert_eq!(rt;
-                FileDisk::<Unknown>::create(&rt, path).is_ok(),
-                makes,
-                "create {path}"
-            );
-        }
-        assert!(rt; FileDisk::<Unknown>::open(&rt, "wm_server_file_missing").is_err());
-        assert_eq!(rt; FileDisk::<Unknown>::open(&rt, PATH)?.len()?, 3);
-        fs::remove_file(&rt, PATH)?;
-        fs::remove_dir(&rt, FOLDER)?;
-        Ok(())
     }
 }

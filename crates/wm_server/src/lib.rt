@@ -27,8 +27,6 @@ mod reply;
 mod request;
 pub mod run;
 mod session;
-#[cfg(test)]
-mod tests;
 mod triggers;
 mod watched;
 pub mod words;

@@ -21,8 +21,6 @@ mod mirror;
 mod query;
 mod rendering;
 mod test;
-#[cfg(test)]
-mod tests;
 
 pub use answering::answer;
 pub use cursors::{Cursors, MAX_CURSORS};

@@ -20,9 +20,6 @@ use wm_checkpoint::Keeper;
 use wm_disk::{Disk, Refusal};
 use wm_registry::{Command, Registry, Reply};
 
-#[cfg(test)]
-mod tests;
-
 /// The most commands of a batch.
 pub const MAX_BATCH: usize = 64;
 

@@ -13,8 +13,6 @@ mod laws;
 mod listing;
 mod op;
 mod past;
-#[cfg(test)]
-mod tests;
 mod view;
 
 pub use known::Known;

@@ -27,8 +27,6 @@ mod driving;
 mod event;
 mod laws;
 mod store;
-#[cfg(test)]
-mod tests;
 mod views;
 mod world;
 

@@ -2,12 +2,42 @@ use super::*;
 use crate::Refusal;
 use std::test::Fail;
 
-// The bytes that reads give, through the trait.
-fn content<D: Disk>(disk: &mut D, alloc: Global) -> Result<Vec<u8>, Refusal> {
+// Where a write begins, what it writes, and what the disk holds then.
+const WRITES: &[(u64, &str, &str)] = &[
+    (0, "abc", "abc"),
+    (3, "", "abc"),
+    (3, "def", "abcdef"),
+    (1, "XYZ", "aXYZef"),
+    (5, "!!!", "aXYZe!!!"),
+];
+
+// How many calls pass, which of five do, what a read gives then, and what a crash leaves.
+const ARMED: &[(u64, [bool; 5], &str, &str)] = &[
+    (0, [false, false, false, false, false], "abcd", ""),
+    (1, [true, false, false, false, false], "XYcd", ""),
+    (2, [true, true, false, false, false], "XYcd", "XYcd"),
+    (3, [true, true, true, false, false], "ZYcd", "XYcd"),
+    (4, [true, true, true, true, false], "ZYcd", "XYcd"),
+];
+
+// A choice, and what a crash by it leaves of `XY` at 1 and `ZWV` at 3 over a durable `abcd`.
+const CHOICES: &[(u64, &[u8])] = &[
+    (0, b"abcd"),
+    (1, b"aXYZWV"),
+    (2, b"a\xa5\xa5\xa5\xa5\xa5"),
+    (3, b"a\0\0\0\0\0"),
+    (4, b"abYd\0\0"),
+    (8, b"abcZ\0\0"),
+    (0x15, b"abYdW\0"),
+    (0x2a, b"aXcZ\0V"),
+];
+
+// Whether the trait's reads give these bytes.
+fn holds<D: Disk>(disk: &mut D, alloc: Global, want: &[u8]) -> Result<bool, Refusal> {
     let len = disk.len()?;
     let mut bytes = vec![in alloc; 0u8; len as usize]?;
     disk.read_at(0, &mut bytes)?;
-    Ok(bytes)
+    Ok(bytes.as_slice() == want)
 }
 
 // Writes where the disk reaches so far.
@@ -18,92 +48,90 @@ fn put<D: Disk>(disk: &mut D, at: u64, bytes: &[u8]) -> Result<(), DeviceFailed>
     disk.write_at(at, bytes)
 }
 
+// Whether the bytes are there once they were written and synced.
+fn keeps(disk: &mut MemDisk, at: u64, bytes: &str, want: &str) -> Result<bool, Refusal> {
+    put(disk, at, bytes.as_bytes())?;
+    disk.sync()?;
+    let alloc = disk.alloc;
+    holds(disk, alloc, want.as_bytes())
+}
+
 #[test]
 fn gives_back_what_was_written(rt: HostRuntime) -> Result<(), Fail> {
     let mut disk = MemDisk::new(rt.alloc(), 0);
-    assert_eq!(rt; disk.len()?, 0);
-    for (at, bytes, want) in [
-        (0, "abc", "abc"),
-        (3, "", "abc"),
-        (3, "def", "abcdef"),
-        (1, "XYZ", "aXYZef"),
-        (5, "!!!", "aXYZe!!!"),
-    ] {
-        put(&mut disk, at, bytes.as_bytes())?;
-        disk.sync()?;
-        let found = content(&mut disk, rt.alloc())?;
-        assert_eq!(rt; found.as_slice(), want.as_bytes(), "{want}");
+    assert!(rt; disk.len()? == 0);
+    for (at, bytes, want) in WRITES {
+        assert!(rt; keeps(&mut disk, *at, bytes, want)?, "{want}");
     }
     let mut part = [0u8; 3];
-    assert_eq!(rt; disk.len()?, 8);
+    assert!(rt; disk.len()? == 8);
     disk.read_at(2, &mut part)?;
-    assert_eq!(rt; &part, b"YZe");
-    assert_eq!(rt; disk.failures, 0);
+    assert!(rt; &part == b"YZe" && disk.failures == 0);
     Ok(())
+}
+
+// A disk that holds a durable `abcd`.
+fn of_four(alloc: Global, choice: u64) -> Result<MemDisk, DeviceFailed> {
+    let mut disk = MemDisk::new(alloc, choice);
+    put(&mut disk, 0, b"abcd")?;
+    disk.sync()?;
+    Ok(disk)
+}
+
+// Which of five calls pass.
+fn passing(disk: &mut MemDisk) -> [bool; 5] {
+    [
+        disk.write_at(0, b"XY").is_ok(),
+        disk.sync().is_ok(),
+        disk.write_at(0, b"Z").is_ok(),
+        disk.read_at(0, &mut []).is_ok(),
+        disk.len().is_ok(),
+    ]
+}
+
+// Whether just these calls pass on a disk that is armed so, and the others are counted as failures.
+fn passes(disk: &mut MemDisk, calls: u64, want: [bool; 5]) -> bool {
+    disk.arm(calls);
+    let passed = passing(disk);
+    passed == want && disk.failures == 5 - calls.min(5)
 }
 
 #[test]
 fn fails_as_it_was_armed(rt: HostRuntime) -> Result<(), Fail> {
-    for (calls, want) in [
-        (0, "abcd"),
-        (1, "XYcd"),
-        (2, "XYcd"),
-        (3, "ZYcd"),
-        (4, "ZYcd"),
-    ] {
+    for (calls, passed, read, left) in ARMED {
         let mut disk = MemDisk::new(rt.alloc(), 0);
         put(&mut disk, 0, b"abcd")?;
-        disk.arm(calls);
-        let passed = [
-            disk.write_at(0, b"XY").is_ok(),
-            disk.sync().is_ok(),
-            disk.write_at(0, b"Z").is_ok(),
-            disk.read_at(0, &mut []).is_ok(),
-            disk.len().is_ok(),
-        ];
-        let want_passed = [calls > 0, calls > 1, calls > 2, calls > 3, calls > 4];
-        assert_eq!(rt; passed, want_passed, "after {calls}");
-        assert_eq!(rt; disk.failures, 5 - calls, "after {calls}");
-        // What a read gives, and then what the last good sync left.
+        assert!(rt; passes(&mut disk, *calls, *passed), "after {calls}");
         let mut disk = disk.stop();
-        let found = content(&mut disk, rt.alloc())?;
-        assert_eq!(rt; found.as_slice(), want.as_bytes(), "after {calls}");
+        let is_read = holds(&mut disk, rt.alloc(), read.as_bytes())?;
         let mut disk = disk.crash();
-        let found = content(&mut disk, rt.alloc())?;
-        let kept = if calls > 1 { "XYcd" } else { "" };
-        assert_eq!(rt; found.as_slice(), kept.as_bytes(), "after {calls}");
+        let is_left = holds(&mut disk, rt.alloc(), left.as_bytes())?;
+        assert!(rt; is_read && is_left, "after {calls}");
     }
     Ok(())
 }
 
+// Whether a crash leaves these bytes, which a second leaves as they are, though the device was to fail.
+fn leaves(mut disk: MemDisk, alloc: Global, want: &[u8]) -> Result<bool, Refusal> {
+    disk.arm(0);
+    let mut disk = disk.crash();
+    let first = holds(&mut disk, alloc, want)?;
+    let mut disk = disk.crash();
+    Ok(first && holds(&mut disk, alloc, want)?)
+}
+
 #[test]
 fn leaves_what_the_choice_says(rt: HostRuntime) -> Result<(), Fail> {
-    for (choice, want) in [
-        (0, b"abcd".as_slice()),
-        (1, b"aXYZWV".as_slice()),
-        (2, b"a\xa5\xa5\xa5\xa5\xa5".as_slice()),
-        (3, b"a\0\0\0\0\0".as_slice()),
-        (4, b"abYd\0\0".as_slice()),
-        (8, b"abcZ\0\0".as_slice()),
-        (0x15, b"abYdW\0".as_slice()),
-        (0x2a, b"aXcZ\0V".as_slice()),
-    ] {
-        let mut disk = MemDisk::new(rt.alloc(), choice);
-        put(&mut disk, 0, b"abcd")?;
-        disk.sync()?;
+    for (choice, want) in CHOICES {
+        let mut disk = of_four(rt.alloc(), *choice)?;
         put(&mut disk, 1, b"XY")?;
         put(&mut disk, 3, b"ZWV")?;
         let mut disk = disk.stop();
-        let found = content(&mut disk, rt.alloc())?;
-        assert_eq!(rt; found.as_slice(), b"aXYZWV".as_slice(), "choice {choice}");
-        disk.arm(0);
-        let mut disk = disk.crash();
-        let found = content(&mut disk, rt.alloc())?;
-        assert_eq!(rt; found.as_slice(), want, "choice {choice}");
-        // What a crash left is durable.
-        let mut disk = disk.crash();
-        let found = content(&mut disk, rt.alloc())?;
-        assert_eq!(rt; found.as_slice(), want, "again at choice {choice}");
+        let is_read = holds(&mut disk, rt.alloc(), b"aXYZWV")?;
+        assert!(rt;
+            is_read && leaves(disk, rt.alloc(), want)?,
+            "choice {choice}"
+        );
     }
     Ok(())
 }
@@ -114,31 +142,28 @@ fn takes_the_bit_of_the_place_modulo_64(rt: HostRuntime) -> Result<(), Fail> {
     put(&mut disk, 0, &[1u8; 130])?;
     disk.sync()?;
     put(&mut disk, 0, &[2u8; 130])?;
-    let mut disk = disk.crash();
-    let found = content(&mut disk, rt.alloc())?;
-    assert_eq!(rt; found.len(), 130);
-    for (place, byte) in found.iter().enumerate() {
-        let new = matches!(place, 0 | 2 | 63 | 64 | 66 | 127 | 128);
-        assert_eq!(rt; *byte == 2, new, "at {place}");
+    let mut want = [1u8; 130];
+    for place in [0usize, 2, 63, 64, 66, 127, 128] {
+        if let Some(byte) = want.get_mut(place) {
+            *byte = 2;
+        }
     }
+    assert!(rt; holds(&mut disk.crash(), rt.alloc(), &want)?);
     Ok(())
 }
 
 #[test]
 fn counts_its_calls(rt: HostRuntime) -> Result<(), Fail> {
     let mut disk = MemDisk::new(rt.alloc(), 1);
-    assert_eq!(rt; disk.calls(), (0, 0, 0));
+    assert!(rt; disk.calls() == (0, 0, 0));
     put(&mut disk, 0, b"abcd")?;
     put(&mut disk, 1, b"Z")?;
     disk.sync()?;
-    content(&mut disk, rt.alloc())?;
     // three lengths and a reading beside the writes and the sync
-    assert_eq!(rt; disk.calls(), (2, 1, 4));
+    assert!(rt; holds(&mut disk, rt.alloc(), b"aZcd")? && disk.calls() == (2, 1, 4));
     // A call that fails is counted, and neither a crash nor a stop is a call.
     disk.arm(0);
-    assert!(rt; disk.write_at(0, b"X").is_err());
-    assert!(rt; disk.sync().is_err());
-    let disk = disk.stop().crash();
-    assert_eq!(rt; disk.calls(), (3, 2, 4));
+    let failed = disk.write_at(0, b"X").is_err() && disk.sync().is_err();
+    assert!(rt; failed && disk.stop().crash().calls() == (3, 2, 4));
     Ok(())
 }

@@ -1,0 +1,173 @@
+//! Keepers of a register, on disks in memory.
+ghost use Rattle.std.specs.Prelude.{ℕ};
+ghost use Rattle.wm_checkpoint.specs.Kept.{state_of, Keeps};
+ghost use Rattle.wm_checkpoint.specs.Machines.{meaning};
+
+mod calls;
+mod cuts;
+mod damage;
+mod files;
+mod register;
+mod switch;
+
+use crate::disks::{content_of, overwrite};
+use register::Register;
+use std::alloc::{AllocError, Global};
+use std::marker::Model;
+use wm_checkpoint::{Keeper, Machine};
+use wm_disk::{MemDisk, Refusal};
+use wm_wire::Wire;
+
+/// A keeper of a register on a disk in memory.
+type RegisterKeeper = Keeper<MemDisk, Register>;
+
+/// A keeper of a register, in tests always one that keeps to its disk.
+#[derive(Drop)]
+struct Kept {
+    keeper: RegisterKeeper,
+}
+
+impl Model for Kept {
+    ghost Value = { ℕ };
+
+    ghost view = { λ k. state_of k.keeper };
+
+    ghost invariant = { λ k. Keeps (meaning ⟦<Register as Machine>⟧ ⟦<u64 as Wire>⟧ ⟦<u64 as Wire>⟧) k.keeper };
+}
+
+/// A disk with a formatted file.
+fn formatted(alloc: Global, first: u64) -> Result<MemDisk, Refusal> {
+    let mut disk = MemDisk::new(alloc, 0);
+    RegisterKeeper::format(alloc, &mut disk, &first)?;
+    Ok(disk)
+}
+
+fn open(alloc: Global, disk: MemDisk) -> Result<Kept, Refusal> {
+    match RegisterKeeper::open(alloc, disk) {
+        Ok(keeper) => Ok(Kept { keeper }),
+        Err((refusal, _)) => Err(refusal),
+    }
+}
+
+/// The state that is found on a disk.
+fn found(alloc: Global, disk: MemDisk) -> Result<u64, Refusal> {
+    let kept = open(alloc, disk)?;
+    Ok(*kept.keeper.state())
+}
+
+/// Commits one command, which has to differ from the state.
+fn set(alloc: Global, kept: &mut Kept, to: u64) -> Result<(), Refusal> {
+    if *kept.keeper.state() == to || kept.keeper.room() < 9 {
+        return Err(Refusal::BadArguments);
+    }
+    kept.keeper.commit(alloc, &[to], to)
+}
+
+/// Commits a group of three commands, each of which has to differ from the one before it.
+fn set_three(alloc: Global, kept: &mut Kept, a: u64, b: u64, c: u64) -> Result<(), Refusal> {
+    let keeper = &mut kept.keeper;
+    if *keeper.state() == a || a == b || b == c || keeper.room() < 27 {
+        return Err(Refusal::BadArguments);
+    }
+    keeper.commit(alloc, &[a, b, c], c)
+}
+
+/// A call of a keeper, or of its disk's plan of failures.
+#[derive(Clone, Copy, Debug)]
+enum Call {
+    /// Commits one command.
+    Set(u64),
+    /// Commits a group of three.
+    SetThree(u64, u64, u64),
+    /// Commits a group of none.
+    SetNothing,
+    Checkpoint,
+    Sync,
+    /// So many calls of the disk pass, and then each fails.
+    Arm(u64),
+}
+
+fn meet(alloc: Global, kept: &mut Kept, call: Call) -> Result<(), Refusal> {
+    match call {
+        Call::Set(to) => set(alloc, kept, to),
+        Call::SetThree(a, b, c) => set_three(alloc, kept, a, b, c),
+        Call::SetNothing => {
+            let state = *kept.keeper.state();
+            kept.keeper.commit(alloc, &[], state)
+        }
+        Call::Checkpoint => kept.keeper.checkpoint(alloc),
+        Call::Sync => kept.keeper.sync(),
+        Call::Arm(calls) => {
+            kept.keeper.arm(calls);
+            Ok(())
+        }
+    }
+}
+
+/// Makes calls, none of which may be refused.
+fn meet_all(alloc: Global, kept: &mut Kept, calls: &[Call]) -> Result<(), Refusal> {
+    for call in calls {
+        meet(alloc, kept, *call)?;
+    }
+    Ok(())
+}
+
+/// The file behind these calls of a keeper that begins with the state 1.
+fn content_after(alloc: Global, calls: &[Call]) -> Result<Vec<u8>, Refusal> {
+    let mut kept = open(alloc, formatted(alloc, 1)?)?;
+    meet_all(alloc, &mut kept, calls)?;
+    content_of(alloc, kept.keeper.into_disk())
+}
+
+/// A file without a checkpoint, of the state 6.
+const UNUSED: &[Call] = &[Call::Set(2), Call::SetThree(3, 4, 5), Call::Set(6)];
+
+/// A file after one, of the state 11: slot A is still open with the lesser number, and its journal has
+/// records.
+const USED: &[Call] = &[
+    Call::Set(2),
+    Call::SetThree(3, 4, 5),
+    Call::Set(6),
+    Call::Checkpoint,
+    Call::Set(7),
+    Call::SetThree(8, 9, 10),
+    Call::Set(11),
+];
+
+/// A file after two, of the state 12: more records from before the first stand behind the closed gate of the
+/// journal.
+const USED_TWICE: &[Call] = &[
+    Call::Set(2),
+    Call::SetThree(3, 4, 5),
+    Call::Set(6),
+    Call::Checkpoint,
+    Call::Set(7),
+    Call::SetThree(8, 9, 10),
+    Call::Set(11),
+    Call::Checkpoint,
+    Call::Set(12),
+];
+
+/// A file with slot A under number 1, the state 1 and the commands 2 and 3, and slot B under number 2, the
+/// state 3 and the command 4.
+const TWO_SLOTS: &[Call] = &[Call::Set(2), Call::Set(3), Call::Checkpoint, Call::Set(4)];
+
+/// A journal with as many commands as it takes, 5 and 6 in turn, and its closed gate.
+fn full_journal(alloc: Global) -> Result<Vec<u8>, AllocError> {
+    let mut journal = Vec::new(alloc);
+    journal.extend_from_slice(b"\xa5\0\0\0\0\0\0\0\x05")?;
+    for _ in 0..14_563 {
+        journal.extend_from_slice(b"\xa5\0\0\0\0\0\0\0\x06\xa5\0\0\0\0\0\0\0\x05")?;
+    }
+    journal.push(0)?;
+    Ok(journal)
+}
+
+/// The content with other bytes at these places.
+fn edited(alloc: Global, content: &[u8], edits: &[(usize, &[u8])]) -> Result<Vec<u8>, Refusal> {
+    let mut content = Vec::from_slice(alloc, content)?;
+    for (at, bytes) in edits {
+        overwrite(&mut content, *at, bytes)?;
+    }
+    Ok(content)
+}

@@ -1,0 +1,75 @@
+//! A switch, a machine whose commands aren't all bytes.
+ghost use Rattle.std.specs.Prelude.{ℕ, Bool, if◌then◌else◌};
+ghost use Rattle.std.proofs.Common.{arith};
+ghost use Rattle.file_tests.specs.Registers.{differs, idle_register, position};
+
+use crate::disks::{content_of, disk_of, overwrite};
+use std::alloc::Global;
+use std::test::Fail;
+use wm_checkpoint::{Keeper, Machine};
+use wm_disk::{MemDisk, NoMemory, Refusal};
+use wm_wire::Wire;
+
+/// A switch: 0 is off, and 1 on.
+struct Switch;
+
+impl Machine for Switch {
+    type State = u64;
+
+    type Command = bool;
+
+    type Reply = bool;
+
+    ghost after = { λ s c. position c };
+
+    ghost changes = { λ s c. differs s (position c) };
+
+    ghost reply = { λ s c. differs s (position c) };
+
+    fn apply(_alloc: Global, state: &mut u64, command: &bool) -> Result<(bool, bool), NoMemory> {
+        let to = if *command { 1 } else { 0 };
+        let differs = *state != to;
+        *state = to;
+        Ok((differs, differs))
+    }
+
+    fn copy(_alloc: Global, state: &u64) -> Result<u64, NoMemory> {
+        Ok(*state)
+    }
+
+    ghost idle = { λ s c e. idle_register s (position c) e };
+
+    ghost small = { λ s f. omega arith };
+}
+
+/// The state that is found where the first file's journal begins with these bytes, or why none is.
+fn found(alloc: Global, journal: &[u8]) -> Result<Result<u64, Refusal>, Refusal> {
+    let mut disk = MemDisk::new(alloc, 0);
+    Keeper::<MemDisk, Switch>::format(alloc, &mut disk, &0)?;
+    let mut content = content_of(alloc, disk)?;
+    overwrite(&mut content, 1_052_672, journal)?;
+    match Keeper::<MemDisk, Switch>::open(alloc, disk_of(alloc, 0, &content)?) {
+        Ok(keeper) => Ok(Ok(*keeper.state())),
+        Err((refusal, _)) => Ok(Err(refusal)),
+    }
+}
+
+/// The first bytes of a journal, and the state that is found there.
+const JOURNALS: &[(&[u8], Result<u64, Refusal>)] = &[
+    (b"\x00\x05\x00", Ok(0)),
+    (b"\xa5\x01\x00", Ok(1)),
+    (b"\xa5\x01\xa5\x00\x00", Ok(0)),
+    // no truth value
+    (b"\xa5\x05\x00", Err(Refusal::Damaged)),
+    (b"\xa5\x01\xa5\x02\x00", Err(Refusal::Damaged)),
+    // it changes nothing
+    (b"\xa5\x00\x00", Err(Refusal::Damaged)),
+];
+
+#[test]
+fn refuses_what_is_no_command(rt: HostRuntime) -> Result<(), Fail> {
+    for (journal, wanted) in JOURNALS {
+        assert!(rt; found(rt.alloc(), journal)? == *wanted, "{journal:?}");
+    }
+    Ok(())
+}

@@ -1,0 +1,46 @@
+//! Disks in memory, and the bytes on them.
+use std::alloc::Global;
+use wm_disk::{Crashed, Disk, MemDisk, Refusal};
+
+/// How many writes, syncs and other calls a disk had.
+pub(crate) type Calls = (u64, u64, u64);
+
+/// A disk that holds these bytes, all of them durable, after one write and one sync; the choice says what its
+/// crashes leave.
+pub(crate) fn disk_of(alloc: Global, choice: u64, content: &[u8]) -> Result<MemDisk, Refusal> {
+    let mut disk = MemDisk::new(alloc, choice);
+    disk.write_at(0, content)?;
+    disk.sync()?;
+    Ok(disk)
+}
+
+/// What a disk holds, also one whose calls fail.
+pub(crate) fn content_of(alloc: Global, disk: MemDisk) -> Result<Vec<u8>, Refusal> {
+    let mut disk = disk.stop();
+    let len = disk.len()? as usize;
+    let mut content = vec![in alloc; 0u8; len]?;
+    disk.read_at(0, &mut content)?;
+    Ok(content)
+}
+
+/// So many bytes from a place on, or none where the content is too short.
+pub(crate) fn part(content: &[u8], at: usize, len: usize) -> &[u8] {
+    if at > content.len() || len > content.len() - at {
+        return &[];
+    }
+    &content[at..at + len]
+}
+
+/// Whether these bytes stand at a place.
+pub(crate) fn stands(content: &[u8], at: usize, bytes: &[u8]) -> bool {
+    part(content, at, bytes.len()) == bytes
+}
+
+/// Puts bytes at a place. `3 BadArguments` where the content is too short.
+pub(crate) fn overwrite(content: &mut Vec<u8>, at: usize, bytes: &[u8]) -> Result<(), Refusal> {
+    if at > content.len() || bytes.len() > content.len() - at {
+        return Err(Refusal::BadArguments);
+    }
+    content[at..at + bytes.len()].copy_from_slice(bytes);
+    Ok(())
+}

@@ -1,0 +1,187 @@
+//! What is refused, and that the region goes on after it.
+ghost use Rattle.std.specs.Prelude.{◌≡◌, IfOk};
+ghost use Rattle.wm_journal.specs.Regions.{InSamePlace, IsAt, LiesOn};
+
+use super::{append, disk_of, region_of, see_whole};
+use std::alloc::Global;
+use std::test::Fail;
+use wm_disk::{Crashed, Disk, MemDisk, Refusal};
+use wm_journal::Region;
+
+/// Areas in which no journal stands.
+const DAMAGED: &[&[u8]] = &[
+    // no closed gate
+    b"\xa5",
+    b"\xa5\0\xa5\x01\xa5\0\xa5\x01",
+    // no record behind an open gate
+    b"\xa5\x02\0\0\0\0\0\0",
+    b"\xa5\x01\xa5\0\xa5\xa5\0\0",
+];
+
+/// Whether a scan of this area is refused.
+fn refuses(alloc: Global, area: &[u8]) -> Result<bool, Refusal> {
+    let Ok(len) = u16::try_from(area.len()) else {
+        return Ok(false);
+    };
+    let disk = disk_of(alloc, 0, &[b"front", area, b"\0behind"])?;
+    let mut region = region_of(alloc, disk, 5, len)?;
+    let refused = region.scan::<bool>(alloc).err();
+    Ok(refused == Some(Refusal::Damaged))
+}
+
+#[test]
+fn refuses_damaged_bytes(rt: HostRuntime) -> Result<(), Fail> {
+    for area in DAMAGED {
+        assert!(rt; refuses(rt.alloc(), area)?, "{area:?}");
+    }
+    Ok(())
+}
+
+/// Whether the area's one record is found with this byte in its place, or refused.
+fn rescans(
+    alloc: Global,
+    region: &mut Region<MemDisk>,
+    byte: u8,
+    want: Result<bool, Refusal>,
+) -> Result<bool, Refusal>
+    requires { IsAt region.old 5 7 }
+    ensures { IsAt region.new 5 7 }
+{
+    see_whole(region, 5, 7)?;
+    region.disk.write_at(6, &[byte])?;
+    see_whole(region, 5, 7)?;
+    let is_found = match (region.scan::<bool>(alloc), want) {
+        (Ok(found), Ok(record)) => found.as_slice() == [record].as_slice(),
+        (found, want) => found.err() == want.err(),
+    };
+    Ok(is_found && region.room() == 4)
+}
+
+/// The same region is scanned again after a refusal.
+#[test]
+fn scans_again_after_damage(rt: HostRuntime) -> Result<(), Fail> {
+    let alloc = rt.alloc();
+    let disk = disk_of(alloc, 0, &[b"front\xa5\x01\0\0\0\0\0behind"])?;
+    let mut region = region_of(alloc, disk, 5, 7)?;
+    let found = region.scan::<bool>(alloc)?;
+    assert!(rt; found.as_slice() == [true].as_slice());
+    assert!(rt;
+        rescans(alloc, &mut region, 2, Err(Refusal::Damaged))?,
+        "no truth value"
+    );
+    assert!(rt; rescans(alloc, &mut region, 0, Ok(false))?, "a truth value");
+    Ok(())
+}
+
+/// The first refusal of a scan, a group of two and the opening of its gates, and the call that gave it.
+fn first_refusal(region: &mut Region<MemDisk>, alloc: Global) -> Option<(&'static str, Refusal)>
+    requires { LiesOn region.old }
+    ensures place { InSamePlace region.old region.new }
+{
+    if let Err(refusal) = region.scan::<bool>(alloc) {
+        return Some(("scan", refusal));
+    }
+    if let Err(refusal) = append(region, alloc, &[false, true]) {
+        return Some(("append_closed", refusal));
+    }
+    match region.open_gates::<bool>() {
+        Err(failed) => Some(("open_gates", failed.into())),
+        Ok(()) => None,
+    }
+}
+
+/// How many calls of the disk pass, the call of the region that then fails, the records that are found
+/// afterwards, and the room behind them.
+const FAILURES: &[(u64, Option<&str>, &[bool], u64)] = &[
+    (0, Some("scan"), &[true], 6),
+    (1, Some("append_closed"), &[true], 6),
+    (2, Some("append_closed"), &[true], 6),
+    (3, Some("open_gates"), &[true], 6),
+    (4, Some("open_gates"), &[true, false], 4),
+    (5, Some("open_gates"), &[true, false, true], 2),
+    (6, None, &[true, false, true], 2),
+];
+
+/// A journal with one record, scanned.
+fn with_one_record(alloc: Global) -> Result<Region<MemDisk>, Refusal>
+    ensures lies { IfOk result (λ region. LiesOn region) }
+    ensures place { IfOk result (λ region. IsAt region 5 9) }
+{
+    let disk = disk_of(alloc, 0, &[b"front\xa5\x01", &[0u8; 7], b"behind"])?;
+    let mut region = region_of(alloc, disk, 5, 9)?;
+    region.scan::<bool>(alloc)?;
+    Ok(region)
+}
+
+/// Whether a scan finds these records.
+fn finds(alloc: Global, region: &mut Region<MemDisk>, records: &[bool]) -> Result<bool, Refusal>
+    requires { IsAt region.old 5 9 }
+    ensures { IsAt region.new 5 9 }
+{
+    see_whole(region, 5, 9)?;
+    let found = region.scan::<bool>(alloc)?;
+    Ok(found.as_slice() == records)
+}
+
+/// Opens the gates that are still to be opened.
+fn open(region: &mut Region<MemDisk>) -> Result<(), Refusal>
+    requires { IsAt region.old 5 9 }
+    ensures { IsAt region.new 5 9 }
+{
+    see_whole(region, 5, 9)?;
+    region.open_gates::<bool>()?;
+    Ok(())
+}
+
+/// Whether the records are found with one more behind them, `false`, once that is put there.
+fn goes_on(alloc: Global, region: &mut Region<MemDisk>, records: &[bool]) -> Result<bool, Refusal>
+    requires { IsAt region.old 5 9 }
+{
+    see_whole(region, 5, 9)?;
+    append(region, alloc, &[false])?;
+    open(region)?;
+    see_whole(region, 5, 9)?;
+    let found = region.scan::<bool>(alloc)?;
+    match found.split_last() {
+        Some((last, front)) => Ok(front == records && !*last),
+        None => Ok(false),
+    }
+}
+
+/// Whether the call is the one that fails where the disk lets so many calls pass.
+fn fails(alloc: Global, region: &mut Region<MemDisk>, calls: u64, call: Option<&str>) -> bool
+    requires lies { LiesOn region.old }
+    requires place { IsAt region.old 5 9 }
+    ensures { IsAt region.new 5 9 }
+{
+    region.disk.arm(calls);
+    match (first_refusal(region, alloc), call) {
+        (Some((met, refusal)), Some(call)) => met == call && refusal == Refusal::DeviceFailed,
+        (met, call) => met.is_none() && call.is_none(),
+    }
+}
+
+/// Whether a region fails so, and after it finds the records and goes on.
+fn recovers(
+    alloc: Global,
+    (calls, call, found, room): (u64, Option<&str>, &[bool], u64),
+) -> Result<bool, Refusal> {
+    let mut region = with_one_record(alloc)?;
+    let failed = fails(alloc, &mut region, calls, call);
+    region.disk.arm(u64::MAX);
+    region.disk.sync()?;
+    let is_found = finds(alloc, &mut region, found)? && region.room() == room;
+    // No gate of the group is opened any more.
+    open(&mut region)?;
+    let stays = finds(alloc, &mut region, found)?;
+    let goes_on = goes_on(alloc, &mut region, found)?;
+    Ok(failed && is_found && stays && goes_on)
+}
+
+#[test]
+fn goes_on_after_a_failure(rt: HostRuntime) -> Result<(), Fail> {
+    for row in FAILURES {
+        assert!(rt; recovers(rt.alloc(), *row)?, "after {}", row.0);
+    }
+    Ok(())
+}

@@ -1,0 +1,52 @@
+//! Clocks and their texts.
+use std::alloc::Global;
+use std::test::Fail;
+use wm_clock::{ClockId, LIMIT, MAX_TEXT};
+
+// Incarnation, root and tick, and their text.
+const TEXTS: &[(u64, u64, u64, &str)] = &[
+    (1, 1, 1, "c:1:1:1"),
+    (12, 340, 5600, "c:12:340:5600"),
+    (1, 1, LIMIT, "c:1:1:9223372036854775807"),
+    (
+        LIMIT,
+        LIMIT,
+        LIMIT,
+        "c:9223372036854775807:9223372036854775807:9223372036854775807",
+    ),
+];
+
+// Whether the clock's text is this, made and put.
+fn has_text(alloc: Global, clock: ClockId, want: &str) -> Result<bool, Fail> {
+    let mut out = Vec::with_capacity(alloc, MAX_TEXT)?;
+    clock.put(&mut out);
+    Ok(clock.text(alloc)?.as_str() == want && out.as_slice() == want.as_bytes())
+}
+
+#[test]
+fn has_a_text(rt: HostRuntime) -> Result<(), Fail> {
+    for (incarnation, root, tick, want) in TEXTS {
+        let clock = ClockId {
+            incarnation: *incarnation,
+            root: *root,
+            tick: *tick,
+        };
+        assert!(rt; has_text(rt.alloc(), clock, want)?, "{want}");
+    }
+    Ok(())
+}
+
+#[test]
+fn puts_the_longest_text_behind_others(rt: HostRuntime) -> Result<(), Fail> {
+    let mut out = Vec::with_capacity(rt.alloc(), MAX_TEXT + 1)?;
+    out.push(b'[')?;
+    let clock = ClockId {
+        incarnation: u64::MAX,
+        root: u64::MAX,
+        tick: u64::MAX,
+    };
+    clock.put(&mut out);
+    let want = b"[c:18446744073709551615:18446744073709551615:18446744073709551615";
+    assert!(rt; out.as_slice() == want.as_slice());
+    Ok(())
+}

@@ -1,0 +1,123 @@
+//! Texts that a question may begin from: clocks, and cursors by their names.
+use std::alloc::Global;
+use std::string::String;
+use std::test::Fail;
+use wm_clock::{ClockId, ClockSpec};
+use wm_disk::Refusal;
+
+const CLOCKS: &[&str] = &[
+    "c:1:1:1",
+    "c:7:2:105",
+    "c:10:20:30",
+    "c:1:1:9223372036854775807",
+];
+
+// Texts that begin as a clock does and are none of this server's.
+const OF_ANOTHER: &[&str] = &[
+    "c:",
+    "c::",
+    "c:::",
+    "c:x",
+    "c:1",
+    "c:1:1",
+    "c:1:1:",
+    "c:1:1:1 ",
+    "c: 1:1:1",
+    "c:01:1:1",
+    "c:1:1:01",
+    "c:+1:1:1",
+    "c:1:-1:1",
+    "c:0:1:1",
+    "c:1:0:1",
+    "c:1:1:0",
+    "c:9:9:9:9",
+    "c:1:1:9223372036854775808",
+    "c:1:1:18446744073709551616",
+    "c:1:1:\u{661}",
+];
+
+const LONGEST: &str = "0123456789abcdef0123456789abcdef0123456789abcdef0123456789abcdef";
+
+const CURSORS: &[&str] = &["x", "n:x", "c:1:1:1", " ", "\u{e9}\u{661}", "\0", LONGEST];
+
+const NO_CLOCKS: &[&str] = &[
+    "", "c", "n", ":", "1", "x:1", "n:", "N:x", " n:x", "C:1:1:1", " c:1:1:1", "1:1:1",
+];
+
+// A clock's text, `another`, or a cursor's name behind a `@`.
+fn shown(alloc: Global, spec: &ClockSpec) -> Result<String, Fail> {
+    let mut text = String::new(alloc);
+    match spec {
+        ClockSpec::Clock(clock) => text.push_str(clock.text(alloc)?.as_str())?,
+        ClockSpec::Another => text.push_str("another")?,
+        ClockSpec::Cursor(name) => {
+            text.push('@')?;
+            text.push_str(name.as_str())?;
+        }
+    }
+    Ok(text)
+}
+
+// Whether the text is read as what is shown so.
+fn is_read(alloc: Global, text: &str, want: &str) -> Result<bool, Fail> {
+    let spec = ClockSpec::read(alloc, text)?;
+    Ok(shown(alloc, &spec)?.as_str() == want)
+}
+
+// Whether the name behind `n:` is read as a cursor's.
+fn names_a_cursor(alloc: Global, name: &str) -> Result<bool, Fail> {
+    let text = format!(in alloc; "n:{name}")?;
+    let want = format!(in alloc; "@{name}")?;
+    is_read(alloc, &text, &want)
+}
+
+// Whether the text is refused as no clock.
+fn is_refused(alloc: Global, text: &str) -> bool {
+    match ClockSpec::read(alloc, text) {
+        Ok(_) => false,
+        Err(refusal) => refusal == Refusal::BadClock,
+    }
+}
+
+#[test]
+fn reads_clocks(rt: HostRuntime) -> Result<(), Fail> {
+    for text in CLOCKS {
+        assert!(rt; is_read(rt.alloc(), text, text)?, "{text:?}");
+    }
+    for text in OF_ANOTHER {
+        assert!(rt; is_read(rt.alloc(), text, "another")?, "{text:?}");
+    }
+    Ok(())
+}
+
+#[test]
+fn reads_the_parts_of_a_clock(rt: HostRuntime) -> Result<(), Fail> {
+    let want = ClockId {
+        incarnation: 7,
+        root: 2,
+        tick: 105,
+    };
+    match ClockSpec::read(rt.alloc(), "c:7:2:105")? {
+        ClockSpec::Clock(clock) => assert!(rt; clock == want),
+        _ => assert!(rt; false, "no clock"),
+    }
+    Ok(())
+}
+
+#[test]
+fn reads_cursors(rt: HostRuntime) -> Result<(), Fail> {
+    for name in CURSORS {
+        assert!(rt; names_a_cursor(rt.alloc(), name)?, "{name:?}");
+    }
+    Ok(())
+}
+
+#[test]
+fn refuses_other_texts(rt: HostRuntime) -> Result<(), Fail> {
+    for text in NO_CLOCKS {
+        assert!(rt; is_refused(rt.alloc(), text), "{text:?}");
+    }
+    let too_long = format!(in rt.alloc(); "n:{LONGEST}!")?;
+    assert!(rt; is_refused(rt.alloc(), &too_long));
+    Ok(())
+}

@@ -1,0 +1,132 @@
+//! Paths below a root.
+use super::long;
+use std::alloc::Global;
+use std::cmp::Ordering;
+use std::test::Fail;
+use wm_disk::Refusal;
+use wm_names::RelPath;
+
+const PATHS: &[&str] = &[
+    "a",
+    "a/b",
+    ".x",
+    "...",
+    "a b",
+    "a/..b/c..",
+    "\u{e9}/x",
+    "a\\b",
+];
+
+const NO_PATHS: &[&str] = &[
+    "", "/", "/a", "a/", "a//b", ".", "..", "./a", "a/.", "a/./b", "a/..", "a/../b", "a\0b", "\0",
+];
+
+// A path, another, and whether the first stands below the second.
+const BELOW: &[(&str, &str, bool)] = &[
+    ("x/a", "x", true),
+    ("x/y/z", "x", true),
+    ("x/y/z", "x/y", true),
+    ("x", "x", false),
+    ("xy", "x", false),
+    ("xy/a", "x", false),
+    ("x", "x/a", false),
+    ("y/x/a", "x", false),
+    ("a/b", "x", false),
+];
+
+const BASENAMES: &[(&str, &str)] = &[("a.c", "a.c"), ("x/a.c", "a.c"), ("x/y/z", "z")];
+
+// Two paths in the order of their bytes.
+const ORDERED: &[(&str, &str, Ordering)] = &[
+    ("a", "a", Ordering::Equal),
+    ("a", "b", Ordering::Less),
+    ("b", "a", Ordering::Greater),
+    ("a", "a/b", Ordering::Less),
+    ("a.b", "a/b", Ordering::Less),
+    ("a0", "a/b", Ordering::Greater),
+    ("B", "a", Ordering::Less),
+    ("z", "\u{e9}", Ordering::Less),
+];
+
+// Whether the text is read as a path that shows it, as does a copy.
+fn is_read(alloc: Global, text: &str) -> Result<bool, Refusal> {
+    let path = RelPath::read(alloc, text)?;
+    let copy = path.copy(alloc)?;
+    Ok(path.as_str() == text && copy.as_str() == text)
+}
+
+// Whether the text is refused as no path.
+fn is_refused(alloc: Global, text: &str) -> bool {
+    match RelPath::read(alloc, text) {
+        Ok(_) => false,
+        Err(refusal) => refusal == Refusal::BadPath,
+    }
+}
+
+fn is_below(alloc: Global, path: &str, top: &str) -> Result<bool, Refusal> {
+    let path = RelPath::read(alloc, path)?;
+    let top = RelPath::read(alloc, top)?;
+    Ok(path.under(&top))
+}
+
+fn has_basename(alloc: Global, path: &str, want: &str) -> Result<bool, Refusal> {
+    let path = RelPath::read(alloc, path)?;
+    Ok(path.basename() == want)
+}
+
+// Whether the paths stand in this order, and are the same only where they are equal.
+fn compares(alloc: Global, first: &str, second: &str, want: Ordering) -> Result<bool, Refusal> {
+    let path = RelPath::read(alloc, first)?;
+    let other = RelPath::read(alloc, second)?;
+    Ok(path.compare(&other) == want && path.same(&other) == (want == Ordering::Equal))
+}
+
+#[test]
+fn reads_paths(rt: HostRuntime) -> Result<(), Fail> {
+    for text in PATHS {
+        assert!(rt; is_read(rt.alloc(), text)?, "{text}");
+    }
+    let longest = long(rt.alloc(), "", 1024)?;
+    assert!(rt; is_read(rt.alloc(), &longest)?);
+    Ok(())
+}
+
+#[test]
+fn refuses_other_texts(rt: HostRuntime) -> Result<(), Fail> {
+    for text in NO_PATHS {
+        assert!(rt; is_refused(rt.alloc(), text), "{text:?}");
+    }
+    let too_long = long(rt.alloc(), "", 1025)?;
+    assert!(rt; is_refused(rt.alloc(), &too_long));
+    Ok(())
+}
+
+#[test]
+fn stands_below(rt: HostRuntime) -> Result<(), Fail> {
+    for (path, top, want) in BELOW {
+        assert!(rt;
+            is_below(rt.alloc(), path, top)? == *want,
+            "{path} under {top}"
+        );
+    }
+    Ok(())
+}
+
+#[test]
+fn has_a_basename(rt: HostRuntime) -> Result<(), Fail> {
+    for (path, want) in BASENAMES {
+        assert!(rt; has_basename(rt.alloc(), path, want)?, "{path}");
+    }
+    Ok(())
+}
+
+#[test]
+fn stands_in_the_order_of_bytes(rt: HostRuntime) -> Result<(), Fail> {
+    for (first, second, want) in ORDERED {
+        assert!(rt;
+            compares(rt.alloc(), first, second, *want)?,
+            "{first} and {second}"
+        );
+    }
+    Ok(())
+}

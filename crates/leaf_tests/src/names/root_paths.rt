@@ -1,0 +1,88 @@
+//! Paths of roots.
+use super::long;
+use std::alloc::Global;
+use std::test::Fail;
+use wm_disk::Refusal;
+use wm_names::RootPath;
+
+const PATHS: &[&str] = &[
+    "/r",
+    "/a/b",
+    "/.x",
+    "/...",
+    "/a b",
+    "/a/..b/c..",
+    "/\u{e9}",
+    "/a\\b",
+];
+
+// Lengths at which a path may be kept in another way, and the greatest.
+const LENGTHS: &[usize] = &[24, 25, 1024];
+
+const NO_PATHS: &[&str] = &[
+    "", "/", "a", "a/b", "//a", "/a/", "/a//b", "/.", "/./a", "/..", "/a/../b", "/a/..", "/a\0b",
+    "/\0",
+];
+
+const COMPARED: &[(&str, &str, bool)] = &[
+    ("/r", "/r", true),
+    ("/r", "/s", false),
+    ("/r", "/R", false),
+    ("/r", "/r/s", false),
+    ("/a/b", "/a/b", true),
+];
+
+// Whether the text is read as a path that shows it, as does a copy.
+fn is_read(alloc: Global, text: &str) -> Result<bool, Refusal> {
+    let path = RootPath::read(alloc, text)?;
+    let copy = path.copy(alloc)?;
+    Ok(path.as_str() == text && copy.as_str() == text)
+}
+
+// Whether the text is refused as no path.
+fn is_refused(alloc: Global, text: &str) -> bool {
+    match RootPath::read(alloc, text) {
+        Ok(_) => false,
+        Err(refusal) => refusal == Refusal::BadPath,
+    }
+}
+
+// Whether the paths are equal, from either side, where that is wanted.
+fn compares(alloc: Global, first: &str, second: &str, want: bool) -> Result<bool, Refusal> {
+    let path = RootPath::read(alloc, first)?;
+    let other = RootPath::read(alloc, second)?;
+    Ok((path == other) == want && (other == path) == want)
+}
+
+#[test]
+fn reads_paths(rt: HostRuntime) -> Result<(), Fail> {
+    for text in PATHS {
+        assert!(rt; is_read(rt.alloc(), text)?, "{text}");
+    }
+    for len in LENGTHS {
+        let text = long(rt.alloc(), "/", *len)?;
+        assert!(rt; is_read(rt.alloc(), &text)?, "{len} bytes");
+    }
+    Ok(())
+}
+
+#[test]
+fn refuses_other_texts(rt: HostRuntime) -> Result<(), Fail> {
+    for text in NO_PATHS {
+        assert!(rt; is_refused(rt.alloc(), text), "{text:?}");
+    }
+    let too_long = long(rt.alloc(), "/", 1025)?;
+    assert!(rt; is_refused(rt.alloc(), &too_long));
+    Ok(())
+}
+
+#[test]
+fn compares_paths(rt: HostRuntime) -> Result<(), Fail> {
+    for (first, second, want) in COMPARED {
+        assert!(rt;
+            compares(rt.alloc(), first, second, *want)?,
+            "{first} and {second}"
+        );
+    }
+    Ok(())
+}

@@ -1,0 +1,69 @@
+//! Two values behind one another.
+use super::{again, is_none};
+use std::alloc::Global;
+use std::test::Fail;
+use wm_wire::{Pair, Text};
+
+const SPELLED: &[(u32, bool, &[u8])] = &[
+    (258, true, b"\0\0\x01\x02\x01"),
+    (1, false, b"\0\0\0\x01\0"),
+];
+
+const NO_PAIRS: &[&[u8]] = &[
+    b"",
+    // the first alone, and cut
+    b"\x01",
+    b"\x01\0\0\0",
+    // a first or a second that is no spelling
+    b"\x02\0\0\0\0",
+    b"\x01\0\0\0\x02\xc0\xaf",
+];
+
+// Whether the pair is spelled so, and what is taken back shows and gives its parts.
+fn is_spelled(alloc: Global, first: u32, second: bool, want: &[u8]) -> Result<bool, Fail> {
+    let pair = Pair::new(first, second).ok().ok_or("too long")?;
+    match again(alloc, &pair, want)? {
+        Some(back) => {
+            let shown = *back.first() == first && *back.second() == second;
+            Ok(shown && back.into_parts() == (first, second))
+        }
+        None => Ok(false),
+    }
+}
+
+// Whether the pair shows and gives these texts.
+fn is_of(pair: Pair<Text<3>, Text<1>>, first: &str, second: &str) -> bool {
+    let shown = pair.first().as_str() == first && pair.second().as_str() == second;
+    let (one, other) = pair.into_parts();
+    shown && one.as_str() == first && other.as_str() == second
+}
+
+#[test]
+fn spells_pairs(rt: HostRuntime) -> Result<(), Fail> {
+    for (first, second, want) in SPELLED {
+        assert!(rt; is_spelled(rt.alloc(), *first, *second, want)?, "{first}");
+    }
+    Ok(())
+}
+
+#[test]
+fn spells_parts_of_several_lengths(rt: HostRuntime) -> Result<(), Fail> {
+    let first = Text::<3>::new(rt.alloc(), "/r")?;
+    let second = Text::<1>::new(rt.alloc(), "a")?;
+    let pair = Pair::new(first, second).ok().ok_or("too long")?;
+    let want = b"\0\0\0\x02\x2f\x72\0\0\0\x01\x61";
+    let back = again(rt.alloc(), &pair, want)?.ok_or("other bytes")?;
+    assert!(rt; is_of(back, "/r", "a"));
+    Ok(())
+}
+
+#[test]
+fn takes_no_other_bytes(rt: HostRuntime) -> Result<(), Fail> {
+    for bytes in NO_PAIRS {
+        assert!(rt;
+            is_none::<Pair<bool, Text<3>>>(rt.alloc(), bytes)?,
+            "{bytes:?}"
+        );
+    }
+    Ok(())
+}

@@ -1,0 +1,47 @@
+//! Texts put and taken by themselves, copied and compared.
+use std::alloc::Global;
+use std::test::Fail;
+use wm_wire::{Text, put_text, take_text};
+
+const COMPARED: &[(&str, &str, bool)] = &[
+    ("", "", true),
+    ("/r", "/r", true),
+    ("/r", "/s", false),
+    ("/r", "/R", false),
+    ("/r", "/", false),
+    ("", "/r", false),
+];
+
+// Whether the texts are equal, from either side, where that is wanted, and a copy of the first is it.
+fn compares(alloc: Global, first: &str, second: &str, want: bool) -> Result<bool, Fail> {
+    if first.len() > 3 || second.len() > 3 {
+        return Ok(false);
+    }
+    let text = Text::<3>::new(alloc, first)?;
+    let other = Text::<3>::new(alloc, second)?;
+    let again = text.copy(alloc)?;
+    let copied = again.as_str() == first && again == text;
+    Ok(copied && (text == other) == want && (other == text) == want)
+}
+
+#[test]
+fn copies_and_compares_texts(rt: HostRuntime) -> Result<(), Fail> {
+    for (first, second, want) in COMPARED {
+        assert!(rt;
+            compares(rt.alloc(), first, second, *want)?,
+            "{first} and {second}"
+        );
+    }
+    Ok(())
+}
+
+#[test]
+fn spells_a_text(rt: HostRuntime) -> Result<(), Fail> {
+    let mut out = vec![in rt.alloc(); 7u8]?;
+    put_text("/r", &mut out)?;
+    assert!(rt; out.as_slice() == b"\x07\0\0\0\x02\x2f\x72".as_slice());
+    assert!(rt; take_text(b"\0\0\0\x02\x2f\x72\xff", 2) == Some(("/r", 6)));
+    assert!(rt; take_text(b"\0\0\0\x02\x2f\x72\xff", 1).is_none());
+    assert!(rt; take_text(b"\0\0\0\0", 0) == Some(("", 4)));
+    Ok(())
+}

@@ -1,0 +1,111 @@
+//! Numbers, truth values and texts.
+use super::{again, is_none};
+use std::alloc::Global;
+use std::test::Fail;
+use wm_wire::Text;
+
+const WORDS: &[(u32, &[u8])] = &[
+    (0, b"\0\0\0\0"),
+    (0x0102_0304, b"\x01\x02\x03\x04"),
+    (u32::MAX, b"\xff\xff\xff\xff"),
+];
+
+const LONG_WORDS: &[(u64, &[u8])] = &[
+    (0, b"\0\0\0\0\0\0\0\0"),
+    (0x0102_0304_0506_0708, b"\x01\x02\x03\x04\x05\x06\x07\x08"),
+    (u64::MAX, b"\xff\xff\xff\xff\xff\xff\xff\xff"),
+];
+
+const TRUTHS: &[(bool, &[u8])] = &[(false, b"\0"), (true, b"\x01")];
+
+const TEXTS: &[(&str, &[u8])] = &[
+    ("", b"\0\0\0\0"),
+    ("/r", b"\0\0\0\x02\x2f\x72"),
+    ("\u{e9}e", b"\0\0\0\x03\xc3\xa9\x65"),
+];
+
+const NO_WORDS: &[&[u8]] = &[b"", b"\0", b"\x01\x02\x03"];
+
+const NO_LONG_WORDS: &[&[u8]] = &[b"", b"\x01\x02\x03\x04\x05\x06\x07"];
+
+const NO_TRUTHS: &[&[u8]] = &[b"", b"\x02", b"\xff\0"];
+
+const NO_TEXTS: &[&[u8]] = &[
+    b"",
+    b"\0\0\0",
+    b"\0\0\0\x02/",
+    // more than three bytes
+    b"\0\0\0\x04/abc",
+    b"\x01\0\0\x01/",
+    b"\xff\xff\xff\xff/",
+    // bytes that aren't UTF-8
+    b"\0\0\0\x01\xff",
+    b"\0\0\0\x01\xc3\xa9",
+    b"\0\0\0\x02\xc0\xaf",
+];
+
+// Whether the text is spelled so, and shown as it is, before and after.
+fn text_is_spelled(alloc: Global, value: &str, want: &[u8]) -> Result<bool, Fail> {
+    if value.len() > 3 {
+        return Ok(false);
+    }
+    let text = Text::<3>::new(alloc, value)?;
+    let shown = text.as_str() == value;
+    match again(alloc, &text, want)? {
+        Some(back) => Ok(shown && back.as_str() == value),
+        None => Ok(false),
+    }
+}
+
+#[test]
+fn spells_numbers(rt: HostRuntime) -> Result<(), Fail> {
+    for (value, want) in WORDS {
+        assert!(rt;
+            again(rt.alloc(), value, want)? == Some(*value),
+            "at {value}"
+        );
+    }
+    for (value, want) in LONG_WORDS {
+        assert!(rt;
+            again(rt.alloc(), value, want)? == Some(*value),
+            "at {value}"
+        );
+    }
+    Ok(())
+}
+
+#[test]
+fn spells_truths_and_texts(rt: HostRuntime) -> Result<(), Fail> {
+    for (value, want) in TRUTHS {
+        assert!(rt;
+            again(rt.alloc(), value, want)? == Some(*value),
+            "at {value}"
+        );
+    }
+    for (value, want) in TEXTS {
+        assert!(rt; text_is_spelled(rt.alloc(), value, want)?, "at {value}");
+    }
+    Ok(())
+}
+
+#[test]
+fn takes_no_other_numbers(rt: HostRuntime) -> Result<(), Fail> {
+    for bytes in NO_WORDS {
+        assert!(rt; is_none::<u32>(rt.alloc(), bytes)?, "{bytes:?}");
+    }
+    for bytes in NO_LONG_WORDS {
+        assert!(rt; is_none::<u64>(rt.alloc(), bytes)?, "{bytes:?}");
+    }
+    Ok(())
+}
+
+#[test]
+fn takes_no_other_truths_and_texts(rt: HostRuntime) -> Result<(), Fail> {
+    for bytes in NO_TRUTHS {
+        assert!(rt; is_none::<bool>(rt.alloc(), bytes)?, "{bytes:?}");
+    }
+    for bytes in NO_TEXTS {
+        assert!(rt; is_none::<Text<3>>(rt.alloc(), bytes)?, "{bytes:?}");
+    }
+    Ok(())
+}

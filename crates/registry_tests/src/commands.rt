@@ -1,0 +1,107 @@
+//! The spellings of commands.
+use crate::lines::named;
+use crate::spelling::{is_spelled, taken};
+use std::alloc::Global;
+use wm_disk::{NoMemory, Refusal};
+use wm_registry::{Command, Stdin, Trigger};
+
+/// A command by its verb, its path, its trigger's name and its program, and its spelling.
+type Row = (
+    &'static str,
+    &'static str,
+    &'static str,
+    &'static str,
+    &'static [u8],
+);
+
+/// Each of the commands.
+const SPELLINGS: &[Row] = &[
+    ("begin", "", "", "", b"\0"),
+    ("watch", "/r", "", "", b"\x01\0\0\0\x02/r"),
+    ("watch-del", "/a b", "", "", b"\x02\0\0\0\x04/a b"),
+    (
+        "trigger",
+        "/r",
+        "t",
+        "true",
+        b"\x03\0\0\0\x02/r\0\0\0\x01t\0\0\0\x01\0\0\0\x04true\0\0\0",
+    ),
+    ("trigger-del", "/r", "t", "", b"\x04\0\0\0\x02/r\0\0\0\x01t"),
+];
+
+// Whether the trigger has that name and that program, and nothing besides.
+fn is_trigger(trigger: &Trigger, name: &str, program: &str) -> bool {
+    let started = match trigger.command() {
+        [word] => word.as_str() == program,
+        _ => false,
+    };
+    let bare = trigger.expression().is_none() && !trigger.append_files();
+    let quiet = matches!(trigger.stdin(), Stdin::DevNull);
+    started && bare && quiet && trigger.name().as_str() == name
+}
+
+// Whether the command is that of the row.
+fn is_row(command: &Command, row: &Row) -> bool {
+    let (verb, path, name, program, _) = *row;
+    match command {
+        Command::Begin => verb == "begin",
+        Command::Watch(at) => verb == "watch" && at.as_str() == path,
+        Command::WatchDel(at) => verb == "watch-del" && at.as_str() == path,
+        Command::Trigger(at, trigger) => {
+            verb == "trigger" && at.as_str() == path && is_trigger(trigger, name, program)
+        }
+        Command::TriggerDel(at, other) => {
+            verb == "trigger-del" && at.as_str() == path && other.as_str() == name
+        }
+    }
+}
+
+// Whether the row's command is spelled so, and no cut of its spelling is one.
+fn is_put(alloc: Global, row: &Row) -> Result<bool, Refusal> {
+    let (verb, path, name, program, want) = *row;
+    let command = named(alloc, verb, path, name, program)?;
+    Ok(is_row(&command, row) && is_spelled(alloc, &command, want)?)
+}
+
+// Whether the row's command is taken from the bytes.
+fn is_taken(alloc: Global, row: &Row) -> Result<bool, Refusal> {
+    match taken::<Command>(alloc, row.4)? {
+        Some(command) => Ok(is_row(&command, row)),
+        None => Ok(false),
+    }
+}
+
+#[test]
+fn spells_commands(rt: HostRuntime) -> Result<(), Refusal> {
+    for row in SPELLINGS {
+        let put = is_put(rt.alloc(), row)?;
+        assert!(rt; put && is_taken(rt.alloc(), row)?, "{}", row.0);
+    }
+    Ok(())
+}
+
+/// Bytes that are no command's.
+pub(crate) const NO_COMMANDS: &[(&str, &[u8])] = &[
+    ("a tag of 5", b"\x05"),
+    ("a tag of 5, and a path", b"\x05\0\0\0\x02/r"),
+    ("a tag of 255", b"\xff\0\0\0\x02/r"),
+    ("an empty path", b"\x01\0\0\0\0"),
+    ("the path /", b"\x01\0\0\0\x01/"),
+    ("a path with a zero", b"\x01\0\0\0\x02/\0"),
+    ("a path that is no UTF-8", b"\x01\0\0\0\x02/\xff"),
+    ("a path of 1,025 bytes", b"\x01\0\0\x04\x01/"),
+    ("the path r, unwatched", b"\x02\0\0\0\x01r"),
+    (
+        "the path r, with a trigger",
+        b"\x03\0\0\0\x01r\0\0\0\x01t\0\0\0\x01\0\0\0\x04true\0\0\0",
+    ),
+    (
+        "the path r, of a trigger that goes",
+        b"\x04\0\0\0\x01r\0\0\0\x01t",
+    ),
+    (
+        "a trigger with no program",
+        b"\x03\0\0\0\x02/r\0\0\0\x01t\0\0\0\x01\0\0\0\0\0\0\0",
+    ),
+    ("a name with no bytes", b"\x04\0\0\0\x02/r\0\0\0\0"),
+];

@@ -1,0 +1,118 @@
+//! Commands as lines, and a registry as a line.
+use std::alloc::{AllocError, Global};
+use std::process::Abort;
+use wm_disk::Refusal;
+use wm_names::RootPath;
+use wm_registry::{Command, Registry, Reply, Root, Stdin, Trigger, TriggerName};
+
+/// The command of a verb, a path, a trigger's name and its program.
+pub(crate) fn named(
+    alloc: Global,
+    verb: &str,
+    path: &str,
+    name: &str,
+    program: &str,
+) -> Result<Command, Refusal> {
+    if verb == "begin" {
+        return Ok(Command::Begin);
+    }
+    let path = RootPath::read(alloc, path)?;
+    match verb {
+        "watch" => Ok(Command::Watch(path)),
+        "watch-del" => Ok(Command::WatchDel(path)),
+        "trigger" => {
+            let trigger = Trigger::new(alloc, name, &[program], None, false, Stdin::DevNull)?;
+            Ok(Command::Trigger(path, trigger))
+        }
+        _ => Ok(Command::TriggerDel(path, TriggerName::read(alloc, name)?)),
+    }
+}
+
+/// The command that a line of those words names.
+pub(crate) fn command(alloc: Global, line: &str) -> Result<Command, Refusal> {
+    let mut words = line.split(' ');
+    let verb = words.next().unwrap_or("");
+    let path = words.next().unwrap_or("");
+    let name = words.next().unwrap_or("");
+    named(alloc, verb, path, name, words.next().unwrap_or(""))
+}
+
+// Appends a trigger's name and its word, where it has one.
+fn show_trigger(line: &mut String, trigger: &Trigger) -> Result<(), AllocError> {
+    let name = trigger.name().as_str();
+    match trigger.command() {
+        [word] => write!(line, " {name}={}", word.as_str()),
+        _ => write!(line, " {name}"),
+    }
+}
+
+// Appends a root's path, its number and its triggers.
+fn show_root(line: &mut String, path: &RootPath, root: &Root) -> Result<(), AllocError> {
+    write!(line, "; {} {}", path.as_str(), root.number)?;
+    for trigger in root.triggers.as_slice() {
+        show_trigger(line, trigger)?;
+    }
+    Ok(())
+}
+
+// The incarnation and the next root number, and each root's path, number and triggers.
+fn shown(alloc: Global, registry: &Registry) -> Result<String, AllocError> {
+    let (incarnation, next) = (registry.incarnation(), registry.next_root());
+    let mut line = format!(in alloc; "{incarnation} {next}")?;
+    for (path, root) in registry.roots().iter() {
+        show_root(&mut line, path, root)?;
+    }
+    Ok(line)
+}
+
+/// Whether the registry is that.
+pub(crate) fn is_shown(
+    alloc: Global,
+    registry: &Registry,
+    state: &str,
+) -> Result<bool, AllocError> {
+    let line = shown(alloc, registry)?;
+    Ok(line.as_str() == state)
+}
+
+/// How the command of a line is met, where it is applied.
+pub(crate) fn applied(
+    alloc: Global,
+    registry: &mut Registry,
+    line: &str,
+) -> Result<Reply, Refusal> {
+    let command = command(alloc, line)?;
+    Ok(registry.apply(alloc, &command))
+}
+
+/// How the command of a line would be met.
+pub(crate) fn asked(alloc: Global, registry: &Registry, line: &str) -> Result<Reply, Refusal> {
+    let command = command(alloc, line)?;
+    Ok(registry.reply_to(&command))
+}
+
+/// Asserts that the commands are met so, one after another.
+pub(crate) fn apply_all(
+    rt: &impl Abort,
+    alloc: Global,
+    registry: &mut Registry,
+    rows: &[(&str, Reply)],
+) -> Result<(), Refusal> {
+    for (line, reply) in rows {
+        assert!(rt; applied(alloc, registry, line)? == *reply, "{line}");
+    }
+    Ok(())
+}
+
+/// Asserts that the commands would be met so, each by the registry as it is.
+pub(crate) fn ask_all(
+    rt: &impl Abort,
+    alloc: Global,
+    registry: &Registry,
+    rows: &[(&str, Reply)],
+) -> Result<(), Refusal> {
+    for (line, reply) in rows {
+        assert!(rt; asked(alloc, registry, line)? == *reply, "{line}");
+    }
+    Ok(())
+}

@@ -1,0 +1,181 @@
+//! Registries under commands, each with what it leaves, and their copies.
+use crate::lines::{applied, is_shown};
+use crate::roots::{PLACES, TRIGGERS, TWO, TWO_LEFT};
+use std::alloc::Global;
+use std::process::Abort;
+use wm_checkpoint::Machine;
+use wm_disk::{NoMemory, Refusal};
+use wm_registry::{Command, Registry, Reply};
+use wm_wire::Wire;
+
+/// A command, how it is met, and what it leaves.
+pub(crate) type Row = (&'static str, Reply, &'static str);
+
+/// How a command of a root that isn't there is met.
+const UNKNOWN: Reply = Reply::Refused(Refusal::NotWatched);
+
+// Whether the bytes are all of the spelling of that registry.
+fn are_bytes_of(alloc: Global, bytes: &[u8], state: &str) -> Result<bool, Refusal> {
+    match Registry::take(alloc, bytes)? {
+        Some((registry, size)) => Ok(size == bytes.len() && is_shown(alloc, &registry, state)?),
+        None => Ok(false),
+    }
+}
+
+// Whether the registry is taken back from its spelling, which has the size that it says.
+fn is_taken_back(alloc: Global, registry: &Registry, state: &str) -> Result<bool, Refusal> {
+    let mut out = Vec::new(alloc);
+    registry.put(&mut out)?;
+    Ok(registry.size() == out.len() as u64 && are_bytes_of(alloc, &out, state)?)
+}
+
+// Whether the command is met so, and leaves that.
+fn is_met(alloc: Global, registry: &mut Registry, row: &Row) -> Result<bool, Refusal> {
+    let (line, reply, state) = *row;
+    let met = applied(alloc, registry, line)? == reply;
+    Ok(met && is_shown(alloc, registry, state)? && is_taken_back(alloc, registry, state)?)
+}
+
+// Asserts that the commands are met so, one after another, and leave that.
+fn walk(
+    rt: &impl Abort,
+    alloc: Global,
+    registry: &mut Registry,
+    rows: &[Row],
+) -> Result<(), Refusal> {
+    for row in rows {
+        assert!(rt; is_met(alloc, registry, row)?, "{} to {}", row.0, row.2);
+    }
+    Ok(())
+}
+
+// Whether the command is met so by a copy of the registry, which has its size, and leaves that.
+fn is_met_by_copy(alloc: Global, registry: &Registry, row: &Row) -> Result<bool, Refusal> {
+    let mut copy = registry.copy(alloc)?;
+    Ok(copy.size() == registry.size() && is_met(alloc, &mut copy, row)?)
+}
+
+// Asserts that each of the commands is met so by a copy of the registry, and leaves that.
+fn try_each(
+    rt: &impl Abort,
+    alloc: Global,
+    registry: &Registry,
+    rows: &[Row],
+) -> Result<(), Refusal> {
+    for row in rows {
+        assert!(rt;
+            is_met_by_copy(alloc, registry, row)?,
+            "{} to {}",
+            row.0,
+            row.2
+        );
+    }
+    Ok(())
+}
+
+/// Commands of each kind, which change the registry, change nothing and are refused.
+const COMMANDS: &[Row] = &[
+    ("watch /r", Reply::Changed, "0 2; /r 1"),
+    ("watch /r", Reply::Unchanged, "0 2; /r 1"),
+    ("begin", Reply::Changed, "1 2; /r 1"),
+    ("watch /a", Reply::Changed, "1 3; /r 1; /a 2"),
+    ("trigger /r js x", Reply::Changed, "1 3; /r 1 js=x; /a 2"),
+    ("trigger /r c x", Reply::Changed, "1 3; /r 1 js=x c=x; /a 2"),
+    (
+        "trigger /r js x",
+        Reply::Unchanged,
+        "1 3; /r 1 js=x c=x; /a 2",
+    ),
+    (
+        "trigger /r js y",
+        Reply::Replaced,
+        "1 3; /r 1 js=y c=x; /a 2",
+    ),
+    ("trigger /R js y", UNKNOWN, "1 3; /r 1 js=y c=x; /a 2"),
+    (
+        "trigger-del /r d",
+        Reply::Unchanged,
+        "1 3; /r 1 js=y c=x; /a 2",
+    ),
+    ("trigger-del /R js", UNKNOWN, "1 3; /r 1 js=y c=x; /a 2"),
+    ("trigger-del /r js", Reply::Changed, "1 3; /r 1 c=x; /a 2"),
+    (
+        "trigger /a js z",
+        Reply::Changed,
+        "1 3; /r 1 c=x; /a 2 js=z",
+    ),
+    ("watch-del /b", UNKNOWN, "1 3; /r 1 c=x; /a 2 js=z"),
+    ("watch-del /r", Reply::Changed, "1 3; /a 2 js=z"),
+    ("trigger /r c x", UNKNOWN, "1 3; /a 2 js=z"),
+    ("watch /r", Reply::Changed, "1 4; /a 2 js=z; /r 3"),
+    ("begin", Reply::Changed, "2 4; /a 2 js=z; /r 3"),
+];
+
+/// A root that is watched again.
+const AGAIN: &[Row] = &[
+    ("watch /r", Reply::Changed, "0 2; /r 1"),
+    ("watch-del /r", Reply::Changed, "0 2"),
+    ("watch /r", Reply::Changed, "0 3; /r 2"),
+];
+
+/// Commands that a new registry is told, one after another.
+const WALKS: &[&[Row]] = &[COMMANDS, AGAIN, TRIGGERS];
+
+#[test]
+fn applies_commands(rt: HostRuntime) -> Result<(), Refusal> {
+    for rows in WALKS {
+        let mut registry = Registry::new(rt.alloc());
+        walk(&rt, rt.alloc(), &mut registry, rows)?;
+    }
+    Ok(())
+}
+
+/// What is copied.
+const COPIED: &[Row] = &[
+    ("begin", Reply::Changed, "1 1"),
+    ("watch /r", Reply::Changed, "1 2; /r 1"),
+    ("watch /a/b", Reply::Changed, "1 3; /r 1; /a/b 2"),
+    ("trigger /r js x", Reply::Changed, "1 3; /r 1 js=x; /a/b 2"),
+];
+
+/// What copies are told, and what is left of each: the first shows what was copied.
+const COPIES: &[Row] = &[
+    ("watch /r", Reply::Unchanged, "1 3; /r 1 js=x; /a/b 2"),
+    ("watch-del /r", Reply::Changed, "1 3; /a/b 2"),
+];
+
+/// What is left of the registry that was copied.
+const LEFT: &[Row] = &[("watch /r", Reply::Unchanged, "1 3; /r 1 js=x; /a/b 2")];
+
+/// What a new registry is told, then copies of it, and then the registry again.
+const TRIES: &[(&[Row], &[Row], &[Row])] = &[(COPIED, COPIES, LEFT), (TWO, PLACES, TWO_LEFT)];
+
+#[test]
+fn copies_registries(rt: HostRuntime) -> Result<(), Refusal> {
+    for (first, copies, left) in TRIES {
+        let mut registry = Registry::new(rt.alloc());
+        walk(&rt, rt.alloc(), &mut registry, first)?;
+        try_each(&rt, rt.alloc(), &registry, copies)?;
+        walk(&rt, rt.alloc(), &mut registry, left)?;
+    }
+    Ok(())
+}
+
+// The incarnation of a copy of the state.
+fn copied(alloc: Global, state: &Registry) -> Result<u64, NoMemory> {
+    let copy = <Registry as Machine>::copy(alloc, state)?;
+    Ok(copy.incarnation())
+}
+
+// Whether a new state is changed by a start, and a copy has the first incarnation then.
+fn begins(alloc: Global) -> Result<bool, NoMemory> {
+    let mut state = Registry::new(alloc);
+    let met = <Registry as Machine>::apply(alloc, &mut state, &Command::Begin)?;
+    Ok(met.0 == Reply::Changed && met.1 && copied(alloc, &state)? == 1)
+}
+
+#[test]
+fn copies_a_state(rt: HostRuntime) -> Result<(), NoMemory> {
+    assert!(rt; begins(rt.alloc())?);
+    Ok(())
+}

@@ -1,0 +1,229 @@
+//! Where a registry has no room: counters that are spent, and a root, a trigger or a byte too many.
+use crate::lines::{applied, apply_all, ask_all, asked};
+use std::alloc::{AllocError, Global};
+use std::process::Abort;
+use wm_disk::{NoMemory, Refusal};
+use wm_names::RootPath;
+use wm_registry::{Command, Registry, Reply, Stdin, Trigger};
+use wm_wire::Wire;
+
+/// The last value of a counter.
+const LAST: u64 = 0x7fff_ffff_ffff_ffff;
+
+/// The value before it.
+const BEFORE: u64 = 0x7fff_ffff_ffff_fffe;
+
+/// How a command is met for which a counter is spent.
+const EXHAUSTED: Reply = Reply::Refused(Refusal::Exhausted);
+
+/// How a command is met for which the state has no room.
+const FULL: Reply = Reply::Refused(Refusal::Full);
+
+/// How a command is met where as many are there as may be.
+const TOO_MANY: Reply = Reply::Refused(Refusal::TooMany);
+
+/// An incarnation and a next root number, and how a start and a watch are met there.
+const COUNTERS: &[(u64, u64, Reply, Reply)] = &[
+    (LAST, LAST, EXHAUSTED, EXHAUSTED),
+    (BEFORE, LAST, Reply::Changed, EXHAUSTED),
+    (LAST, BEFORE, EXHAUSTED, Reply::Changed),
+];
+
+// The bytes of a state with those counters and no roots.
+fn counters(alloc: Global, incarnation: u64, next: u64) -> Result<Vec<u8>, NoMemory> {
+    let mut bytes = Vec::new(alloc);
+    incarnation.put(&mut bytes)?;
+    next.put(&mut bytes)?;
+    0u32.put(&mut bytes)?;
+    Ok(bytes)
+}
+
+// Whether a start and a watch are met so.
+fn are_met(
+    alloc: Global,
+    registry: &Registry,
+    begin: Reply,
+    watch: Reply,
+) -> Result<bool, Refusal> {
+    let begins = asked(alloc, registry, "begin")? == begin;
+    Ok(begins && asked(alloc, registry, "watch /r")? == watch)
+}
+
+// Whether the registry that the bytes begin with meets them so.
+fn meets(alloc: Global, bytes: &[u8], begin: Reply, watch: Reply) -> Result<bool, Refusal> {
+    match Registry::take(alloc, bytes)? {
+        Some((registry, _)) => are_met(alloc, &registry, begin, watch),
+        None => Ok(false),
+    }
+}
+
+#[test]
+fn refuses_a_spent_counter(rt: HostRuntime) -> Result<(), Refusal> {
+    for (incarnation, next, begin, watch) in COUNTERS {
+        let bytes = counters(rt.alloc(), *incarnation, *next)?;
+        assert!(rt;
+            meets(rt.alloc(), &bytes, *begin, *watch)?,
+            "{incarnation} {next}"
+        );
+    }
+    Ok(())
+}
+
+// Asserts that a line for each number below the count, which stands between the two texts, changes the
+// registry.
+fn fill(
+    rt: &impl Abort,
+    alloc: Global,
+    registry: &mut Registry,
+    (before, after): (&str, &str),
+    count: u32,
+) -> Result<(), Refusal> {
+    for number in 0..count {
+        let line = format!(in alloc; "{before}{number}{after}")?;
+        assert!(rt;
+            applied(alloc, registry, &line)? == Reply::Changed,
+            "{line}"
+        );
+    }
+    Ok(())
+}
+
+/// How roots are met behind 256 of them.
+const ROOTS: &[(&str, Reply)] = &[
+    ("watch /256", TOO_MANY),
+    ("watch /255", Reply::Unchanged),
+    ("watch-del /0", Reply::Changed),
+    ("watch /256", Reply::Changed),
+];
+
+// The place of the first root whose number isn't that of the place, counted from 2.
+fn misplaced(registry: &Registry) -> Option<usize> {
+    registry
+        .roots()
+        .values()
+        .zip(2u64..)
+        .position(|(root, number)| root.number != number)
+}
+
+#[test]
+fn refuses_one_root_too_many(rt: HostRuntime) -> Result<(), Refusal> {
+    let mut registry = Registry::new(rt.alloc());
+    fill(&rt, rt.alloc(), &mut registry, ("watch /", ""), 256)?;
+    apply_all(&rt, rt.alloc(), &mut registry, ROOTS)?;
+    let misplaced = misplaced(&registry);
+    assert!(rt;
+        registry.roots().len() == 256 && misplaced.is_none(),
+        "{misplaced:?}"
+    );
+    Ok(())
+}
+
+/// The root that the triggers are of.
+const ROOT: &[(&str, Reply)] = &[("watch /r", Reply::Changed)];
+
+/// How triggers are met beside 64 of them.
+const TRIGGERS: &[(&str, Reply)] = &[
+    ("trigger /r 64 x", TOO_MANY),
+    ("trigger /r 63 x", Reply::Unchanged),
+    ("trigger /r 63 y", Reply::Replaced),
+    ("trigger-del /r 64", Reply::Unchanged),
+    ("trigger-del /r 63", Reply::Changed),
+];
+
+#[test]
+fn refuses_one_trigger_too_many(rt: HostRuntime) -> Result<(), Refusal> {
+    let mut registry = Registry::new(rt.alloc());
+    apply_all(&rt, rt.alloc(), &mut registry, ROOT)?;
+    fill(&rt, rt.alloc(), &mut registry, ("trigger /r ", " x"), 64)?;
+    ask_all(&rt, rt.alloc(), &registry, TRIGGERS)
+}
+
+// So many bytes.
+fn word(alloc: Global, length: u32) -> Result<String, AllocError> {
+    let mut word = String::new(alloc);
+    for _ in 0..length {
+        word.push('w')?;
+    }
+    Ok(word)
+}
+
+// What defines a trigger of /r with this name and these words.
+fn trigger(alloc: Global, name: &str, words: &[&str]) -> Result<Command, Refusal> {
+    let path = RootPath::read(alloc, "/r")?;
+    let trigger = Trigger::new(alloc, name, words, None, false, Stdin::DevNull)?;
+    Ok(Command::Trigger(path, trigger))
+}
+
+// What defines the trigger of /r that is the sixty-fourth: eleven long words and a last one.
+fn last_trigger(alloc: Global, long: &str, last: &str) -> Result<Command, Refusal> {
+    let words = [
+        long, long, long, long, long, long, long, long, long, long, long, last,
+    ];
+    trigger(alloc, "63", &words)
+}
+
+// Defines a trigger of as many words as there may be, each of as many bytes as it may have.
+fn define(alloc: Global, registry: &mut Registry, i: u32, long: &str) -> Result<Reply, Refusal> {
+    let name = format!(in alloc; "{i:02}")?;
+    let command = trigger(alloc, name.as_str(), &[long; 16])?;
+    Ok(registry.apply(alloc, &command))
+}
+
+// Watches the root /r and defines 63 such triggers.
+fn almost_fill(alloc: Global, registry: &mut Registry, long: &str) -> Result<(), Refusal> {
+    applied(alloc, registry, "watch /r")?;
+    for i in 0..63u32 {
+        if define(alloc, registry, i, long)? != Reply::Changed {
+            return Err(Refusal::Damaged);
+        }
+    }
+    Ok(())
+}
+
+// How the registry meets the sixty-fourth trigger with a last word of so many bytes.
+fn met(alloc: Global, registry: &mut Registry, long: &str, length: u32) -> Result<Reply, Refusal> {
+    let last = word(alloc, length)?;
+    let command = last_trigger(alloc, long, last.as_str())?;
+    Ok(registry.apply(alloc, &command))
+}
+
+/// The bytes of the last word, how the trigger is met, and how many bytes the spelling has then.
+const BYTES: &[(u32, Reply, u64)] = &[
+    (158, FULL, 1_037_081),
+    (157, Reply::Changed, 1_048_563),
+    (158, FULL, 1_048_563),
+    (157, Reply::Unchanged, 1_048_563),
+    (156, Reply::Replaced, 1_048_562),
+    (157, Reply::Replaced, 1_048_563),
+];
+
+/// What a full registry is told.
+const ROOM: &[(&str, Reply)] = &[
+    ("watch /s", FULL),
+    ("trigger /r 00 x", Reply::Replaced),
+    ("watch /s", Reply::Changed),
+];
+
+// Asserts that the last triggers are met so, one after another, and that a root finds room once a trigger
+// is shorter.
+fn refuse(
+    rt: &impl Abort,
+    alloc: Global,
+    registry: &mut Registry,
+    long: &str,
+) -> Result<(), Refusal> {
+    for (length, reply, size) in BYTES {
+        let found = met(alloc, registry, long, *length)? == *reply;
+        let bytes = registry.size();
+        assert!(rt; found && bytes == *size, "{length}: {bytes} bytes");
+    }
+    apply_all(rt, alloc, registry, ROOM)
+}
+
+#[test]
+fn refuses_a_byte_too_many(rt: HostRuntime) -> Result<(), Refusal> {
+    let long = word(rt.alloc(), 1024)?;
+    let mut registry = Registry::new(rt.alloc());
+    almost_fill(rt.alloc(), &mut registry, long.as_str())?;
+    refuse(&rt, rt.alloc(), &mut registry, long.as_str())
+}

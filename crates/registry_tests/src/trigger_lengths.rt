@@ -1,0 +1,135 @@
+//! The lengths that a trigger's parts may have, where it is made and where it is taken from bytes.
+use crate::names::long;
+use crate::plans::{Plan, made};
+use std::alloc::Global;
+use wm_disk::{NoMemory, Refusal};
+use wm_registry::{Stdin, Trigger};
+use wm_wire::Wire;
+
+// The lengths of a name, of so many words, the first of them and each later one, and of an expression.
+#[derive(Clone, Copy)]
+struct Lengths {
+    name: usize,
+    words: usize,
+    first: usize,
+    later: usize,
+    expression: Option<usize>,
+}
+
+impl Lengths {
+    fn word(self, index: usize) -> usize {
+        if index == 0 { self.first } else { self.later }
+    }
+}
+
+/// What is tried of a trigger of these lengths: the name's, how many words there are, that of the first
+/// and of each later one, the expression's, and whether it is one.
+const LENGTHS: &[(&str, usize, usize, usize, usize, Option<usize>, bool)] = &[
+    ("the least", 1, 1, 1, 0, None, true),
+    ("the longest", 64, 16, 1024, 1024, Some(4096), true),
+    ("empty words and expression", 1, 3, 1, 0, Some(0), true),
+    ("no name", 0, 1, 1, 0, None, false),
+    ("a long name", 65, 1, 1, 0, None, false),
+    ("no words", 1, 0, 1, 0, None, false),
+    ("17 words", 1, 17, 1, 1, None, false),
+    ("an empty program", 1, 1, 0, 0, None, false),
+    ("an empty program and a word", 1, 2, 0, 1, None, false),
+    ("a long program", 1, 1, 1025, 0, None, false),
+    ("a long word", 1, 2, 1, 1025, None, false),
+    ("a long expression", 1, 1, 1, 0, Some(4097), false),
+];
+
+// The text's first bytes.
+fn front(text: &str, len: usize) -> &str {
+    text.get(..len).unwrap_or("")
+}
+
+// Whether a trigger of such lengths is accepted. The text has the bytes of each part.
+fn is_accepted(alloc: Global, text: &str, lengths: Lengths) -> Result<bool, Refusal> {
+    let mut words = Vec::new(alloc);
+    for index in 0..lengths.words {
+        words.push(front(text, lengths.word(index)))?;
+    }
+    let expression = match lengths.expression {
+        Some(len) => Some(front(text, len)),
+        None => None,
+    };
+    let plan = Plan {
+        name: front(text, lengths.name),
+        command: &words,
+        expression,
+        append_files: true,
+        stdin: Stdin::DevNull,
+    };
+    match made(alloc, plan) {
+        Ok(_) => Ok(true),
+        Err(Refusal::BadTrigger) => Ok(false),
+        Err(refusal) => Err(refusal),
+    }
+}
+
+// Appends a number in four bytes.
+fn put_number(number: usize, out: &mut Vec<u8>) -> Result<(), NoMemory> {
+    for byte in [0, 0, number / 256, number] {
+        out.push((byte % 256) as u8)?;
+    }
+    Ok(())
+}
+
+// Appends a text of so many bytes.
+fn put_long(len: usize, out: &mut Vec<u8>) -> Result<(), NoMemory> {
+    put_number(len, out)?;
+    for _ in 0..len {
+        out.push(b'a')?;
+    }
+    Ok(())
+}
+
+// Appends an expression of so many bytes, where there is one.
+fn put_expression(len: Option<usize>, out: &mut Vec<u8>) -> Result<(), NoMemory> {
+    match len {
+        Some(len) => {
+            out.push(1)?;
+            put_long(len, out)
+        }
+        None => Ok(out.push(0)?),
+    }
+}
+
+// The bytes of a trigger of such lengths.
+fn spelled(alloc: Global, lengths: Lengths) -> Result<Vec<u8>, NoMemory> {
+    let mut out = Vec::new(alloc);
+    put_long(lengths.name, &mut out)?;
+    put_number(lengths.words, &mut out)?;
+    for index in 0..lengths.words {
+        put_long(lengths.word(index), &mut out)?;
+    }
+    put_expression(lengths.expression, &mut out)?;
+    out.push(1)?;
+    out.push(0)?;
+    Ok(out)
+}
+
+// Whether a trigger of such lengths is accepted, and taken, where it is to be.
+fn is_right(alloc: Global, text: &str, lengths: Lengths, want: bool) -> Result<bool, Refusal> {
+    let accepted = is_accepted(alloc, text, lengths)?;
+    let bytes = spelled(alloc, lengths)?;
+    let taken = Trigger::take(alloc, &bytes)?.is_some();
+    Ok(accepted == want && taken == want)
+}
+
+#[test]
+fn keeps_the_rules(rt: HostRuntime) -> Result<(), Refusal> {
+    let text = long(rt.alloc(), 4097)?;
+    for (why, name, words, first, later, expression, want) in LENGTHS {
+        let lengths = Lengths {
+            name: *name,
+            words: *words,
+            first: *first,
+            later: *later,
+            expression: *expression,
+        };
+        assert!(rt; is_right(rt.alloc(), &text, lengths, *want)?, "{why}");
+    }
+    Ok(())
+}

@@ -1,0 +1,159 @@
+//! The spellings of triggers, and triggers that are and aren't defined in the same way.
+use crate::lines::applied;
+use crate::plans::{LEAST, MORE, Plan, definition, is_of, made};
+use crate::spelling::{is_spelled, taken};
+use std::alloc::Global;
+use wm_disk::{NoMemory, Refusal};
+use wm_registry::{Registry, Reply, Stdin, Trigger};
+
+/// Triggers, each with its spelling.
+const SPELLINGS: &[(Plan<'static>, &[u8])] = &[
+    (LEAST, b"\0\0\0\x01t\0\0\0\x01\0\0\0\x04true\0\0\0"),
+    (
+        MORE,
+        b"\0\0\0\x02\xc3\xa9\0\0\0\x03\0\0\0\x04make\0\0\0\0\0\0\0\x04-j 4\x01\0\0\0\x02[]\x01\x01",
+    ),
+];
+
+// Whether a copy of the trigger is of the plan.
+fn is_copied(alloc: Global, trigger: &Trigger, plan: Plan<'_>) -> Result<bool, Refusal> {
+    let copy = trigger.copy(alloc)?;
+    Ok(is_of(&copy, plan))
+}
+
+// Whether the trigger and a copy of it are of the plan, and it is spelled so, and no cut of that is a
+// spelling.
+fn is_put(alloc: Global, plan: Plan<'_>, want: &[u8]) -> Result<bool, Refusal> {
+    let trigger = made(alloc, plan)?;
+    let shown = is_of(&trigger, plan) && is_copied(alloc, &trigger, plan)?;
+    Ok(shown && is_spelled(alloc, &trigger, want)?)
+}
+
+// Whether a trigger of the plan is taken from the bytes.
+fn is_taken(alloc: Global, plan: Plan<'_>, bytes: &[u8]) -> Result<bool, Refusal> {
+    match taken::<Trigger>(alloc, bytes)? {
+        Some(trigger) => Ok(is_of(&trigger, plan)),
+        None => Ok(false),
+    }
+}
+
+#[test]
+fn spells_triggers(rt: HostRuntime) -> Result<(), Refusal> {
+    for (plan, want) in SPELLINGS {
+        let put = is_put(rt.alloc(), *plan, want)?;
+        assert!(rt; put && is_taken(rt.alloc(), *plan, want)?, "{}", plan.name);
+    }
+    Ok(())
+}
+
+/// Bytes that are no trigger's.
+pub(crate) const NO_TRIGGERS: &[(&str, &[u8])] = &[
+    (
+        "an option byte of 2",
+        b"\0\0\0\x01t\0\0\0\x01\0\0\0\x04true\x02\0\0",
+    ),
+    (
+        "a truth byte of 2",
+        b"\0\0\0\x01t\0\0\0\x01\0\0\0\x04true\0\x02\0",
+    ),
+    (
+        "a byte for the standard input of 2",
+        b"\0\0\0\x01t\0\0\0\x01\0\0\0\x04true\0\0\x02",
+    ),
+    (
+        "a name that is no UTF-8",
+        b"\0\0\0\x01\xff\0\0\0\x01\0\0\0\x04true\0\0\0",
+    ),
+    (
+        "a word that is no UTF-8",
+        b"\0\0\0\x01t\0\0\0\x01\0\0\0\x01\xff\0\0\0",
+    ),
+    (
+        "an expression that is no UTF-8",
+        b"\0\0\0\x01t\0\0\0\x01\0\0\0\x01a\x01\0\0\0\x01\xff\0\0",
+    ),
+];
+
+/// The trigger that the others are compared with.
+const PLAN: Plan<'static> = Plan {
+    name: "t",
+    command: &["a", "b"],
+    expression: None,
+    append_files: false,
+    stdin: Stdin::DevNull,
+};
+
+/// Triggers, and how each is met where the first is there, and the first where it is there.
+const MEETINGS: &[(&str, Plan<'static>, Reply)] = &[
+    ("the same", PLAN, Reply::Unchanged),
+    ("another name", Plan { name: "u", ..PLAN }, Reply::Changed),
+    (
+        "a word less",
+        Plan {
+            command: &["a"],
+            ..PLAN
+        },
+        Reply::Replaced,
+    ),
+    (
+        "another word",
+        Plan {
+            command: &["a", "c"],
+            ..PLAN
+        },
+        Reply::Replaced,
+    ),
+    (
+        "an empty expression",
+        Plan {
+            expression: Some(""),
+            ..PLAN
+        },
+        Reply::Replaced,
+    ),
+    (
+        "the names of the files",
+        Plan {
+            append_files: true,
+            ..PLAN
+        },
+        Reply::Replaced,
+    ),
+    (
+        "another standard input",
+        Plan {
+            stdin: Stdin::NamePerLine,
+            ..PLAN
+        },
+        Reply::Replaced,
+    ),
+];
+
+// How the trigger is met, where it is applied.
+fn tell(alloc: Global, registry: &mut Registry, plan: Plan<'_>) -> Result<Reply, Refusal> {
+    let definition = definition(alloc, plan)?;
+    Ok(registry.apply(alloc, &definition))
+}
+
+// How the trigger would be met.
+fn ask(alloc: Global, registry: &Registry, plan: Plan<'_>) -> Result<Reply, Refusal> {
+    let definition = definition(alloc, plan)?;
+    Ok(registry.reply_to(&definition))
+}
+
+// How the second trigger is met where the first is there.
+fn met(alloc: Global, first: Plan<'_>, second: Plan<'_>) -> Result<Reply, Refusal> {
+    let mut registry = Registry::new(alloc);
+    applied(alloc, &mut registry, "watch /r")?;
+    tell(alloc, &mut registry, first)?;
+    ask(alloc, &registry, second)
+}
+
+#[test]
+fn tells_triggers_apart(rt: HostRuntime) -> Result<(), Refusal> {
+    for (why, plan, reply) in MEETINGS {
+        let forth = met(rt.alloc(), PLAN, *plan)? == *reply;
+        assert!(rt; forth && met(rt.alloc(), *plan, PLAN)? == *reply, "{why}");
+    }
+    Ok(())
+}

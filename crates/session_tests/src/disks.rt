@@ -1,0 +1,51 @@
+//! Disks in memory with the files on which sessions run.
+use crate::ends::end_of;
+use std::alloc::Global;
+use std::test::Fail;
+use wm_disk::{Crashed, Disk, MemDisk};
+
+/// Where the journal of a new file lies, which is that of its first slot.
+const JOURNAL: usize = 1_052_672;
+
+/// So many bytes of the journal of a file that has had no checkpoint.
+pub(crate) fn journal(content: &[u8], len: usize) -> &[u8] {
+    let (_, journal) = content
+        .split_at_checked(JOURNAL)
+        .unwrap_or((content, content));
+    let (used, _) = journal.split_at_checked(len).unwrap_or((journal, journal));
+    used
+}
+
+/// A disk with a new file.
+pub(crate) fn new_file(alloc: Global) -> Result<MemDisk, Fail> {
+    let mut disk = MemDisk::new(alloc, 0);
+    wm_store::format(alloc, &mut disk)?;
+    Ok(disk)
+}
+
+/// A disk with a new file, after sessions with these lines.
+pub(crate) fn file_after(alloc: Global, sessions: &[&str]) -> Result<MemDisk, Fail> {
+    let mut disk = new_file(alloc)?;
+    for input in sessions {
+        let end = end_of(alloc, disk, &mut input.as_bytes())?;
+        disk = disk_of(alloc, &end.content)?;
+    }
+    Ok(disk)
+}
+
+/// A disk that holds these bytes.
+pub(crate) fn disk_of(alloc: Global, content: &[u8]) -> Result<MemDisk, Fail> {
+    let mut disk = MemDisk::new(alloc, 0);
+    disk.write_at(0, content)?;
+    disk.sync()?;
+    Ok(disk)
+}
+
+/// What a disk holds, also one whose calls fail.
+pub(crate) fn content_of(alloc: Global, disk: MemDisk) -> Result<Vec<u8>, Fail> {
+    let mut disk = disk.stop();
+    let len = disk.len()? as usize;
+    let mut content = vec![in alloc; 0u8; len]?;
+    disk.read_at(0, &mut content)?;
+    Ok(content)
+}

@@ -1,0 +1,134 @@
+//! How sessions end: their replies, what they tell of faults, and what they leave in their files.
+use crate::disks::{content_of, file_after, journal};
+use std::alloc::{AllocError, Global};
+use std::io::BufRead;
+use std::process::Abort;
+use std::test::Fail;
+use wm_disk::MemDisk;
+use wm_server::lines::lines_on;
+
+/// A line and its reply.
+pub(crate) type Row<'a> = (&'a str, &'a str);
+
+/// The journal after a first start without an accepted command.
+pub(crate) const BEGUN: &[u8] = b"\xa5\x00\x00";
+
+/// How each journal begins after a start and an accepted command.
+pub(crate) const ACCEPTED: &[u8] = b"\xa5\x00\xa5\x01";
+
+/// How the journal begins after a start and a watch of `/r`.
+pub(crate) const WATCHES_R: &[u8] = b"\xa5\x00\xa5\x01\x00\x00\x00\x02/r\x00";
+
+/// How a session ended: its status, its replies and what it told of faults as texts, and what the disk
+/// holds.
+#[derive(Drop)]
+pub(crate) struct End {
+    pub(crate) status: u8,
+    pub(crate) output: String,
+    pub(crate) faults: String,
+    pub(crate) content: Vec<u8>,
+}
+
+pub(crate) fn end_of<R: BufRead>(
+    alloc: Global,
+    disk: MemDisk,
+    reader: &mut R,
+) -> Result<End, Fail> {
+    let mut output = Vec::new(alloc);
+    let mut faults = Vec::new(alloc);
+    let (status, disk) = lines_on(alloc, disk, reader, &mut output, &mut faults);
+    Ok(End {
+        status,
+        output: String::from_utf8(output)?,
+        faults: String::from_utf8(faults)?,
+        content: content_of(alloc, disk)?,
+    })
+}
+
+/// How a session must end: its status, its replies, what it tells of faults, and how the journal begins.
+pub(crate) type Wanted<'a> = (u8, &'a str, &'a str, &'a [u8]);
+
+pub(crate) fn assert_ends(rt: &impl Abort, end: &End, wanted: Wanted<'_>, about: &str) {
+    let (status, output, faults, used) = wanted;
+    let is_output = end.output.as_str() == output;
+    let is_rest = end.faults.as_str() == faults && end.status == status;
+    let is_journal = journal(&end.content, used.len()) == used;
+    assert!(rt;
+        is_output && is_rest && is_journal,
+        "{about}: {} {} {}",
+        end.status,
+        end.faults,
+        end.output
+    );
+}
+
+/// The lines of a session, and their replies.
+pub(crate) fn texts(alloc: Global, tables: &[&[Row<'_>]]) -> Result<(String, String), AllocError> {
+    let mut input = String::new(alloc);
+    let mut output = String::new(alloc);
+    for rows in tables {
+        for (line, reply) in *rows {
+            put_row(line, reply, &mut input, &mut output)?;
+        }
+    }
+    Ok((input, output))
+}
+
+/// A line more, and its reply.
+pub(crate) fn put_row(
+    line: &str,
+    reply: &str,
+    input: &mut String,
+    output: &mut String,
+) -> Result<(), AllocError> {
+    input.push_str(line)?;
+    input.push('\n')?;
+    output.push_str(reply)?;
+    output.push('\n')
+}
+
+/// A session over a disk with these lines, which must end so.
+pub(crate) fn assert_serves(
+    rt: &impl Abort,
+    alloc: Global,
+    disk: MemDisk,
+    input: &[u8],
+    wanted: Wanted<'_>,
+    about: &str,
+) -> Result<(), Fail> {
+    let mut reader = input;
+    let end = end_of(alloc, disk, &mut reader)?;
+    assert_ends(rt, &end, wanted, about);
+    Ok(())
+}
+
+/// A session over a disk with the rows of these tables, one after the other.
+pub(crate) fn assert_rows(
+    rt: &impl Abort,
+    alloc: Global,
+    disk: MemDisk,
+    tables: &[&[Row<'_>]],
+    used: &[u8],
+    about: &str,
+) -> Result<(), Fail> {
+    let (input, output) = texts(alloc, tables)?;
+    let wanted = (0, output.as_str(), "", used);
+    assert_serves(rt, alloc, disk, input.as_bytes(), wanted, about)
+}
+
+/// A session: what it shows, the lines of the sessions before it, its tables, and how the journal begins
+/// then.
+pub(crate) type Told<'a> = (&'a str, &'a [&'a str], &'a [&'a [Row<'a>]], &'a [u8]);
+
+/// Each session over a new file, or one that earlier sessions left.
+pub(crate) fn assert_sessions(
+    rt: &impl Abort,
+    alloc: Global,
+    sessions: &[Told<'_>],
+) -> Result<(), Fail> {
+    for (about, earlier, tables, used) in sessions {
+        let disk = file_after(alloc, earlier)?;
+        assert_rows(rt, alloc, disk, tables, used, about)?;
+    }
+    Ok(())
+}

@@ -1,0 +1,12 @@
+//! Sessions of lines, with their replies and the bytes in their files.
+mod expressions;
+mod failures;
+mod generated;
+mod limits;
+mod plain;
+mod queries;
+mod recrawls;
+mod refusals;
+mod triggers;
+mod views;
+mod watches;

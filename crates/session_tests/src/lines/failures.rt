@@ -1,0 +1,204 @@
+//! Damaged files, and devices, readers and writers that fail.
+use crate::disks::{content_of, disk_of, journal, new_file};
+use crate::ends::{End, assert_ends, end_of};
+use std::alloc::Global;
+use std::io;
+use std::io::{BufReader, ErrorKind, Read, Write};
+use std::process::Abort;
+use std::test::Fail;
+use wm_disk::{Crashed, MemDisk};
+use wm_server::lines::lines_on;
+
+/// Starts over a file, which must be refused and left as it was.
+fn assert_refused(
+    rt: &impl Abort,
+    alloc: Global,
+    content: &[u8],
+    refusal: &str,
+) -> Result<(), Fail> {
+    let mut reader = b"[\"version\"]\n".as_slice();
+    let end = end_of(alloc, disk_of(alloc, content)?, &mut reader)?;
+    let faults = format!(in alloc; "watchmand: {refusal}\n")?;
+    assert_ends(rt, &end, (1, "", &faults, b""), refusal);
+    assert!(rt;
+        end.content.as_slice() == content,
+        "a refused file was changed"
+    );
+    Ok(())
+}
+
+/// A new file with another byte at a place.
+fn changed_at(alloc: Global, place: usize) -> Result<Vec<u8>, Fail> {
+    let mut content = content_of(alloc, new_file(alloc)?)?;
+    if let Some(byte) = content.get_mut(place) {
+        *byte = 0xa5;
+    }
+    Ok(content)
+}
+
+/// Plain files of commands, and files that were never formatted.
+const OTHERS: &[&[u8]] = &[b"", b"\x00", b"\x00\x01\x00\x00\x00\x02/r"];
+
+#[test]
+fn refuses_other_files(rt: HostRuntime) -> Result<(), Fail> {
+    let alloc = rt.alloc();
+    for content in OTHERS {
+        assert_refused(&rt, alloc, content, "14 Damaged")?;
+    }
+    let blank = vec![in alloc; 0u8; 2_625_536]?;
+    assert_refused(&rt, alloc, &blank, "14 Damaged")?;
+    // a header of another kind, and that of a retired file
+    assert_refused(&rt, alloc, &changed_at(alloc, 1)?, "14 Damaged")?;
+    assert_refused(&rt, alloc, &changed_at(alloc, 12)?, "20 Retired")
+}
+
+const DEVICE_FAILED: &str = "watchmand: 13 DeviceFailed\n";
+
+const STORE_FAILED: &str = "watchmand: 12 StoreFailed\n";
+
+/// The lines that each failing device gets: two watches and a list.
+const LINES: &str = "[\"watch\",\"/a\"]\n[\"watch\",\"/b\"]\n[\"watch-list\"]\n";
+
+/// The replies to them where no call fails.
+const ALL: &str =
+    "{\"version\":\"w1\",\"watch\":\"/a\"}\n{\"version\":\"w1\",\"watch\":\"/b\"}\n{\"roots\":[\"/a\",\"/b\"],\"version\":\"w1\"}\n";
+
+/// How the session ends, in order of the call that fails: its replies, what it tells of faults, whether
+/// its status is 0, and the roots that the next start may find.
+const OUTCOMES: &[(&str, &str, bool, &[&str])] = &[
+    // a call of the start
+    ("", DEVICE_FAILED, false, &["[]"]),
+    // one of the first watch
+    (
+        "{\"error\":\"13 DeviceFailed\",\"version\":\"w1\"}\n{\"error\":\"12 StoreFailed\",\"version\":\"w1\"}\n{\"roots\":[],\"version\":\"w1\"}\n",
+        STORE_FAILED,
+        false,
+        &["[]", "[\"/a\"]"],
+    ),
+    // one of the second
+    (
+        "{\"version\":\"w1\",\"watch\":\"/a\"}\n{\"error\":\"13 DeviceFailed\",\"version\":\"w1\"}\n{\"roots\":[\"/a\"],\"version\":\"w1\"}\n",
+        STORE_FAILED,
+        false,
+        &["[\"/a\"]", "[\"/a\",\"/b\"]"],
+    ),
+    // the last sync
+    (ALL, DEVICE_FAILED, false, &["[\"/a\",\"/b\"]"]),
+    // none
+    (ALL, "", true, &["[\"/a\",\"/b\"]"]),
+];
+
+/// The roots that a start over a content finds, as it lists them.
+fn roots_found(alloc: Global, content: &[u8]) -> Result<String, Fail> {
+    let mut reader = b"[\"watch-list\"]\n".as_slice();
+    let end = end_of(alloc, disk_of(alloc, content)?, &mut reader)?;
+    Ok(end.output)
+}
+
+fn holds_one_of(found: &str, lists: &[&str]) -> bool {
+    for list in lists {
+        if found.contains(*list) {
+            return true;
+        }
+    }
+    false
+}
+
+/// The place of the outcome that a session had, after which a start finds these roots.
+fn place_of(end: &End, found: &str) -> Option<usize> {
+    for (place, (output, faults, is_well, roots)) in OUTCOMES.iter().enumerate() {
+        let is_told = end.output.as_str() == *output && end.faults.as_str() == *faults;
+        if is_told && (end.status == 0) == *is_well && holds_one_of(found, roots) {
+            return Some(place);
+        }
+    }
+    None
+}
+
+/// The outcome on a device that fails after so many calls.
+fn outcome_after(alloc: Global, calls: u64) -> Result<Option<usize>, Fail> {
+    let mut disk = new_file(alloc)?;
+    disk.arm(calls);
+    let end = end_of(alloc, disk, &mut LINES.as_bytes())?;
+    let found = roots_found(alloc, &end.content)?;
+    Ok(place_of(&end, &found))
+}
+
+#[test]
+fn tells_a_failing_device(rt: HostRuntime) -> Result<(), Fail> {
+    let mut reached = 0;
+    for calls in 0..200 {
+        let Some(place) = outcome_after(rt.alloc(), calls)? else {
+            panic!(rt; "after {calls} calls the session ends otherwise");
+        };
+        // The failing call comes later than before, and so does what it meets.
+        assert!(rt;
+            reached == place || place.checked_sub(1) == Some(reached),
+            "after {calls} calls"
+        );
+        reached = place;
+    }
+    assert!(rt; reached == 4);
+    Ok(())
+}
+
+/// A reader and writer whose calls fail.
+#[derive(Drop)]
+struct Broken;
+
+impl Read for Broken {
+    fn read(&mut self, _bytes: &mut [u8]) -> io::Result<usize> {
+        Err(io::Error::from(ErrorKind::Other))
+    }
+}
+
+impl Write for Broken {
+    fn write(&mut self, _bytes: &[u8]) -> io::Result<usize> {
+        Err(io::Error::from(ErrorKind::Other))
+    }
+
+    fn flush(&mut self) -> io::Result<()> {
+        Ok(())
+    }
+}
+
+/// How the journal begins after a start and a watch.
+const WATCHES_A: &[u8] = b"\xa5\x00\xa5\x01\x00\x00\x00\x02/a\x00";
+
+#[test]
+fn tells_a_broken_reader(rt: HostRuntime) -> Result<(), Fail> {
+    let alloc = rt.alloc();
+    let input = b"[\"watch\",\"/a\"]\n[\"watch\",\"/b\"".as_slice();
+    let mut reader = BufReader::new(alloc, input.chain(Broken))?;
+    let end = end_of(alloc, new_file(alloc)?, &mut reader)?;
+    let output = "{\"version\":\"w1\",\"watch\":\"/a\"}\n";
+    let wanted = (1, output, DEVICE_FAILED, WATCHES_A);
+    assert_ends(&rt, &end, wanted, "a broken reader");
+    Ok(())
+}
+
+/// The first command is accepted, and then its reply can't be written.
+fn tells_a_broken_writer(alloc: Global) -> Result<bool, Fail> {
+    let disk = new_file(alloc)?;
+    let mut faults = Vec::new(alloc);
+    let mut reader = LINES.as_bytes();
+    let (status, disk) = lines_on(alloc, disk, &mut reader, &mut Broken, &mut faults);
+    let is_told = status == 1 && faults.as_slice() == DEVICE_FAILED.as_bytes();
+    let content = content_of(alloc, disk)?;
+    Ok(is_told && journal(&content, WATCHES_A.len()) == WATCHES_A)
+}
+
+/// The status of a session over a disk where nothing can be told.
+fn status_untold(alloc: Global, disk: MemDisk) -> u8 {
+    let mut reader = LINES.as_bytes();
+    lines_on(alloc, disk, &mut reader, &mut Broken, &mut Broken).0
+}
+
+#[test]
+fn tells_broken_writers(rt: HostRuntime) -> Result<(), Fail> {
+    let alloc = rt.alloc();
+    assert!(rt; tells_a_broken_writer(alloc)?);
+    let damaged = disk_of(alloc, b"\x05")?;
+    assert!(rt; status_untold(alloc, damaged) == 1);
+    Ok(())
+}

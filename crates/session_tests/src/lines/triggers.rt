@@ -1,0 +1,203 @@
+//! Sessions with triggers, roots that are watched no longer, and a second start.
+use crate::disks::new_file;
+use crate::ends::{ACCEPTED, Row, Told, assert_serves, assert_sessions};
+use std::alloc::Global;
+use std::test::Fail;
+use wm_disk::MemDisk;
+use wm_names::RootPath;
+use wm_registry::{Command, Stdin, Trigger};
+use wm_store::Store;
+
+/// A trigger that is made, made again, replaced and deleted, and a root that is watched no longer.
+const TRIGGERS: &[Row<'static>] = &[
+    (r#"["watch","/r"]"#, r#"{"version":"w1","watch":"/r"}"#),
+    (
+        r#"["trigger","/r",{"command":["true"],"name":"t"}]"#,
+        r#"{"disposition":"created","triggerid":"t","version":"w1"}"#,
+    ),
+    (
+        r#"["trigger","/r",{"command":["true"],"name":"t"}]"#,
+        r#"{"disposition":"already_defined","triggerid":"t","version":"w1"}"#,
+    ),
+    (
+        r#"["trigger-list","/r"]"#,
+        r#"{"triggers":[{"append_files":false,"command":["true"],"name":"t","stdin":"/dev/null"}],"version":"w1"}"#,
+    ),
+    (
+        r#"["trigger","/r",{"command":["false"],"name":"t"}]"#,
+        r#"{"disposition":"replaced","triggerid":"t","version":"w1"}"#,
+    ),
+    (
+        r#"["trigger-list","/r"]"#,
+        r#"{"triggers":[{"append_files":false,"command":["false"],"name":"t","stdin":"/dev/null"}],"version":"w1"}"#,
+    ),
+    (
+        r#"["trigger-del","/r","t"]"#,
+        r#"{"deleted":true,"trigger":"t","version":"w1"}"#,
+    ),
+    (
+        r#"["trigger-del","/r","t"]"#,
+        r#"{"deleted":false,"trigger":"t","version":"w1"}"#,
+    ),
+    (
+        r#"["trigger-list","/r"]"#,
+        r#"{"triggers":[],"version":"w1"}"#,
+    ),
+    (
+        r#"["watch-del","/r"]"#,
+        r#"{"root":"/r","version":"w1","watch-del":true}"#,
+    ),
+    (
+        r#"["watch-del","/r"]"#,
+        r#"{"error":"5 NotWatched","version":"w1"}"#,
+    ),
+    (
+        r#"["trigger-list","/r"]"#,
+        r#"{"error":"5 NotWatched","version":"w1"}"#,
+    ),
+];
+
+/// A trigger with an expression, which is kept as compact JSON and shown as JSON.
+const WITH_EXPRESSIONS: &[Row<'static>] = &[
+    (r#"["watch","/r"]"#, r#"{"version":"w1","watch":"/r"}"#),
+    (
+        r#"["trigger","/r",{"command":["true"],"expression":["allof",["suffix","c"],["not",["size","gt",10]]],"name":"t"}]"#,
+        r#"{"disposition":"created","triggerid":"t","version":"w1"}"#,
+    ),
+    (
+        r#"["trigger","/r",{"command":["true"],"name":"t","expression": ["allof", ["suffix", "\u0063"], ["not", ["size", "gt", 10]]]}]"#,
+        r#"{"disposition":"already_defined","triggerid":"t","version":"w1"}"#,
+    ),
+    (
+        r#"["trigger-list","/r"]"#,
+        r#"{"triggers":[{"append_files":false,"command":["true"],"expression":["allof",["suffix","c"],["not",["size","gt",10]]],"name":"t","stdin":"/dev/null"}],"version":"w1"}"#,
+    ),
+    // Two spellings of one test are two definitions.
+    (
+        r#"["trigger","/r",{"command":["true"],"expression":"true","name":"t"}]"#,
+        r#"{"disposition":"replaced","triggerid":"t","version":"w1"}"#,
+    ),
+    (
+        r#"["trigger","/r",{"command":["true"],"expression":["true"],"name":"t"}]"#,
+        r#"{"disposition":"replaced","triggerid":"t","version":"w1"}"#,
+    ),
+    (
+        r#"["trigger","/r",{"command":["true"],"expression":["true","no"],"name":"t"}]"#,
+        r#"{"error":"8 BadExpression","version":"w1"}"#,
+    ),
+    (
+        r#"["trigger-list","/r"]"#,
+        r#"{"triggers":[{"append_files":false,"command":["true"],"expression":["true"],"name":"t","stdin":"/dev/null"}],"version":"w1"}"#,
+    ),
+];
+
+/// A root that is watched again is another root, with a view of its own.
+const WATCHED_AGAIN: &[Row<'static>] = &[
+    (r#"["watch","/r"]"#, r#"{"version":"w1","watch":"/r"}"#),
+    (
+        r#"["watch-del","/r"]"#,
+        r#"{"root":"/r","version":"w1","watch-del":true}"#,
+    ),
+    (r#"["watch","/r"]"#, r#"{"version":"w1","watch":"/r"}"#),
+    (
+        r#"["listing","/r",0,"",[]]"#,
+        r#"{"clock":"c:1:2:1","version":"w1"}"#,
+    ),
+    (
+        r#"["since","/r","c:1:1:4"]"#,
+        r#"{"clock":"c:1:2:1","files":[],"is_fresh_instance":true,"version":"w1"}"#,
+    ),
+];
+
+/// The root in front goes, and the other keeps its view.
+const FIRST_UNWATCHED: &[Row<'static>] = &[
+    (r#"["watch","/a"]"#, r#"{"version":"w1","watch":"/a"}"#),
+    (r#"["watch","/b"]"#, r#"{"version":"w1","watch":"/b"}"#),
+    (
+        r#"["listing","/b",0,"",[]]"#,
+        r#"{"clock":"c:1:2:1","version":"w1"}"#,
+    ),
+    (
+        r#"["watch-del","/a"]"#,
+        r#"{"root":"/a","version":"w1","watch-del":true}"#,
+    ),
+    (
+        r#"["clock","/a"]"#,
+        r#"{"error":"5 NotWatched","version":"w1"}"#,
+    ),
+    (r#"["clock","/b"]"#, r#"{"clock":"c:1:2:1","version":"w1"}"#),
+    (r#"["watch-list"]"#, r#"{"roots":["/b"],"version":"w1"}"#),
+];
+
+/// What a second start shows: watches and triggers as they were, and the next incarnation.
+const SECOND_START: &[Row<'static>] = &[
+    (r#"["watch-list"]"#, r#"{"roots":["/r"],"version":"w1"}"#),
+    (
+        r#"["trigger-list","/r"]"#,
+        r#"{"triggers":[{"append_files":false,"command":["true"],"expression":["suffix","c"],"name":"t","stdin":"/dev/null"}],"version":"w1"}"#,
+    ),
+    (
+        r#"["listing","/r",0,"",[]]"#,
+        r#"{"clock":"c:2:1:1","version":"w1"}"#,
+    ),
+    (r#"["clock","/r"]"#, r#"{"clock":"c:2:1:1","version":"w1"}"#),
+];
+
+const SESSIONS: &[Told<'static>] = &[
+    ("triggers", &[], &[TRIGGERS], ACCEPTED),
+    ("expressions", &[], &[WITH_EXPRESSIONS], ACCEPTED),
+    ("watched again", &[], &[WATCHED_AGAIN], ACCEPTED),
+    ("the first unwatched", &[], &[FIRST_UNWATCHED], ACCEPTED),
+    (
+        "a second start",
+        &[
+            "[\"watch\",\"/r\"]\n[\"trigger\",\"/r\",{\"command\":[\"true\"],\"expression\":[\"suffix\",\"c\"],\"name\":\"t\"}]\n",
+        ],
+        &[SECOND_START],
+        ACCEPTED,
+    ),
+];
+
+#[test]
+fn answers_triggers_and_watches(rt: HostRuntime) -> Result<(), Fail> {
+    assert_sessions(&rt, rt.alloc(), SESSIONS)
+}
+
+/// A file in which a trigger keeps this text of an expression.
+fn file_keeping(alloc: Global, text: &str) -> Result<MemDisk, Fail> {
+    let Ok(mut store) = Store::open(alloc, new_file(alloc)?) else {
+        return Err("the file can't be opened".into());
+    };
+    let root = RootPath::read(alloc, "/r")?;
+    let trigger = Trigger::new(alloc, "t", &["true"], Some(text), false, Stdin::DevNull)?;
+    let batch = vec![in alloc;
+        Command::Watch(root.copy(alloc)?),
+        Command::Trigger(root, trigger),
+    ]?;
+    store.commit_batch(alloc, batch)?;
+    store.close()?;
+    Ok(store.into_disk())
+}
+
+/// Texts that a trigger keeps, and how a start with each ends: its status, its replies and what it tells
+/// of faults.
+const KEPT: &[(&str, u8, &str, &str)] = &[
+    ("\"true\"", 0, "{\"version\":\"w1\"}\n", ""),
+    (" [ \"true\" ] ", 0, "{\"version\":\"w1\"}\n", ""),
+    ("true", 1, "", "watchmand: 14 Damaged\n"),
+    ("[\"no\"]", 1, "", "watchmand: 14 Damaged\n"),
+    ("[", 1, "", "watchmand: 14 Damaged\n"),
+    ("", 1, "", "watchmand: 14 Damaged\n"),
+];
+
+/// A start refuses texts that are no expressions, and takes up those that are.
+#[test]
+fn refuses_kept_texts_that_are_no_expressions(rt: HostRuntime) -> Result<(), Fail> {
+    let alloc = rt.alloc();
+    for (text, status, output, faults) in KEPT {
+        let disk = file_keeping(alloc, text)?;
+        let wanted = (*status, *output, *faults, ACCEPTED);
+        assert_serves(&rt, alloc, disk, b"[\"version\"]\n", wanted, text)?;
+    }
+    Ok(())
+}

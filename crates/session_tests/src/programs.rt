@@ -1,0 +1,5 @@
+//! The program as its mains call it: its words, its files, and its calls from end to end.
+mod calls;
+mod files;
+mod read_only;
+mod words;

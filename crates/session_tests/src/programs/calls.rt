@@ -1,0 +1,98 @@
+//! Calls of the program over a real file.
+use crate::disks::journal;
+use std::alloc::Global;
+use std::fs;
+use std::fs::{File, Files};
+use std::test::Fail;
+use wm_server::programs::watchmand;
+
+const DEVICE_FAILED: &str = "watchmand: 13 DeviceFailed\n";
+
+const PATH: &str = "wm_server_program";
+
+/// A call: words of the program, its input, and its status, replies and faults.
+type Call<'a> = (&'a [&'a str], &'a str, u8, &'a str, &'a str);
+
+/// One call after the other.
+const CALLS: &[Call<'static>] = &[
+    (&["format", PATH], "", 0, "formatted\n", ""),
+    (&["format", PATH], "", 1, "", DEVICE_FAILED),
+    (
+        &["lines", PATH],
+        "[\"watch\",\"/r\"]\n[\"watch-list\"]\n",
+        0,
+        "{\"version\":\"w1\",\"watch\":\"/r\"}\n{\"roots\":[\"/r\"],\"version\":\"w1\"}\n",
+        "",
+    ),
+    (
+        &["lines", PATH],
+        "[\"watch-list\"]\n",
+        0,
+        "{\"roots\":[\"/r\"],\"version\":\"w1\"}\n",
+        "",
+    ),
+    (
+        &["lines", "wm_server_program_missing"],
+        "[\"version\"]\n",
+        1,
+        "",
+        DEVICE_FAILED,
+    ),
+    (&["lines", "."], "[\"version\"]\n", 1, "", DEVICE_FAILED),
+];
+
+/// Calls the program, and gives its status, replies and faults.
+fn called(
+    alloc: Global,
+    files: &impl Files<File = File>,
+    words: &[&str],
+    input: &str,
+) -> Result<(u8, String, String), Fail> {
+    let mut reader = input.as_bytes();
+    let mut output = Vec::new(alloc);
+    let mut faults = Vec::new(alloc);
+    let status = watchmand(alloc, files, words, &mut reader, &mut output, &mut faults);
+    Ok((
+        status,
+        String::from_utf8(output)?,
+        String::from_utf8(faults)?,
+    ))
+}
+
+fn answers(alloc: Global, files: &impl Files<File = File>, call: &Call<'_>) -> Result<bool, Fail> {
+    let (words, input, status, output, faults) = *call;
+    let told = called(alloc, files, words, input)?;
+    Ok(told.0 == status && told.1.as_str() == output && told.2.as_str() == faults)
+}
+
+/// A start and a watch, and another start.
+const USED: &[u8] = b"\xa5\x00\xa5\x01\x00\x00\x00\x02/r\xa5\x00\x00";
+
+#[test]
+fn calls_the_program(rt: HostRuntime) -> Result<(), Fail> {
+    let _ = fs::remove_file(&rt, PATH);
+    for call in CALLS {
+        assert!(rt; answers(rt.alloc(), &rt, call)?, "{:?} {}", call.0, call.1);
+    }
+    let content = fs::read(&rt, PATH)?;
+    fs::remove_file(&rt, PATH)?;
+    assert!(rt; journal(&content, USED.len()) == USED);
+    Ok(())
+}
+
+const USAGE: &str = "Usage: watchmand <COMMAND>";
+
+/// Help goes to the writer with the replies, and is no fault.
+#[test]
+fn shows_help(rt: HostRuntime) -> Result<(), Fail> {
+    let (status, output, faults) = called(rt.alloc(), &rt, &["--help"], "")?;
+    assert!(rt; output.contains(USAGE) && faults.is_empty() && status == 0);
+    Ok(())
+}
+
+#[test]
+fn tells_a_fault_of_the_words(rt: HostRuntime) -> Result<(), Fail> {
+    let (status, output, faults) = called(rt.alloc(), &rt, &[], "")?;
+    assert!(rt; output.is_empty() && faults.contains(USAGE) && status == 2);
+    Ok(())
+}

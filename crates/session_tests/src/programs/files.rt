@@ -1,0 +1,157 @@
+//! Real files as disks.
+ghost use Rattle.std.specs.Prelude.{◌≡◌, ◌+◌, ◌≤◌, length, OnOk, true};
+ghost use Rattle.wm_disk.specs.Contents.{Rose};
+
+use super::read_only::ReadOnly;
+use std::fs;
+use std::fs::{File, Files};
+use std::test::Fail;
+use wm_disk::{DeviceFailed, Disk};
+use wm_server::file::{FileDisk, Unknown};
+
+/// Writes and syncs, and then reads the bytes back, through the trait. It gives the new length. Where it
+/// succeeds, no failure was counted.
+fn write_back<D: Disk>(
+    disk: &mut D,
+    at: u64,
+    bytes: &[u8],
+    back: &mut [u8],
+) -> Result<u64, DeviceFailed>
+    requires { length back.old ≡ length bytes.now }
+    ensures reaches { D.honest disk.new → OnOk result (at + length bytes.now ≤ length (D.seen disk.new)) }
+    ensures quiet { OnOk result (D.failures disk.new ≡ D.failures disk.old) }
+{
+    if disk.len()? < at {
+        return Err(DeviceFailed);
+    }
+    disk.write_at(at, bytes)?;
+    disk.sync()?;
+    disk.read_at(at, back)?;
+    disk.len()
+}
+
+/// A write, and the length and the text of the file after it.
+type Write<'a> = (u64, &'a [u8; 3], u64, &'a str);
+
+/// One write after the other.
+const WRITES: &[Write<'static>] = &[
+    (0, b"abc", 3, "abc"),
+    (3, b"def", 6, "abcdef"),
+    (1, b"XYZ", 6, "aXYZef"),
+    (5, b"!!!", 8, "aXYZe!!!"),
+];
+
+fn gives_back<R: Files<File = File> + AllocGlobal>(
+    rt: &R,
+    path: &str,
+    disk: &mut FileDisk<Unknown>,
+    write: &Write<'_>,
+) -> Result<bool, Fail> {
+    let (at, bytes, len, text) = *write;
+    let mut back = [0; 3];
+    let found = write_back(disk, at, bytes, &mut back)?;
+    let whole = fs::read_to_string(rt, path)?;
+    Ok(found == len && back == *bytes && whole.as_str() == text)
+}
+
+#[test]
+fn gives_back_what_was_written(rt: HostRuntime) -> Result<(), Fail> {
+    const PATH: &str = "wm_server_file_written";
+    let _ = fs::remove_file(&rt, PATH);
+    let mut disk = FileDisk::<Unknown>::create(&rt, PATH)?;
+    for write in WRITES {
+        assert!(rt; gives_back(&rt, PATH, &mut disk, write)?, "at {}", write.0);
+    }
+    fs::remove_file(&rt, PATH)?;
+    Ok(())
+}
+
+/// The length, where two reads from the front fail; then failures were counted.
+fn fails_twice<D: Disk>(disk: &mut D, back: &mut [u8]) -> Result<u64, DeviceFailed>
+    requires { D.honest disk.old → length back.old ≤ length (D.seen disk.old) }
+    ensures counted { OnOk result (Rose (D.failures disk.old) (D.failures disk.new)) }
+{
+    if let Ok(()) = disk.read_at(0, back) {
+        return Err(DeviceFailed);
+    }
+    if let Ok(()) = disk.read_at(0, back) {
+        return Err(DeviceFailed);
+    }
+    disk.len()
+}
+
+#[test]
+fn tells_a_read_past_the_end(rt: HostRuntime) -> Result<(), Fail> {
+    const PATH: &str = "wm_server_file_short";
+    let _ = fs::remove_file(&rt, PATH);
+    let mut disk = FileDisk::<Unknown>::create(&rt, PATH)?;
+    let mut back = [0; 4];
+    write_back(&mut disk, 0, b"abcd", &mut back)?;
+    // Another writer cuts the file.
+    fs::write(&rt, PATH, b"ab".as_slice())?;
+    assert!(rt; fails_twice(&mut disk, &mut back)? == 2);
+    fs::remove_file(&rt, PATH)?;
+    Ok(())
+}
+
+/// Whether a write to the front fails; then a failure was counted.
+fn fails_to_write<D: Disk>(disk: &mut D, bytes: &[u8]) -> bool
+    ensures counted { result ≡ true → Rose (D.failures disk.old) (D.failures disk.new) }
+{
+    match disk.write_at(0, bytes) {
+        Ok(()) => false,
+        Err(DeviceFailed) => true,
+    }
+}
+
+#[test]
+fn tells_a_write_that_the_system_refuses(rt: HostRuntime) -> Result<(), Fail> {
+    const PATH: &str = "wm_server_file_refused";
+    fs::write(&rt, PATH, b"abc".as_slice())?;
+    // The system gives this handle no right to write.
+    let mut disk = FileDisk::<Unknown>::open(&ReadOnly(&rt), PATH)?;
+    assert!(rt; fails_to_write(&mut disk, b"XYZ"));
+    let text = fs::read_to_string(&rt, PATH)?;
+    assert!(rt; text.as_str() == "abc");
+    fs::remove_file(&rt, PATH)?;
+    Ok(())
+}
+
+const THERE: &str = "wm_server_file_there";
+
+const FOLDER: &str = "wm_server_file_folder";
+
+/// Paths, whether a file is opened there, and whether one is made.
+const PLACES: &[(&str, bool, bool)] = &[
+    (THERE, true, false),
+    ("./wm_server_file_there", true, false),
+    (FOLDER, false, false),
+    ("/dev/null", false, false),
+    ("wm_server_file_missing/file", false, false),
+    ("", false, false),
+];
+
+fn opens<R: Files<File = File>>(rt: &R, path: &str) -> bool {
+    FileDisk::<Unknown>::open(rt, path).is_ok()
+}
+
+fn makes<R: Files<File = File>>(rt: &R, path: &str) -> bool {
+    FileDisk::<Unknown>::create(rt, path).is_ok()
+}
+
+#[test]
+fn opens_regular_files_alone(rt: HostRuntime) -> Result<(), Fail> {
+    let _ = fs::remove_file(&rt, THERE);
+    let _ = fs::remove_dir(&rt, FOLDER);
+    fs::write(&rt, THERE, b"abc".as_slice())?;
+    fs::create_dir(&rt, FOLDER)?;
+    for (path, is_opened, is_made) in PLACES {
+        let is_met = opens(&rt, path) == *is_opened && makes(&rt, path) == *is_made;
+        assert!(rt; is_met, "at {path}");
+    }
+    assert!(rt; !opens(&rt, "wm_server_file_missing"));
+    assert!(rt; FileDisk::<Unknown>::open(&rt, THERE)?.len()? == 3);
+    fs::remove_file(&rt, THERE)?;
+    fs::remove_dir(&rt, FOLDER)?;
+    Ok(())
+}

@@ -1,0 +1,59 @@
+//! The files of a runtime, of which none is opened to be written.
+use std::alloc::Allocator;
+use std::fs::{Files, Metadata, OpenOptions};
+use std::io;
+use std::io::ErrorKind;
+
+/// Opens what is there to be read alone, whatever was asked for, and does nothing else.
+#[derive(Drop)]
+pub(super) struct ReadOnly<'a, R>(pub(super) &'a R);
+
+fn unsupported() -> io::Error {
+    io::Error::from(ErrorKind::Unsupported)
+}
+
+impl<R: Files> Files for ReadOnly<'_, R> {
+    type File = R::File;
+
+    type Dir = R::Dir;
+
+    fn open_file(&self, _how: &OpenOptions, path: &str) -> io::Result<R::File> {
+        OpenOptions::new().read(true).open(self.0, path)
+    }
+
+    fn open_dir(&self, _path: &str) -> io::Result<R::Dir> {
+        Err(unsupported())
+    }
+
+    fn metadata(&self, _path: &str) -> io::Result<Metadata> {
+        Err(unsupported())
+    }
+
+    fn symlink_metadata(&self, _path: &str) -> io::Result<Metadata> {
+        Err(unsupported())
+    }
+
+    fn copy(&self, _from: &str, _to: &str) -> io::Result<u64> {
+        Err(unsupported())
+    }
+
+    fn rename(&self, _from: &str, _to: &str) -> io::Result<()> {
+        Err(unsupported())
+    }
+
+    fn remove_file(&self, _path: &str) -> io::Result<()> {
+        Err(unsupported())
+    }
+
+    fn create_dir(&self, _path: &str) -> io::Result<()> {
+        Err(unsupported())
+    }
+
+    fn remove_dir(&self, _path: &str) -> io::Result<()> {
+        Err(unsupported())
+    }
+
+    fn remove_dir_all<B: Allocator>(&self, _alloc: B, _path: &str) -> io::Result<()> {
+        Err(unsupported())
+    }
+}

@@ -1,0 +1,89 @@
+//! What the command-line words ask of `watchmand`.
+use std::alloc::{AllocError, Global};
+use std::test::Fail;
+use wm_server::words::Words;
+
+/// Lists of words, and what they ask for.
+const ASKED: &[(&[&str], &str)] = &[
+    (&["format", "a.state"], "format a.state"),
+    (&["lines", "a.state"], "lines a.state"),
+    (&["format", "lines"], "format lines"),
+    (&["lines", ""], "lines "),
+    (&["lines", "-"], "lines -"),
+    (&["lines", "--", "a.state"], "lines a.state"),
+    (&["lines", "a.state", "--"], "lines a.state"),
+    (&["format", "--", "--help"], "format --help"),
+    (&["format", "--", "--"], "format --"),
+    (&["--help"], "shown 0"),
+    (&["-h"], "shown 0"),
+    (&["-hx", "format"], "shown 0"),
+    (&["format", "--help"], "shown 0"),
+    (&["lines", "a.state", "-h"], "shown 0"),
+    (&[], "shown 2"),
+    (&["--"], "shown 2"),
+    (&["format"], "shown 2"),
+    (&["lines", "--"], "shown 2"),
+    (&["lines", "a.state", "b.state"], "shown 2"),
+    (&["lines", "a.state", "--", "b.state"], "shown 2"),
+    (&["lines", "-a.state"], "shown 2"),
+    (&["format", "--help=yes"], "shown 2"),
+    (&["help"], "shown 2"),
+    (&["--", "format", "a.state"], "shown 2"),
+];
+
+fn asked(alloc: Global, words: &Words) -> Result<String, AllocError> {
+    match words {
+        Words::Format { file } => format!(in alloc; "format {file}"),
+        Words::Lines { file } => format!(in alloc; "lines {file}"),
+        Words::Shown { text: _, status } => format!(in alloc; "shown {status}"),
+    }
+}
+
+#[test]
+fn words_of_the_table(rt: HostRuntime) -> Result<(), Fail> {
+    let alloc = rt.alloc();
+    for (words, wanted) in ASKED {
+        let told = asked(alloc, &Words::read(alloc, words)?)?;
+        assert!(rt; told.as_str() == *wanted, "{words:?}: {told}");
+    }
+    Ok(())
+}
+
+/// Words for which a text is shown, and what it says.
+const SHOWN: &[(&[&str], &str)] = &[
+    (&["--help"], "Usage: watchmand <COMMAND>"),
+    (
+        &["--help"],
+        "A file watch server whose answers can be trusted",
+    ),
+    (
+        &["--help"],
+        "format  Makes a state file; FILE must not be there yet",
+    ),
+    (
+        &["--help"],
+        "lines   Answers request lines from standard input over a state file",
+    ),
+    (&["format", "--help"], "Usage: watchmand format <FILE>"),
+    (&["format", "--help"], "<FILE>  The path of the state file"),
+    (&["watch"], "error: unrecognized subcommand 'watch'"),
+    (&[], "Usage: watchmand <COMMAND>"),
+    (&["lines"], "<FILE>"),
+    (&["lines", "a", "b"], "unexpected argument 'b'"),
+];
+
+fn text_of(alloc: Global, words: &'static [&'static str]) -> Result<String, Fail> {
+    match Words::read(alloc, words)? {
+        Words::Shown { text, status: _ } => Ok(text),
+        _ => Err("no text is shown".into()),
+    }
+}
+
+#[test]
+fn shows_help_and_faults(rt: HostRuntime) -> Result<(), Fail> {
+    for (words, part) in SHOWN {
+        let text = text_of(rt.alloc(), words)?;
+        assert!(rt; text.contains(*part), "{words:?}: {part}");
+    }
+    Ok(())
+}

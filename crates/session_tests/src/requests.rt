@@ -1,0 +1,99 @@
+//! Lines with paths, metadata and clocks, and what is read of them.
+mod clocks;
+mod listed;
+mod observed;
+mod queries;
+mod shown;
+mod triggers;
+
+use self::shown::show;
+use crate::ends::Row;
+use std::alloc::Global;
+use std::process::Abort;
+use std::test::Fail;
+use wm_server::Request;
+
+const ARGUMENTS: &str = "3 BadArguments";
+
+const PATH: &str = "4 BadPath";
+
+const CLOCK: &str = "7 BadClock";
+
+const EXPRESSION: &str = "8 BadExpression";
+
+/// What is read of a line, or the refusal.
+fn read(alloc: Global, line: &str) -> Result<String, Fail> {
+    let mut bytes = Vec::from_slice(alloc, line.as_bytes())?;
+    bytes.push(b'\n')?;
+    let mut text = String::new(alloc);
+    match Request::read(alloc, &bytes) {
+        Ok(request) => show(&request, &mut text)?,
+        Err(refusal) => text.push_str(refusal.text())?,
+    }
+    Ok(text)
+}
+
+/// Each line is read as what stands beside it.
+fn assert_reads(rt: &impl Abort, alloc: Global, table: &[Row<'_>]) -> Result<(), Fail> {
+    for (line, wanted) in table {
+        let text = read(alloc, line)?;
+        assert!(rt; text.as_str() == *wanted, "{line}: {text}");
+    }
+    Ok(())
+}
+
+#[test]
+fn reads_requests(rt: HostRuntime) -> Result<(), Fail> {
+    assert_reads(&rt, rt.alloc(), observed::ROWS)?;
+    assert_reads(&rt, rt.alloc(), listed::ROWS)?;
+    assert_reads(&rt, rt.alloc(), clocks::ROWS)
+}
+
+#[test]
+fn reads_queries(rt: HostRuntime) -> Result<(), Fail> {
+    assert_reads(&rt, rt.alloc(), queries::ROWS)
+}
+
+#[test]
+fn reads_triggers(rt: HostRuntime) -> Result<(), Fail> {
+    assert_reads(&rt, rt.alloc(), triggers::ENDED)?;
+    assert_reads(&rt, rt.alloc(), triggers::DEFINED)
+}
+
+/// A line that lists so many paths, the last first.
+fn long_line(alloc: Global, front: &str, count: usize, back: &str) -> Result<String, Fail> {
+    let mut line = String::from_str(alloc, front)?;
+    for number in (0..count).rev() {
+        let comma = if number == 0 { "" } else { "," };
+        write!(line, "[\"{number:05}\",{back}]{comma}")?;
+    }
+    line.push_str("]]\n")?;
+    Ok(line)
+}
+
+/// How many pairs are observed by a line.
+fn pairs_read(alloc: Global, line: &str) -> Result<usize, Fail> {
+    let Request::Observe(_, pairs) = Request::read(alloc, line.as_bytes())? else {
+        return Err("it is read as another request".into());
+    };
+    Ok(pairs.as_slice().len())
+}
+
+/// How many files are listed by a line.
+fn files_read(alloc: Global, line: &str) -> Result<usize, Fail> {
+    let Request::Listing(_, _, listing) = Request::read(alloc, line.as_bytes())? else {
+        return Err("it is read as another request".into());
+    };
+    Ok(listing.files().len())
+}
+
+#[test]
+fn reads_long_lines(rt: HostRuntime) -> Result<(), Fail> {
+    let alloc = rt.alloc();
+    let line = long_line(alloc, "[\"observe\",\"/r\",[", 65_537, "null")?;
+    assert!(rt; pairs_read(alloc, &line)? == 65_537);
+    let meta = "{\"type\":\"f\",\"size\":0,\"mtime_ms\":0}";
+    let line = long_line(alloc, "[\"listing\",\"/r\",0,\"\",[", 2_000, meta)?;
+    assert!(rt; files_read(alloc, &line)? == 2_000);
+    Ok(())
+}

@@ -1,0 +1,92 @@
+//! The worked rows: a batch that fails at its second sync, and then a stop or a crash.
+use super::{driven, found, root, shown, watch};
+use std::alloc::Global;
+use std::test::Fail;
+use wm_disk::MemDisk;
+use wm_expr::Expr;
+use wm_registry::Reply;
+use wm_world::Event;
+
+/// A client of `/r` that has one file.
+fn first_events(alloc: Global) -> Result<Vec<Event>, Fail> {
+    let mut events = Vec::new(alloc);
+    events.push(Event::Open)?;
+    events.push(watch(alloc, "/r")?)?;
+    events.push(found(alloc, 1, 0, &["a.c"])?)?;
+    events.push(Event::Client(root(alloc)?, Expr::True))?;
+    events.push(Event::Ask(0))?;
+    events.push(Event::Receive(0))?;
+    Ok(events)
+}
+
+#[test]
+fn holds_what_was_received(rt: HostRuntime) -> Result<(), Fail> {
+    let alloc = rt.alloc();
+    let world = driven(alloc, MemDisk::new(alloc, 0), first_events(alloc)?)?;
+    assert!(rt; shown(alloc, &world)?.as_str() == "1 /r; a.c at c:1:1:1");
+    assert!(rt; matches!(world.replies(), [Reply::Changed]));
+    Ok(())
+}
+
+/// What a restart finds of a batch that failed at its second sync.
+fn restarted(alloc: Global, end: Event) -> Result<String, Fail> {
+    let mut events = first_events(alloc)?;
+    events.push(Event::Arm(3))?;
+    events.push(watch(alloc, "/s")?)?;
+    events.push(end)?;
+    events.push(Event::Open)?;
+    events.push(found(alloc, 2, 0, &["b.c"])?)?;
+    events.push(Event::Ask(0))?;
+    events.push(Event::Receive(0))?;
+    shown(alloc, &driven(alloc, MemDisk::new(alloc, 0), events)?)
+}
+
+#[test]
+fn finds_a_cut_batch_after_a_stop(rt: HostRuntime) -> Result<(), Fail> {
+    let text = restarted(rt.alloc(), Event::Stop)?;
+    assert!(rt; text.as_str() == "2 /r /s; b.c at c:2:1:1");
+    Ok(())
+}
+
+#[test]
+fn finds_a_beginning_after_a_crash(rt: HostRuntime) -> Result<(), Fail> {
+    let text = restarted(rt.alloc(), Event::Crash)?;
+    assert!(rt; text.as_str() == "2 /r; b.c at c:2:1:1");
+    Ok(())
+}
+
+/// Plans of failures, and what ends them: one call fails, or none.
+fn planned(alloc: Global, place: usize) -> Result<Vec<Event>, Fail> {
+    let mut events = Vec::new(alloc);
+    if place > 1 {
+        events.push(Event::Open)?;
+    }
+    events.push(Event::Arm(if place == 5 { 9 } else { 0 }))?;
+    events.push(match place {
+        0 | 1 => Event::Open,
+        2 => Event::Crash,
+        3 => Event::Stop,
+        _ => watch(alloc, "/r")?,
+    })?;
+    if place == 1 {
+        events.push(Event::Crash)?;
+    }
+    if place > 0 && place < 4 {
+        events.push(Event::Open)?;
+    }
+    Ok(events)
+}
+
+/// What the world shows after each plan.
+const PLANNED: &[&str] = &["", "1", "2", "2", "", "1 /r"];
+
+#[test]
+fn plans_failures(rt: HostRuntime) -> Result<(), Fail> {
+    let alloc = rt.alloc();
+    for (place, wanted) in PLANNED.iter().enumerate() {
+        let world = driven(alloc, MemDisk::new(alloc, 0), planned(alloc, place)?)?;
+        let text = shown(alloc, &world)?;
+        assert!(rt; text.as_str() == *wanted, "{place}: {text}");
+    }
+    Ok(())
+}

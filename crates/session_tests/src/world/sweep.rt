@@ -1,0 +1,96 @@
+//! Every beginning of a list of events of every kind, under choices of what a crash leaves.
+use super::{driven, found, root, seen, shown, watch};
+use std::alloc::{AllocError, Global};
+use std::test::Fail;
+use wm_disk::MemDisk;
+use wm_expr::Expr;
+use wm_world::Event;
+
+/// The event at a place, from 0 on: one of every kind.
+fn event_at(alloc: Global, place: usize) -> Result<Event, Fail> {
+    Ok(match place {
+        0 | 14 | 16 => Event::Open,
+        1 => watch(alloc, "/r")?,
+        2 => found(alloc, 1, 0, &["a.c"])?,
+        3 => Event::Client(root(alloc)?, Expr::True),
+        4 | 8 => Event::Ask(0),
+        5 => Event::Receive(0),
+        6 => seen(alloc, 2, "b.c", Some(2))?,
+        7 => Event::AgeOut(root(alloc)?, 5, 0),
+        9 => Event::Lose(0),
+        10 => Event::Checkpoint,
+        11 => Event::Arm(3),
+        12 => watch(alloc, "/s")?,
+        13 => Event::Crash,
+        _ => Event::Stop,
+    })
+}
+
+/// What a world shows after so many events. Behind the incarnation of the last two starts stand the
+/// watches that they find.
+const AFTER: &[(&str, &str)] = &[
+    ("", ""),
+    ("1", ""),
+    ("1 /r", ""),
+    ("1 /r", ""),
+    ("1 /r;", ""),
+    ("1 /r;", ""),
+    ("1 /r; a.c at c:1:1:1", ""),
+    ("1 /r; a.c at c:1:1:1", ""),
+    ("1 /r; a.c at c:1:1:1", ""),
+    ("1 /r; a.c at c:1:1:1", ""),
+    ("1 /r; a.c at c:1:1:1", ""),
+    ("1 /r; a.c at c:1:1:1", ""),
+    ("1 /r; a.c at c:1:1:1", ""),
+    ("; a.c at c:1:1:1", ""),
+    ("; a.c at c:1:1:1", ""),
+    ("2", "; a.c at c:1:1:1"),
+    ("; a.c at c:1:1:1", ""),
+    ("3", "; a.c at c:1:1:1"),
+];
+
+/// The batch is cut behind its first gate, one byte at the beginning of a journal: a crash leaves it open
+/// where the choice leaves what a read gives, or the open gate itself. Every choice does with this byte
+/// what one of these does.
+const FOUND: &[(u64, &str)] = &[
+    (0, " /r"),
+    (1, " /r /s"),
+    (2, " /r /s"),
+    (3, " /r"),
+    // The checkpoint before the batch was made: else the byte would be the eleventh of the other journal.
+    (0x5555_5555_5555_5155, " /r /s"),
+    (0xaaaa_aaaa_aaaa_aeaa, " /r"),
+];
+
+/// The world after so many events of the sweep.
+fn swept(alloc: Global, choice: u64, count: usize) -> Result<String, Fail> {
+    let mut events = Vec::new(alloc);
+    for place in 0..count {
+        events.push(event_at(alloc, place)?)?;
+    }
+    shown(alloc, &driven(alloc, MemDisk::new(alloc, choice), events)?)
+}
+
+/// What a world shows where a restart finds these watches.
+fn wanted(alloc: Global, after: (&str, &str), watches: &str) -> Result<String, AllocError> {
+    let (first, last) = after;
+    let mut text = String::from_str(alloc, first)?;
+    if !last.is_empty() {
+        text.push_str(watches)?;
+        text.push_str(last)?;
+    }
+    Ok(text)
+}
+
+#[test]
+fn stands_after_each_event(rt: HostRuntime) -> Result<(), Fail> {
+    let alloc = rt.alloc();
+    for (choice, watches) in FOUND {
+        for (count, after) in AFTER.iter().enumerate() {
+            let text = swept(alloc, *choice, count)?;
+            let is_wanted = text == wanted(alloc, *after, watches)?;
+            assert!(rt; is_wanted, "{choice}: {count}: {text}");
+        }
+    }
+    Ok(())
+}

@@ -1,0 +1,110 @@
+//! What is answered about a view, and what a client makes of such answers.
+ghost use Rattle.std.specs.Prelude.{◌≡◌, true, false, nat_lt};
+ghost use Rattle.std.proofs.Common.{sym, true≢false};
+
+use serde_json::Value;
+use std::alloc::Global;
+use std::test::Fail;
+use wm_clock::ClockId;
+use wm_disk::NoMemory;
+use wm_expr::Expr;
+use wm_names::Entry;
+use wm_since::{Answer, Fields, Mirror, Query, Test, answer, render};
+use wm_view::View;
+
+mod cursors;
+mod expressions;
+mod mirrors;
+mod rendering;
+mod since;
+
+/// The test that a file of fewer bytes passes.
+#[derive(Clone, Copy)]
+struct Smaller {
+    size: u64,
+}
+
+impl Test for Smaller {
+    ghost passes = { λ test entry. nat_lt entry.meta.size test.size };
+
+    ghost path_only = { λ test. false };
+
+    fn holds(&self, entry: &Entry) -> bool {
+        entry.meta.size < self.size
+    }
+
+    fn is_path_only(&self) -> bool {
+        false
+    }
+
+    fn copy(&self, _alloc: Global) -> Result<Smaller, NoMemory> {
+        Ok(*self)
+    }
+
+    ghost by_path = { λ test is a b same. absurd (true≢false (sym is)) };
+}
+
+/// The expression that a JSON text is.
+fn read(alloc: Global, text: &str) -> Result<Expr, Fail> {
+    let value = Value::from_slice(alloc, text.as_bytes())?;
+    Ok(Expr::read(alloc, &value)?)
+}
+
+fn clock(incarnation: u64, root: u64, tick: u64) -> ClockId {
+    ClockId {
+        incarnation,
+        root,
+        tick,
+    }
+}
+
+/// The clock at a tick of root 1 in incarnation 1.
+fn clock_at(tick: Option<u64>) -> Option<ClockId> {
+    match tick {
+        Some(tick) => Some(clock(1, 1, tick)),
+        None => None,
+    }
+}
+
+/// What is answered since a tick of root 1 in incarnation 1, and since no clock where there is none.
+fn answer_since<T: Test>(
+    alloc: Global,
+    view: &View,
+    since: Option<u64>,
+    test: T,
+) -> Result<Answer, Fail> {
+    let query = Query {
+        since: clock_at(since),
+        test,
+        empty_on_fresh: false,
+    };
+    Ok(answer(alloc, view, &query)?)
+}
+
+/// The answer's files as a text.
+fn rendered(alloc: Global, answer: &Answer, fields: &Fields) -> Result<String, Fail> {
+    Ok(render(alloc, answer, fields)?.to_string(alloc)?)
+}
+
+/// The same, with the fields of these names.
+fn rendered_by(alloc: Global, answer: &Answer, names: &[&str]) -> Result<String, Fail> {
+    rendered(alloc, answer, &Fields::read(alloc, names)?)
+}
+
+/// What a mirror asks; nothing where a question is open already.
+fn ask<T: Test>(alloc: Global, mirror: &mut Mirror<T>) -> Result<Option<Query<T>>, Fail> {
+    if mirror.open() {
+        return Ok(None);
+    }
+    Ok(Some(mirror.ask(alloc)?))
+}
+
+/// The paths of a mirror's files, each followed by a space.
+fn names<T: Test>(alloc: Global, mirror: &Mirror<T>) -> Result<String, Fail> {
+    let mut names = String::new(alloc);
+    for path in mirror.files() {
+        names.push_str(path.as_str())?;
+        names.push(' ')?;
+    }
+    Ok(names)
+}

@@ -1,0 +1,209 @@
+//! The cursors of a root.
+use super::{clock, clock_at, rendered_by};
+use crate::making::{Observed, observe, observed};
+use std::alloc::Global;
+use std::process::Abort;
+use std::test::Fail;
+use wm_clock::{ClockId, CursorName};
+use wm_since::{Answer, Cursors, Every, MAX_CURSORS, Query, answer};
+use wm_view::View;
+
+/// Moves a cursor where there is room for it, and tells whether there was.
+fn moves_to(
+    alloc: Global,
+    cursors: &mut Cursors,
+    name: &str,
+    clock: ClockId,
+) -> Result<bool, Fail> {
+    let name = CursorName::read(alloc, name)?;
+    let has_room = cursors.has_room(&name);
+    if has_room {
+        cursors.moved(name, clock);
+    }
+    Ok(has_room)
+}
+
+/// The clock at which a cursor stands.
+fn clock_of(alloc: Global, cursors: &Cursors, name: &str) -> Result<Option<ClockId>, Fail> {
+    Ok(cursors.clock(&CursorName::read(alloc, name)?))
+}
+
+/// Whether each of these cursors stands at its tick, and is unknown where it has none.
+fn stand(alloc: Global, cursors: &Cursors, wanted: &[(&str, Option<u64>)]) -> Result<bool, Fail> {
+    for (name, tick) in wanted {
+        if clock_of(alloc, cursors, name)? != clock_at(*tick) {
+            return Ok(false);
+        }
+    }
+    Ok(true)
+}
+
+/// A cursor and the tick to which it is moved, and whether there is room; how many there are then, and
+/// where some stand.
+type Move = (
+    &'static str,
+    u64,
+    bool,
+    usize,
+    &'static [(&'static str, Option<u64>)],
+);
+
+/// Whether a cursor is moved as told.
+fn moves_so(alloc: Global, cursors: &mut Cursors, row: &Move) -> Result<bool, Fail> {
+    let (name, tick, has_room, count, wanted) = *row;
+    let is_moved = moves_to(alloc, cursors, name, clock(1, 1, tick))?;
+    Ok(is_moved == has_room && cursors.len() == count && stand(alloc, cursors, wanted)?)
+}
+
+fn assert_moves(
+    rt: &impl Abort,
+    alloc: Global,
+    cursors: &mut Cursors,
+    rows: &[Move],
+) -> Result<(), Fail> {
+    for row in rows {
+        assert!(rt; moves_so(alloc, cursors, row)?, "{} {}", row.0, row.1);
+    }
+    Ok(())
+}
+
+const MOVES: &[Move] = &[
+    ("x", 3, true, 1, &[("x", Some(3)), ("y", None)]),
+    ("y", 4, true, 2, &[("x", Some(3)), ("y", Some(4))]),
+    ("x", 7, true, 2, &[("x", Some(7)), ("y", Some(4))]),
+    ("X", 9, true, 3, &[("x", Some(7)), ("y", Some(4))]),
+    ("y", 2, true, 3, &[("x", Some(7)), ("y", Some(2))]),
+];
+
+#[test]
+fn moves_cursors(rt: HostRuntime) -> Result<(), Fail> {
+    let mut cursors = Cursors::new(rt.alloc())?;
+    assert_moves(&rt, rt.alloc(), &mut cursors, MOVES)
+}
+
+/// Whether there are no cursors, and there is room for one.
+fn are_new(alloc: Global, cursors: &Cursors) -> Result<bool, Fail> {
+    let name = CursorName::read(alloc, "x")?;
+    Ok(cursors.len() == 0 && cursors.clock(&name).is_none() && cursors.has_room(&name))
+}
+
+#[test]
+fn has_no_cursors_at_first(rt: HostRuntime) -> Result<(), Fail> {
+    let cursors = Cursors::new(rt.alloc())?;
+    assert!(rt; are_new(rt.alloc(), &cursors)?);
+    Ok(())
+}
+
+/// Whether there is room for a cursor that is named by a number. It is moved to the next tick.
+fn makes(alloc: Global, cursors: &mut Cursors, number: u16) -> Result<bool, Fail> {
+    let name = format!(in alloc; "{number}")?;
+    moves_to(alloc, cursors, &name, clock(1, 1, u64::from(number) + 1))
+}
+
+/// Makes cursors named by the numbers below 256, and tells the first for which there was no room.
+fn fill(alloc: Global, cursors: &mut Cursors) -> Result<Option<u16>, Fail> {
+    for number in 0..256 {
+        if !makes(alloc, cursors, number)? {
+            return Ok(Some(number));
+        }
+    }
+    Ok(None)
+}
+
+/// What is done when there is room for no other cursor.
+const CROWDED: &[Move] = &[
+    (
+        "256",
+        300,
+        false,
+        MAX_CURSORS,
+        &[("256", None), ("254", Some(255))],
+    ),
+    (
+        "0",
+        301,
+        true,
+        MAX_CURSORS,
+        &[("0", Some(301)), ("254", Some(255))],
+    ),
+    (
+        "255",
+        302,
+        true,
+        MAX_CURSORS,
+        &[("255", Some(302)), ("254", Some(255))],
+    ),
+    (
+        "128",
+        303,
+        true,
+        MAX_CURSORS,
+        &[("128", Some(303)), ("254", Some(255))],
+    ),
+];
+
+#[test]
+fn has_no_room_for_one_more(rt: HostRuntime) -> Result<(), Fail> {
+    let mut cursors = Cursors::new(rt.alloc())?;
+    assert_eq!(rt; fill(rt.alloc(), &mut cursors)?, None);
+    assert_moves(&rt, rt.alloc(), &mut cursors, CROWDED)
+}
+
+/// What is answered about every file since a clock.
+fn answer_since(alloc: Global, view: &View, since: Option<ClockId>) -> Result<Answer, Fail> {
+    let query = Query {
+        since,
+        test: Every,
+        empty_on_fresh: false,
+    };
+    Ok(answer(alloc, view, &query)?)
+}
+
+/// Whether a question by a cursor is answered so: whether it is fresh, and the names. The cursor moves.
+fn is_answered(
+    alloc: Global,
+    view: &View,
+    cursors: &mut Cursors,
+    row: &Asked,
+) -> Result<bool, Fail> {
+    let (cursor, _, fresh, names) = *row;
+    let answer = answer_since(alloc, view, clock_of(alloc, cursors, cursor)?)?;
+    let is_moved = moves_to(alloc, cursors, cursor, answer.clock)?;
+    let told = rendered_by(alloc, &answer, &["name"])?;
+    Ok(is_moved && answer.fresh == fresh && told.as_str() == names)
+}
+
+/// A cursor, and what is seen before it is asked; whether the answer is fresh, and its names.
+type Asked = (&'static str, Observed, bool, &'static str);
+
+const ASKED: &[Asked] = &[
+    ("x", &[(10, &[("a.c", Some(3))])], true, "[\"b.c\",\"a.c\"]"),
+    ("x", &[(10, &[("a.c", Some(3))])], false, "[]"),
+    ("x", &[(10, &[("a.c", Some(5))])], false, "[\"a.c\"]"),
+    ("y", &[(10, &[("a.c", Some(5))])], true, "[\"a.c\",\"b.c\"]"),
+    ("x", &[(10, &[("a.c", Some(6))])], false, "[\"a.c\"]"),
+    ("y", &[(10, &[("a.c", Some(6))])], false, "[\"a.c\"]"),
+    ("y", &[(10, &[("a.c", Some(6))])], false, "[]"),
+];
+
+fn assert_answers(
+    rt: &impl Abort,
+    alloc: Global,
+    view: &mut View,
+    cursors: &mut Cursors,
+) -> Result<(), Fail> {
+    for (i, row) in ASKED.iter().enumerate() {
+        observe(alloc, view, row.1)?;
+        assert!(rt; is_answered(alloc, view, cursors, row)?, "row {i}");
+    }
+    Ok(())
+}
+
+const TWO: Observed = &[(10, &[("a.c", Some(3))]), (10, &[("b.c", Some(4))])];
+
+#[test]
+fn a_cursor_is_fresh_once(rt: HostRuntime) -> Result<(), Fail> {
+    let mut view = observed(rt.alloc(), &[], TWO)?;
+    let mut cursors = Cursors::new(rt.alloc())?;
+    assert_answers(&rt, rt.alloc(), &mut view, &mut cursors)
+}

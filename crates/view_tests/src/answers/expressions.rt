@@ -1,0 +1,132 @@
+//! Questions and mirrors with expressions.
+use super::{answer_since, ask, clock, names, read, rendered_by};
+use crate::making::{Found, Observed, observed, ready_with};
+use std::alloc::Global;
+use std::test::Fail;
+use wm_disk::Refusal;
+use wm_expr::Expr;
+use wm_names::RootPath;
+use wm_since::{Answer, Mirror, Test, answer};
+use wm_view::View;
+
+/// `big` is of 20 bytes at tick 2 and of 5 at tick 3.
+const SHRUNK: Observed = &[(10, &[("big", Some(20))]), (10, &[("big", Some(5))])];
+
+/// An expression, and of how many files since tick 2 it holds.
+const COUNTS: &[(&str, usize)] = &[
+    ("[\"size\",\"gt\",10]", 0),
+    ("[\"size\",\"lt\",10]", 1),
+    ("\"exists\"", 1),
+    ("[\"name\",\"small\"]", 0),
+];
+
+/// Whether an answer since tick 2 lists so many files up to tick 3.
+fn lists_so_many(alloc: Global, view: &View, text: &str, count: usize) -> Result<bool, Fail> {
+    let answer = answer_since(alloc, view, Some(2), read(alloc, text)?)?;
+    let is_at_3 = answer.clock == clock(1, 1, 3) && !answer.fresh;
+    Ok(is_at_3 && answer.files.as_slice().len() == count)
+}
+
+#[test]
+fn a_file_that_fails_the_expression_is_left_out(rt: HostRuntime) -> Result<(), Fail> {
+    let view = observed(rt.alloc(), &[], SHRUNK)?;
+    for (text, count) in COUNTS {
+        assert!(rt; lists_so_many(rt.alloc(), &view, text, *count)?, "{text}");
+    }
+    Ok(())
+}
+
+/// Whether an expression reads more than the path, and makes no mirror.
+fn makes_no_mirror(alloc: Global, text: &str) -> Result<bool, Fail> {
+    let expr = read(alloc, text)?;
+    let is_path_only = Test::is_path_only(&expr);
+    let refused = Mirror::new(alloc, RootPath::read(alloc, "/r")?, expr).err();
+    Ok(!is_path_only && refused == Some(Refusal::BadExpression))
+}
+
+/// Whether a mirror takes the answer to its question, and lists these files then.
+fn takes(
+    alloc: Global,
+    mirror: &mut Mirror<Expr>,
+    answer: &Answer,
+    files: &str,
+) -> Result<bool, Fail> {
+    mirror.apply(alloc, answer)?;
+    Ok(names(alloc, mirror)?.as_str() == files)
+}
+
+/// Whether a mirror with no open question asks a view, and lists these files then.
+fn mirrors(
+    alloc: Global,
+    mirror: &mut Mirror<Expr>,
+    view: &View,
+    files: &str,
+) -> Result<bool, Fail> {
+    match ask(alloc, mirror)? {
+        Some(query) => takes(alloc, mirror, &answer(alloc, view, &query)?, files),
+        None => Ok(false),
+    }
+}
+
+/// A root with three files.
+const THREE: Found = &[("a.c", 1), ("b.h", 1), ("x.c", 1)];
+
+/// Whether a mirror by an expression lists these files of such a root.
+fn mirrors_by(alloc: Global, text: &str, files: &str) -> Result<bool, Fail> {
+    let root = RootPath::read(alloc, "/r")?;
+    let mut mirror = Mirror::new(alloc, root, read(alloc, text)?)?;
+    mirrors(alloc, &mut mirror, &ready_with(alloc, THREE)?, files)
+}
+
+#[test]
+fn a_mirror_takes_expressions_of_paths_alone(rt: HostRuntime) -> Result<(), Fail> {
+    assert!(rt; makes_no_mirror(rt.alloc(), "[\"size\",\"gt\",10]")?);
+    assert!(rt; mirrors_by(rt.alloc(), "[\"suffix\",\"c\"]", "a.c x.c ")?);
+    Ok(())
+}
+
+/// `a.c` is of 3 bytes since tick 2, and `b.c` of 4 since tick 3.
+const GROWN: Observed = &[(10, &[("a.c", Some(3))]), (10, &[("b.c", Some(4))])];
+
+/// A question: the tick that it starts from, its expression, and its fields; and the answer's files.
+type Row = (
+    Option<u64>,
+    &'static str,
+    &'static [&'static str],
+    &'static str,
+);
+
+const QUESTIONS: &[Row] = &[
+    (
+        None,
+        "[\"allof\",[\"suffix\",\"C\"],[\"not\",[\"name\",\"a.c\"]]]",
+        &["name", "cclock", "oclock"],
+        "[{\"cclock\":\"c:1:1:3\",\"name\":\"b.c\",\"oclock\":\"c:1:1:3\"}]",
+    ),
+    (Some(1), "\"true\"", &["name"], "[\"b.c\",\"a.c\"]"),
+    (Some(2), "\"true\"", &["name"], "[\"b.c\"]"),
+    (Some(3), "\"true\"", &["name"], "[]"),
+    (
+        Some(1),
+        "[\"size\",\"lt\",4]",
+        &["size", "new", "oclock"],
+        "[{\"new\":true,\"oclock\":\"c:1:1:2\",\"size\":3}]",
+    ),
+];
+
+/// Whether a question is answered at tick 3, afresh where it starts from no tick, with these files.
+fn is_answered(alloc: Global, view: &View, row: &Row) -> Result<bool, Fail> {
+    let (since, text, fields, files) = *row;
+    let answer = answer_since(alloc, view, since, read(alloc, text)?)?;
+    let is_at_3 = answer.clock == clock(1, 1, 3) && answer.fresh == since.is_none();
+    Ok(is_at_3 && rendered_by(alloc, &answer, fields)?.as_str() == files)
+}
+
+#[test]
+fn tells_the_chosen_fields_of_what_passes(rt: HostRuntime) -> Result<(), Fail> {
+    let view = observed(rt.alloc(), &[], GROWN)?;
+    for row in QUESTIONS {
+        assert!(rt; is_answered(rt.alloc(), &view, row)?, "{}", row.3);
+    }
+    Ok(())
+}

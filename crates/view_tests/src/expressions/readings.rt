@@ -1,0 +1,162 @@
+//! Which JSON texts are expressions.
+use super::repeated;
+use serde_json::Value;
+use std::alloc::Global;
+use std::process::Abort;
+use std::test::Fail;
+use wm_disk::Refusal;
+use wm_expr::Expr;
+
+/// Why a JSON text is no expression; nothing where it is one.
+fn refusal(alloc: Global, text: &str) -> Result<Option<Refusal>, Fail> {
+    let value = Value::from_str(alloc, text)?;
+    match Expr::read(alloc, &value) {
+        Ok(_) => Ok(None),
+        Err(refusal) => Ok(Some(refusal)),
+    }
+}
+
+/// Whether a JSON text is an expression, or is refused as a bad one, as wanted.
+fn is_refused_so(alloc: Global, text: &str, refused: bool) -> Result<bool, Fail> {
+    let want = if refused {
+        Some(Refusal::BadExpression)
+    } else {
+        None
+    };
+    Ok(refusal(alloc, text)? == want)
+}
+
+fn assert_refused(rt: &impl Abort, alloc: Global, texts: &[&str]) -> Result<(), Fail> {
+    for text in texts {
+        assert!(rt; is_refused_so(alloc, text, true)?, "{text}");
+    }
+    Ok(())
+}
+
+const NO_LISTS: &[&str] = &[
+    "null",
+    "true",
+    "1",
+    "1.5",
+    "{}",
+    "{\"allof\":[]}",
+    "\"\"",
+    "\"True\"",
+    "\"not\"",
+    "\"allof\"",
+    "\"name\"",
+    "[]",
+    "[null]",
+    "[1]",
+    "[[\"true\"]]",
+    "[\"TRUE\"]",
+    "[\"since\",\"c:1:1:1\"]",
+    "[\"true\",\"true\"]",
+    "[\"exists\",true]",
+];
+
+#[test]
+fn refuses_values_that_are_no_lists(rt: HostRuntime) -> Result<(), Fail> {
+    assert_refused(&rt, rt.alloc(), NO_LISTS)
+}
+
+const WRONG_PARTS: &[&str] = &[
+    "[\"not\"]",
+    "[\"not\",null]",
+    "[\"not\",\"true\",\"true\"]",
+    "[\"allof\",null]",
+    "[\"allof\",[\"true\"],\"no\"]",
+    "[\"anyof\",\"true\",[]]",
+    "[\"name\"]",
+    "[\"name\",null]",
+    "[\"name\",[null]]",
+    "[\"name\",[\"a\",1]]",
+    "[\"name\",\"a\",\"dirname\"]",
+    "[\"name\",\"a\",null]",
+    "[\"name\",\"a\",\"basename\",\"basename\"]",
+    "[\"suffix\"]",
+    "[\"suffix\",1]",
+    "[\"suffix\",[[]]]",
+    "[\"suffix\",\"c\",\"basename\"]",
+    "[\"type\"]",
+    "[\"type\",\"F\"]",
+    "[\"type\",\"b\"]",
+    "[\"type\",[\"f\"]]",
+    "[\"type\",\"f\",\"d\"]",
+];
+
+#[test]
+fn refuses_wrong_parts(rt: HostRuntime) -> Result<(), Fail> {
+    assert_refused(&rt, rt.alloc(), WRONG_PARTS)
+}
+
+const WRONG_SIZES_AND_PATTERNS: &[&str] = &[
+    "[\"size\"]",
+    "[\"size\",\"eq\"]",
+    "[\"size\",1]",
+    "[\"size\",\"==\",1]",
+    "[\"size\",\"eq\",-1]",
+    "[\"size\",\"eq\",1.0]",
+    "[\"size\",\"eq\",\"1\"]",
+    "[\"size\",\"eq\",9223372036854775808]",
+    "[\"size\",\"eq\",18446744073709551616]",
+    "[\"size\",\"eq\",1,2]",
+    "[\"match\"]",
+    "[\"match\",1]",
+    "[\"match\",[\"a\"]]",
+    "[\"match\",\"a[b\"]",
+    "[\"match\",\"[\",\"wholename\"]",
+    "[\"match\",\"a\\\\b\"]",
+    "[\"match\",\"a\",\"path\"]",
+    "[\"match\",\"a\",\"basename\",{}]",
+];
+
+#[test]
+fn refuses_wrong_sizes_and_patterns(rt: HostRuntime) -> Result<(), Fail> {
+    assert_refused(&rt, rt.alloc(), WRONG_SIZES_AND_PATTERNS)
+}
+
+/// A text with a part so many times in its midst, and whether it is refused: patterns of so many bytes,
+/// and lists of so many terms below the first.
+type Length = (&'static str, &'static str, u16, &'static str, bool);
+
+const LENGTHS: &[Length] = &[
+    ("[\"match\",\"", "]", 1024, "\"]", false),
+    ("[\"match\",\"", "]", 1025, "\"]", true),
+    ("[\"allof\"", ",\"true\"", 1023, "]", false),
+    ("[\"allof\"", ",\"true\"", 1024, "]", true),
+];
+
+/// Whether such a text is read or refused as told.
+fn is_length_taken_so(alloc: Global, row: &Length) -> Result<bool, Fail> {
+    let (front, part, times, back, refused) = *row;
+    let text = repeated(alloc, front, part, times, back)?;
+    is_refused_so(alloc, &text, refused)
+}
+
+#[test]
+fn takes_so_long_patterns_and_so_many_terms(rt: HostRuntime) -> Result<(), Fail> {
+    for row in LENGTHS {
+        assert!(rt; is_length_taken_so(rt.alloc(), row)?, "{} {}", row.0, row.2);
+    }
+    Ok(())
+}
+
+/// So many terms, each in the one before, and whether they are refused.
+const DEPTHS: &[(u16, bool)] = &[(31, false), (32, true)];
+
+/// Whether a term with so many around it is read or refused as told.
+fn is_depth_taken_so(alloc: Global, levels: u16, refused: bool) -> Result<bool, Fail> {
+    let front = repeated(alloc, "", "[\"not\",", levels, "\"true\"")?;
+    let text = repeated(alloc, &front, "]", levels, "")?;
+    is_refused_so(alloc, &text, refused)
+}
+
+#[test]
+fn takes_terms_of_bounded_depth(rt: HostRuntime) -> Result<(), Fail> {
+    for (levels, refused) in DEPTHS {
+        let is_so = is_depth_taken_so(rt.alloc(), *levels, *refused)?;
+        assert!(rt; is_so, "{levels} levels");
+    }
+    Ok(())
+}

@@ -1,0 +1,15 @@
+//! The tests of expressions (`wm_expr`), of views (`wm_view`), and of what is answered about a view
+//! (`wm_since`). They stand apart from these crates, so that each is proved once and without them.
+//!
+//! A test walks a table, in which each row has its values written out by hand, and asserts once for a
+//! row: what the row compares stands in a helper that answers whether all of it is so.
+#![tactic(auto)]
+
+#[cfg(test)]
+mod answers;
+#[cfg(test)]
+mod expressions;
+#[cfg(test)]
+mod making;
+#[cfg(test)]
+mod views;

@@ -1,0 +1,59 @@
+//! Views through whole sessions, with what they list written out by hand.
+use crate::making::file;
+use std::alloc::Global;
+use std::test::Fail;
+use wm_names::RelPath;
+use wm_view::{Known, View};
+
+mod ageing;
+mod listings;
+mod observing;
+mod recrawling;
+mod sessions;
+mod walking;
+
+/// What is listed of a path: the path, whether it exists, its size, the ticks of its creation and of its
+/// last change, and the moment of that.
+type Shown = (&'static str, bool, u64, u64, u64, u64);
+
+/// Whether a listed path is this one, and all that is known of it is this.
+fn is_shown(listed: &(RelPath, Known), shown: &Shown) -> bool {
+    let (path, exists, size, created, last, moment) = *shown;
+    let known = Known {
+        exists,
+        meta: file(size),
+        last,
+        created,
+        moment,
+    };
+    listed.0.as_str() == path && listed.1 == known
+}
+
+/// Whether just these are listed, in this order.
+fn lists(listed: &[(RelPath, Known)], wanted: &[Shown]) -> bool {
+    if listed.len() != wanted.len() {
+        return false;
+    }
+    for (entry, shown) in listed.iter().zip(wanted) {
+        if !is_shown(entry, shown) {
+            return false;
+        }
+    }
+    true
+}
+
+/// Whether this is what exists.
+fn exists_so(alloc: Global, view: &View, wanted: &[Shown]) -> Result<bool, Fail> {
+    Ok(lists(&view.existing(alloc)?, wanted))
+}
+
+/// Whether the view stands at this tick and floor, and shows this as changed after a tick.
+fn stands(
+    alloc: Global,
+    view: &View,
+    at: (u64, u64),
+    since: u64,
+    shown: &[Shown],
+) -> Result<bool, Fail> {
+    Ok((view.tick(), view.floor()) == at && lists(&view.changed_after(alloc, since)?, shown))
+}

@@ -1,0 +1,97 @@
+//! Listings that a view takes in after the first one.
+use super::{Shown, stands};
+use crate::making::{Found, Observed, listing_of, observed};
+use std::alloc::Global;
+use std::test::Fail;
+
+/// What is read, from which tick on, and what it finds; the tick then, and what has changed after tick 3.
+type Crawl = (Option<&'static str>, u64, Found, u64, &'static [Shown]);
+
+const RECRAWLS: &[Crawl] = &[
+    (
+        Some("x"),
+        3,
+        &[("x/b", 1)],
+        4,
+        &[("x/a", false, 2, 1, 4, 40), ("x/n", false, 1, 2, 4, 40)],
+    ),
+    (
+        Some("x"),
+        1,
+        &[("x/b", 5)],
+        4,
+        &[("x/b", true, 5, 1, 4, 40)],
+    ),
+    (
+        Some("x"),
+        2,
+        &[],
+        4,
+        &[("x/b", false, 1, 1, 4, 40), ("x/n", false, 1, 2, 4, 40)],
+    ),
+    (
+        Some("x"),
+        3,
+        &[("x/n", 1), ("x/b", 1), ("x/a", 1)],
+        4,
+        &[("x/a", true, 1, 1, 4, 40)],
+    ),
+    (Some("x"), 2, &[("x/n", 1), ("x/b", 1), ("x/a", 1)], 3, &[]),
+    (Some("y/c"), 3, &[], 3, &[]),
+    (
+        None,
+        3,
+        &[
+            ("y/c", 1),
+            ("xy", 1),
+            ("x/n", 1),
+            ("x/b", 1),
+            ("x/a", 2),
+            ("x", 1),
+        ],
+        3,
+        &[],
+    ),
+    (
+        None,
+        1,
+        &[("x/a", 9), ("new", 7)],
+        4,
+        &[
+            ("new", true, 7, 4, 4, 40),
+            ("x", false, 1, 1, 4, 40),
+            ("x/b", false, 1, 1, 4, 40),
+            ("xy", false, 1, 1, 4, 40),
+            ("y/c", false, 1, 1, 4, 40),
+        ],
+    ),
+    (
+        None,
+        0,
+        &[("x/a", 9), ("x/b", 9), ("new", 7)],
+        4,
+        &[("new", true, 7, 4, 4, 40)],
+    ),
+];
+
+/// What the first listing found.
+const FIRST: Found = &[("x", 1), ("x/a", 1), ("x/b", 1), ("xy", 1), ("y/c", 1)];
+
+/// What was observed then, up to tick 3.
+const THEN: Observed = &[(20, &[("x/n", Some(1))]), (30, &[("x/a", Some(2))])];
+
+/// Whether a recrawl makes this of such a view.
+fn recrawls_so(alloc: Global, row: &Crawl) -> Result<bool, Fail> {
+    let (top, begun_at, found, tick, shown) = *row;
+    let mut view = observed(alloc, FIRST, THEN)?;
+    view.recrawl(alloc, 40, begun_at, &listing_of(alloc, top, found)?)?;
+    stands(alloc, &view, (tick, 0), 3, shown)
+}
+
+#[test]
+fn recrawls_what_did_not_change_since(rt: HostRuntime) -> Result<(), Fail> {
+    for (i, row) in RECRAWLS.iter().enumerate() {
+        assert!(rt; recrawls_so(rt.alloc(), row)?, "recrawl {i}");
+    }
+    Ok(())
+}

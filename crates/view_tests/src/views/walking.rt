@@ -1,0 +1,86 @@
+//! What is done to a view, step by step.
+use super::{Shown, stands};
+use crate::making::{Found, Told, listing_of, pairs_of};
+use std::alloc::Global;
+use std::process::Abort;
+use std::test::Fail;
+use wm_disk::Refusal;
+use wm_view::{Op, View};
+
+/// What is done to a view.
+pub enum Deed {
+    /// At this moment, this was observed.
+    Observe(u64, Told),
+    /// At this moment a reading of this part ended, which began at this tick and found this.
+    Recrawl(u64, u64, Option<&'static str>, Found),
+    /// At this time, what was deleted so long ago is forgotten.
+    AgeOut(u64, u64),
+}
+
+/// What is done, and with what result; the tick and the floor then, and what has then changed after an
+/// earlier tick.
+pub type Step = (Deed, Result<(), Refusal>, (u64, u64), u64, &'static [Shown]);
+
+/// The deed as a value.
+fn op_of(alloc: Global, deed: &Deed) -> Result<Op, Fail> {
+    match deed {
+        Deed::Observe(moment, told) => Ok(Op::Observe(*moment, pairs_of(alloc, told)?)),
+        Deed::Recrawl(moment, begun_at, top, found) => {
+            let listing = listing_of(alloc, *top, found)?;
+            Ok(Op::Recrawl(*moment, *begun_at, listing))
+        }
+        Deed::AgeOut(time, age) => Ok(Op::AgeOut(*time, *age)),
+    }
+}
+
+/// Whether the deed, done as a value, has this result.
+fn performs(
+    alloc: Global,
+    view: &mut View,
+    deed: &Deed,
+    wanted: Result<(), Refusal>,
+) -> Result<bool, Fail> {
+    let op = op_of(alloc, deed)?;
+    Ok(view.perform(alloc, &op) == wanted)
+}
+
+/// Whether the deed, done by the method for it, has this result.
+fn does(
+    alloc: Global,
+    view: &mut View,
+    deed: &Deed,
+    wanted: Result<(), Refusal>,
+) -> Result<bool, Fail> {
+    match op_of(alloc, deed)? {
+        Op::Observe(moment, pairs) => Ok(view.observe(alloc, moment, &pairs) == wanted),
+        Op::Recrawl(moment, begun_at, listing) => {
+            Ok(view.recrawl(alloc, moment, begun_at, &listing) == wanted)
+        }
+        Op::AgeOut(time, age) => Ok(view.age_out(alloc, time, age) == wanted),
+    }
+}
+
+/// Whether a step goes as told, as a value or by the method for it.
+fn goes_so(alloc: Global, view: &mut View, step: &Step, as_value: bool) -> Result<bool, Fail> {
+    let (deed, result, at, since, shown) = step;
+    let done = if as_value {
+        performs(alloc, view, deed, *result)?
+    } else {
+        does(alloc, view, deed, *result)?
+    };
+    Ok(done && stands(alloc, view, *at, *since, shown)?)
+}
+
+/// Takes the view through the steps, each of which goes as told.
+pub fn assert_walks(
+    rt: &impl Abort,
+    alloc: Global,
+    view: &mut View,
+    steps: &[Step],
+    as_value: bool,
+) -> Result<(), Fail> {
+    for (i, step) in steps.iter().enumerate() {
+        assert!(rt; goes_so(alloc, view, step, as_value)?, "step {i}");
+    }
+    Ok(())
+}

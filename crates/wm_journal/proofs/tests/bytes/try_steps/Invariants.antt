@@ -1,5 +1,0 @@
-use Rattle.wm_journal.specs.Regions.{IsAt}
-use Rattle.wm_journal.proofs.tests.bytes.try_steps.Given as goal
-
-abbrev pub invariant-loop-step : goal.invariant-loop-step
-invariant-loop-step g l = IsAt l.region 5 l.len
