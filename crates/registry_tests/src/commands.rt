@@ -37,7 +37,7 @@ fn is_trigger(trigger: &Trigger, name: &str, program: &str) -> bool {
     };
     let bare = trigger.expression().is_none() && !trigger.append_files();
     let quiet = matches!(trigger.stdin(), Stdin::DevNull);
-    started && bare && quiet && trigger.name().as_str() == name
+    started && bare && quiet && trigger.name() == name
 }
 
 // Whether the command is that of the row.

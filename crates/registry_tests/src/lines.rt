@@ -39,7 +39,7 @@ pub(crate) fn command(alloc: Global, line: &str) -> Result<Command, Refusal> {
 
 // Appends a trigger's name and its word, where it has one.
 fn show_trigger(line: &mut String, trigger: &Trigger) -> Result<(), AllocError> {
-    let name = trigger.name().as_str();
+    let name = trigger.name();
     match trigger.command() {
         [word] => write!(line, " {name}={}", word.as_str()),
         _ => write!(line, " {name}"),

@@ -71,7 +71,7 @@ fn is_same_stdin(first: Stdin, second: Stdin) -> bool {
 
 /// Whether the trigger shows what it was made of.
 pub(crate) fn is_of(trigger: &Trigger, plan: Plan<'_>) -> bool {
-    trigger.name().as_str() == plan.name
+    trigger.name() == plan.name
         && are_words_of(trigger, plan)
         && trigger.expression() == plan.expression
         && trigger.append_files() == plan.append_files

@@ -161,7 +161,7 @@ const ROOTS: &[RootRow] = &[
 // Whether the root has that number and so many triggers, of which the last has the name.
 fn is_root(root: &Root, number: u64, count: usize, last: &str) -> bool {
     let named = match root.triggers.as_slice() {
-        [.., trigger] => trigger.name().as_str() == last,
+        [.., trigger] => trigger.name() == last,
         [] => last.is_empty(),
     };
     root.number == number && root.triggers.len() == count && named

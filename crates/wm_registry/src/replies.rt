@@ -113,7 +113,7 @@ impl Registry {
         if root::is_defined(triggers, trigger) {
             return Reply::Unchanged;
         }
-        match root::place_of(triggers, trigger.name().as_str()) {
+        match root::place_of(triggers, trigger.name()) {
             Some(place) => {
                 let old = triggers[place].size();
                 self.unless_full(trigger.size(), old, Reply::Replaced)

@@ -26,9 +26,7 @@ pub struct Root {
 pub(crate) fn place_of(triggers: &[Trigger], name: &str) -> Option<usize>
     ensures { result ≡ position (is_named name.now) triggers.now }
 {
-    triggers
-        .iter()
-        .position(|trigger| trigger.name().as_str() == name)
+    triggers.iter().position(|trigger| trigger.name() == name)
 }
 
 /// Whether a trigger is there that is defined in the same way.
@@ -45,7 +43,7 @@ pub(crate) fn define(triggers: &mut List<Trigger, 64>, trigger: Trigger) -> Resu
     ensures ok { OnOk result (triggers.new ≡ defined trigger triggers.old) }
     ensures err { OnErr result (triggers.new ≡ triggers.old) }
 {
-    match place_of(triggers.as_slice(), trigger.name().as_str()) {
+    match place_of(triggers.as_slice(), trigger.name()) {
         Some(place) => match triggers.set(place, trigger) {
             Ok(()) => Ok(()),
             Err(_) => Err(NoMemory),
@@ -119,9 +117,7 @@ pub(crate) fn are_apart(triggers: &[Trigger]) -> bool
     ensures not_apart { OnFalse result (IsDistinct bytes_eq (names_of triggers.now) → ⊥) }
 {
     match triggers {
-        [trigger, rest @ ..] => {
-            place_of(rest, trigger.name().as_str()).is_none() && are_apart(rest)
-        }
+        [trigger, rest @ ..] => { place_of(rest, trigger.name()).is_none() && are_apart(rest) }
         [] => true,
     }
 }

@@ -94,15 +94,23 @@ impl Trigger {
             append_files,
             stdin,
         };
+        Ok(Trigger::of(alloc, parts)?)
+    }
+
+    /// The trigger of these parts.
+    fn of(alloc: Global, parts: Parts) -> Result<Trigger, NoMemory>
+        requires { has_program_lem parts.command ≡ true }
+        ensures { IfOk result (λ t. t ≡ definition parts.name parts.command parts.expression parts.append_files parts.stdin) }
+    {
         let parts = Box::new(alloc, parts)?;
         Ok(Trigger { parts })
     }
 
     /// Its name.
-    pub fn name(&self) -> &TriggerName
+    pub fn name(&self) -> &str
         ensures { result.now ≡ self.now.name }
     {
-        &self.parts.name
+        self.parts.name.as_str()
     }
 
     /// The program and its words.
@@ -140,7 +148,7 @@ impl Trigger {
     pub(crate) fn is_same(&self, other: &Trigger) -> bool
         ensures { result ≡ same_definition self.now other.now }
     {
-        self.parts.name.as_str() == other.parts.name.as_str()
+        self.name() == other.name()
             && self.command() == other.command()
             && self.expression() == other.expression()
             && self.parts.append_files == other.parts.append_files
@@ -161,8 +169,7 @@ impl Trigger {
             append_files: self.parts.append_files,
             stdin: self.parts.stdin,
         };
-        let parts = Box::new(alloc, parts)?;
-        Ok(Trigger { parts })
+        Trigger::of(alloc, parts)
     }
 
     /// Appends the parts one after another, and may stop between two.
@@ -217,8 +224,7 @@ impl Wire for Trigger {
             append_files,
             stdin,
         };
-        let parts = Box::new(alloc, parts)?;
-        let trigger = Trigger { parts };
+        let trigger = Trigger::of(alloc, parts)?;
         Ok(Some((trigger, size)))
     }
 

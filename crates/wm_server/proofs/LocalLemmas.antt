@@ -14,7 +14,7 @@ use Rattle.wm_checkpoint.specs.Meanings.{IsDamaged, IsRetired, MeansState}
 use Rattle.wm_registry.specs.declared.command.Command.{Command}
 use Rattle.wm_registry.specs.declared.command.Command.TheVariants.{Begin}
 use Rattle.wm_registry.specs.declared.reply.Reply.{Reply}
-use Rattle.wm_registry.specs.declared.reply.Reply.TheVariants.{Changed, Unchanged, Refused}
+use Rattle.wm_registry.specs.declared.reply.Reply.TheVariants.{Unchanged, Refused}
 use Rattle.wm_registry.specs.MachineLaws.{watches}
 use Rattle.wm_registry.specs.Roots as registry
 use Rattle.wm_registry.specs.Registry.{after, changed, is_change, reply_to}

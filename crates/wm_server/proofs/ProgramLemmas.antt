@@ -18,10 +18,9 @@ use Rattle.serde_json.specs.Data.{Data}
 use Rattle.wm_disk.specs.declared.disk.Disk.{Ghosts}
 use Rattle.wm_checkpoint.specs.Machines.{replay_on}
 use Rattle.wm_registry.specs.declared.command.Command.TheVariants.{Begin}
-use Rattle.wm_registry.specs.declared.reply.Reply.TheVariants.{Changed}
 use Rattle.wm_registry.specs.declared.root.Root.{Root}
 use Rattle.wm_registry.specs.MachineLaws.{watches}
-use Rattle.wm_registry.specs.Registry.{after, reply_to}
+use Rattle.wm_registry.specs.Registry.{after}
 use Rattle.wm_registry.specs.Roots as registry
 use Rattle.wm_store.specs.Openings.{IsBegun}
 use Rattle.wm_store.specs.Stored.{Stored}
@@ -37,8 +36,8 @@ use Rattle.wm_server.specs.Stores.{IsKeptOn, Later, LeadsTo, LinesRefused, Start
 use Rattle.wm_server.specs.Replies.{clock_reply}
 use Rattle.wm_server.specs.Watched.{clock_answer, first_views, view_after}
 use Rattle.wm_server.specs.Faults.{Standing, Way, Defined, Device, Memory, Spent, state_or}
-use Rattle.wm_server.specs.Runs.{Run, Served}
-use Rattle.wm_server.specs.Programs.{IsQuiet, Kept, LinesServed, first_state, line_number}
+use Rattle.wm_server.specs.Runs.{Run, Broke, Served}
+use Rattle.wm_server.specs.Programs.{IsQuiet, Kept, LinesBroken, LinesMet, LinesServed, first_state, line_number}
 
 -- ---- a store that has failed stays so
 
@@ -142,25 +141,35 @@ module _ {D : Type 0} (disk : Ghosts D) where
         kept = s.kept;
       }
 
-  pub lines_served : (old : D) (begun left : Stored D) (views views' : List RootView) (new : D) (faults : ℕ) (input : List ℕ) (held holds : Option (List ℕ))
+  lines_met : (old : D) (begun left : Stored D) (views views' : List RootView) (new : D) (lines : List (List ℕ)) (ways : List Way) (bytes : List ℕ)
       → Session old begun left new → views ≡ first_views begun.registry → left.failed ≡ false
-      → Served (standing_with disk begun views) line_number 0 input faults held holds (standing_with disk left views') → LinesServed disk old input held holds new
+      → Run (standing_with disk begun views) line_number 0 lines ways bytes (standing_with disk left views') → LinesMet disk old lines bytes new
   unfolding keeps
-  lines_served old begun left views views' new faults input held holds s views_are worked served =
+  lines_met old begun left views views' new lines ways bytes s views_are worked run =
       let start : state_with begun views ≡ first_state s.start.found = same_state (state_with begun views) s.start.found s.start.registry s.works views_are in
       record {
         was = s.start.found;
         before = disk.failures begun.disk;
         number = begun.number;
-        ways = served.ways;
-        quiet = quiet_run (standing_with disk begun views) line_number 0 (lines_of input) served.ways served.bytes (standing_with disk left views') worked served.run;
-        bytes = served.bytes;
+        ways = ways;
+        quiet = quiet_run (standing_with disk begun views) line_number 0 lines ways bytes (standing_with disk left views') worked run;
         left = standing_with disk left views';
-        run = subst (λ (t : State). Run (record { state = t; failures = disk.failures begun.disk; number = begun.number }) line_number 0 (lines_of input) served.ways served.bytes (standing_with disk left views')) start served.run;
-        appends = served.appends;
+        run = subst (λ (t : State). Run (record { state = t; failures = disk.failures begun.disk; number = begun.number }) line_number 0 lines ways bytes (standing_with disk left views')) start run;
         kept = keeps old begun left new s;
         number_is = s.start.number;
       }
+
+  pub lines_served : (old : D) (begun left : Stored D) (views views' : List RootView) (new : D) (faults : ℕ) (input : List ℕ) (held holds : Option (List ℕ))
+      → Session old begun left new → views ≡ first_views begun.registry → left.failed ≡ false
+      → Served (standing_with disk begun views) line_number 0 input faults held holds (standing_with disk left views') → LinesServed disk old input held holds new
+  lines_served old begun left views views' new faults input held holds s views_are worked served =
+      record { bytes = served.bytes; met = lines_met old begun left views views' new (lines_of input) served.ways served.bytes s views_are worked served.run; appends = served.appends }
+
+  pub lines_broken : (old : D) (begun left : Stored D) (views views' : List RootView) (new : D) (input : List ℕ)
+      → Session old begun left new → views ≡ first_views begun.registry → left.failed ≡ false
+      → Broke (standing_with disk begun views) line_number input (standing_with disk left views') → LinesBroken disk old input new
+  lines_broken old begun left views views' new input s views_are worked broke =
+      record { met = broke.met; more = broke.more; lines = broke.lines; bytes = broke.bytes; kept = lines_met old begun left views views' new broke.met broke.ways broke.bytes s views_are worked broke.run }
 
   -- ---- a refusal
 

@@ -1,9 +1,9 @@
 -- Runs that go on, line by line.
-use Rattle.std.proofs.Common.{◌≡◌, ◌≢◌, ℕ, ◌+◌, ◌<◌, ◌≤◌, List, [], ◌∷◌, ◌++◌, length, take, Bool, true, false, cond, Option, Some, None, Err, refl, sym, ap, ◌∙◌, arith, inl, inr, append_assoc, subst, codes}
-use Rattle.std.proofs.lemmas.List.{append-nil, take_all, length-take-le}
+use Rattle.std.proofs.Common.{◌≡◌, ◌≢◌, ℕ, ◌+◌, ◌<◌, ◌≤◌, List, [], ◌∷◌, ◌++◌, length, take, Bool, true, false, cond, Option, Some, None, Result, Ok, Err, refl, sym, ap, ◌∙◌, arith, inl, inr, append_assoc, subst, codes}
+use Rattle.std.proofs.lemmas.List.{append-nil, length-append, take_all, length-take-le}
 use Rattle.std.proofs.lemmas.Bool.{cases_lt}
 use Rattle.std.proofs.lemmas.Bool.Decides.{nat_tests}
-use Rattle.std.specs.Prelude.{◌==◌, ◌&&◌, nat_le}
+use Rattle.std.specs.Prelude.{◌==◌, ◌&&◌, nat_le, OnErr}
 use Rattle.std.specs.Io.BufRead.{take_through, drop_through, ends_with_byte}
 use Rattle.std.specs.Io.KnownBytes.{Appends}
 use Rattle.serde_json.proofs.OnLiterals.{serde_json_on_literals}
@@ -14,7 +14,7 @@ use Rattle.wm_server.proofs.Texts.{text_of-cut}
 use Rattle.wm_server.specs.Replies.{line_text, refusal_reply, reply_bytes}
 use Rattle.wm_server.specs.Sessions.{State, Outcome, line_met, met_or_refused}
 use Rattle.wm_server.specs.Faults.{Standing, Way, Defined, Device, Memory, Spent, HasCause, Lasts, Answers, faults_of, refusal_or, state_or}
-use Rattle.wm_server.specs.Runs.{Run, Served, ServedCleanly, Serves, output_of, state_after, faults_in}
+use Rattle.wm_server.specs.Runs.{Run, Broke, Served, ServedCleanly, Serves, Untold, output_of, state_after, faults_in}
 use Rattle.wm_server.specs.declared.input.LineRead.{LineRead}
 use Rattle.wm_server.specs.declared.input.LineRead.TheVariants as reads
 use Rattle.wm_server.specs.Reading.{ReadsLine, Stands}
@@ -62,20 +62,21 @@ same_text kept whole e =
 same_met : (s : State) (moment : ℕ) (kept whole : List ℕ) → kept ≡ take max_kept whole → line_met s moment kept ≡ line_met s moment whole
 same_met s moment kept whole e = ap (λ t. met_or_refused s moment (request_of_text t)) (same_text kept whole e)
 
-pub stands_kept : (old new : Standing) (moment n : ℕ) (kept whole : List ℕ) (held holds : Option (List ℕ)) → kept ≡ take max_kept whole → Serves old moment kept n held holds new → Serves old moment whole n held holds new
-stands_kept old new moment n kept whole held holds e s =
+answers_kept : (way : Way) (old new : Standing) (moment : ℕ) (kept whole bytes : List ℕ) → kept ≡ take max_kept whole → Answers way old moment kept bytes new → Answers way old moment whole bytes new
+answers_kept way old new moment kept whole bytes e a =
     let same = same_met old.state moment kept whole e in
     record {
-      way = s.way;
-      bytes = s.bytes;
-      faults_are = s.faults_are;
-      appends = s.appends;
-      answers = record {
-        cause = subst (λ (o : Outcome). HasCause s.way o.accepts old new) same s.answers.cause;
-        bytes_are = s.answers.bytes_are ∙ ap (λ (o : Outcome). reply_bytes (refusal_or s.way o.reply)) same;
-        state_is = s.answers.state_is ∙ ap (λ (o : Outcome). state_or s.way o.state old.state) same;
-      };
+      cause = subst (λ (o : Outcome). HasCause way o.accepts old new) same a.cause;
+      bytes_are = a.bytes_are ∙ ap (λ (o : Outcome). reply_bytes (refusal_or way o.reply)) same;
+      state_is = a.state_is ∙ ap (λ (o : Outcome). state_or way o.state old.state) same;
     }
+
+pub stands_kept : (old new : Standing) (moment n : ℕ) (kept whole : List ℕ) (held holds : Option (List ℕ)) → kept ≡ take max_kept whole → Serves old moment kept n held holds new → Serves old moment whole n held holds new
+stands_kept old new moment n kept whole held holds e s =
+    record { way = s.way; bytes = s.bytes; faults_are = s.faults_are; appends = s.appends; answers = answers_kept s.way old new moment kept whole s.bytes e s.answers }
+
+pub untold_kept : (old new : Standing) (moment : ℕ) (kept whole : List ℕ) → kept ≡ take max_kept whole → Untold old moment kept new → Untold old moment whole new
+untold_kept old new moment kept whole e u = record { way = u.way; bytes = u.bytes; answers = answers_kept u.way old new moment kept whole u.bytes e u.answers }
 
 pub no_memory_line : codes "{\"error\":\"16 NoMemory\",\"version\":\"w1\"}\n" ≡ line_text (refusal_reply refusals.NoMemory)
 unfolding line_text serde_json_on_literals
@@ -84,15 +85,18 @@ no_memory_line = refl
 stood : (old new : Standing) → new ≡ old → Lasts old new
 stood old new same = record { failures = omega (arith, ap (λ (s : Standing). s.failures) same); number = omega (arith, ap (λ (s : Standing). s.number) same) }
 
+answered_no_memory : (old new : Standing) (moment : ℕ) (line : List ℕ) → new ≡ old → Answers Memory old moment line (reply_bytes (Err refusals.NoMemory)) new
+answered_no_memory old new moment line same =
+    record { cause = (stood old new same, ap (λ (s : Standing). s.failures) same); bytes_are = refl; state_is = ap (λ (s : Standing). s.state) same }
+
 -- a line that was answered by want of memory, with nothing changed
 pub no_memory : (old new : Standing) (moment n : ℕ) (line : List ℕ) (held holds : Option (List ℕ)) → new ≡ old → n ≡ 1 → Appends held holds (reply_bytes (Err refusals.NoMemory)) → Serves old moment line n held holds new
-no_memory old new moment n line held holds same one appends = record {
-  way = Memory;
-  bytes = reply_bytes (Err refusals.NoMemory);
-  faults_are = one;
-  appends = appends;
-  answers = record { cause = (stood old new same, ap (λ (s : Standing). s.failures) same); bytes_are = refl; state_is = ap (λ (s : Standing). s.state) same };
-}
+no_memory old new moment n line held holds same one appends =
+    record { way = Memory; bytes = reply_bytes (Err refusals.NoMemory); faults_are = one; appends = appends; answers = answered_no_memory old new moment line same }
+
+-- not even that was told
+pub untold_no_memory : (old new : Standing) (moment : ℕ) (line : List ℕ) → new ≡ old → Untold old moment line new
+untold_no_memory old new moment line same = record { way = Memory; bytes = reply_bytes (Err refusals.NoMemory); answers = answered_no_memory old new moment line same }
 
 -- ---- what two steps appended
 
@@ -153,19 +157,48 @@ clean old moment k (line ∷ lines) (way ∷ ways) bytes new none below r =
 
 -- ---- the loop
 
--- what has been written so far, and what a run of the rest makes of it
-pub record Underway (old : Standing) (moment : ℕ → ℕ) (k : ℕ) (input : List ℕ) (ways : List Way) (now : Standing) (place : ℕ) (rest written : List ℕ) : Type 0 where
-  pub goes_on : (more : List Way) (bytes : List ℕ) (new : Standing) → Run now moment place (lines_of rest) more bytes new → Run old moment k (lines_of input) (ways ++ more) (written ++ bytes) new
+-- what holds in any case holds of an error
+pub on_err : {T E P : Type 0} (r : Result T E) → P → OnErr r P
+on_err (Ok t) p = tt
+on_err (Err e) p = p
 
-one_more : (old : Standing) (moment : ℕ → ℕ) (k : ℕ) (input : List ℕ) (ways : List Way) (now next : Standing) (place : ℕ) (rest written front : List ℕ) (way : Way)
-    → Underway old moment k input ways now place rest written → rest ≢ [] → Answers way now (moment place) (take_through 10 rest) front next
-    → Underway old moment k input (ways ++ way ∷ []) next (place + 1) (drop_through 10 rest) (written ++ front)
-one_more old moment k input ways now next place rest written front way u ne a = record {
-  goes_on = λ more bytes new r.
-      let run : Run now moment place (take_through 10 rest ∷ lines_of (drop_through 10 rest)) (way ∷ more) (front ++ bytes) new = (front, bytes, next, refl, a, r) in
-      let all : Run now moment place (lines_of rest) (way ∷ more) (front ++ bytes) new = rw (lines_of-next rest ne) run in
-      rw (append_assoc ways (way ∷ []) more, append_assoc written front bytes) (u.goes_on (way ∷ more) (front ++ bytes) new all);
-}
+-- a run of one line more
+run_more : (old : Standing) (moment : ℕ → ℕ) (k : ℕ) (met : List (List ℕ)) (ways : List Way) (bytes : List ℕ) (now : Standing) (line : List ℕ) (way : Way) (front : List ℕ) (next : Standing)
+    → Run old moment k met ways bytes now → Answers way now (moment (k + length met)) line front next
+    → Run old moment k (met ++ line ∷ []) (ways ++ way ∷ []) (bytes ++ front) next
+run_more old moment k [] [] bytes now line way front next r a =
+    let at_k : Answers way now (moment k) line front next = subst (λ (m : ℕ). Answers way now (moment m) line front next) (omega arith) a in
+    let from_old : Answers way old (moment k) line front next = subst (λ (s : Standing). Answers way s (moment k) line front next) r.1 at_k in
+    (front, [], next, ap (λ (t : List ℕ). t ++ front) r.0 ∙ sym (append-nil front), from_old, (refl, refl))
+run_more old moment k [] (w ∷ ways) bytes now line way front next r a = absurd r
+run_more old moment k (l ∷ met) [] bytes now line way front next r a = absurd r
+run_more old moment k (l ∷ met) (w ∷ ways) bytes now line way front next r a =
+    let later : Answers way now (moment (k + 1 + length met)) line front next = subst (λ (m : ℕ). Answers way now (moment m) line front next) (omega arith) a in
+    (r.0, r.1 ++ front, r.2, ap (λ (t : List ℕ). t ++ front) r.3 ∙ append_assoc r.0 r.1 front, r.4, run_more r.2 moment (k + 1) met ways r.1 now line way front next r.5 later)
+
+-- the lines of the input in front of the rest were met
+pub record Underway (old : Standing) (moment : ℕ → ℕ) (input : List ℕ) (ways : List Way) (now : Standing) (place : ℕ) (rest written : List ℕ) : Type 0 where
+  pub met : List (List ℕ)
+  pub lines : lines_of input ≡ met ++ lines_of rest
+  pub place_is : place ≡ length met
+  pub run : Run old moment 0 met ways written now
+
+one_more : (old : Standing) (moment : ℕ → ℕ) (input : List ℕ) (ways : List Way) (now next : Standing) (place : ℕ) (rest written front : List ℕ) (way : Way)
+    → Underway old moment input ways now place rest written → rest ≢ [] → Answers way now (moment place) (take_through 10 rest) front next
+    → Underway old moment input (ways ++ way ∷ []) next (place + 1) (drop_through 10 rest) (written ++ front)
+one_more old moment input ways now next place rest written front way u ne a =
+    let line : List ℕ = take_through 10 rest in
+    let here : Answers way now (moment (0 + length u.met)) line front next = subst (λ (m : ℕ). Answers way now (moment m) line front next) (omega (arith, u.place_is)) a in
+    record {
+      met = u.met ++ line ∷ [];
+      lines = u.lines ∙ ap (λ (ls : List (List ℕ)). u.met ++ ls) (lines_of-next rest ne) ∙ sym (append_assoc u.met (line ∷ []) (lines_of (drop_through 10 rest)));
+      place_is = omega (arith, u.place_is, length-append u.met (line ∷ []));
+      run = run_more old moment 0 u.met ways written now line way front next u.run here;
+    }
+
+-- a run that is underway is cut
+cut : (old : Standing) (moment : ℕ → ℕ) (input : List ℕ) (ways : List Way) (now : Standing) (place : ℕ) (rest written : List ℕ) → Underway old moment input ways now place rest written → Broke old moment input now
+cut old moment input ways now place rest written u = record { met = u.met; more = lines_of rest; lines = u.lines; ways = ways; bytes = written; run = u.run }
 
 sum-one : (ways : List Way) (way : Way) → faults_in (ways ++ way ∷ []) ≡ faults_in ways + faults_of way
 sum-one [] way = omega arith
@@ -179,7 +212,7 @@ pub record Loop (old : Standing) (moment : ℕ → ℕ) (input : List ℕ) (held
   pub faults_are : faults ≡ faults_in ways
   pub left_is : left ≡ Some rest
   pub appends : Appends held holds written
-  pub underway : Underway old moment 0 input ways now place rest written
+  pub underway : Underway old moment input ways now place rest written
 
 pub begins : (old : Standing) (moment : ℕ → ℕ) (input : List ℕ) (held left : Option (List ℕ)) (place : ℕ) → place ≡ 0 → left ≡ Some input → Loop old moment input held 0 old place left held
 begins old moment input held left place first e = record {
@@ -189,8 +222,15 @@ begins old moment input held left place first e = record {
   faults_are = refl;
   left_is = e;
   appends = appends-none held;
-  underway = record { goes_on = λ more bytes new r. rw first at r };
+  underway = record { met = []; lines = refl; place_is = first; run = (refl, refl) };
 }
+
+-- what was read of a line that is there, and the rest
+some_line : (reading : LineRead) (kept rest : List ℕ) (left' : Option (List ℕ)) → reading ≢ reads.End → ReadsLine rest reading kept left'
+    → (rest ≢ []) × Stands reading kept (take_through 10 rest) × (left' ≡ Some (drop_through 10 rest))
+some_line reads.Kept kept rest left' more r = r
+some_line reads.Lost kept rest left' more r = (r.0, tt, r.1)
+some_line reads.End kept rest left' more r = absurd (more refl)
 
 pub turns : (old : Standing) (moment now_moment : ℕ → ℕ) (input : List ℕ) (held : Option (List ℕ)) (faults : ℕ) (now next : Standing) (place place' m n : ℕ) (left left' holds holds' : Option (List ℕ)) (reading : LineRead) (kept : List ℕ)
     → Loop old moment input held faults now place left holds
@@ -210,28 +250,40 @@ turns old moment now_moment input held faults now next place place' m n left lef
       faults_are = omega (arith, l.faults_are, s.faults_are, sum-one l.ways s.way);
       left_is = r.2;
       appends = appends-then held holds holds' l.written s.bytes l.appends s.appends;
-      underway = rw place_is (one_more old moment 0 input l.ways now next place l.rest l.written s.bytes s.way l.underway r.0 a);
+      underway = rw place_is (one_more old moment input l.ways now next place l.rest l.written s.bytes s.way l.underway r.0 a);
     }
-  where
-    some_line : (reading : LineRead) (kept rest : List ℕ) (left' : Option (List ℕ)) → reading ≢ reads.End → ReadsLine rest reading kept left'
-        → (rest ≢ []) × Stands reading kept (take_through 10 rest) × (left' ≡ Some (drop_through 10 rest))
-    some_line reads.Kept kept rest left' more r = r
-    some_line reads.Lost kept rest left' more r = (r.0, tt, r.1)
-    some_line reads.End kept rest left' more r = absurd (more refl)
 
 pub ends : (old : Standing) (moment : ℕ → ℕ) (input : List ℕ) (held : Option (List ℕ)) (faults : ℕ) (now : Standing) (place : ℕ) (left holds : Option (List ℕ)) (reading : LineRead) (kept : List ℕ) (left' : Option (List ℕ))
     → Loop old moment input held faults now place left holds → reading ≡ reads.End → ((rest : List ℕ) → left ≡ Some rest → ReadsLine rest reading kept left')
     → Served old moment 0 input faults held holds now
 ends old moment input held faults now place left holds reading kept left' l end read =
     let none : l.rest ≡ [] = rw end at (read l.rest l.left_is) in
-    let last : Run now moment place (lines_of l.rest) [] [] now = rw none (refl, refl) in
+    let all : lines_of input ≡ l.underway.met = l.underway.lines ∙ ap (λ (t : List ℕ). l.underway.met ++ lines_of t) none ∙ append-nil l.underway.met in
     record {
       ways = l.ways;
       bytes = l.written;
-      run = rw (append-nil l.ways, append-nil l.written) at (l.underway.goes_on [] [] now last);
+      run = subst (λ (ls : List (List ℕ)). Run old moment 0 ls l.ways l.written now) (sym all) l.underway.run;
       faults_are = l.faults_are;
       appends = l.appends;
     }
+
+-- the reader failed
+pub breaks : (old : Standing) (moment : ℕ → ℕ) (input : List ℕ) (held : Option (List ℕ)) (faults : ℕ) (now : Standing) (place : ℕ) (left holds : Option (List ℕ)) → Loop old moment input held faults now place left holds → Broke old moment input now
+breaks old moment input held faults now place left holds l = cut old moment input l.ways now place l.rest l.written l.underway
+
+-- the writer failed
+pub breaks_untold : (old : Standing) (moment now_moment : ℕ → ℕ) (input : List ℕ) (held : Option (List ℕ)) (faults : ℕ) (now next : Standing) (place m : ℕ) (left left' holds : Option (List ℕ)) (reading : LineRead) (kept : List ℕ)
+    → Loop old moment input held faults now place left holds
+    → reading ≢ reads.End → ((rest : List ℕ) → left ≡ Some rest → ReadsLine rest reading kept left')
+    → now_moment ≡ moment → m ≡ now_moment place
+    → ((whole : List ℕ) → Stands reading kept whole → Untold now m whole next)
+    → Broke old moment input next
+breaks_untold old moment now_moment input held faults now next place m left left' holds reading kept l more read same m_is untold =
+    let r = some_line reading kept l.rest left' more (read l.rest l.left_is) in
+    let u = untold (take_through 10 l.rest) r.1 in
+    let m_at : m ≡ moment place = m_is ∙ ap (λ (f : ℕ → ℕ). f place) same in
+    let a : Answers u.way now (moment place) (take_through 10 l.rest) u.bytes next = rw (← m_at) u.answers in
+    cut old moment input (l.ways ++ u.way ∷ []) next (place + 1) (drop_through 10 l.rest) (l.written ++ u.bytes) (one_more old moment input l.ways now next place l.rest l.written u.bytes u.way l.underway r.0 a)
 
 pub cleanly : (old : Standing) (moment : ℕ → ℕ) (input : List ℕ) (held : Option (List ℕ)) (faults : ℕ) (now : Standing) (holds : Option (List ℕ))
     → Served old moment 0 input faults held holds now → faults ≡ 0 → now.number < 9223372036854775807 → ServedCleanly old.state moment 0 input held holds now.state

@@ -44,21 +44,33 @@ pub record Kept {D : Type 0} (disk : Ghosts D) (old : D) (was left : registry.St
   pub replayed : left ≡ replay_on watches (after was Begin) accepted
   pub kept : IsKeptOn disk left new
 
--- Lines were answered over a file that meant a registry, and what that left was kept.
-pub record LinesServed {D : Type 0} (disk : Ghosts D) (old : D) (input : List ℕ) (held holds : Option (List ℕ)) (new : D) : Type 0 where
+-- Lines were met over a file that meant a registry, with these bytes as their replies, and what they left was kept.
+pub record LinesMet {D : Type 0} (disk : Ghosts D) (old : D) (lines : List (List ℕ)) (bytes : List ℕ) (new : D) : Type 0 where
   pub was : registry.State
   -- how often the device had failed before the first line, and the number of the slot
   pub before : ℕ
   pub number : ℕ
   pub ways : List Way
   pub quiet : AllByRecursion IsQuiet ways
-  pub bytes : List ℕ
   pub left : Standing
-  pub run : Run (record { state = first_state was; failures = before; number = number }) line_number 0 (lines_of input) ways bytes left
-  pub appends : Appends held holds bytes
+  pub run : Run (record { state = first_state was; failures = before; number = number }) line_number 0 lines ways bytes left
   pub kept : Kept disk old was left.state.registry new
   -- a start raises the number of the file's slot by one at most
   pub number_is : number ≤ kept.means.number + 1
+
+-- the lines of an input were met, and their replies written
+pub record LinesServed {D : Type 0} (disk : Ghosts D) (old : D) (input : List ℕ) (held holds : Option (List ℕ)) (new : D) : Type 0 where
+  pub bytes : List ℕ
+  pub met : LinesMet disk old (lines_of input) bytes new
+  pub appends : Appends held holds bytes
+
+-- a beginning of an input's lines was met
+pub record LinesBroken {D : Type 0} (disk : Ghosts D) (old : D) (input : List ℕ) (new : D) : Type 0 where
+  pub met : List (List ℕ)
+  pub more : List (List ℕ)
+  pub lines : lines_of input ≡ met ++ more
+  pub bytes : List ℕ
+  pub kept : LinesMet disk old met bytes new
 
 -- what a program that is refused tells: its name, and the number and name of the refusal
 abbrev pub message_of : Refusal → List ℕ

@@ -44,10 +44,27 @@ pub record ServedCleanly (old : State) (moment : ℕ → ℕ) (k : ℕ) (input :
   pub appends : Appends held holds (output_of old moment k (lines_of input))
   pub state_is : new ≡ state_after old moment k (lines_of input)
 
--- for private clauses: a line was answered to the writer, with so many faults
+-- the reader or the writer failed: a beginning of the input's lines was met, of which the last reply may be told in part or not at all
+pub record Broke (old : Standing) (moment : ℕ → ℕ) (input : List ℕ) (new : Standing) : Type 0 where
+  pub met : List (List ℕ)
+  pub more : List (List ℕ)
+  pub lines : lines_of input ≡ met ++ more
+  pub ways : List Way
+  pub bytes : List ℕ
+  pub run : Run old moment 0 met ways bytes new
+
+-- ---- for private clauses
+
+-- a line was answered to the writer, with so many faults
 pub record Serves (old : Standing) (moment : ℕ) (line : List ℕ) (faults : ℕ) (held holds : Option (List ℕ)) (new : Standing) : Type 0 where
   pub way : Way
   pub bytes : List ℕ
   pub faults_are : faults ≡ faults_of way
   pub appends : Appends held holds bytes
+  pub answers : Answers way old moment line bytes new
+
+-- a line was met, and the writer failed
+pub record Untold (old : Standing) (moment : ℕ) (line : List ℕ) (new : Standing) : Type 0 where
+  pub way : Way
+  pub bytes : List ℕ
   pub answers : Answers way old moment line bytes new

@@ -34,7 +34,7 @@ pub fn serve_lines<D: Disk + Drop, R: BufRead, W: Write>(
 ) -> (Ending, D)
     ensures served { result.0 ≡ Ending.Served → D.honest result.1 → (input : List ℕ) → R.remaining reader.old ≡ Some input →
         LinesServed D.Disk disk input (W.contents writer.old) (W.contents writer.new) result.1 }
-    ensures refused { Ends D.Disk result.0 disk result.1 }
+    ensures refused { Ends D.Disk result.0 (R.remaining reader.old) disk result.1 }
     ensures later { Later D.Disk disk result.1 }
 {
     let front = match LocalFront::open(alloc, disk) {
@@ -82,7 +82,7 @@ pub fn lines_on<D: Disk + Drop, R: BufRead, W: Write, E: Write>(
     ensures served { result.0 ≡ 0 → D.honest result.1 → (input : List ℕ) → R.remaining reader.old ≡ Some input →
         LinesServed D.Disk disk input (W.contents writer.old) (W.contents writer.new) result.1 }
     ensures quiet { result.0 ≡ 0 → faults.new ≡ faults.old }
-    ensures refused { (ending : Ending) × (result.0 ≡ status_of ending) × Ends D.Disk ending disk result.1 }
+    ensures refused { (ending : Ending) × (result.0 ≡ status_of ending) × Ends D.Disk ending (R.remaining reader.old) disk result.1 }
     ensures later { Later D.Disk disk result.1 }
 {
     let (ending, disk) = serve_lines(alloc, disk, reader, writer);

@@ -147,7 +147,7 @@ fn command(alloc: Global, command: &Command, reply: Reply) -> Result<Value, Allo
         Command::Begin => version(alloc),
         Command::Watch(path) => watch(alloc, path.as_str()),
         Command::WatchDel(path) => watch_del(alloc, path.as_str()),
-        Command::Trigger(_, definition) => trigger(alloc, reply, definition.name().as_str()),
+        Command::Trigger(_, definition) => trigger(alloc, reply, definition.name()),
         Command::TriggerDel(_, name) => trigger_del(alloc, reply.is_change(), name.as_str()),
     }
 }
@@ -199,7 +199,7 @@ fn shown_with(alloc: Global, trigger: &Trigger, expression: Value) -> Result<Val
 {
     let words = Value::Array(word_list(alloc, trigger.command())?);
     let append_files = trigger.append_files();
-    let name = trigger.name().as_str();
+    let name = trigger.name();
     let stdin = stdin_shown(trigger);
     json!(in alloc; {"append_files": append_files, "command": words, "expression": expression, "name": name, "stdin": stdin})
 }
@@ -210,7 +210,7 @@ fn shown_plain(alloc: Global, trigger: &Trigger) -> Result<Value, AllocError>
 {
     let words = Value::Array(word_list(alloc, trigger.command())?);
     let append_files = trigger.append_files();
-    let name = trigger.name().as_str();
+    let name = trigger.name();
     let stdin = stdin_shown(trigger);
     json!(in alloc; {"append_files": append_files, "command": words, "name": name, "stdin": stdin})
 }

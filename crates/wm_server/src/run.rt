@@ -1,8 +1,8 @@
-ghost use Rattle.std.specs.Prelude.{◌≡◌, ◌+◌, ◌-◌, ◌^◌, ◌<◌, ◌≤◌, ℕ, List, Some, Err, IfOk};
+ghost use Rattle.std.specs.Prelude.{◌≡◌, ◌+◌, ◌-◌, ◌^◌, ◌<◌, ◌≤◌, ℕ, List, Some, Err, IfOk, OnErr};
 ghost use Rattle.std.specs.Io.KnownBytes.{Appends};
 ghost use Rattle.wm_server.specs.Reading.{Stands};
 ghost use Rattle.wm_server.specs.Replies.{reply_bytes};
-ghost use Rattle.wm_server.specs.Runs.{Served, ServedCleanly, Serves};
+ghost use Rattle.wm_server.specs.Runs.{Broke, Served, ServedCleanly, Serves, Untold};
 
 use crate::front::Front;
 use crate::input::{LineRead, read_line};
@@ -82,6 +82,7 @@ fn answer_kept<F: Front, W: Write>(
 ) -> io::Result<u64>
     ensures served { IfOk result (λ n. Serves (F.standing session.old.front) moment line.now n (W.contents writer.old) (W.contents writer.new) (F.standing session.new.front)) }
     ensures few { IfOk result (λ n. n ≤ 1) }
+    ensures untold { OnErr result (Untold (F.standing session.old.front) moment line.now (F.standing session.new.front)) }
     ensures later { F.leads_to session.old.front session.new.front }
 {
     let mut reply = Vec::new(alloc);
@@ -106,6 +107,7 @@ fn serve_line<F: Front, W: Write>(
     ensures served { IfOk result (λ n. (whole : List ℕ) → Stands read line.now whole →
         Serves (F.standing session.old.front) moment whole n (W.contents writer.old) (W.contents writer.new) (F.standing session.new.front)) }
     ensures few { IfOk result (λ n. n ≤ 1) }
+    ensures untold { OnErr result ((whole : List ℕ) → Stands read line.now whole → Untold (F.standing session.old.front) moment whole (F.standing session.new.front)) }
     ensures later { F.leads_to session.old.front session.new.front }
 {
     let faults = match read {
@@ -136,6 +138,10 @@ pub fn run<F: Front, M: Moments, R: BufRead, W: Write>(
     ensures clean { IfOk result (λ faults. faults ≡ 0 → (F.standing session.new.front).number < 9223372036854775807 → (input : List ℕ) → R.remaining reader.old ≡ Some input →
         ServedCleanly (F.standing session.old.front).state (M.moment moments.old) 0 input
         (W.contents writer.old) (W.contents writer.new) (F.standing session.new.front).state) }
+
+    // Where the reader or the writer fails, a beginning of the lines was met.
+    ensures broke { OnErr result ((input : List ℕ) → R.remaining reader.old ≡ Some input →
+        Broke (F.standing session.old.front) (M.moment moments.old) input (F.standing session.new.front)) }
     ensures later { F.leads_to session.old.front session.new.front }
 {
     let mut faults = 0u64;

@@ -163,19 +163,25 @@ fn answers_triggers_and_watches(rt: HostRuntime) -> Result<(), Fail> {
     assert_sessions(&rt, rt.alloc(), SESSIONS)
 }
 
-/// A file in which a trigger keeps this text of an expression.
-fn file_keeping(alloc: Global, text: &str) -> Result<MemDisk, Fail> {
+/// A watch, and a trigger that keeps this text of an expression.
+fn commands_keeping(alloc: Global, text: &str) -> Result<Vec<Command>, Fail> {
+    let root = RootPath::read(alloc, "/r")?;
+    let trigger = Trigger::new(alloc, "t", &["true"], Some(text), false, Stdin::DevNull)?;
+    let mut batch = Vec::new(alloc);
+    batch.push(Command::Watch(root.copy(alloc)?))?;
+    batch.push(Command::Trigger(root, trigger))?;
+    Ok(batch)
+}
+
+/// A file in which these commands were accepted.
+fn file_of(alloc: Global, batch: Vec<Command>) -> Result<MemDisk, Fail> {
     let Ok(mut store) = Store::open(alloc, new_file(alloc)?) else {
         return Err("the file can't be opened".into());
     };
-    let root = RootPath::read(alloc, "/r")?;
-    let trigger = Trigger::new(alloc, "t", &["true"], Some(text), false, Stdin::DevNull)?;
-    let batch = vec![in alloc;
-        Command::Watch(root.copy(alloc)?),
-        Command::Trigger(root, trigger),
-    ]?;
-    store.commit_batch(alloc, batch)?;
-    store.close()?;
+    let is_done = store.commit_batch(alloc, batch).is_ok() && store.close().is_ok();
+    if !is_done {
+        return Err("the commands can't be kept".into());
+    }
     Ok(store.into_disk())
 }
 
@@ -195,7 +201,7 @@ const KEPT: &[(&str, u8, &str, &str)] = &[
 fn refuses_kept_texts_that_are_no_expressions(rt: HostRuntime) -> Result<(), Fail> {
     let alloc = rt.alloc();
     for (text, status, output, faults) in KEPT {
-        let disk = file_keeping(alloc, text)?;
+        let disk = file_of(alloc, commands_keeping(alloc, text)?)?;
         let wanted = (*status, *output, *faults, ACCEPTED);
         assert_serves(&rt, alloc, disk, b"[\"version\"]\n", wanted, text)?;
     }

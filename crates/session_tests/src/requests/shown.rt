@@ -63,7 +63,7 @@ fn show_inquiry(inquiry: &Inquiry, text: &mut String) -> Result<(), NoMemory> {
 }
 
 fn show_trigger(trigger: &Trigger, text: &mut String) -> Result<(), NoMemory> {
-    write!(text, " {} ", trigger.name().as_str())?;
+    write!(text, " {} ", trigger.name())?;
     for (place, word) in trigger.command().iter().enumerate() {
         let bar = if place == 0 { "" } else { "|" };
         write!(text, "{bar}{}", word.as_str())?;

@@ -16,7 +16,7 @@ pub returns-then-is_none-clause-apart : goal.returns-then-is_none-clause-apart
 returns-then-is_none-clause-apart t c =
     let triggers = c.args.triggers.now in
     let rest = take_rest triggers 1 in
-    let named : c.as_str.result.now ≡ c.trigger-item.result.name = c.as_str.ensures.value ∙ c.name.ensures in
+    let named : c.name.result.now ≡ c.trigger-item.result.name = c.name.ensures in
     let place = rw rest at c.place_of.ensures in
     let none : position (is_named c.trigger-item.result.name) (drop 1 triggers) ≡ None = ap (λ n. position (is_named n) (drop 1 triggers)) (sym named) ∙ sym place ∙ none_is c.place_of.result c.if-is_none.ensures in
     on_true c.are_apart.result (λ (h : IsDistinct bytes_eq (names_of (drop 1 triggers))). apart-cons c.trigger-item.result triggers c.in-len1-up.len_at_least c.trigger-item.is none h) (rw rest at c.are_apart.ensures.apart)
@@ -31,7 +31,7 @@ pub returns-else-is_none-clause-not_apart : goal.returns-else-is_none-clause-not
 returns-else-is_none-clause-not_apart t c =
     let triggers = c.args.triggers.now in
     let rest = take_rest triggers 1 in
-    let named : c.as_str.result.now ≡ c.trigger-item.result.name = c.as_str.ensures.value ∙ c.name.ensures in
+    let named : c.name.result.now ≡ c.trigger-item.result.name = c.name.ensures in
     let place = rw rest at c.place_of.ensures in
     rw c.if-is_none.false (λ (d : IsDistinct bytes_eq (names_of triggers)).
     let none = apart-head c.trigger-item.result triggers c.in-len1-up.len_at_least c.trigger-item.is d in

@@ -1,6 +1,10 @@
-use Rattle.wm_server.proofs.RunLemmas.{stands_kept}
+use Rattle.wm_server.proofs.RunLemmas.{on_err, stands_kept, untold_kept}
 use Rattle.wm_server.proofs.run.serve_line.Goals as goal
 
 pub returns-in_ok-faults-in-Kept-clause-served : goal.returns-in_ok-faults-in-Kept-clause-served
 returns-in_ok-faults-in-Kept-clause-served g c = λ whole stands.
     stands_kept _ _ _ _ c.args.line.now whole _ _ (rw c.in-Kept.is at stands) c.in_ok-faults-in-Kept.ensures.served
+
+pub returns-in_err-faults-in-Kept-clause-untold : goal.returns-in_err-faults-in-Kept-clause-untold
+returns-in_err-faults-in-Kept-clause-untold g c =
+    on_err c.from_residual.result (λ whole stands. untold_kept _ _ _ c.args.line.now whole (rw c.in-Kept.is at stands) c.in_err-faults-in-Kept.ensures.untold)

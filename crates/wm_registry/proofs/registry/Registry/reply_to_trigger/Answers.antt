@@ -12,7 +12,7 @@ unless_full-requires-clause-less c =
     let t = c.args.trigger.now in
     let root = c.args.root.now in
     let old = c.index-triggers-place.result in
-    let place = same_place c.as_str.result.now t.name c.as_slice-triggers.result.now root.triggers (Some c.in-Some.place) (c.as_str.ensures.value ∙ c.name.ensures) c.as_slice-triggers.ensures.value c.in-Some.ensures in
+    let place = same_place c.name.result.now t.name c.as_slice-triggers.result.now root.triggers (Some c.in-Some.place) c.name.ensures c.as_slice-triggers.ensures.value c.in-Some.ensures in
     let is : old ≡ get_or root.triggers c.in-Some.place old = c.index-triggers-place.is ∙ ap (λ l. get_or l c.in-Some.place old) c.as_slice-triggers.ensures.value in
     omega (arith, c.size-old.ensures.exact, ap (λ (x : Definition). length (trigger_spelling x)) is, old-le-state c.args.self.now c.args.path.now t root c.in-Some.place old c.requires place)
 
@@ -23,7 +23,7 @@ returns-in-Some c =
     let t = c.args.trigger.now in
     let root = c.args.root.now in
     let old = c.index-triggers-place.result in
-    let place = same_place c.as_str.result.now t.name c.as_slice-triggers.result.now root.triggers (Some c.in-Some.place) (c.as_str.ensures.value ∙ c.name.ensures) c.as_slice-triggers.ensures.value c.in-Some.ensures in
+    let place = same_place c.name.result.now t.name c.as_slice-triggers.result.now root.triggers (Some c.in-Some.place) c.name.ensures c.as_slice-triggers.ensures.value c.in-Some.ensures in
     let is : old ≡ get_or root.triggers c.in-Some.place old = c.index-triggers-place.is ∙ ap (λ l. get_or l c.in-Some.place old) c.as_slice-triggers.ensures.value in
     let bytes = ap (λ (x : Definition). length (trigger_spelling x)) is in
     let new = by_size (with_triggers s path root (defined t root.triggers)) Replaced c.unless_full.result _
@@ -37,7 +37,7 @@ pub returns-then-triggers-ge-MAX_TRIGGERS : goal.returns-then-triggers-ge-MAX_TR
 returns-then-triggers-ge-MAX_TRIGGERS c =
     let t = c.args.trigger.now in
     let root = c.args.root.now in
-    let place = same_place c.as_str.result.now t.name c.as_slice-triggers.result.now root.triggers None (c.as_str.ensures.value ∙ c.name.ensures) c.as_slice-triggers.ensures.value c.in-None.ensures in
+    let place = same_place c.name.result.now t.name c.as_slice-triggers.result.now root.triggers None c.name.ensures c.as_slice-triggers.ensures.value c.in-None.ensures in
     trigger_refused c.args.self.now c.args.path.now t root
     (same_any (same_definition t) c.as_slice-triggers.result.now root.triggers false c.as_slice-triggers.ensures.value c.if-is_defined.ensures)
     (none_passes (is_named t.name) root.triggers place)
@@ -49,7 +49,7 @@ returns-else-triggers-ge-MAX_TRIGGERS c =
     let path = c.args.path.now in
     let t = c.args.trigger.now in
     let root = c.args.root.now in
-    let place = same_place c.as_str.result.now t.name c.as_slice-triggers.result.now root.triggers None (c.as_str.ensures.value ∙ c.name.ensures) c.as_slice-triggers.ensures.value c.in-None.ensures in
+    let place = same_place c.name.result.now t.name c.as_slice-triggers.result.now root.triggers None c.name.ensures c.as_slice-triggers.ensures.value c.in-None.ensures in
     let new = by_size (with_triggers s path root (defined t root.triggers)) Changed c.unless_full-in-None.result _
     (omega (arith, size_added s path t root c.requires place, c.size-in-None.ensures.exact)) c.unless_full-in-None.ensures in
     trigger_added s path t root c.unless_full-in-None.result
