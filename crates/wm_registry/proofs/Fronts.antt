@@ -1,5 +1,5 @@
 -- The roots behind the first ones.
-use Rattle.std.proofs.Common.{◌≡◌, ℕ, ◌+◌, ◌<◌, ◌≤◌, true, cond, List, ◌∷◌, length, drop, slice_get, Some, is_some, sym, ap, subst, ◌∙◌, arith}
+use Rattle.std.proofs.Common.{◌≡◌, ℕ, ◌+◌, ◌≤◌, true, cond, List, ◌∷◌, length, drop, slice_get, Some, ap, subst, ◌∙◌, arith}
 use Rattle.std.proofs.lemmas.List.{drop_more}
 use Rattle.std.proofs.lemmas.Option.{slice_get_within, get_or_from_slice_get}
 use Rattle.std.specs.Map.{lookup, remove_entry}
@@ -8,7 +8,7 @@ use Rattle.wm_registry.specs.declared.command.Command.TheVariants.{WatchDel}
 use Rattle.wm_registry.specs.declared.reply.Reply.TheVariants.{Changed}
 use Rattle.wm_registry.specs.declared.root.Root.{Root}
 use Rattle.wm_registry.specs.Registry.{after, reply_to}
-use Rattle.wm_registry.specs.Roots.{State, is_watched, root_at, without_first, without_root}
+use Rattle.wm_registry.specs.Roots.{State, root_at, without_first, without_root}
 use Rattle.wm_registry.specs.Spelling.{IsState, root_spelling, state_spelling}
 use Rattle.wm_registry.proofs.Changing.{IsState-without_root}
 use Rattle.wm_registry.proofs.Lengths.{length-without_root}

@@ -6,6 +6,7 @@ pub mod Keys
 pub mod Lengths
 pub mod Named
 pub mod Names
+pub mod Numbers
 pub mod Parts
 pub mod Sizes
 pub mod States

@@ -1,14 +1,11 @@
 -- The triggers of a root by their names: the place of a name, and what a trigger is put into or taken out of.
-use Rattle.std.proofs.Common.{◌≡◌, ℕ, zero, suc, ◌+◌, ◌^◌, ◌<◌, Bool, true, false, List, [], ◌∷◌, ◌++◌, length, drop, get_or, set, cond, if◌then◌else◌, Option, Some, None, is_some, refl, sym, ap, ◌∙◌, ◌≤◌, arith}
+use Rattle.std.proofs.Common.{◌≡◌, ℕ, zero, suc, ◌+◌, ◌<◌, Bool, true, false, List, [], ◌∷◌, ◌++◌, length, drop, get_or, set, cond, Option, Some, None, is_some, refl, sym, ap, ◌∙◌, ◌≤◌, arith}
 use Rattle.std.proofs.lemmas.List.Quantifiers.{position-Some}
 use Rattle.std.proofs.lemmas.Iterator.Adapters.{position_from-zero}
 use Rattle.std.proofs.lemmas.Map.Keys.{IsDistinct-head, IsDistinct-tail, IsDistinct-cons}
 use Rattle.std.specs.List.{AllByRecursion, IsDistinct, position, position_from, remove}
 use Rattle.std.specs.Str.{bytes_eq}
-use Rattle.wm_wire.specs.Spelling.{IsList, list_spelling}
-use Rattle.wm_registry.specs.Spelling.{IsTrigger, names_of, trigger_spelling}
-use Rattle.wm_registry.specs.StateLaws.{length-flat_map-at_most}
-use Rattle.wm_registry.specs.TriggerLaws.{small_trigger}
+use Rattle.wm_registry.specs.Spelling.{names_of}
 use Rattle.wm_registry.specs.Triggers.{Definition, is_named, defined, without}
 
 -- the first trigger of the name stands at i

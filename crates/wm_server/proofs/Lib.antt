@@ -8,11 +8,13 @@ pub mod KeptLemmas
 pub mod ListedLemmas
 pub mod LocalLemmas
 mod OneWordLemmas
+pub mod OperationLemmas
 pub mod PlainLemmas
 pub mod ProgramLemmas
 pub mod ReplyTexts
 pub mod RunLemmas
 pub mod SessionLemmas
+pub mod StartLemmas
 pub mod Texts
 pub mod TriggerLemmas
 pub mod WatchedLemmas

@@ -1,33 +1,24 @@
--- A front's commands and operations.
-use Rattle.std.proofs.Common.{◌≡◌, ◌≢◌, ◌⊎◌, ◌≤◌, ℕ, Bool, true, false, cond, List, [], ◌∷◌, get_or, Result, Ok, Err, refl, sym, ap, ◌∙◌, subst, arith, inl, inr}
+-- A front's commands, each of which is a batch of one.
+use Rattle.std.proofs.Common.{◌≡◌, ◌≢◌, ◌⊎◌, ◌≤◌, ℕ, Bool, true, false, cond, List, [], ◌∷◌, get_or, Result, Err, refl, sym, ap, ◌∙◌, subst, arith, inl, inr}
 use Rattle.std.proofs.lemmas.List.{append-nil}
 use Rattle.wm_disk.specs.Contents.{Rose}
 use Rattle.wm_disk.specs.declared.disk.Disk.{Ghosts}
 use Rattle.wm_disk.specs.declared.refusal.Refusal.{Refusal}
 use Rattle.wm_disk.specs.declared.refusal.Refusal.TheVariants as refusals
-use Rattle.wm_names.specs.Paths.{Path}
-use Rattle.wm_server.specs.declared.watched.Stand.{Stand}
-use Rattle.wm_view.specs.declared.op.Op.{Op}
 use Rattle.wm_server.specs.declared.watched.RootView.{RootView}
 use Rattle.wm_checkpoint.specs.Machines.{replay_on}
-use Rattle.wm_checkpoint.specs.Meanings.{IsDamaged, IsRetired, MeansState}
 use Rattle.wm_registry.specs.declared.command.Command.{Command}
-use Rattle.wm_registry.specs.declared.command.Command.TheVariants.{Begin}
 use Rattle.wm_registry.specs.declared.reply.Reply.{Reply}
 use Rattle.wm_registry.specs.declared.reply.Reply.TheVariants.{Unchanged, Refused}
 use Rattle.wm_registry.specs.MachineLaws.{watches}
 use Rattle.wm_registry.specs.Roots as registry
 use Rattle.wm_registry.specs.Registry.{after, changed, is_change, reply_to}
 use Rattle.wm_store.specs.Batches.{AreAnswered, IsBatch, accepted_of, is_begin, unless_begin}
-use Rattle.wm_store.specs.Openings.{IsBegun}
 use Rattle.wm_store.specs.Stored.{Stored}
-use Rattle.wm_server.specs.Faults.{Standing, Submits, Operates, Lasts, Defined, Device, Memory, Spent}
-use Rattle.wm_server.specs.KeptExpressions.{have_expressions}
+use Rattle.wm_server.specs.Faults.{Standing, Submits, Lasts, Defined, Device, Memory, Spent}
 use Rattle.wm_server.specs.LocalLaws.{stays}
-use Rattle.wm_server.specs.Sessions.{State, accepted, operation_met, reply_to_command, state_after_command, view_of, views_after}
-use Rattle.wm_server.specs.Stores.{IsUp, LeadsTo, StartRefused, standing_with, state_with, views_met}
-use Rattle.wm_server.specs.Watched.{Operated, stand_after, view_after}
-use Rattle.wm_server.proofs.KeptLemmas.{expressions_after_begin}
+use Rattle.wm_server.specs.Sessions.{State, accepted, reply_to_command, state_after_command, views_after}
+use Rattle.wm_server.specs.Stores.{IsUp, LeadsTo, standing_with, state_with, views_met}
 
 -- ---- how a command is met
 
@@ -52,7 +43,7 @@ idle_after s command r is idle = let none : is_change (reply_to_command s comman
 accepted_after : (s : State) (command : Command) (r : Reply) → reply_to_command s command ≡ r → is_change r ≡ true → state_after_command s command ≡ accepted s command
 accepted_after s command r is change = let some : is_change (reply_to_command s command) ≡ true = ap is_change is ∙ change in rw some refl
 
-lasts_same : (s : Standing) → Lasts s s
+pub lasts_same : (s : Standing) → Lasts s s
 lasts_same s = record { failures = omega arith; number = omega arith }
 
 -- a command that is refused by its kind or since nothing goes on
@@ -261,33 +252,6 @@ module _ {D : Type 0} (disk : Ghosts D) (old new : Stored D) (command : Command)
   pub leads_same : new ≡ old → LeadsTo disk old new
   leads_same same = subst (λ (s : Stored D). LeadsTo disk old s) (sym same) (stays disk old)
 
--- ---- operations
-
-refuses : (old : Standing) (root : Path) (o : Op) (e : Refusal) → view_after (view_of old.state root) o ≡ Err e → Operates old root o (Err e) old
-refuses old root o e is = record {
-  way = Defined;
-  cause = lasts_same old;
-  reply_is = sym (ap stand_after is);
-  state_is = sym (ap (λ r. (operation_met old.state root o r).state) is);
-}
-
-refused_or_none : (old : Standing) (root : Path) (o : Op) (e : Refusal) → (e ≢ refusals.NoMemory → view_after (view_of old.state root) o ≡ Err e) → Operates old root o (Err e) old
-refused_or_none old root o refusals.NoMemory h = record { way = Memory; cause = (lasts_same old, refl); reply_is = refl; state_is = refl }
-refused_or_none old root o e h = refuses old root o e (h (λ bad. cc))
-
--- a front with these views in place of the others
-abbrev viewing : Standing → List RootView → Standing
-viewing old views = record old { state = record old.state { views = views } }
-
-pub operates : (old : Standing) (root : Path) (o : Op) (r : Result Stand Refusal) (views : List RootView) → Operated root o old.state.registry.roots old.state.views r views → Operates old root o r (viewing old views)
-operates old root o (Ok stand) views (view, is, stand_is, views_are) = record {
-  way = Defined;
-  cause = record { failures = omega arith; number = omega arith };
-  reply_is = ap Ok stand_is ∙ sym (ap stand_after is);
-  state_is = ap (λ vs. record old.state { views = vs }) views_are ∙ sym (ap (λ r. (operation_met old.state root o r).state) is);
-}
-operates old root o (Err e) views (h, views_are) = rw views_are (refused_or_none old root o e h)
-
 -- ---- a batch of one that was refused
 
 first_is : (replies : List Reply) (one reply : Reply) → replies ≡ one ∷ [] → reply ≡ get_or replies 0 reply → reply ≡ one
@@ -374,37 +338,3 @@ views_changed s command reply after change is = is ∙ sym (ap (λ (b : Bool). c
 
 pub views_same : (s : State) (command : Command) (reply : Reply) (after : List RootView) → is_change reply ≡ false → after ≡ s.views → after ≡ views_met reply s command
 views_same s command reply after idle is = is ∙ sym (ap (λ (b : Bool). cond b (views_after s command) s.views) idle)
-
--- ---- a start and a close
-
-pub start_refused : {D : Type 0} (disk : Ghosts D) (old new : D) (e : Refusal)
-    → (disk.honest new → e ≡ refusals.Damaged → IsDamaged watches (disk.seen old)) → (disk.honest new → e ≡ refusals.Retired → IsRetired (disk.seen old))
-    → (disk.honest new → e ≡ refusals.Exhausted → (found : registry.State) × (m : MeansState watches found (disk.seen old)) × ((reply_to found Begin ≡ Refused refusals.Exhausted) ⊎ (9223372036854775807 ≤ m.number)))
-    → (e ≡ refusals.DeviceFailed → Rose (disk.failures old) (disk.failures new))
-    → (e ≡ refusals.DeviceFailed) ⊎ (e ≡ refusals.NoMemory) ⊎ (e ≡ refusals.Exhausted) ⊎ (e ≡ refusals.Damaged) ⊎ (e ≡ refusals.Retired)
-    → StartRefused disk e old new
-start_refused disk old new e damaged retired exhausted failed kinds =
-    elim kinds [
-      | inl device ↦ subst (λ (x : Refusal). StartRefused disk x old new) (sym device) (failed device)
-      | inr a ↦ elim a [
-        | inl memory ↦ subst (λ (x : Refusal). StartRefused disk x old new) (sym memory) tt
-        | inr b ↦ elim b [
-          | inl spent ↦ subst (λ (x : Refusal). StartRefused disk x old new) (sym spent) (λ h. exhausted h spent)
-          | inr c ↦ elim c [
-            | inl bad ↦ subst (λ (x : Refusal). StartRefused disk x old new) (sym bad) (λ h. inl (damaged h bad))
-            | inr gone ↦ subst (λ (x : Refusal). StartRefused disk x old new) (sym gone) (λ h. retired h gone)
-          ]
-        ]
-      ]
-    ]
-
--- after a store was begun: a trigger keeps a text that is no expression, or memory is wanted
-pub views_refused : {D : Type 0} (disk : Ghosts D) (old : D) (store : Stored D) (e : Refusal) → (disk.honest store.disk → IsBegun disk old store)
-    → ((e ≡ refusals.Damaged) × (have_expressions store.registry ≡ false)) ⊎ (e ≡ refusals.NoMemory)
-    → StartRefused disk e old store.disk
-views_refused disk old store e begun why =
-    elim why [
-      | inl none ↦ subst (λ (x : Refusal). StartRefused disk x old store.disk) (sym none.0)
-          (λ h. (let b = begun h in inr (b.found, sym (expressions_after_begin b.found) ∙ ap have_expressions (sym b.registry) ∙ none.1, b.opened)))
-      | inr memory ↦ subst (λ (x : Refusal). StartRefused disk x old store.disk) (sym memory) tt
-    ]

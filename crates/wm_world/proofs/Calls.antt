@@ -34,7 +34,7 @@ use Rattle.wm_store.proofs.Runs.{OnlyNow}
 use Rattle.wm_world.proofs.Between.{stays_put, take-drop}
 use Rattle.wm_world.proofs.Clients.{Good, good_reached}
 use Rattle.wm_world.proofs.Moments.{ids_reached}
-use Rattle.wm_world.proofs.Numbers.{replay_more}
+use Rattle.wm_registry.proofs.Numbers.{replay_more}
 use Rattle.wm_world.proofs.Standing.{asking_same, changed_none, changed_set, views_operated}
 
 cond_same : {A : Type 0} (b : Bool) (x : A) → x ≡ cond b x x

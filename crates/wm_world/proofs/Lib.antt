@@ -8,7 +8,6 @@ pub mod EachClient
 pub mod Growing
 pub mod Kept
 pub mod Moments
-pub mod Numbers
 pub mod Opening
 pub mod Owners
 pub mod Places

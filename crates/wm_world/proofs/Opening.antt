@@ -33,7 +33,7 @@ use Rattle.wm_journal.proofs.Opening.{weaker}
 use Rattle.wm_world.proofs.Between.{between_before, between_from, take-drop}
 use Rattle.wm_world.proofs.Calls.{prefix_same}
 use Rattle.wm_world.proofs.Moments.{Within, ids_reached}
-use Rattle.wm_world.proofs.Numbers.{began, replay_more, rises_more}
+use Rattle.wm_registry.proofs.Numbers.{began, replay_more, rises_more}
 use Rattle.wm_checkpoint.proofs.Numbering.{number_within, numbered_more}
 use Rattle.wm_world.proofs.Stores.{CountsNow, none_yet, now}
 

@@ -18,7 +18,7 @@ use Rattle.wm_world.specs.declared.event.Event.TheVariants as events
 use Rattle.wm_world.specs.Worlds.{World, at_first, begun_all, begun_between, is_of, registry, replay}
 use Rattle.wm_world.specs.Steps.{BatchCut, BatchDone, Checkpointed, Cut, OpenDone, Opened, Run, Step, begin_on, down, operated}
 use Rattle.wm_world.proofs.Growing.{Grows, extends_after, grows_append, grows_at, grows_same, grows_then}
-use Rattle.wm_world.proofs.Numbers.{began, replay_more, rises_more}
+use Rattle.wm_registry.proofs.Numbers.{began, replay_more, rises_more}
 
 -- the server was up before, or it has just been opened
 abbrev pub IsUp : World → World → Type 0

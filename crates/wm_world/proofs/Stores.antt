@@ -35,7 +35,7 @@ use Rattle.wm_world.proofs.Batching.{answered_more, same_incarnation}
 use Rattle.wm_world.proofs.Between.{between_before, between_more}
 use Rattle.wm_world.proofs.Calls.{nothing}
 use Rattle.wm_world.proofs.Moments.{pending_is_own}
-use Rattle.wm_world.proofs.Numbers.{replay_more}
+use Rattle.wm_registry.proofs.Numbers.{replay_more}
 
 -- ---- contents
 

@@ -6,7 +6,7 @@ use std::test::Fail;
 use wm_disk::MemDisk;
 use wm_names::RootPath;
 use wm_registry::{Command, Stdin, Trigger};
-use wm_store::Store;
+use wm_store::{MAX_BATCH, Store};
 
 /// A trigger that is made, made again, replaced and deleted, and a root that is watched no longer.
 const TRIGGERS: &[Row<'static>] = &[
@@ -175,6 +175,9 @@ fn commands_keeping(alloc: Global, text: &str) -> Result<Vec<Command>, Fail> {
 
 /// A file in which these commands were accepted.
 fn file_of(alloc: Global, batch: Vec<Command>) -> Result<MemDisk, Fail> {
+    if batch.len() > MAX_BATCH {
+        return Err("too many commands".into());
+    }
     let Ok(mut store) = Store::open(alloc, new_file(alloc)?) else {
         return Err("the file can't be opened".into());
     };

@@ -1,11 +1,9 @@
-use Rattle.std.proofs.Common.{◌≡◌, ◌≤◌, ◌+◌, Bool, true, false, not, length, List, ℕ, slice_get, Some, refl, sym, ap, ◌∙◌, arith}
+use Rattle.std.proofs.Common.{◌≡◌, Bool, true, false, not, List, ℕ, slice_get, Some, refl, sym, ap, ◌∙◌, arith}
 use Rattle.std.specs.Str.{bytes_eq}
 use Rattle.wm_registry.specs.declared.root.Root.{Root}
 use Rattle.wm_registry.specs.Registry.{after, reply_to}
-use Rattle.wm_registry.specs.Roots.{State, without_first}
-use Rattle.wm_registry.specs.Spelling.{root_spelling, state_spelling}
+use Rattle.wm_registry.specs.Roots.{State}
 use Rattle.wm_registry.specs.declared.command.Command.TheVariants as commands
-use Rattle.wm_registry.specs.declared.reply.Reply.TheVariants.{Changed}
 use Rattle.wm_registry.proofs.Fronts.{first_after, first_fits, first_met, first_size, first_within}
 use Rattle.wm_registry.proofs.draft.Draft.unwatches_first.Goals as goal
 

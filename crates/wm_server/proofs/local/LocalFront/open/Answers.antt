@@ -2,7 +2,7 @@ use Rattle.std.proofs.Common.{◌≡◌, ◌⊎◌, false, inr, subst, sym}
 use Rattle.wm_disk.specs.declared.refusal.Refusal.TheVariants as refusals
 use Rattle.wm_server.specs.KeptExpressions.{have_expressions}
 use Rattle.wm_server.specs.Stores.{Later, StartCut, StartRefused}
-use Rattle.wm_server.proofs.LocalLemmas.{start_refused, views_refused}
+use Rattle.wm_server.proofs.StartLemmas.{start_refused, views_refused}
 use Rattle.wm_server.proofs.local.LocalFront.open.Goals as goal
 
 pub returns-in-Err-clause-refused : goal.returns-in-Err-clause-refused

@@ -2,7 +2,7 @@ use Rattle.std.proofs.Common.{ap, subst, ◌∙◌}
 use Rattle.wm_server.specs.Locals.{standing_of}
 use Rattle.wm_server.specs.LocalLaws.{stays}
 use Rattle.wm_server.specs.Watched.{Operated}
-use Rattle.wm_server.proofs.LocalLemmas.{operates}
+use Rattle.wm_server.proofs.OperationLemmas.{operates}
 use Rattle.wm_server.proofs.local.LocalFrontFront.operate.Goals as goal
 
 pub returns-clause-met : goal.returns-clause-met

@@ -1,11 +1,10 @@
--- The numbers of a registry: they rise, they stay in range, and no two roots have one.
+-- The numbers of a registry along a replay: they never go back, they stay in range, and no two roots have one.
 use Rattle.std.proofs.Common.{◌≡◌, ℕ, ◌+◌, ◌≤◌, ◌<◌, Bool, true, false, cond, List, [], ◌∷◌, ◌++◌, nat_lt, ◌==◌, Option, Some, None, refl, sym, ap, subst, arith, true≢false, ne_eqb}
 use Rattle.std.proofs.lemmas.Bool.{ltb-true}
 use Rattle.std.proofs.lemmas.List.{map-append}
 use Rattle.std.specs.List.{AllByRecursion, IsDistinct}
 use Rattle.std.specs.Option.{option_map_or}
 use Rattle.std.specs.Str.{bytes_eq}
-use Rattle.wm_clock.specs.Clocks.{limit}
 use Rattle.wm_registry.specs.declared.command.Command.{Command}
 use Rattle.wm_registry.specs.declared.command.Command.TheVariants.{Begin, Watch, WatchDel, Trigger, TriggerDel}
 use Rattle.wm_registry.specs.declared.reply.Reply.TheVariants.{Changed, Refused}
@@ -19,16 +18,15 @@ use Rattle.wm_registry.specs.Triggers.{Definition, defined, without}
 use Rattle.wm_registry.proofs.Changing.{may_watch}
 use Rattle.wm_registry.proofs.Entries.{AllByRecursion-each, AllByRecursion-push, AllByRecursion-remove_entry, AllByRecursion-set_value, IsDistinct-push, IsDistinct-remove_entry, map-set_value}
 use Rattle.wm_checkpoint.specs.Machines.{replay_on}
-use Rattle.wm_world.specs.Worlds.{replay}
 
 pub record Rises (s t : State) : Type 0 where
   pub incarnation : s.incarnation ≤ t.incarnation
   pub next : s.next ≤ t.next
 
 pub record InOrder (s : State) : Type 0 where
-  pub incarnation : s.incarnation ≤ limit
+  pub incarnation : s.incarnation ≤ last
   pub some : 0 < s.next
-  pub next : s.next ≤ limit
+  pub next : s.next ≤ last
   pub roots : AllByRecursion (λ r. (0 < r.1.number) × (r.1.number < s.next)) s.roots
   pub apart : IsDistinct ◌==◌ (numbers_of s.roots)
 
@@ -145,14 +143,14 @@ pub replay_more : (s : State) (cs ds : List Command) → replay_on watches s (cs
 replay_more s [] ds = refl
 replay_more s (c ∷ cs) ds = replay_more (after s c) cs ds
 
-pub rises_more : (cs ds : List Command) → Rises (replay cs) (replay (cs ++ ds))
-rises_more cs ds = subst (λ t. Rises (replay cs) t) (sym (replay_more fresh cs ds)) (goes_replay (replay cs) ds).rises
+pub rises_more : (cs ds : List Command) → Rises (replay_on watches fresh cs) (replay_on watches fresh (cs ++ ds))
+rises_more cs ds = subst (λ t. Rises (replay_on watches fresh cs) t) (sym (replay_more fresh cs ds)) (goes_replay (replay_on watches fresh cs) ds).rises
 
 fresh_in_order : InOrder fresh
 unfolding IsDistinct
 fresh_in_order = record { incarnation = omega arith; some = omega arith; next = omega arith; roots = tt; apart = tt }
 
-pub in_order : (cs : List Command) → InOrder (replay cs)
+pub in_order : (cs : List Command) → InOrder (replay_on watches fresh cs)
 in_order cs = (goes_replay fresh cs).order fresh_in_order
 
 -- a Begin that is accepted makes the next incarnation
