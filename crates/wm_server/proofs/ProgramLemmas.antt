@@ -169,7 +169,7 @@ module _ {D : Type 0} (disk : Ghosts D) where
       → Session old begun left new → views ≡ first_views begun.registry → left.failed ≡ false
       → Broke (standing_with disk begun views) line_number input (standing_with disk left views') → LinesBroken disk old input new
   lines_broken old begun left views views' new input s views_are worked broke =
-      record { met = broke.met; more = broke.more; lines = broke.lines; bytes = broke.bytes; kept = lines_met old begun left views views' new broke.met broke.ways broke.bytes s views_are worked broke.run }
+      record { front = broke.met; more = broke.more; lines = broke.lines; bytes = broke.bytes; met = lines_met old begun left views views' new broke.met broke.ways broke.bytes s views_are worked broke.run }
 
   -- ---- a refusal
 

@@ -66,11 +66,11 @@ pub record LinesServed {D : Type 0} (disk : Ghosts D) (old : D) (input : List �
 
 -- a beginning of an input's lines was met
 pub record LinesBroken {D : Type 0} (disk : Ghosts D) (old : D) (input : List ℕ) (new : D) : Type 0 where
-  pub met : List (List ℕ)
+  pub front : List (List ℕ)
   pub more : List (List ℕ)
-  pub lines : lines_of input ≡ met ++ more
+  pub lines : lines_of input ≡ front ++ more
   pub bytes : List ℕ
-  pub kept : LinesMet disk old met bytes new
+  pub met : LinesMet disk old front bytes new
 
 -- what a program that is refused tells: its name, and the number and name of the refusal
 abbrev pub message_of : Refusal → List ℕ
