@@ -5,10 +5,11 @@ STATE ?= watchmand.state
 PROGRAM := crates/watchmand/out/watchmand
 JOURNAL_BENCH := crates/journal_bench/out/journal_bench
 STORE_BENCH := crates/store_bench/out/store_bench
-MATCH_BENCH := crates/match_bench/out/match_bench
+VIEW_BENCH := crates/view_bench/out/view_bench
+FILES ?= 100000
 SOURCES := crates.txt $(shell find crates -name out -prune -o -type f \( -name '*.rt' -o -name '*.antt' \) -print)
 
-.PHONY: test build run install bench bench-journal bench-store bench-match session examples kill
+.PHONY: test build run install bench bench-journal bench-store bench-view bench-match session examples kill
 
 test:
 	rt ci
@@ -61,10 +62,14 @@ $(STORE_BENCH): $(SOURCES)
 bench-store: $(STORE_BENCH)
 	bench/store.sh $(STORE_BENCH)
 
-$(MATCH_BENCH): $(SOURCES)
-	cd crates/match_bench && rt run -- 3 </dev/null >&2
+$(VIEW_BENCH): $(SOURCES)
+	cd crates/view_bench && rt run -- match 3 </dev/null >&2
 	@touch $@
 
+# How long a view of FILES files takes for what is done to it and asked of it, and its memory; also of a tenth.
+bench-view: $(VIEW_BENCH)
+	bench/view.sh $(VIEW_BENCH) $(FILES)
+
 # How long `match` takes for patterns that are hard to refuse, of 64 to 1,024 bytes.
-bench-match: $(MATCH_BENCH)
-	$(MATCH_BENCH) 200
+bench-match: $(VIEW_BENCH)
+	$(VIEW_BENCH) match 200

@@ -83,7 +83,9 @@ fn answer_since<T: Test>(
 
 /// The answer's files as a text.
 fn rendered(alloc: Global, answer: &Answer, fields: &Fields) -> Result<String, Fail> {
-    Ok(render(alloc, answer, fields)?.to_string(alloc)?)
+    let mut text = Vec::new(alloc);
+    render(alloc, answer, fields, &mut text)?;
+    Ok(String::from_utf8(text)?)
 }
 
 /// The same, with the fields of these names.

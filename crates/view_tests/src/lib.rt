@@ -2,7 +2,8 @@
 //! (`wm_since`). They stand apart from these crates, so that each is proved once and without them.
 //!
 //! A test walks a table, in which each row has its values written out by hand, and asserts once for a
-//! row: what the row compares stands in a helper that answers whether all of it is so.
+//! row: what the row compares stands in a helper that answers whether all of it is so. Generated sessions are
+//! compared with a reference instead, which keeps every map that a root ever was.
 #![tactic(auto)]
 
 #[cfg(test)]

@@ -1,14 +1,19 @@
-//! Views through whole sessions, with what they list written out by hand.
+//! Views through whole sessions, with what they list written out by hand, and through generated ones, compared
+//! with a reference that keeps every map.
 use crate::making::file;
 use std::alloc::Global;
 use std::test::Fail;
 use wm_names::RelPath;
 use wm_view::{Known, View};
 
+mod against_reference;
 mod ageing;
+mod generated;
 mod listings;
+mod many;
 mod observing;
 mod recrawling;
+mod reference;
 mod sessions;
 mod walking;
 

@@ -1,4 +1,5 @@
 ghost use Rattle.std.specs.Prelude.{◌≡◌, ◌≢◌, ◌↔◌, ℕ, List, true, false, nat_eq, refl, string_bytes, IfOk, IfErr, IsErrOf, IsUtf8};
+ghost use Rattle.std.specs.Arc.{arc_str_bytes};
 ghost use Rattle.std.specs.Ordering.{nat_cmp, as_partial_cmp};
 ghost use Rattle.std.specs.Cmp.{partial_order_from_agreeing_total, partial_equiv_from_equiv};
 ghost use Rattle.std.specs.Cmp.Lexicographic.{slice_cmp, pointwise, nat_list_cmp_total, nat_list_eq_equiv, texts_ties};
@@ -8,6 +9,7 @@ use crate::components::are_components;
 use std::alloc::Global;
 use std::cmp::Ordering;
 use std::marker::Model;
+use std::sync::ArcStr;
 use wm_disk::{NoMemory, Refusal};
 
 /// The most bytes of a relative path.
@@ -15,18 +17,22 @@ pub const MAX_REL_PATH: usize = 1024;
 
 /// The path of a file below a watched root: a text of 1 to 1,024 bytes, whose components between
 /// slashes aren't empty, `.` or `..` and hold no zero byte. Paths stand in the order of their bytes.
-/// Contracts see the bytes.
+/// A path and its copies share one text, also in several threads. Contracts see the bytes.
 #[derive(Drop)]
 pub struct RelPath {
-    text: String,
+    text: ArcStr,
 }
 
 impl Model for RelPath {
+    ghost use Rattle.std.specs.Arc.{arc_str_bytes};
+    ghost use Rattle.std.specs.Prelude.{List, ℕ, ◌≡◌, true};
+    ghost use Rattle.wm_names.specs.Paths.{is_rel_path};
+
     ghost Value = { List ℕ };
 
-    ghost view = { λ p. string_bytes p.text };
+    ghost view = { λ p. arc_str_bytes p.text };
 
-    ghost invariant = { λ p. is_rel_path (string_bytes p.text) ≡ true };
+    ghost invariant = { λ p. is_rel_path (arc_str_bytes p.text) ≡ true };
 }
 
 impl RelPath {
@@ -40,7 +46,7 @@ impl RelPath {
         if text.len() > MAX_REL_PATH || !are_components(text.as_bytes()) {
             return Err(Refusal::BadPath);
         }
-        let text = String::from_str(alloc, text)?;
+        let text = ArcStr::from_str(alloc, text)?;
         Ok(RelPath { text })
     }
 
@@ -53,11 +59,12 @@ impl RelPath {
         self.text.as_str()
     }
 
-    /// The same path again.
-    pub fn copy(&self, alloc: Global) -> Result<RelPath, NoMemory>
+    /// The same path again, which shares its text. `NoMemory` comes only where the text has 2^63 - 1
+    /// owners already.
+    pub fn copy(&self) -> Result<RelPath, NoMemory>
         ensures { IfOk result (λ p. p ≡ self.now) }
     {
-        let text = String::from_str(alloc, &self.text)?;
+        let text = self.text.clone()?;
         Ok(RelPath { text })
     }
 
@@ -65,7 +72,7 @@ impl RelPath {
     pub fn compare(&self, other: &RelPath) -> Ordering
         ensures { result ≡ path_cmp self.now other.now }
     {
-        self.text.as_bytes().cmp(other.text.as_bytes())
+        self.as_str().as_bytes().cmp(other.as_str().as_bytes())
     }
 
     /// Whether the two are one path.
@@ -79,8 +86,8 @@ impl RelPath {
     pub fn under(&self, top: &RelPath) -> bool
         ensures { result ≡ is_under top.now self.now }
     {
-        let path = self.text.as_bytes();
-        let top = top.text.as_bytes();
+        let path = self.as_str().as_bytes();
+        let top = top.as_str().as_bytes();
         let n = top.len();
         if n < path.len() {
             path[n] == b'/' && path[..n].cmp(top).is_eq()
@@ -98,5 +105,43 @@ impl RelPath {
             Some((_, name)) => name,
             None => path,
         }
+    }
+}
+
+impl PartialEq for RelPath {
+    ghost eq = { pointwise nat_eq };
+
+    ghost laws = { partial_equiv_from_equiv nat_list_eq_equiv };
+
+    fn eq(&self, other: &RelPath) -> bool {
+        self.as_str().as_bytes() == other.as_str().as_bytes()
+    }
+}
+
+impl Eq for RelPath {
+    ghost laws = { nat_list_eq_equiv };
+}
+
+impl Ord for RelPath {
+    ghost cmp = { slice_cmp nat_cmp };
+
+    ghost total = { nat_list_cmp_total };
+
+    ghost matches_partial_cmp = { λ x y. refl };
+
+    ghost matches_eq = { λ x y. texts_ties x y };
+
+    fn cmp(&self, other: &RelPath) -> Ordering {
+        self.compare(other)
+    }
+}
+
+impl PartialOrd for RelPath {
+    ghost partial_cmp = { as_partial_cmp (slice_cmp nat_cmp) };
+
+    ghost laws = { partial_order_from_agreeing_total (slice_cmp nat_cmp) nat_list_cmp_total (λ x y. refl) (λ x y. texts_ties x y) };
+
+    fn partial_cmp(&self, other: &RelPath) -> Option<Ordering> {
+        Some(self.cmp(other))
     }
 }

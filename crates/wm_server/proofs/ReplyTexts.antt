@@ -1,5 +1,5 @@
 -- The texts of replies.
-use Rattle.std.proofs.Common.{◌≡◌, ◌<◌, ◌/◌, ◌%◌, ◌==◌, ℕ, zero, suc, cond, List, [], ◌∷◌, ◌++◌, true, false, refl, sym, ap, ◌∙◌, arith, append_assoc, codes, decimal, map, Option, Some, None}
+use Rattle.std.proofs.Common.{◌≡◌, ◌<◌, ◌/◌, ◌%◌, ◌==◌, ℕ, Bool, zero, suc, cond, List, [], ◌∷◌, ◌++◌, true, false, refl, sym, ap, ◌∙◌, arith, append_assoc, codes, decimal, map, Option, Some, None}
 use Rattle.std.specs.Map.{keys_of}
 use Rattle.std.specs.Fmt.{digit_glyph, digits, digits_onto}
 use Rattle.std.proofs.lemmas.Bool.Decides.{nat_tests}
@@ -8,7 +8,7 @@ use Rattle.wm_clock.specs.Clocks.{clock_text}
 use Rattle.wm_clock.specs.declared.clock_id.ClockId.{ClockId}
 use Rattle.serde_json.specs.Data.{Data, Members, member, no_members, object, string}
 use Rattle.serde_json.specs.View.{items_of}
-use Rattle.serde_json.specs.Written.{has_float, items_have_float, members_have_float}
+use Rattle.serde_json.specs.Written.{compact_text, has_float, items_have_float, members_have_float}
 use Rattle.serde_json.proofs.OnLiterals.{serde_json_on_literals}
 use Rattle.wm_disk.specs.Refusals.{text_of}
 use Rattle.wm_disk.specs.declared.refusal.Refusal.{Refusal}
@@ -20,7 +20,11 @@ use Rattle.wm_registry.specs.declared.command.Command.TheVariants as command
 use Rattle.wm_registry.specs.declared.reply.Reply.{Reply}
 use Rattle.wm_registry.specs.Triggers.{Definition}
 use Rattle.wm_server.proofs.KeptLemmas.{shown_no_float}
-use Rattle.wm_server.specs.Replies.{clock_reply, command_reply, floor_reply, paths_of, roots_reply, line_text, refusal_reply, stdin_text, trigger_data, triggers_reply, with_expression}
+use Rattle.wm_since.specs.Rendered.{files_data}
+use Rattle.wm_since.specs.declared.field.Field.{Field}
+use Rattle.wm_since.specs.declared.query.Answer.{Answer}
+use Rattle.wm_server.specs.AnswerTexts.{answer_tail, answer_text}
+use Rattle.wm_server.specs.Replies.{answer_reply, clock_reply, command_reply, floor_reply, paths_of, roots_reply, line_text, query_reply, refusal_reply, stdin_text, trigger_data, triggers_reply, with_expression}
 
 paths_no_float : (roots : List (Path × Root)) → items_have_float (items_of (paths_of roots)) ≡ false
 paths_no_float [] = refl
@@ -135,3 +139,21 @@ clock_line c = text_line (clock_text c) ∙ ap (λ (s : List ℕ). (codes "{\"cl
 pub floor_line : (floor : ℕ) → line_text (floor_reply floor) ≡ (codes "{\"floor\":" ++ decimal floor) ++ codes ",\"version\":\"w1\"}\n"
 unfolding line_text serde_json_on_literals
 floor_line floor = ap (λ (t : List ℕ). codes "{\"floor\":" ++ t) (append_assoc (decimal floor) (codes ",\"version\":\"w1\"}") (10 ∷ []))
+
+-- ---- the reply to a question
+
+around_files : (e m f t n : List ℕ) → ((e ++ 34 ∷ []) ++ (m ++ (f ++ t))) ++ n ≡ ((e ++ 34 ∷ m) ++ f) ++ (t ++ n)
+around_files e m f t n = simp append_assoc
+
+-- the reply to a question, around the text of its files
+answer_around : (s : List ℕ) (files : Data) (fresh : Bool) → line_text (answer_reply s files fresh) ≡ (((codes "{\"clock\":\"" ++ escape s) ++ codes "\",\"files\":") ++ compact_text files) ++ answer_tail fresh
+unfolding line_text serde_json_on_literals
+answer_around s files true =
+    ap (λ (t : List ℕ). codes "{\"clock\":\"" ++ t) (around_files (escape s) (codes ",\"files\":") (compact_text files) (codes ",\"is_fresh_instance\":true,\"version\":\"w1\"}") (10 ∷ []))
+answer_around s files false =
+    ap (λ (t : List ℕ). codes "{\"clock\":\"" ++ t) (around_files (escape s) (codes ",\"files\":") (compact_text files) (codes ",\"is_fresh_instance\":false,\"version\":\"w1\"}") (10 ∷ []))
+
+pub answer_line : (fields : List Field) (a : Answer) → line_text (query_reply fields a) ≡ answer_text fields a
+answer_line fields a =
+    answer_around (clock_text a.clock) (files_data fields a) a.fresh
+    ∙ ap (λ (s : List ℕ). (((codes "{\"clock\":\"" ++ s) ++ codes "\",\"files\":") ++ compact_text (files_data fields a)) ++ answer_tail a.fresh) (plain_clock a.clock)

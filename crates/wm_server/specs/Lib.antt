@@ -1,4 +1,5 @@
 pub mod AgeOutLines
+pub mod AnswerTexts
 pub mod Arguments
 pub mod ClockLines
 pub mod Endings

@@ -1,7 +1,8 @@
-ghost use Rattle.std.specs.Prelude.{◌≡◌, ◌++◌, ◌+◌, ◌≤◌, codes, decimal, false, map, vec_len, vec_capacity, IfOk, OnOk, OnErr};
+ghost use Rattle.std.specs.Prelude.{◌≡◌, ◌++◌, ◌+◌, ◌≤◌, codes, decimal, false, map, vec_len, vec_capacity, IfOk, OnOk, OnErr, take};
 ghost use Rattle.serde_json.specs.Written.{has_float};
 ghost use Rattle.serde_json.specs.View.{items_of, items_view, view};
-ghost use Rattle.wm_server.specs.Replies.{answer_reply, clock_reply, command_reply, disposition_of, floor_reply, line_text, operation_reply, paths_of, refusal_reply, roots_reply, query_reply, stdin_text, trigger_data, trigger_object, trigger_del_reply, trigger_reply, triggers_reply, version_reply, watch_del_reply, watch_reply};
+ghost use Rattle.wm_server.specs.AnswerTexts.{answer_head, answer_tail, answer_text};
+ghost use Rattle.wm_server.specs.Replies.{clock_reply, command_reply, disposition_of, floor_reply, line_text, operation_reply, paths_of, refusal_reply, roots_reply, query_reply, stdin_text, trigger_data, trigger_object, trigger_del_reply, trigger_reply, triggers_reply, version_reply, watch_del_reply, watch_reply};
 ghost use Rattle.serde_json.specs.Data.{member, string};
 ghost use Rattle.wm_server.specs.KeptExpressions.{expression_shown as expression_shown_lem};
 
@@ -287,13 +288,51 @@ pub(crate) fn put_watch_list(
     put_line(alloc, &watch_list(alloc, roots)?, out)
 }
 
-fn since(alloc: Global, clock: &str, files: Value, is_fresh: bool) -> Result<Value, AllocError>
-    ensures { IfOk result (λ v. view v ≡ answer_reply clock.now (view files) is_fresh) }
+/// The most bytes of a question's reply before its files.
+const HEAD_ROOM: usize = 96;
+
+/// Appends the beginning of a question's reply, up to its files, for which there is room.
+fn put_head(clock: ClockId, out: &mut Vec<u8>)
+    requires { vec_len out.old + HEAD_ROOM ≤ vec_capacity out.old }
+    ensures value { out.new.items ≡ out.old.items ++ answer_head clock }
+    ensures room { vec_capacity out.old ≤ vec_capacity out.new }
 {
-    json!(in alloc; {"clock": clock, "files": files, "is_fresh_instance": is_fresh, "version": "w1"})
+    out.extend_from_slice(b"{\"clock\":\"").unwrap();
+    clock.put(out);
+    out.extend_from_slice(b"\",\"files\":").unwrap();
+}
+
+/// The rest of a question's reply, after its files.
+fn tail(is_fresh: bool) -> &'static [u8]
+    ensures { result.now ≡ answer_tail is_fresh }
+{
+    if is_fresh {
+        b",\"is_fresh_instance\":true,\"version\":\"w1\"}\n"
+    } else {
+        b",\"is_fresh_instance\":false,\"version\":\"w1\"}\n"
+    }
+}
+
+/// Appends the parts of a question's reply. A failure may leave some of them.
+fn put_parts(
+    alloc: Global,
+    answer: &Answer,
+    fields: &Fields,
+    out: &mut Vec<u8>,
+) -> Result<(), NoMemory>
+    ensures ok { OnOk result (out.new.items ≡ out.old.items ++ answer_text fields.now answer.now) }
+    ensures err { OnErr result (take (vec_len out.old) out.new.items ≡ out.old.items) }
+    ensures room { vec_capacity out.old ≤ vec_capacity out.new }
+{
+    out.reserve(HEAD_ROOM)?;
+    put_head(answer.clock, out);
+    render(alloc, answer, fields, out)?;
+    out.extend_from_slice(tail(answer.fresh))?;
+    Ok(())
 }
 
 /// Appends the reply to `query` and `since`.
+#[tactic(auto, using(crate::proofs::ReplyTexts::answer_line))]
 pub(crate) fn put_answer(
     alloc: Global,
     answer: &Answer,
@@ -304,11 +343,10 @@ pub(crate) fn put_answer(
     ensures err { OnErr result (out.new.items ≡ out.old.items) }
     ensures room { vec_capacity out.old ≤ vec_capacity out.new }
 {
-    let clock = answer.clock.text(alloc)?;
-    let files = render(alloc, answer, fields)?;
-    put_line(
-        alloc,
-        &since(alloc, clock.as_str(), files, answer.fresh)?,
-        out,
-    )
+    let len = out.len();
+    let done = put_parts(alloc, answer, fields, out);
+    if done.is_err() {
+        out.truncate(len);
+    }
+    done
 }

@@ -2,5 +2,5 @@ pub mod Agree
 pub mod Applies
 pub mod Moves
 pub mod Naming
-pub mod Renders
 pub mod Turns
+pub mod Written

@@ -1,13 +1,16 @@
 -- One more path, and one more file of an answer.
-use Rattle.std.proofs.Common.{◌≡◌, ℕ, zero, suc, ◌+◌, ◌-◌, ◌<◌, ◌≤◌, Bool, cond, List, [], ◌∷◌, ◌++◌, length, take, drop, get_or, refl, sym, ap, ◌∙◌, append_assoc, add-one, arith, Less, Equal, Greater}
+use Rattle.std.proofs.Common.{◌≡◌, ℕ, zero, suc, ◌+◌, ◌-◌, ◌<◌, ◌≤◌, Bool, cond, List, [], ◌∷◌, ◌++◌, length, take, drop, get_or, refl, sym, ap, ◌∙◌, append_assoc, add-one, drop-cons, arith, Less, Equal, Greater}
 use Rattle.std.specs.List.{insert}
 use Rattle.std.specs.Ordering.{match_ordering}
 use Rattle.wm_names.specs.Paths.{Path, path_cmp}
 use Rattle.wm_view.specs.Files.{Paths, with_path}
 use Rattle.wm_view.proofs.Lists.{drop_here, all_dropped}
-use Rattle.wm_view.proofs.Turns.{drop_last}
 use Rattle.wm_since.specs.declared.listed.Listed.{Listed}
 use Rattle.wm_since.specs.Clients.{put_in}
+
+pub drop_last : {A : Type 0} (xs : List A) (i : ℕ) (d : A) → 0 < i → i ≤ length xs → drop (i - 1) xs ≡ get_or xs (i - 1) d ∷ drop i xs
+drop_last xs i d low high =
+    drop-cons xs (i - 1) d (omega arith) ∙ (let e : suc (i - 1) ≡ i = omega arith in ap (λ n. get_or xs (i - 1) d ∷ drop n xs) e)
 
 pub with_less : (p : Path) (xs : Paths) (i : ℕ) (x : Path) → i < length xs → x ≡ get_or xs i x → path_cmp p x ≡ Less → take i xs ++ with_path p (drop i xs) ≡ insert xs i p
 with_less p xs i x l e less =

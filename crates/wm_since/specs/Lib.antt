@@ -5,3 +5,4 @@ pub mod Fields
 pub mod Matching
 pub mod Rendered
 pub mod Tests
+pub mod Texts

@@ -1,5 +1,5 @@
 -- Which files of a history pass, at a tick and at a client's clock.
-use Rattle.std.specs.Prelude.{ℕ, Bool, true, List, [], Option, Some, None}
+use Rattle.std.specs.Prelude.{ℕ, Bool, true, [], Option, Some, None}
 use Rattle.std.specs.List.{filter}
 use Rattle.wm_names.specs.Paths.{Path}
 use Rattle.wm_names.specs.declared.entry.Entry.{Entry}

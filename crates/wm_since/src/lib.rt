@@ -6,7 +6,7 @@
 //! its last clock has exactly those at the answer's (specs/Matching.antt). The crate `wm_world` has that
 //! over whole runs.
 //!
-//! [`render`] makes an answer's files JSON, with the [`Fields`] that were asked for (specs/Fields.antt,
+//! [`render`] writes an answer's files as JSON, with the [`Fields`] that were asked for (specs/Fields.antt,
 //! specs/Rendered.antt). [`Cursors`] keeps for a name the clock up to which its client was told
 //! (specs/Cursors.antt).
 #![tactic(auto)]

@@ -73,7 +73,7 @@ fn put_in(alloc: Global, paths: Vec<RelPath>, answer: &Answer) -> Result<Vec<Rel
     while i > 0 {
         i -= 1;
         if answer.fresh || files[i].entry.exists {
-            with_path(&mut paths, files[i].entry.path.copy(alloc)?)?;
+            with_path(&mut paths, files[i].entry.path.copy()?)?;
         }
     }
     Ok(paths)
@@ -95,7 +95,7 @@ fn left(alloc: Global, paths: &[RelPath], files: &[Listed]) -> Result<Vec<RelPat
     let mut left = Vec::new(alloc);
     for path in paths {
         if !is_gone(files, path) {
-            left.push(path.copy(alloc)?)?;
+            left.push(path.copy()?)?;
         }
     }
     Ok(left)

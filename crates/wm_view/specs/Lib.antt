@@ -1,9 +1,11 @@
+pub mod Changes
 pub mod Files
 pub mod Histories
+pub mod KnownPaths
 pub mod Laws
 pub mod Listings
-pub mod Pasts
 pub mod Places
 pub mod Steps
 pub mod Summaries
+pub mod ViewStates
 pub mod Views

@@ -7,13 +7,15 @@
 //! of the summary (specs/Steps.antt). [`every_operation`] ties the two.
 #![tactic(auto)]
 
+mod changes;
 mod files;
 mod known;
+mod known_paths;
 mod laws;
 mod listing;
 mod op;
-mod past;
 mod view;
+mod view_state;
 
 pub use known::Known;
 pub use laws::every_operation;

@@ -51,7 +51,7 @@ const ORDERED: &[(&str, &str, Ordering)] = &[
 // Whether the text is read as a path that shows it, as does a copy.
 fn is_read(alloc: Global, text: &str) -> Result<bool, Refusal> {
     let path = RelPath::read(alloc, text)?;
-    let copy = path.copy(alloc)?;
+    let copy = path.copy()?;
     Ok(path.as_str() == text && copy.as_str() == text)
 }
 

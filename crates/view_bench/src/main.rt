@@ -1,0 +1,42 @@
+//! Times views, what is asked of them, and `match` on patterns that are hard to refuse.
+#![tactic(auto)]
+
+mod matching;
+mod median;
+mod memory;
+mod paths;
+mod sharing;
+mod viewing;
+mod words;
+
+use crate::words::{Task, USAGE, tasks};
+use anyhow::Result;
+use std::env;
+use std::process::ExitCode;
+
+/// Tells times and memory on standard error, and what is the same in each run on standard output.
+fn bench(rt: &HostRuntime, task: &Task) -> Result<()> {
+    match task {
+        Task::Match(rounds) => matching::bench(rt, *rounds),
+        Task::View(files) => viewing::bench(rt, *files),
+        Task::Memory(files) => sharing::bench(rt, *files),
+    }
+}
+
+fn main(rt: HostRuntime) -> Result<ExitCode> {
+    let alloc = rt.alloc();
+    let Ok(args) = env::args(&rt) else {
+        rt.eprintln(USAGE)?;
+        return Ok(ExitCode::from(2));
+    };
+    let args: Vec<String> = args.skip(1).collect(alloc)?;
+    let args: Vec<&str> = args.iter().map(|word| word.as_str()).collect(alloc)?;
+    let Some(tasks) = tasks(alloc, &args)? else {
+        rt.eprintln(USAGE)?;
+        return Ok(ExitCode::from(2));
+    };
+    for task in &tasks {
+        bench(&rt, task)?;
+    }
+    Ok(ExitCode::from(0))
+}

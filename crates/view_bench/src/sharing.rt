@@ -1,0 +1,106 @@
+//! The memory of two views to which the same is told, so that they share the texts of their paths.
+
+use crate::memory::Memory;
+use crate::paths::{MANY, file, path};
+use anyhow::Result;
+use std::alloc::Global;
+use std::rt::Runtime;
+use wm_names::{RelPath, Subtree};
+use wm_view::{Listing, Op, Pairs, View};
+
+/// So many paths, with room for no more.
+fn paths_of(alloc: Global, files: u64) -> Result<Vec<RelPath>> {
+    let mut paths = Vec::with_capacity(alloc, files as usize)?;
+    for number in 0..files {
+        paths.push(path(alloc, number)?)?;
+    }
+    Ok(paths)
+}
+
+/// An observation of some new files.
+fn observation(alloc: Global, paths: &[RelPath]) -> Result<Op> {
+    let mut pairs = Vec::with_capacity(alloc, paths.len())?;
+    for path in paths {
+        pairs.push((path.copy()?, Some(file(0))))?;
+    }
+    Ok(Op::Observe(5, Pairs::new(pairs)))
+}
+
+/// A first listing of nothing, and observations of a thousand new files each.
+fn told(alloc: Global, paths: &[RelPath]) -> Result<Vec<Op>> {
+    let mut ops = Vec::new(alloc);
+    ops.push(Op::Recrawl(1, 0, Listing::new(alloc, Subtree::Whole)))?;
+    for group in paths.chunks(MANY as usize) {
+        ops.push(observation(alloc, group)?)?;
+    }
+    Ok(ops)
+}
+
+/// One listing of all of them.
+fn listed(alloc: Global, paths: &[RelPath]) -> Result<Vec<Op>> {
+    let mut listing = Listing::new(alloc, Subtree::Whole);
+    for path in paths {
+        listing.add(path.copy()?, file(0))?;
+    }
+    let mut ops = Vec::new(alloc);
+    ops.push(Op::Recrawl(1, 0, listing))?;
+    Ok(ops)
+}
+
+/// A view to which all of this was told.
+fn grown(alloc: Global, ops: &[Op]) -> Result<View> {
+    let mut view = View::new(alloc, 1, 1);
+    for op in ops {
+        view.perform(alloc, op)?;
+    }
+    Ok(view)
+}
+
+/// Tells how many bytes of memory have come since then, for each file.
+fn tell<R: Runtime>(rt: &R, what: &str, before: Memory, files: u64) -> Result<Memory> {
+    let memory = Memory::read(rt)?;
+    let bytes = memory.now.saturating_sub(before.now) / files.max(1);
+    eprintln!(rt; "| {what} | {bytes} |")?;
+    Ok(memory)
+}
+
+/// Two views to which the same was told. Tells on standard error what each takes.
+fn pair<R: Runtime>(
+    alloc: Global,
+    rt: &R,
+    labels: (&str, &str),
+    ops: &[Op],
+    files: u64,
+) -> Result<(View, View)> {
+    let memory = Memory::read(rt)?;
+    let first = grown(alloc, ops)?;
+    let memory = tell(rt, labels.0, memory, files)?;
+    let second = grown(alloc, ops)?;
+    tell(rt, labels.1, memory, files)?;
+    Ok((first, second))
+}
+
+/// Tells on standard error what two views of so many files take, grown path after path, and made by one listing,
+/// and where they stand in the end on standard output.
+pub fn bench<R: Runtime + AllocGlobal>(rt: &R, files: u64) -> Result<()> {
+    let alloc = rt.alloc();
+    eprintln!(rt; "| {files} files, paths of 40 bytes | bytes a file |")?;
+    rt.eprintln("|---|---|")?;
+    let memory = Memory::read(rt)?;
+    let paths = paths_of(alloc, files)?;
+    tell(rt, "paths, in a list", memory, files)?;
+    let grown = told(alloc, &paths)?;
+    let listed = listed(alloc, &paths)?;
+    let labels = ("a view, grown in the order of its paths", "a second one");
+    let grown = pair(alloc, rt, labels, &grown, files)?;
+    let labels = ("a view, made by one listing", "a second one");
+    let listed = pair(alloc, rt, labels, &listed, files)?;
+    println!(rt;
+        "{files} files: grown views end at ticks {} and {}, and listed ones at {} and {}",
+        grown.0.tick(),
+        grown.1.tick(),
+        listed.0.tick(),
+        listed.1.tick()
+    )?;
+    Ok(())
+}

@@ -1,0 +1,175 @@
+//! Views through generated sessions, compared after each operation with what the whole history gives.
+use super::generated::{Dice, Mix};
+use super::reference::{Listed, Reference};
+use std::alloc::Global;
+use std::test::Fail;
+use wm_disk::Refusal;
+use wm_names::RelPath;
+use wm_view::{Known, Op, View};
+
+/// How many operations a session has.
+const OPERATIONS: u64 = 40;
+
+/// The seeds of sessions, from the first up to the last, and the mix of their operations.
+type Sessions = (u64, u64, Mix);
+
+const SESSIONS: &[Sessions] = &[
+    (1, 16, (6, 3, 1)),
+    (17, 32, (8, 1, 1)),
+    (33, 48, (2, 7, 1)),
+    (49, 64, (4, 2, 4)),
+];
+
+/// Whether just these are listed, in this order.
+fn lists(listed: &[(RelPath, Known)], wanted: &[Listed]) -> bool {
+    if listed.len() != wanted.len() {
+        return false;
+    }
+    for (entry, (path, known)) in listed.iter().zip(wanted) {
+        if entry.0.as_str() != *path || entry.1 != *known {
+            return false;
+        }
+    }
+    true
+}
+
+/// Whether both list the same as changed after a tick.
+fn change_alike(
+    alloc: Global,
+    view: &View,
+    reference: &Reference,
+    since: u64,
+) -> Result<bool, Fail> {
+    let listed = view.changed_after(alloc, since)?;
+    Ok(lists(&listed, &reference.changed_after(alloc, since)?))
+}
+
+/// Whether both list the same as existing.
+fn exist_alike(alloc: Global, view: &View, reference: &Reference) -> Result<bool, Fail> {
+    let listed = view.existing(alloc)?;
+    Ok(lists(&listed, &reference.existing(alloc)?))
+}
+
+/// Whether both list the same after each of some ticks, and as existing.
+fn list_alike(alloc: Global, view: &View, reference: &Reference) -> Result<bool, Fail> {
+    let tick = reference.tick();
+    for since in [0, reference.floor(), tick / 2, tick.saturating_sub(1), tick] {
+        if !change_alike(alloc, view, reference, since)? {
+            return Ok(false);
+        }
+    }
+    exist_alike(alloc, view, reference)
+}
+
+/// Whether both stand at the same tick and floor.
+fn stand_alike(view: &View, reference: &Reference) -> bool {
+    view.ready() == (0 < reference.tick())
+        && view.tick() == reference.tick()
+        && view.floor() == reference.floor()
+}
+
+/// Whether the operation has the same result on both, and leaves them alike.
+fn go_alike(
+    alloc: Global,
+    view: &mut View,
+    reference: &mut Reference,
+    op: &Op,
+) -> Result<bool, Fail> {
+    let is_same = view.perform(alloc, op) == reference.perform(op);
+    Ok(is_same && stand_alike(view, reference) && list_alike(alloc, view, reference)?)
+}
+
+/// Whether both go alike through a session.
+fn stay_alike(
+    alloc: Global,
+    dice: &mut Dice,
+    mix: Mix,
+    view: &mut View,
+    reference: &mut Reference,
+) -> Result<bool, Fail> {
+    for _ in 0..OPERATIONS {
+        let op = dice.op(alloc, mix, reference)?;
+        if !go_alike(alloc, view, reference, &op)? {
+            return Ok(false);
+        }
+    }
+    Ok(true)
+}
+
+/// The seed of the first session in which the view parts from the reference.
+fn parting(alloc: Global, sessions: &Sessions) -> Result<Option<u64>, Fail> {
+    let (first, last, mix) = *sessions;
+    for seed in first..=last {
+        let mut view = View::new(alloc, 1, 1);
+        let mut reference = Reference::new(alloc);
+        let mut dice = Dice::new(seed);
+        if !stay_alike(alloc, &mut dice, mix, &mut view, &mut reference)? {
+            return Ok(Some(seed));
+        }
+    }
+    Ok(None)
+}
+
+#[test]
+fn agrees_with_the_whole_history(rt: HostRuntime) -> Result<(), Fail> {
+    for sessions in SESSIONS {
+        assert_eq!(rt; parting(rt.alloc(), sessions)?, None);
+    }
+    Ok(())
+}
+
+/// Results, and how many operations of all sessions have each at least.
+const RESULTS: &[(Result<(), Refusal>, u64)] = &[
+    (Ok(()), 1_000),
+    (Err(Refusal::NotReady), 64),
+    (Err(Refusal::TooMany), 2),
+    (Err(Refusal::BadClock), 64),
+];
+
+/// How many operations of a session have this result.
+fn count_of_session(
+    alloc: Global,
+    dice: &mut Dice,
+    mix: Mix,
+    reference: &mut Reference,
+    wanted: Result<(), Refusal>,
+) -> Result<u64, Fail> {
+    let mut count = 0u64;
+    for _ in 0..OPERATIONS {
+        let op = dice.op(alloc, mix, reference)?;
+        if reference.perform(&op) == wanted {
+            count = count.saturating_add(1);
+        }
+    }
+    Ok(count)
+}
+
+/// How many operations of some sessions have it.
+fn count_of(alloc: Global, sessions: &Sessions, wanted: Result<(), Refusal>) -> Result<u64, Fail> {
+    let (first, last, mix) = *sessions;
+    let mut count = 0u64;
+    for seed in first..=last {
+        let mut reference = Reference::new(alloc);
+        let mut dice = Dice::new(seed);
+        let here = count_of_session(alloc, &mut dice, mix, &mut reference, wanted)?;
+        count = count.saturating_add(here);
+    }
+    Ok(count)
+}
+
+/// Whether so many operations of all sessions have it.
+fn come_to(alloc: Global, wanted: Result<(), Refusal>, least: u64) -> Result<bool, Fail> {
+    let mut count = 0u64;
+    for sessions in SESSIONS {
+        count = count.saturating_add(count_of(alloc, sessions, wanted)?);
+    }
+    Ok(least <= count)
+}
+
+#[test]
+fn sessions_come_to_each_result(rt: HostRuntime) -> Result<(), Fail> {
+    for (result, least) in RESULTS {
+        assert!(rt; come_to(rt.alloc(), *result, *least)?);
+    }
+    Ok(())
+}

@@ -1,0 +1,105 @@
+ghost use Rattle.std.specs.Prelude.{◌≡◌, [], ◌≤◌, ◌<◌, OnOk, OnErr, IfOk, is_some, true, false, Some, None, ◌≢◌, IfSome, ℕ, nat_lt, filter, not, ◌&&◌, fold};
+ghost use Rattle.std.specs.BTreeMap.{get};
+ghost use Rattle.std.specs.FinMap.{find, put};
+ghost use Rattle.wm_names.specs.Paths.{Path, path_cmp, same_path};
+ghost use Rattle.wm_clock.specs.Clocks.{limit};
+ghost use Rattle.wm_view.specs.Steps.{known_or, is_gone_for as is_gone_for_lem};
+ghost use Rattle.wm_view.specs.Summaries.{unknown as unknown_lem, by_last};
+ghost use Rattle.wm_view.specs.KnownPaths.{IsSound, HasRoom, HaveRoom, KeepsRoom, KeepsOtherRoom, AreAt, IsPlaced, IsAmongGone, IsUpTo, told, after_changes, is_wanted as is_wanted_lem, known_there as known_there_lem, listed as listed_lem};
+
+use crate::known::Known;
+use crate::known_paths::{KnownPaths, unknown};
+use std::alloc::Global;
+use std::collections::{BTreeMap, BTreeSet};
+use wm_clock::LIMIT;
+use wm_disk::NoMemory;
+use wm_names::{Kind, Meta, RelPath};
+
+impl KnownPaths {
+    /// Room for what is known of the path.
+    fn add_entry(&mut self, alloc: Global, path: &RelPath) -> Result<(), NoMemory>
+        requires { IsSound self.old }
+        ensures same { told self.new ≡ told self.old }
+        ensures sound { IsSound self.new }
+        ensures kept { KeepsRoom self.old self.new }
+        ensures room { OnOk result (is_some (get path_cmp self.new.known path.now) ≡ true) }
+    {
+        if self.known.contains_key(path) {
+            return Ok(());
+        }
+        let path = path.copy()?;
+        self.known.insert(path, unknown())?;
+        Ok(())
+    }
+
+    /// Room for the path's place at the tick.
+    fn add_place(&mut self, alloc: Global, tick: u64, path: &RelPath) -> Result<(), NoMemory>
+        requires sound { IsSound self.old }
+        requires tick { tick ≤ limit }
+        ensures same { told self.new ≡ told self.old }
+        ensures sound { IsSound self.new }
+        ensures kept { KeepsRoom self.old self.new }
+        ensures entries { self.new.known ≡ self.old.known }
+        ensures room { OnOk result (IsPlaced self.new tick path.now) }
+    {
+        let path = path.copy()?;
+        self.order.insert((LIMIT - tick, path))?;
+        Ok(())
+    }
+
+    /// Room for the path among those that are gone.
+    fn add_gone(&mut self, alloc: Global, path: &RelPath) -> Result<(), NoMemory>
+        requires { IsSound self.old }
+        ensures same { told self.new ≡ told self.old }
+        ensures sound { IsSound self.new }
+        ensures kept { KeepsRoom self.old self.new }
+        ensures entries { self.new.known ≡ self.old.known }
+        ensures places { self.new.order ≡ self.old.order }
+        ensures room { OnOk result (IsAmongGone self.new path.now) }
+    {
+        let path = path.copy()?;
+        self.gone.insert(path)?;
+        Ok(())
+    }
+
+    /// Room for a change of the path at the tick.
+    fn make_room_for(
+        &mut self,
+        alloc: Global,
+        tick: u64,
+        path: &RelPath,
+        exists: bool,
+    ) -> Result<(), NoMemory>
+        requires sound { IsSound self.old }
+        requires tick { tick ≤ limit }
+        ensures same { told self.new ≡ told self.old }
+        ensures sound { IsSound self.new }
+        ensures kept { KeepsRoom self.old self.new }
+        ensures room { OnOk result (HasRoom self.new tick path.now exists) }
+    {
+        self.add_entry(alloc, path)?;
+        self.add_place(alloc, tick, path)?;
+        if !exists {
+            self.add_gone(alloc, path)?;
+        }
+        Ok(())
+    }
+
+    pub(super) fn make_room(
+        &mut self,
+        alloc: Global,
+        tick: u64,
+        changes: &BTreeMap<RelPath, Known>,
+    ) -> Result<(), NoMemory>
+        requires sound { IsSound self.old }
+        requires tick { tick ≤ limit }
+        ensures same { told self.new ≡ told self.old }
+        ensures sound { IsSound self.new }
+        ensures room { OnOk result (HaveRoom self.new tick changes.now.entries) }
+    {
+        for (path, known) in changes {
+            self.make_room_for(alloc, tick, path, known.exists)?;
+        }
+        Ok(())
+    }
+}

@@ -1,0 +1,127 @@
+ghost use Rattle.std.specs.Prelude.{◌≡◌, [], ◌≤◌, ◌<◌, OnOk, OnErr, IfOk, is_some, true, false, Some, None, ◌≢◌, IfSome, ℕ, nat_lt, filter, not, ◌&&◌, fold};
+ghost use Rattle.std.specs.BTreeMap.{get};
+ghost use Rattle.std.specs.FinMap.{find, put};
+ghost use Rattle.wm_names.specs.Paths.{Path, path_cmp, same_path};
+ghost use Rattle.wm_clock.specs.Clocks.{limit};
+ghost use Rattle.wm_view.specs.Steps.{known_or, is_gone_for as is_gone_for_lem};
+ghost use Rattle.wm_view.specs.Summaries.{unknown as unknown_lem, by_last};
+ghost use Rattle.wm_view.specs.KnownPaths.{IsSound, HasRoom, HaveRoom, KeepsRoom, KeepsOtherRoom, AreAt, IsPlaced, IsAmongGone, IsUpTo, told, after_changes, is_wanted as is_wanted_lem, known_there as known_there_lem, listed as listed_lem};
+
+use crate::known::Known;
+use crate::known_paths::{KnownPaths, unknown};
+use std::alloc::Global;
+use std::collections::{BTreeMap, BTreeSet};
+use wm_clock::LIMIT;
+use wm_disk::NoMemory;
+use wm_names::{Kind, Meta, RelPath};
+
+impl KnownPaths {
+    /// Writes what is known of the path, for which there is room, and tells the tick of its last change before.
+    fn write(&mut self, path: &RelPath, known: Known) -> u64
+        requires sound { IsSound self.old }
+        requires room { HasRoom self.old known.last path.now known.exists }
+        requires tick { (0 < known.last) × (known.last ≤ limit) }
+        ensures value { told self.new ≡ put path_cmp path.now known (told self.old) }
+        ensures sound { IsSound self.new }
+        ensures kept { KeepsRoom self.old self.new }
+    {
+        match self.known.get_mut(path) {
+            Some(place) => {
+                let last = place.last;
+                *place = known;
+                last
+            }
+            None => 0,
+        }
+    }
+
+    /// Takes out of the gone a path, where it exists.
+    fn drop_gone(&mut self, path: &RelPath, exists: bool)
+        requires sound { IsSound self.old }
+        requires there { exists ≡ true → IfSome (find path_cmp path.now (told self.old)) (λ x. x.exists ≡ true) }
+        ensures same { told self.new ≡ told self.old }
+        ensures sound { IsSound self.new }
+        ensures kept { KeepsOtherRoom path.now self.old self.new }
+    {
+        if exists {
+            self.gone.remove(path);
+        }
+    }
+
+    /// Takes out a place that isn't that of the path's last change.
+    fn drop_place(&mut self, last: u64, path: RelPath)
+        requires sound { IsSound self.old }
+        requires tick { last ≤ limit }
+        requires other { IfSome (find path_cmp path (told self.old)) (λ x. x.last ≢ last) }
+        ensures same { told self.new ≡ told self.old }
+        ensures sound { IsSound self.new }
+        ensures kept { KeepsOtherRoom path self.old self.new }
+    {
+        self.order.remove(&(LIMIT - last, path));
+    }
+
+    /// Takes out a path that has room only.
+    fn drop_entry(&mut self, path: &RelPath)
+        requires sound { IsSound self.old }
+        requires room { find path_cmp path.now (told self.old) ≡ None }
+        ensures same { told self.new ≡ told self.old }
+        ensures sound { IsSound self.new }
+    {
+        self.known.remove(path);
+    }
+
+    fn settle_one(&mut self, path: RelPath, known: Known)
+        requires sound { IsSound self.old }
+        requires room { HasRoom self.old known.last path known.exists }
+        requires tick { (0 < known.last) × (known.last ≤ limit) }
+        ensures value { told self.new ≡ put path_cmp path known (told self.old) }
+        ensures sound { IsSound self.new }
+        ensures kept { KeepsOtherRoom path self.old self.new }
+    {
+        let last = self.write(&path, known);
+        self.drop_gone(&path, known.exists);
+        if last < known.last {
+            self.drop_place(last, path);
+        }
+    }
+
+    pub(super) fn settle(&mut self, tick: u64, changes: BTreeMap<RelPath, Known>)
+        requires sound { IsSound self.old }
+        requires room { HaveRoom self.old tick changes.entries }
+        requires at { AreAt tick changes.entries }
+        requires tick { (0 < tick) × (tick ≤ limit) }
+        ensures value { told self.new ≡ after_changes (told self.old) changes.entries }
+        ensures sound { IsSound self.new }
+    {
+        for (path, known) in changes {
+            self.settle_one(path, known);
+        }
+    }
+
+    fn take_back_one(&mut self, tick: u64, path: RelPath)
+        requires sound { IsSound self.old }
+        requires tick { (0 < tick) × (tick ≤ limit) }
+        ensures same { told self.new ≡ told self.old }
+        ensures sound { IsSound self.new }
+    {
+        let known = self.known_or(&path);
+        self.drop_gone(&path, known.exists);
+        if known.last == 0 {
+            self.drop_entry(&path);
+        }
+        if known.last < tick {
+            self.drop_place(tick, path);
+        }
+    }
+
+    pub(super) fn take_back(&mut self, tick: u64, changes: BTreeMap<RelPath, Known>)
+        requires sound { IsSound self.old }
+        requires tick { (0 < tick) × (tick ≤ limit) }
+        ensures same { told self.new ≡ told self.old }
+        ensures sound { IsSound self.new }
+    {
+        for (path, _) in changes {
+            self.take_back_one(tick, path);
+        }
+    }
+}

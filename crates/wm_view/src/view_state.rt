@@ -1,0 +1,207 @@
+ghost use Rattle.std.specs.Prelude.{◌≡◌, ℕ, ◌+◌, ◌<◌, suc, true, None, OnOk, OnErr, IfOk, fold, max, ◌&&◌, ◌==◌};
+ghost use Rattle.wm_names.specs.Entries.{is_whole};
+ghost use Rattle.std.specs.BTreeMap.{IsOrdered};
+ghost use Rattle.wm_clock.specs.Clocks.{limit};
+ghost use Rattle.wm_names.specs.Paths.{path_cmp};
+ghost use Rattle.wm_view.specs.Changes.{IsPlan};
+ghost use Rattle.wm_view.specs.Files.{Files, IsMap};
+ghost use Rattle.wm_view.specs.Histories.{refuse_if, begun};
+ghost use Rattle.wm_view.specs.KnownPaths.{AreAt, after_changes, told};
+ghost use Rattle.wm_view.specs.Steps.{next_in, spent_in};
+ghost use Rattle.wm_view.specs.Summaries.{summary, changed_since, existing_now};
+ghost use Rattle.wm_view.specs.ViewStates.{summary_of, IsKept, Ends};
+ghost use Rattle.wm_view.specs.Views.{Moved};
+ghost use Rattle.wm_view.specs.declared.op.Op.TheVariants.{Observe, Recrawl, AgeOut};
+
+use crate::changes::{last_told, told_changes};
+use crate::known::Known;
+use crate::known_paths::KnownPaths;
+use crate::listing::Listing;
+use crate::op::Pairs;
+use std::alloc::Global;
+use std::collections::BTreeMap;
+use wm_clock::LIMIT;
+use wm_disk::{NoMemory, Refusal};
+use wm_names::RelPath;
+
+/// The most pairs of an observation.
+const MAX_PAIRS: usize = 65_536;
+
+/// What a view keeps: the summary of its history, and beside it the order of change.
+#[derive(Drop)]
+pub(crate) struct ViewState {
+    pub incarnation: u64,
+    pub root: u64,
+    pub tick: u64,
+    pub floor: u64,
+    pub paths: KnownPaths,
+}
+
+/// Whether a listing may be the first: of the whole root, and begun before anything was there.
+fn is_first(begun_at: u64, listing: &Listing) -> bool
+    ensures { result ≡ (is_whole listing.now.subtree && (begun_at == 0)) }
+{
+    listing.subtree().is_whole() && begun_at == 0
+}
+
+/// The greatest of the floor and the last changes.
+fn highest(floor: u64, aged: &[(RelPath, Known)]) -> u64
+    ensures { result ≡ fold (λ n e. max n e.1.last) floor aged.now }
+{
+    let mut highest = floor;
+    for entry in aged {
+        highest = highest.max(entry.1.last);
+    }
+    highest
+}
+
+impl ViewState {
+    pub(crate) fn new(alloc: Global, incarnation: u64, root: u64) -> ViewState
+        ensures begun { summary_of result ≡ summary (begun incarnation root) }
+        ensures kept { IsKept result }
+    {
+        ViewState {
+            incarnation,
+            root,
+            tick: 0,
+            floor: 0,
+            paths: KnownPaths::new(alloc),
+        }
+    }
+
+    /// Makes a tick of these changes.
+    fn grow(&mut self, alloc: Global, changes: BTreeMap<RelPath, Known>) -> Result<(), NoMemory>
+        requires kept { IsKept self.old }
+        requires left { self.old.tick < limit }
+        requires at { AreAt (self.old.tick + 1) changes.entries }
+        requires ordered { IsOrdered path_cmp changes }
+        ensures ok { OnOk result (summary_of self.new ≡ record (summary_of self.old) { ready = true; tick = suc self.old.tick; known = after_changes (told self.old.paths) changes.entries }) }
+        ensures err { OnErr result (summary_of self.new ≡ summary_of self.old) }
+        ensures kept { IsKept self.new }
+    {
+        self.paths.change(alloc, self.tick + 1, changes)?;
+        self.tick += 1;
+        Ok(())
+    }
+
+    /// Makes a tick of these changes, where there are any.
+    fn next(&mut self, alloc: Global, changes: BTreeMap<RelPath, Known>) -> Result<(), Refusal>
+        requires kept { IsKept self.old }
+        requires at { AreAt (self.old.tick + 1) changes.entries }
+        requires ordered { IsOrdered path_cmp changes }
+        ensures moved { (moment : ℕ) (files : Files) → IsMap files → IsPlan (told self.old.paths) (self.old.tick + 1) moment files changes.entries
+            → Ends (refuse_if (spent_in (summary_of self.old) files) Refusal.Exhausted None) (next_in (summary_of self.old) moment files) (summary_of self.old) result (summary_of self.new) }
+        ensures kept { IsKept self.new }
+    {
+        if changes.len() < 1 {
+            return Ok(());
+        }
+        if self.tick >= LIMIT {
+            return Err(Refusal::Exhausted);
+        }
+        self.grow(alloc, changes)?;
+        Ok(())
+    }
+
+    /// As `View::observe`.
+    pub(crate) fn observe(
+        &mut self,
+        alloc: Global,
+        moment: u64,
+        pairs: &Pairs,
+    ) -> Result<(), Refusal>
+        requires { IsKept self.old }
+        ensures moved { Moved (summary_of self.old) (Observe moment pairs.now) result (summary_of self.new) }
+        ensures kept { IsKept self.new }
+    {
+        if self.tick == 0 {
+            return Err(Refusal::NotReady);
+        }
+        if pairs.as_slice().len() > MAX_PAIRS {
+            return Err(Refusal::TooMany);
+        }
+        let told = last_told(alloc, pairs.as_slice())?;
+        let changes = told_changes(alloc, &self.paths, self.tick + 1, moment, &told)?;
+        self.next(alloc, changes)
+    }
+
+    /// A recrawl of a view that isn't ready: the first whole listing.
+    fn begin(
+        &mut self,
+        alloc: Global,
+        moment: u64,
+        begun_at: u64,
+        listing: &Listing,
+    ) -> Result<(), Refusal>
+        requires kept { IsKept self.old }
+        requires begins { self.old.tick ≡ 0 }
+        ensures moved { Moved (summary_of self.old) (Recrawl moment begun_at listing.now) result (summary_of self.new) }
+        ensures kept { IsKept self.new }
+    {
+        if !is_first(begun_at, listing) {
+            return Err(Refusal::NotReady);
+        }
+        self.paths = KnownPaths::first(alloc, moment, listing.files())?;
+        self.tick = 1;
+        Ok(())
+    }
+
+    /// As `View::recrawl`.
+    pub(crate) fn recrawl(
+        &mut self,
+        alloc: Global,
+        moment: u64,
+        begun_at: u64,
+        listing: &Listing,
+    ) -> Result<(), Refusal>
+        requires { IsKept self.old }
+        ensures moved { Moved (summary_of self.old) (Recrawl moment begun_at listing.now) result (summary_of self.new) }
+        ensures kept { IsKept self.new }
+    {
+        if self.tick == 0 {
+            return self.begin(alloc, moment, begun_at, listing);
+        }
+        if begun_at < self.floor || self.tick < begun_at {
+            return Err(Refusal::BadClock);
+        }
+        let changes = self
+            .paths
+            .recrawled_changes(alloc, begun_at, self.tick + 1, moment, listing)?;
+        self.next(alloc, changes)
+    }
+
+    /// As `View::age_out`.
+    pub(crate) fn age_out(&mut self, alloc: Global, time: u64, age: u64) -> Result<(), Refusal>
+        requires { IsKept self.old }
+        ensures moved { Moved (summary_of self.old) (AgeOut time age) result (summary_of self.new) }
+        ensures kept { IsKept self.new }
+    {
+        if self.tick == 0 {
+            return Err(Refusal::NotReady);
+        }
+        let aged = self.paths.gone_for(alloc, time, age)?;
+        self.floor = highest(self.floor, &aged);
+        self.paths.forget(aged);
+        Ok(())
+    }
+
+    /// As `View::changed_after`.
+    pub(crate) fn changed_after(
+        &self,
+        alloc: Global,
+        tick: u64,
+    ) -> Result<Vec<(RelPath, Known)>, NoMemory>
+        requires { IsKept self.now }
+        ensures { IfOk result (λ v. v.items ≡ changed_since (summary_of self.now) tick) }
+    {
+        self.paths.changed_after(alloc, tick)
+    }
+
+    /// As `View::existing`.
+    pub(crate) fn existing(&self, alloc: Global) -> Result<Vec<(RelPath, Known)>, NoMemory>
+        requires { IsKept self.now }
+        ensures { IfOk result (λ v. v.items ≡ existing_now (summary_of self.now)) }
+    {
+        self.paths.existing(alloc)
+    }
+}
