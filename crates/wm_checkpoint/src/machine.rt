@@ -1,5 +1,5 @@
 //! A machine whose commands are kept in a journal.
-ghost use Rattle.std.specs.Prelude.{◌≡◌, ◌≤◌, Bool, false, length, IfOk, OnErr};
+ghost use Rattle.std.specs.Prelude.{◌≡◌, ◌≢◌, ◌≤◌, Bool, true, false, length, IfOk, OnErr};
 
 use std::alloc::Global;
 use wm_disk::NoMemory;
@@ -38,6 +38,9 @@ pub trait Machine {
 
     /// What changes nothing leaves the state.
     ghost idle: { (s : Self.State) (c : Self.Command) → changes s c ≡ false → after s c ≡ s };
+
+    /// What changes a state within its limits makes another of it.
+    ghost alive: { (s : Self.State) (c : Self.Command) → Self.State.fits s → changes s c ≡ true → after s c ≢ s };
 
     /// A state's limits bound its spelling: it has at most 1,048,563 bytes, as a slot's body.
     ghost small: { (s : Self.State) → Self.State.fits s → length (Self.State.spelling s) ≤ 1048563 };

@@ -1,5 +1,6 @@
 pub mod Branches
 pub mod Changing
+pub mod Definitions
 pub mod Entries
 pub mod Fronts
 pub mod Keys

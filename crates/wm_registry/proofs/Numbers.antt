@@ -1,5 +1,5 @@
 -- The numbers of a registry along a replay: they never go back, they stay in range, and no two roots have one.
-use Rattle.std.proofs.Common.{◌≡◌, ℕ, ◌+◌, ◌≤◌, ◌<◌, Bool, true, false, cond, List, [], ◌∷◌, ◌++◌, nat_lt, ◌==◌, Option, Some, None, refl, sym, ap, subst, arith, true≢false, ne_eqb}
+use Rattle.std.proofs.Common.{◌≡◌, ℕ, ◌+◌, ◌<◌, Bool, true, false, cond, List, [], ◌∷◌, ◌++◌, nat_lt, ◌==◌, Option, Some, None, refl, sym, ap, subst, arith, true≢false, ne_eqb}
 use Rattle.std.proofs.lemmas.Bool.{ltb-true}
 use Rattle.std.proofs.lemmas.List.{map-append}
 use Rattle.std.specs.List.{AllByRecursion, IsDistinct}
@@ -11,6 +11,7 @@ use Rattle.wm_registry.specs.declared.reply.Reply.TheVariants.{Changed, Refused}
 use Rattle.wm_disk.specs.declared.refusal.Refusal.TheVariants.{Exhausted}
 use Rattle.wm_registry.specs.declared.root.Root.{Root}
 use Rattle.wm_registry.specs.MachineLaws.{watches}
+use Rattle.wm_registry.specs.Numbers.{InOrder, Rises}
 use Rattle.wm_registry.specs.Registry.{after, changed, changes, fresh, is_change, last, watched}
 use Rattle.wm_registry.specs.Roots.{State, root_at, with_triggers, without_root}
 use Rattle.wm_registry.specs.Spelling.{numbers_of}
@@ -18,17 +19,6 @@ use Rattle.wm_registry.specs.Triggers.{Definition, defined, without}
 use Rattle.wm_registry.proofs.Changing.{may_watch}
 use Rattle.wm_registry.proofs.Entries.{AllByRecursion-each, AllByRecursion-push, AllByRecursion-remove_entry, AllByRecursion-set_value, IsDistinct-push, IsDistinct-remove_entry, map-set_value}
 use Rattle.wm_checkpoint.specs.Machines.{replay_on}
-
-pub record Rises (s t : State) : Type 0 where
-  pub incarnation : s.incarnation ≤ t.incarnation
-  pub next : s.next ≤ t.next
-
-pub record InOrder (s : State) : Type 0 where
-  pub incarnation : s.incarnation ≤ last
-  pub some : 0 < s.next
-  pub next : s.next ≤ last
-  pub roots : AllByRecursion (λ r. (0 < r.1.number) × (r.1.number < s.next)) s.roots
-  pub apart : IsDistinct ◌==◌ (numbers_of s.roots)
 
 -- what a command makes of a registry
 pub record Goes (s t : State) : Type 0 where

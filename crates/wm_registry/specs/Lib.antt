@@ -1,6 +1,9 @@
+pub mod ChangeLaws
 pub mod CommandLaws
 pub mod Commands
+pub mod Laws
 pub mod MachineLaws
+pub mod Numbers
 pub mod PathSpelling
 pub mod Registry
 pub mod Roots

@@ -1,7 +1,8 @@
 -- The laws of `Machine` for the registry.
-use Rattle.std.proofs.Common.{◌≡◌, false, ◌≤◌, length, refl}
+use Rattle.std.proofs.Common.{◌≡◌, ◌≢◌, true, false, ◌≤◌, length, refl}
 use Rattle.wm_registry.specs.Roots.{State}
 use Rattle.wm_registry.specs.Registry.{after, changes}
+use Rattle.wm_registry.specs.ChangeLaws.{accepted_changes}
 use Rattle.wm_registry.specs.Commands.{IsCommand, command_spelling}
 use Rattle.wm_registry.specs.Spelling.{IsState, state_spelling}
 use Rattle.wm_checkpoint.specs.Machines.{Meaning}
@@ -9,6 +10,9 @@ use Rattle.wm_registry.specs.declared.command.Command.{Command}
 
 pub idle_registry : (s : State) (c : Command) → changes s c ≡ false → after s c ≡ s
 idle_registry s c h = rw h refl
+
+pub alive_registry : (s : State) (c : Command) → IsState s → changes s c ≡ true → after s c ≢ s
+alive_registry s c fits h = accepted_changes s c h
 
 pub small_registry : (s : State) → IsState s → length (state_spelling s) ≤ 1048563
 small_registry s h = h.short

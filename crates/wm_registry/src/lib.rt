@@ -9,6 +9,7 @@ mod changes;
 mod command;
 mod draft;
 mod entry;
+mod laws;
 mod machine;
 mod path_spelling;
 mod registry;
@@ -23,6 +24,7 @@ mod wire;
 
 pub use command::Command;
 pub use draft::Draft;
+pub use laws::every_registry;
 pub use registry::Registry;
 pub use reply::Reply;
 pub use root::Root;

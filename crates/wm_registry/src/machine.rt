@@ -1,5 +1,5 @@
 ghost use Rattle.wm_registry.specs.Registry.{after as after_lem, changes as changes_lem, reply_to};
-ghost use Rattle.wm_registry.specs.MachineLaws.{idle_registry, small_registry};
+ghost use Rattle.wm_registry.specs.MachineLaws.{alive_registry, idle_registry, small_registry};
 
 use crate::command::Command;
 use crate::registry::Registry;
@@ -37,6 +37,8 @@ impl Machine for Registry {
     }
 
     ghost idle = { idle_registry };
+
+    ghost alive = { alive_registry };
 
     ghost small = { small_registry };
 }

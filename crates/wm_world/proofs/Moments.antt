@@ -21,7 +21,8 @@ use Rattle.wm_world.specs.Worlds.{World, at_first, begun_all, begun_between, his
 use Rattle.wm_world.specs.Steps.{IsReached, Run}
 use Rattle.wm_world.specs.Laws.{Gives, InRange, IsAmong, OneMoment, OneMomentOfAnswers, PendingIsOwn, SameMoment}
 use Rattle.wm_world.proofs.Growing.{Extends, extends_after, ids_of, of_ids, same_Some, same_ticks, Some≢None}
-use Rattle.wm_registry.proofs.Numbers.{InOrder, Rises, in_order, rises_more}
+use Rattle.wm_registry.specs.Numbers.{InOrder, Rises}
+use Rattle.wm_registry.proofs.Numbers.{in_order, rises_more}
 use Rattle.wm_world.proofs.Shapes.{IsGrown, IsUp, Shape, grows_run, runs_on, shape}
 
 -- ---- ids

@@ -1,5 +1,5 @@
 //! A register, the machine of these tests.
-ghost use Rattle.file_tests.specs.Registers.{differs, idle_register};
+ghost use Rattle.file_tests.specs.Registers.{alive_register, differs, idle_register};
 ghost use Rattle.std.proofs.Common.{arith};
 
 use std::alloc::Global;
@@ -33,6 +33,8 @@ impl Machine for Register {
     }
 
     ghost idle = { idle_register };
+
+    ghost alive = { λ s c f h. alive_register s c h };
 
     ghost small = { λ s f. omega arith };
 }

@@ -1,7 +1,7 @@
 //! A switch, a machine whose commands aren't all bytes.
 ghost use Rattle.std.specs.Prelude.{ℕ, Bool, if◌then◌else◌};
 ghost use Rattle.std.proofs.Common.{arith};
-ghost use Rattle.file_tests.specs.Registers.{differs, idle_register, position};
+ghost use Rattle.file_tests.specs.Registers.{alive_register, differs, idle_register, position};
 
 use crate::disks::{content_of, disk_of, overwrite};
 use std::alloc::Global;
@@ -38,6 +38,8 @@ impl Machine for Switch {
     }
 
     ghost idle = { λ s c e. idle_register s (position c) e };
+
+    ghost alive = { λ s c f h. alive_register s (position c) h };
 
     ghost small = { λ s f. omega arith };
 }
