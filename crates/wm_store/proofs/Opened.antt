@@ -2,8 +2,10 @@
 use Rattle.std.proofs.Common.{◌≡◌, ◌⊎◌, inl, inr, subst, ℕ, ◌+◌, ◌≤◌, List, [], ◌∷◌}
 use Rattle.std.specs.Prelude.{Result, Ok, Err, IfOk, IfErr}
 use Rattle.wm_disk.specs.declared.disk.Disk as disks
+use Rattle.wm_disk.specs.Moments.{then_runs}
 use Rattle.wm_disk.specs.declared.refusal.Refusal.{Refusal}
 use Rattle.wm_disk.specs.declared.refusal.Refusal.TheVariants.{DeviceFailed, NoMemory, Exhausted, Damaged, Retired}
+use Rattle.wm_journal.proofs.Opening.{weaker}
 use Rattle.wm_registry.specs.declared.command.Command.{Command}
 use Rattle.wm_registry.specs.declared.command.Command.TheVariants.{Begin}
 use Rattle.wm_registry.specs.declared.reply.Reply.{Reply}
@@ -34,6 +36,16 @@ module _ {D : Type 0} (disk : disks.Ghosts D) (old : D) (keeper : Keeper D State
 
   pub found : Leaves disk old (disk_of keeper) (disk.may_leave old) → (new : D) → Leaves disk (disk_of keeper) new (MeansBeginning watches (state_of keeper) (Begin ∷ [])) → IsFound disk old new (state_of keeper)
   found until new run = record { means = means_seen; synced = disk_of keeper; until = until; from = run }
+
+  -- of no Begin at any moment
+  pub stays_found : Leaves disk old (disk_of keeper) (disk.may_leave old) → (new : D) → Leaves disk (disk_of keeper) new (MeansState watches (state_of keeper))
+      → (s : State) × MeansState watches s (disk.seen old) × Leaves disk old new (λ c. disk.may_leave old c ⊎ MeansState watches s c)
+  stays_found until new run = (
+    state_of keeper,
+    means_seen,
+    then_runs disk.moment disk.left_since old (disk_of keeper) new (λ c. disk.may_leave old c ⊎ MeansState watches (state_of keeper) c) (MeansState watches (state_of keeper))
+        (weaker disk.moment disk.left_since old (disk_of keeper) (disk.may_leave old) (λ c. disk.may_leave old c ⊎ MeansState watches (state_of keeper) c) until (λ c left. inl left)) run (λ c m. inr m),
+  )
 
   pub spent : (reply_to (state_of keeper) Begin ≡ Refused Exhausted) ⊎ (9223372036854775807 ≤ number_of keeper) → (s : State) × (m : MeansState watches s (disk.seen old)) × ((reply_to s Begin ≡ Refused Exhausted) ⊎ (9223372036854775807 ≤ m.number))
   unfolding means_seen

@@ -27,6 +27,7 @@ pub(crate) fn begin_in<D: Disk + Drop>(
     ensures any_moment { D.honest (disk_of keeper.new) → LeavesOnly D.moment D.left_since (disk_of keeper.old) (disk_of keeper.new) (MeansBeginning watches (state_of keeper.old) (Command.Begin ∷ [])) }
     ensures unbegun { IfErr result (λ e. e ≢ device_failed → (state_of keeper.new ≡ state_of keeper.old) × (has_failed keeper.new ≡ false) × (D.failures (disk_of keeper.new) ≡ D.failures (disk_of keeper.old))) }
     ensures exhausted { IsErrOf result exhausted → (reply_to (state_of keeper.old) Command.Begin ≡ Reply.Refused exhausted) ⊎ (9223372036854775807 ≤ number_of keeper.old) }
+    ensures still { IsErrOf result exhausted → D.honest (disk_of keeper.new) → LeavesOnly D.moment D.left_since (disk_of keeper.old) (disk_of keeper.new) (MeansState watches (state_of keeper.old)) }
     ensures calls { AreCalls D.Disk 1 keeper.old keeper.new }
     ensures honest { D.honest (disk_of keeper.new) → D.honest (disk_of keeper.old) }
     ensures later { D.failures (disk_of keeper.old) ≤ D.failures (disk_of keeper.new) }

@@ -74,6 +74,8 @@ impl<D: Disk + Drop> Store<D> {
         ensures exhausted { IfErr result (λ e. D.honest e.1 → e.0 ≡ exhausted → (found : State) × (m : MeansState watches found (D.seen disk)) × ((reply_to found begin ≡ refused exhausted) ⊎ (9223372036854775807 ≤ m.number))) }
         // The state is found also where the Begin is refused.
         ensures refused { IfErr result (λ e. D.honest e.1 → e.0 ≡ exhausted → (found : State) × MeansState watches found (D.seen disk) × ((c : List ℕ) → D.may_leave e.1 c → MeansState watches found c)) }
+        // And no `Begin` is in flight at any moment of the call.
+        ensures still { IfErr result (λ e. D.honest e.1 → e.0 ≡ exhausted → (found : State) × MeansState watches found (D.seen disk) × LeavesOnly D.moment D.left_since disk e.1 (λ c. D.may_leave disk c ⊎ MeansState watches found c)) }
         // No slot that stands open in what a crash may leave then has a number that rose by more.
         ensures numbered { IfOk result (λ s. D.honest s.disk → (c : List ℕ) → D.may_leave s.disk c → IsNumberedTo s.number c) × IfErr result (λ e. D.honest e.1 → (n : ℕ) → ((c : List ℕ) → D.may_leave disk c → IsNumberedTo n c) → (c : List ℕ) → D.may_leave e.1 c → IsNumberedTo (n + 1) c) }
         ensures honest { IfOk result (λ s. D.honest s.disk → D.honest disk) × IfErr result (λ e. D.honest e.1 → D.honest disk) }
@@ -236,6 +238,7 @@ fn begin<D: Disk + Drop>(
     ensures cut { IfErr result (λ e. D.honest e.1 → LeavesOnly D.moment D.left_since (disk_of keeper) e.1 (MeansBeginning watches (state_of keeper) (Command.Begin ∷ []))) }
     ensures unbegun { IfErr result (λ e. D.honest e.1 → e.0 ≢ device_failed → (c : List ℕ) → D.may_leave e.1 c → MeansState watches (state_of keeper) c) }
     ensures exhausted { IfErr result (λ e. e.0 ≡ exhausted → (reply_to (state_of keeper) Command.Begin ≡ Reply.Refused exhausted) ⊎ (9223372036854775807 ≤ number_of keeper)) }
+    ensures still { IfErr result (λ e. D.honest e.1 → e.0 ≡ exhausted → LeavesOnly D.moment D.left_since (disk_of keeper) e.1 (MeansState watches (state_of keeper))) }
     ensures numbered { IfOk result (λ s. D.honest s.disk → (c : List ℕ) → D.may_leave s.disk c → IsNumberedTo s.number c) × IfErr result (λ e. D.honest e.1 → (n : ℕ) → number_of keeper ≤ n → ((c : List ℕ) → D.may_leave (disk_of keeper) c → IsNumberedTo n c) → (c : List ℕ) → D.may_leave e.1 c → IsNumberedTo (n + 1) c) }
     ensures honest { IfOk result (λ s. D.honest s.disk → D.honest (disk_of keeper)) × IfErr result (λ e. D.honest e.1 → D.honest (disk_of keeper)) }
     ensures later { IfOk result (λ s. D.failures (disk_of keeper) ≤ D.failures s.disk) × IfErr result (λ e. D.failures (disk_of keeper) ≤ D.failures e.1) }

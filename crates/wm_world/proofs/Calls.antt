@@ -11,7 +11,6 @@ use Rattle.wm_expr.specs.declared.expr.Expr.{Expr}
 use Rattle.wm_expr.specs.Meanings.{is_path_only}
 use Rattle.wm_expr.specs.Views.{term}
 use Rattle.wm_registry.specs.declared.command.Command.{Command}
-use Rattle.wm_registry.specs.declared.command.Command.TheVariants.{Begin}
 use Rattle.wm_registry.specs.Registry.{fresh}
 use Rattle.wm_registry.specs.declared.root.Root.{Root}
 use Rattle.wm_registry.specs.MachineLaws.{watches}
@@ -29,7 +28,7 @@ use Rattle.wm_world.specs.declared.world.Server.TheVariants.{Up, Down}
 use Rattle.wm_world.specs.Worlds.{World, at_first, connected, is_of, registry, replay, without_answer}
 use Rattle.wm_world.specs.Steps.{BatchCut, BatchDone, Checkpointed, Crashed, Cut, IsReached, OpenDone, asking, batch, changed_at, checkpointed, down, opened, operated, receiving, with_client}
 use Rattle.wm_world.specs.Standings.{AreViews, IsDown, IsOn, IsServer, IsUp, KeepsPrefix, Meets, Stands, asking_by, disk_of, disk_of_server, is_root, number_at}
-use Rattle.wm_world.specs.Passes.{Halted, KeepsBetween, Leaves, PowerLost, Starts}
+use Rattle.wm_world.specs.Passes.{Halted, KeepsBetween, Leaves, PowerLost}
 use Rattle.wm_store.proofs.Runs.{OnlyNow}
 use Rattle.wm_world.proofs.Between.{stays_put, take-drop}
 use Rattle.wm_world.proofs.Clients.{Good, good_reached}
@@ -116,11 +115,10 @@ module _ {D : Type 0} (disk : disks.Ghosts D) (only : OnlyNow disk) where
       clients = ap (λ x. x.clients.items) shown ∙ s.clients;
     }
 
-    pub unfit : (row : World → World → Type 0) (afterwards : World → List Command) → ((w : World) → Stands disk old w → row w w)
-        → Meets disk row (λ d w e v. LeavesOnly disk.moment disk.left_since d e (KeepsBetween w (afterwards v))) old new
-    unfit row afterwards stays = record {
+    pub unfit : (row : World → World → Type 0) → ((w : World) → Stands disk old w → row w w) → Meets disk row (Leaves disk) old new
+    unfit row stays = record {
       honest = subst (λ x. disk.honest (disk_of_server disk x) → disk.honest (disk_of_server disk old.server)) (sym same) (λ h. h);
-      goes = λ h w reached s. (w, stays w s, still w s, same_disk old new same h w (afterwards w) s);
+      goes = λ h w reached s. (w, stays w s, still w s, same_disk old new same h w (w.kept ++ w.pending) s);
     }
 
   module _ (old new : Running D) (d : D) (was : old.server ≡ Down d) (is : new.server ≡ Down d) (shown : new.shown ≡ old.shown) where
@@ -128,15 +126,15 @@ module _ {D : Type 0} (disk : disks.Ghosts D) (only : OnlyNow disk) where
     down_at w s = let here : IsDown disk d old.shown.views.items w = subst (λ x. IsServer disk x old.shown.views.items w) was s.server in here.down
 
     pub commands_down : (commands : List Command) → Meets disk (batch commands) (Leaves disk) old new
-    commands_down commands = unfit old new (is ∙ sym was) shown (batch commands) (λ v. v.kept ++ v.pending)
+    commands_down commands = unfit old new (is ∙ sym was) shown (batch commands)
         (λ w s. subst (λ b. MatchBool (b && nat_le (length commands) 64) (BatchDone w commands w ⊎ BatchCut w commands w) (w ≡ w)) (sym (down_at w s)) refl)
 
     pub checkpoint_down : Meets disk checkpointed (Leaves disk) old new
-    checkpoint_down = unfit old new (is ∙ sym was) shown checkpointed (λ v. v.kept ++ v.pending)
+    checkpoint_down = unfit old new (is ∙ sym was) shown checkpointed
         (λ w s. subst (λ b. MatchBool b (Checkpointed w w ⊎ Cut 1 w [] w) (w ≡ w)) (sym (down_at w s)) refl)
 
-  pub open_up : (old new : Running D) (store : Stored D) → old.server ≡ Up store → new.server ≡ Up store → new.shown ≡ old.shown → Meets disk opened (Starts disk) old new
-  open_up old new store was is shown = unfit old new (is ∙ sym was) shown opened (λ v. v.kept ++ Begin ∷ [])
+  pub open_up : (old new : Running D) (store : Stored D) → old.server ≡ Up store → new.server ≡ Up store → new.shown ≡ old.shown → Meets disk opened (Leaves disk) old new
+  open_up old new store was is shown = unfit old new (is ∙ sym was) shown opened
       (λ w s. let here : IsUp disk store old.shown.views.items w = subst (λ x. IsServer disk x old.shown.views.items w) was s.server in subst (λ b. MatchBool b (w ≡ w) (OpenDone w w)) (sym here.up) refl)
 
   is_down : (world : Running D) (w : World) → ((store : Stored D) → world.server ≡ Up store → ⊥) → Stands disk world w → w.up ≡ false

@@ -1,5 +1,5 @@
 -- Opening a store, and what it makes of the world.
-use Rattle.std.proofs.Common.{◌≡◌, ◌≢◌, ◌⊎◌, inl, inr, ℕ, zero, suc, ◌+◌, ◌<◌, ◌≤◌, Bool, true, false, cond, List, [], ◌∷◌, ◌++◌, map, take, drop, refl, sym, ap, subst, ◌∙◌, arith, true≢false, le-leb, append-nil, MatchBool}
+use Rattle.std.proofs.Common.{◌≡◌, ◌≢◌, ◌⊎◌, ⊎_elim, inl, inr, ℕ, zero, suc, ◌+◌, ◌<◌, ◌≤◌, Bool, true, false, cond, List, [], ◌∷◌, ◌++◌, map, take, drop, refl, sym, ap, subst, ◌∙◌, arith, true≢false, le-leb, append-nil, MatchBool}
 use Rattle.std.specs.List.{AllByRecursion}
 use Rattle.wm_disk.specs.Contents.{Rose}
 use Rattle.wm_disk.specs.Moments.{LeavesOnly, then_runs}
@@ -28,7 +28,7 @@ use Rattle.wm_world.specs.declared.world.Server.TheVariants.{Up, Down}
 use Rattle.wm_world.specs.Worlds.{World, begun_all, cannot_rise, registry, replay}
 use Rattle.wm_world.specs.Steps.{Begins, Finds, OpenCutEarly, OpenCutLate, OpenDone, OpenSpent, Opened, begin_on, opened}
 use Rattle.wm_world.specs.Standings.{IsDown, IsServer, KeepsPrefix, Meets, Stands, disk_of_server}
-use Rattle.wm_world.specs.Passes.{KeepsBetween, Starts}
+use Rattle.wm_world.specs.Passes.{KeepsBetween, Leaves}
 use Rattle.wm_journal.proofs.Opening.{weaker}
 use Rattle.wm_world.proofs.Between.{between_before, between_from, take-drop}
 use Rattle.wm_world.proofs.Calls.{prefix_same}
@@ -94,24 +94,25 @@ module _ {D : Type 0} (disk : disks.Ghosts D) where
     early_leaves e w afterwards s run =
         weaker disk.moment disk.left_since d e (disk.may_leave d) (KeepsBetween w afterwards) run (λ c left. between_before w afterwards c ((down_of w s).on.prefix c left).means)
 
-    -- from then on the registry that was found, or that with a Begin
-    found_leaves : (e : D) (w : World) (afterwards : List Command) → Stands disk old w → (k : Known w) → Begins (k.found ++ Begin ∷ []) afterwards → (found : State) → IsFound disk d e found
+    -- from then on the registry that was found, or that with a Begin, which is in flight where the registry accepts it
+    found_leaves : (e : D) (w : World) (more afterwards : List Command) → Stands disk old w → (k : Known w) → Begins (k.found ++ more) afterwards
+        → ((c : List ℕ) → MeansBeginning watches (replay k.found) (Begin ∷ []) c → MeansBeginning watches (replay k.found) more c) → (found : State) → IsFound disk d e found
         → LeavesOnly disk.moment disk.left_since d e (KeepsBetween w afterwards)
-    found_leaves e w afterwards s k behind found f =
+    found_leaves e w more afterwards s k behind accepted found f =
         let at : found ≡ replay k.found = one (disk.seen d) found (replay k.found) f.means k.means in
         then_runs disk.moment disk.left_since d f.synced e (KeepsBetween w afterwards) (MeansBeginning watches found (Begin ∷ [])) (early_leaves f.synced w afterwards s f.until) f.from
-        (λ c m. between_from w afterwards k.found (Begin ∷ []) (k.finds.0, sym k.finds.2) behind c (subst (λ r. MeansBeginning watches r (Begin ∷ []) c) at m))
+        (λ c m. between_from w afterwards k.found more (k.finds.0, sym k.finds.2) behind c (accepted c (subst (λ r. MeansBeginning watches r (Begin ∷ []) c) at m)))
 
     -- the disk of the store that was opened, or of the refusal
-    started_on : (e : D) (w v : World) → disk_of_server disk new.server ≡ e → LeavesOnly disk.moment disk.left_since d e (KeepsBetween w (v.kept ++ Begin ∷ [])) → Starts disk (disk_of_server disk old.server) w (disk_of_server disk new.server) v
-    started_on e w v there run = subst (λ x. Starts disk (disk_of_server disk x) w (disk_of_server disk new.server) v) (sym is_down) (subst (λ x. Starts disk d w x v) (sym there) run)
+    started_on : (e : D) (w v : World) → disk_of_server disk new.server ≡ e → LeavesOnly disk.moment disk.left_since d e (KeepsBetween w (v.kept ++ v.pending)) → Leaves disk (disk_of_server disk old.server) w (disk_of_server disk new.server) v
+    started_on e w v there run = subst (λ x. Leaves disk (disk_of_server disk x) w (disk_of_server disk new.server) v) (sym is_down) (subst (λ x. Leaves disk d w x v) (sym there) run)
 
     pub open_done : (fresh_store : Stored D) → new.server ≡ Up fresh_store → new.shown.replies ≡ old.shown.replies → new.shown.clients ≡ old.shown.clients → new.shown.views.items ≡ map summary (begun_all fresh_store.registry)
         → (disk.honest fresh_store.disk → disk.honest d) → disk.failures fresh_store.disk ≡ disk.failures d → fresh_store.failed ≡ false → fresh_store.closed ≡ false
         → (disk.honest fresh_store.disk → IsBegun disk d fresh_store)
         → (disk.honest fresh_store.disk → (c : List ℕ) → disk.may_leave fresh_store.disk c → MeansState watches fresh_store.registry c)
         → (disk.honest fresh_store.disk → (c : List ℕ) → disk.may_leave fresh_store.disk c → IsNumberedTo fresh_store.number c)
-        → Meets disk opened (Starts disk) old new
+        → Meets disk opened (Leaves disk) old new
     open_done store server said clients views honest faults whole open_yet begins means numbered = record {
       honest = λ h. subst (λ x. disk.honest (disk_of_server disk x)) (sym is_down) (honest (subst (λ x. disk.honest (disk_of_server disk x)) server h));
       goes = λ h w reached s.
@@ -156,7 +157,7 @@ module _ {D : Type 0} (disk : disks.Ghosts D) where
               replies = ap (λ r. r.items) said ∙ s.replies;
               clients = ap (λ r. r.items) clients ∙ s.clients;
             },
-            started_on store.disk w v (ap (disk_of_server disk) server) (found_leaves store.disk w (kept ++ Begin ∷ []) s k (Begin ∷ [], refl) b.found b.opened),
+            started_on store.disk w v (ap (disk_of_server disk) server) (found_leaves store.disk w (Begin ∷ []) (kept ++ []) s k ([], refl) (λ c m. m) b.found b.opened),
           );
     }
 
@@ -169,7 +170,7 @@ module _ {D : Type 0} (disk : disks.Ghosts D) where
       }
 
       abbrev Open : World → Type 0
-      Open w = (v : World) × opened w v × Stands disk new v × Starts disk (disk_of_server disk old.server) w (disk_of_server disk new.server) v
+      Open w = (v : World) × opened w v × Stands disk new v × Leaves disk (disk_of_server disk old.server) w (disk_of_server disk new.server) v
 
       as_row : (w v : World) → Stands disk old w → OpenDone w v → opened w v
       as_row w v s row = subst (λ u. MatchBool u (v ≡ w) (OpenDone w v)) (sym (down_of w s).down) row
@@ -184,7 +185,7 @@ module _ {D : Type 0} (disk : disks.Ghosts D) where
             v,
             as_row w v s (inr (inl row)),
             stands_down w v down.down refl refl refl (λ c left. prefix_same w v c refl refl refl (down.on.prefix c (less c left))) s,
-            started_on later_disk w v (ap (disk_of_server disk) server) (early_leaves later_disk w (w.kept ++ Begin ∷ []) s run),
+            started_on later_disk w v (ap (disk_of_server disk) server) (early_leaves later_disk w (w.kept ++ w.pending) s run),
           )
 
       -- after it was
@@ -201,15 +202,15 @@ module _ {D : Type 0} (disk : disks.Ghosts D) where
             as_row w v s (inr (inr (inl row))),
             stands_down w v down.down refl refl refl
                 (λ c left. record { means = begin_kept (replay k.found) c (subst (λ r. MeansBeginning watches r (Begin ∷ []) c) at (left_means c left)); numbered = numbered c left }) s,
-            started_on later_disk w v (ap (disk_of_server disk) server) (found_leaves later_disk w (k.found ++ Begin ∷ []) s k ([], append-nil (k.found ++ Begin ∷ [])) found f),
+            started_on later_disk w v (ap (disk_of_server disk) server) (found_leaves later_disk w (begin_on k.found) (k.found ++ begin_on k.found) s k ([], append-nil (k.found ++ begin_on k.found)) (λ c m. begin_kept (replay k.found) c m) found f),
           )
 
       -- a counter is spent
       spent : (w : World) → Stands disk old w → (h : disk.honest later_disk) → disk.failures later_disk ≡ disk.failures d
           → (found : State) (m : MeansState watches found (disk.seen d)) → (reply_to found Begin ≡ Refused refusals.Exhausted) ⊎ (limit ≤ m.number)
           → ((c : List ℕ) → disk.may_leave later_disk c → MeansState watches found c) → ((c : List ℕ) → disk.may_leave later_disk c → IsNumberedTo (w.slot + 1) c)
-          → LeavesOnly disk.moment disk.left_since d later_disk (disk.may_leave d) ⊎ ((some : State) × IsFound disk d later_disk some) → Open w
-      spent w s h stood found m why left_means numbered cut =
+          → LeavesOnly disk.moment disk.left_since d later_disk (λ c. disk.may_leave d c ⊎ MeansState watches found c) → Open w
+      spent w s h stood found m why left_means numbered run =
           let down = down_of w s in
           let k = known w s (honest h) in
           let at : found ≡ replay k.found = one (disk.seen d) found (replay k.found) m k.means in
@@ -219,13 +220,13 @@ module _ {D : Type 0} (disk : disks.Ghosts D) where
             as_row w v s (inr (inr (inr row))),
             stands_down w v down.down refl refl (stood ∙ down.on.faults)
                 (λ c left. record { means = none_yet (replay k.found) [] c (subst (λ r. MeansState watches r c) at (left_means c left)); numbered = numbered c left }) s,
-            started_on later_disk w v (ap (disk_of_server disk) server) (leaves k cut),
+            started_on later_disk w v (ap (disk_of_server disk) server) (leaves k at),
           )
         where
-          leaves : (k : Known w) → LeavesOnly disk.moment disk.left_since d later_disk (disk.may_leave d) ⊎ ((some : State) × IsFound disk d later_disk some)
-              → LeavesOnly disk.moment disk.left_since d later_disk (KeepsBetween w (k.found ++ Begin ∷ []))
-          leaves k (inl run) = early_leaves later_disk w (k.found ++ Begin ∷ []) s run
-          leaves k (inr (some, f)) = found_leaves later_disk w (k.found ++ Begin ∷ []) s k ([], append-nil (k.found ++ Begin ∷ [])) some f
+          leaves : (k : Known w) → found ≡ replay k.found → LeavesOnly disk.moment disk.left_since d later_disk (KeepsBetween w (k.found ++ []))
+          leaves k at = weaker disk.moment disk.left_since d later_disk (λ c. disk.may_leave d c ⊎ MeansState watches found c) (KeepsBetween w (k.found ++ [])) run
+              (λ c. ⊎_elim (λ left. between_before w (k.found ++ []) c ((down_of w s).on.prefix c left).means)
+              (λ m. between_from w (k.found ++ []) k.found [] (k.finds.0, sym k.finds.2) ([], append-nil (k.found ++ [])) c (none_yet (replay k.found) [] c (subst (λ r. MeansState watches r c) at m))))
 
           reason : (k : Known w) → found ≡ replay k.found → (reply_to found Begin ≡ Refused refusals.Exhausted) ⊎ (limit ≤ m.number) → (changes (replay k.found) Begin ≡ false) ⊎ (cannot_rise w.slot ≡ true)
           reason k at (inl refused) = inl (subst (λ r. changes r Begin ≡ false) at (ap is_change refused))
@@ -240,9 +241,10 @@ module _ {D : Type 0} (disk : disks.Ghosts D) where
           → (disk.honest later_disk → e ≡ refusals.Exhausted → (found : State) × (m : MeansState watches found (disk.seen d)) × ((reply_to found Begin ≡ Refused refusals.Exhausted) ⊎ (limit ≤ m.number)))
           → (e ≡ refusals.DeviceFailed → Rose (disk.failures d) (disk.failures later_disk)) → (e ≢ refusals.DeviceFailed → disk.failures later_disk ≡ disk.failures d) → disk.failures d ≤ disk.failures later_disk
           → (disk.honest later_disk → e ≡ refusals.Exhausted → (found : State) × MeansState watches found (disk.seen d) × ((c : List ℕ) → disk.may_leave later_disk c → MeansState watches found c))
+          → (disk.honest later_disk → e ≡ refusals.Exhausted → (found : State) × MeansState watches found (disk.seen d) × LeavesOnly disk.moment disk.left_since d later_disk (λ c. disk.may_leave d c ⊎ MeansState watches found c))
           → (disk.honest later_disk → (n : ℕ) → ((c : List ℕ) → disk.may_leave d c → IsNumberedTo n c) → (c : List ℕ) → disk.may_leave later_disk c → IsNumberedTo (n + 1) c)
-          → Meets disk opened (Starts disk) old new
-      open_failed law e memory kinds cut damaged retired exhausted failed stood later only numbered = record {
+          → Meets disk opened (Leaves disk) old new
+      open_failed law e memory kinds cut damaged retired exhausted failed stood later only still numbered = record {
         honest = λ h. subst (λ x. disk.honest (disk_of_server disk x)) (sym is_down) (honest (subst (λ x. disk.honest (disk_of_server disk x)) server h));
         goes = λ h w reached s. by (subst (λ x. disk.honest (disk_of_server disk x)) server h) w s kinds;
       }
@@ -270,8 +272,11 @@ module _ {D : Type 0} (disk : disks.Ghosts D) where
           by h w s (inr (inr (inl is))) =
               let x = exhausted h is in
               let o = only h is in
+              let q = still h is in
               let same : o.0 ≡ x.0 = one (disk.seen d) o.0 x.0 o.1 x.1 in
-              spent w s h (stood (not_device is)) x.0 x.1 x.2 (λ c left. subst (λ r. MeansState watches r c) same (o.2 c left)) (all_numbered h w s) (cut h)
+              let also : q.0 ≡ x.0 = one (disk.seen d) q.0 x.0 q.1 x.1 in
+              spent w s h (stood (not_device is)) x.0 x.1 x.2 (λ c left. subst (λ r. MeansState watches r c) same (o.2 c left)) (all_numbered h w s)
+              (subst (λ (r : State). LeavesOnly disk.moment disk.left_since d later_disk (λ c. disk.may_leave d c ⊎ MeansState watches r c)) also q.2)
           by h w s (inr (inr (inr (inl is)))) = let k = known w s (honest h) in absurd ((damaged h is).0 (replay k.found) k.means)
           by h w s (inr (inr (inr (inr is)))) =
               let k = known w s (honest h) in

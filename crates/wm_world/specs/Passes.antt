@@ -1,11 +1,10 @@
 -- How the disk goes on within an event.
-use Rattle.std.specs.Prelude.{◌≡◌, ◌⊎◌, ℕ, List, [], ◌∷◌, ◌++◌}
+use Rattle.std.specs.Prelude.{◌≡◌, ◌⊎◌, ℕ, List, ◌++◌}
 use Rattle.wm_disk.specs.Contents.{NoMore, Only}
 use Rattle.wm_disk.specs.Moments.{LeavesOnly}
 use Rattle.wm_disk.specs.declared.disk.Disk as disks
 use Rattle.wm_checkpoint.specs.Meanings.{MeansState}
 use Rattle.wm_registry.specs.declared.command.Command.{Command}
-use Rattle.wm_registry.specs.declared.command.Command.TheVariants.{Begin}
 use Rattle.wm_registry.specs.MachineLaws.{watches}
 use Rattle.wm_world.specs.declared.event.Event.{Event}
 use Rattle.wm_world.specs.declared.event.Event.TheVariants as events
@@ -26,10 +25,6 @@ module _ {D : Type 0} (disk : disks.Ghosts D) where
   abbrev pub Leaves : D → World → D → World → Type 0
   Leaves d w e v = LeavesOnly disk.moment disk.left_since d e (KeepsBetween w (v.kept ++ v.pending))
 
-  -- in a start a Begin is in flight
-  abbrev pub Starts : D → World → D → World → Type 0
-  Starts d w e v = LeavesOnly disk.moment disk.left_since d e (KeepsBetween w (v.kept ++ Begin ∷ []))
-
   -- a plan of failures
   abbrev pub Armed : D → World → D → World → Type 0
   Armed d w e v = NoMore (disk.may_leave d) (disk.may_leave e)
@@ -43,7 +38,6 @@ module _ {D : Type 0} (disk : disks.Ghosts D) where
   Halted d w e v = (disk.seen e ≡ disk.seen d) × NoMore (disk.may_leave d) (disk.may_leave e)
 
   abbrev pub Passes : Event → D → World → D → World → Type 0
-  Passes events.Open d w e v = Starts d w e v
   Passes (events.Arm calls) d w e v = Armed d w e v
   Passes events.Crash d w e v = PowerLost d w e v
   Passes events.Stop d w e v = Halted d w e v

@@ -4,7 +4,7 @@ ghost use Rattle.wm_expr.specs.Views.{term};
 ghost use Rattle.wm_world.specs.Worlds.{connected, nothing_yet, without_answer};
 ghost use Rattle.wm_world.specs.Steps.{Crashed as IsCrashed, Step, asking, batch, checkpointed, opened, down, operated, receiving, with_client};
 ghost use Rattle.wm_world.specs.Standings.{Meets, Stands, disk_of, disk_of_server, clients_of, number_at as number_at_lem, registry_of, replies_of, views_of};
-ghost use Rattle.wm_world.specs.Passes.{Armed, Halted, Leaves, Passes, PowerLost, Starts};
+ghost use Rattle.wm_world.specs.Passes.{Armed, Halted, Leaves, Passes, PowerLost};
 ghost use Rattle.wm_world.specs.Headline.{IsFormatted};
 
 use crate::connection::Connection;
@@ -303,7 +303,7 @@ impl<D: Crashed + Drop> World<D> {
 
     /// A start.
     fn open(self, alloc: Global) -> Result<World<D>, NoMemory>
-        ensures { IfOk result (Meets D.Disk opened (Starts D.Disk) self) }
+        ensures { IfOk result (Meets D.Disk opened (Leaves D.Disk) self) }
     {
         let World { server, mut shown } = self;
         let disk = match server {

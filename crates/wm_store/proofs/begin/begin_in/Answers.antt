@@ -33,6 +33,7 @@ returns-in_default g c =
       any_moment = λ h. unbegun g.D.Disk (disk_of k) (disk_of k) (state_of k) (Begin ∷ []) (stood g.D.Disk g.met.D.Disk.only_now k c.requires.kept c.requires.whole h);
       unbegun = λ no. (refl, c.requires.whole, refl);
       exhausted = λ e. absurd cc;
+      still = λ e. absurd cc;
       calls = calls_none g.D.Disk 1 k k refl;
       honest = λ h. h;
       later = omega arith;
@@ -58,6 +59,7 @@ returns-in-Refused g c =
       any_moment = λ h. unbegun g.D.Disk (disk_of k) (disk_of k) (state_of k) (Begin ∷ []) (stood g.D.Disk g.met.D.Disk.only_now k c.requires.kept c.requires.whole h);
       unbegun = λ no. (refl, c.requires.whole, refl);
       exhausted = λ e. ⊎_elim (λ n. absurd cc) (λ x. inl x.1) why;
+      still = λ e h. stood g.D.Disk g.met.D.Disk.only_now k c.requires.kept c.requires.whole h;
       calls = calls_none g.D.Disk 1 k k refl;
       honest = λ h. h;
       later = omega arith;
@@ -77,6 +79,7 @@ returns-in-Err g c =
       any_moment = λ h. unbegun g.D.Disk (disk_of k) (disk_of c.find_room.new.keeper) (state_of k) (Begin ∷ []) (f.any_moment h);
       unbegun = λ no. let u = f.unbegun no in (f.state, u.0, u.1);
       exhausted = λ e. inr (f.exhausted e);
+      still = λ e. f.any_moment;
       calls = f.calls;
       honest = f.honest;
       later = f.later;
@@ -96,6 +99,7 @@ returns-in_default-vec g c =
       any_moment = λ h. unbegun g.D.Disk (disk_of k) (disk_of c.find_room.new.keeper) (state_of k) (Begin ∷ []) (f.any_moment h);
       unbegun = λ no. (f.state, (ok_told c.find_room.result c.in_default-find_room.not-Err f.room).1, ok_told c.find_room.result c.in_default-find_room.not-Err f.whole);
       exhausted = λ e. absurd cc;
+      still = λ e. absurd cc;
       calls = f.calls;
       honest = f.honest;
       later = f.later;
@@ -140,6 +144,7 @@ returns g c =
           (λ e. (ap (λ y. state_of y) (m.memory e) ∙ f.state, ap (λ y. has_failed y) (m.memory e) ∙ room.1, ap (λ y. g.D.Disk.failures (disk_of y)) (m.memory e) ∙ same))
           (λ e. (ap (λ y. state_of y) (m.down e).1 ∙ f.state, ap (λ y. has_failed y) (m.down e).1 ∙ room.1, ap (λ y. g.D.Disk.failures (disk_of y)) (m.down e).1 ∙ same));
       exhausted = λ e. absurd (three_kinds c.commit.result m.kinds (λ x. let up : true ≡ false = sym (m.down x).0 ∙ room.1 in absurd cc) e);
+      still = λ e. absurd (three_kinds c.commit.result m.kinds (λ x. let up : true ≡ false = sym (m.down x).0 ∙ room.1 in absurd cc) e);
       calls = calls_then g.D.Disk 1 0 k mid c.commit.new.self f.calls (record {
         least = omega (arith, m.slot.1);
         most = omega (arith, m.slot.1);

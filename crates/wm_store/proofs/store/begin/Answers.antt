@@ -25,6 +25,7 @@ returns-in-Ok g c =
       cut = tt;
       unbegun = tt;
       exhausted = tt;
+      still = tt;
       number = k.calls.most;
       numbered = (λ h x left. kept_numbered g.D.Disk watches c.begin_in.new.keeper (k.kept.kept k.begun.1 h) x left, tt);
       honest = (k.honest, tt);
@@ -49,6 +50,7 @@ returns-in-Err g c =
       cut = k.any_moment;
       unbegun = λ h no x left. let u = k.unbegun no in subst (λ (t : State). MeansState watches t x) u.0 (means_up D c.begin_in.new.keeper k.kept u.1 h x left);
       exhausted = λ e. k.exhausted (ap (λ x. Err x) e);
+      still = λ h e. k.still (ap (λ x. Err x) e) h;
       number = tt;
       numbered = (tt, λ h n le all x left. k.calls.numbered h n le all x left);
       honest = (tt, k.honest);

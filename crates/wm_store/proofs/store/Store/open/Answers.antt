@@ -14,7 +14,7 @@ use Rattle.wm_checkpoint.proofs.Numbering.{numbered_more}
 use Rattle.wm_store.proofs.Stores.{left_now}
 use Rattle.wm_store.specs.Stored.{Stored}
 use Rattle.wm_store.proofs.Runs.{Leaves}
-use Rattle.wm_store.proofs.Opened.{found, is_begun, means_seen, number_of_found, spent, if_ok_both, if_err_both, kinds_found, kinds_begun, not_exhausted, not_damaged, not_retired}
+use Rattle.wm_store.proofs.Opened.{found, is_begun, means_seen, number_of_found, spent, stays_found, if_ok_both, if_err_both, kinds_found, kinds_begun, not_exhausted, not_damaged, not_retired}
 use Rattle.wm_store.proofs.store.Store.open.Goals as goal
 
 pub begin-requires : goal.begin-requires
@@ -56,6 +56,10 @@ returns-in-Ok g c =
           (λ (e : Refusal × g.row.D.Denot) (there : D.honest e.1 → D.honest (disk_of keeper)) (ub : D.honest e.1 → (e.0 ≡ DeviceFailed → ⊥) → (x : List ℕ) → D.may_leave e.1 x → MeansState watches (state_of keeper) x).
           λ h is. (state_of keeper, means_seen D old keeper (kept (there h)) (k.seen.0 (there h)), ub h (λ d. let clash : Exhausted ≡ DeviceFailed = sym is ∙ d in absurd cc)))
           b.honest.1 b.unbegun;
+      still = if_err_both r
+          (λ (e : Refusal × g.row.D.Denot) (there : D.honest e.1 → D.honest (disk_of keeper)) (run : D.honest e.1 → e.0 ≡ Exhausted → Leaves D (disk_of keeper) e.1 (MeansState watches (state_of keeper))).
+          λ h is. stays_found D old keeper (kept (there h)) (k.seen.0 (there h)) (k.any_moment.0 (there h)) e.1 (run h is))
+          b.honest.1 b.still;
       numbered = (
         b.numbered.0,
         if_err_both r
@@ -88,6 +92,7 @@ returns-in-Err g c =
       retired = k.retired;
       exhausted = λ h is. absurd (not_exhausted c.in-Err.refusal k.kinds is);
       refused = λ h is. absurd (not_exhausted c.in-Err.refusal k.kinds is);
+      still = λ h is. absurd (not_exhausted c.in-Err.refusal k.kinds is);
       numbered = (tt, λ h n all x left. numbered_more n (n + 1) x (omega arith) (all x (left_now g.D.Disk g.met.D.Disk.counts_now c.args.disk c.in-Err.disk (g.D.Disk.may_leave c.args.disk) h (k.any_moment.1 h) x left)));
       honest = (tt, k.honest.1);
       later = (tt, k.later.1);

@@ -17,7 +17,7 @@ pub returns-in_ok-unless_memory-in-Err : goal.returns-in_ok-unless_memory-in-Err
 returns-in_ok-unless_memory-in-Err g c =
     let r = c.in-Err.ensures in
     open_failed g.D.Disk c.args.self _ c.in-Down.disk c.in-Down.is c.every_content.ensures.one_meaning g.met.D.Disk.reads_stand c.in-Err.disk refl refl refl refl r.honest.1
-    g.met.D.Disk.counts_now c.in-Err.refusal c.in_ok-unless_memory-in-Err.ensures r.kinds r.cut r.damaged r.retired r.exhausted r.failed r.stood r.later.1 r.refused r.numbered.1
+    g.met.D.Disk.counts_now c.in-Err.refusal c.in_ok-unless_memory-in-Err.ensures r.kinds r.cut r.damaged r.retired r.exhausted r.failed r.stood r.later.1 r.refused r.still r.numbered.1
 
 pub returns-in-Up : goal.returns-in-Up
 returns-in-Up g c = open_up g.D.Disk g.met.D.Disk.only_now c.args.self _ c.in-Up.store c.in-Up.is refl refl
