@@ -8,8 +8,8 @@ use Rattle.wm_registry.specs.declared.command.Command.{Command}
 use Rattle.wm_registry.specs.declared.reply.Reply.{Reply}
 use Rattle.wm_registry.specs.Roots.{State}
 use Rattle.wm_registry.specs.MachineLaws.{watches}
-use Rattle.wm_checkpoint.specs.Meanings.{MeansState, MeansBeginning}
-use Rattle.wm_checkpoint.specs.Kept.{disk_of, state_of, has_failed, number_of, Keeps}
+use Rattle.wm_checkpoint.specs.Meanings.{Means, MeansState, MeansBeginning}
+use Rattle.wm_checkpoint.specs.Kept.{disk_of, state_of, has_failed, number_of, IsKept, Keeps}
 use Rattle.wm_checkpoint.specs.declared.keeper.Keeper.{Keeper}
 use Rattle.wm_checkpoint.proofs.Keeping.{kept_means}
 use Rattle.wm_checkpoint.proofs.Outside.{beginning_none}
@@ -42,6 +42,22 @@ module _ {D : Type 0} (disk : disks.Ghosts D) where
 
   pub means_up : (keeper : K) → Keeps watches keeper → has_failed keeper ≡ false → disk.honest (disk_of keeper) → (c : List ℕ) → disk.may_leave (disk_of keeper) c → MeansState watches (state_of keeper) c
   means_up keeper kp alive h c left = kept_means disk watches keeper (kp.kept alive h) c left
+
+  -- under the number of the keeper's slot
+  pub counted_up : (keeper : K) → Keeps watches keeper → has_failed keeper ≡ false → (before : Option State) → before ≡ None → disk.honest (disk_of keeper) → (c : List ℕ) → disk.may_leave (disk_of keeper) c
+      → (m : MeansState watches (unwrap_or before (state_of keeper)) c) × (m.number ≡ number_of keeper)
+  counted_up keeper kp alive before none h c left =
+      let k : IsKept watches keeper = kp.kept alive h in (
+        record {
+          slot = keeper.slot;
+          number = keeper.number;
+          base = k.base;
+          commands = k.commands;
+          means = subst (λ (x : List ℕ). Means watches x keeper.slot keeper.number k.base k.commands) (sym (k.at_rest.durable c left)) k.means;
+          is = k.is ∙ subst (λ (b : Option State). state_of keeper ≡ unwrap_or b (state_of keeper)) (sym none) refl;
+        },
+        refl,
+      )
 
   -- a store whose keeper hasn't failed
   pub up : (keeper : K) → Keeps watches keeper → has_failed keeper ≡ false → (closed : Bool) → IsInside keeper None closed

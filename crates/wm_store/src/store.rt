@@ -173,6 +173,8 @@ impl<D: Disk + Drop> Store<D> {
         // Every content that a crash may leave then has the registry in its slot, and no command behind it.
         ensures fresh { D.honest self.new.disk → OnOk result ((slot : Slot) × ((c : List ℕ) → D.may_leave self.new.disk c → Means watches c slot self.new.number self.new.registry [])) }
         ensures number { OnOk result (self.new.number ≡ self.old.number + 1) × OnErr result (self.new.number ≡ self.old.number) }
+        // The number that is raised is that of what every content means that a crash before the call may leave.
+        ensures counted { self.old.failed ≡ false → D.honest self.old.disk → (c : List ℕ) → D.may_leave self.old.disk c → (m : MeansState watches self.old.registry c) × (m.number ≡ self.old.number) }
         ensures numbered { self.old.failed ≡ false → D.honest self.new.disk → (c : List ℕ) → D.may_leave self.new.disk c → IsNumberedTo (self.old.number + 1) c }
         ensures registry { self.new.registry ≡ self.old.registry }
         // A crash at any moment of the call leaves the registry.

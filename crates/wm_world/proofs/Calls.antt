@@ -28,7 +28,7 @@ use Rattle.wm_world.specs.declared.world.Server.TheVariants.{Up, Down}
 use Rattle.wm_world.specs.Worlds.{World, at_first, connected, is_of, registry, replay, without_answer}
 use Rattle.wm_world.specs.Steps.{BatchCut, BatchDone, Checkpointed, Crashed, Cut, IsReached, OpenDone, asking, batch, changed_at, checkpointed, down, opened, operated, receiving, with_client}
 use Rattle.wm_world.specs.Standings.{AreViews, IsDown, IsOn, IsServer, IsUp, KeepsPrefix, Meets, Stands, asking_by, disk_of, disk_of_server, is_root, number_at}
-use Rattle.wm_world.specs.Passes.{Halted, KeepsBetween, Leaves, PowerLost}
+use Rattle.wm_world.specs.Passes.{Halted, KeepsBetween, Leaves, PowerLost, Switches}
 use Rattle.wm_store.proofs.Runs.{OnlyNow}
 use Rattle.wm_world.proofs.Between.{stays_put, take-drop}
 use Rattle.wm_world.proofs.Clients.{Good, good_reached}
@@ -129,9 +129,21 @@ module _ {D : Type 0} (disk : disks.Ghosts D) (only : OnlyNow disk) where
     commands_down commands = unfit old new (is ∙ sym was) shown (batch commands)
         (λ w s. subst (λ b. MatchBool (b && nat_le (length commands) 64) (BatchDone w commands w ⊎ BatchCut w commands w) (w ≡ w)) (sym (down_at w s)) refl)
 
-    pub checkpoint_down : Meets disk checkpointed (Leaves disk) old new
-    checkpoint_down = unfit old new (is ∙ sym was) shown checkpointed
-        (λ w s. subst (λ b. MatchBool b (Checkpointed w w ⊎ Cut 1 w [] w) (w ≡ w)) (sym (down_at w s)) refl)
+    pub checkpoint_down : Meets disk checkpointed (Switches disk) old new
+    checkpoint_down = record {
+      honest = subst (λ x. disk.honest (disk_of_server disk x) → disk.honest (disk_of_server disk old.server)) (sym (is ∙ sym was)) (λ h. h);
+      goes = λ h w reached s.
+          let down : w.up ≡ false = down_at w s in (
+            w,
+            subst (λ b. MatchBool b (Checkpointed w w ⊎ Cut 1 w [] w) (w ≡ w)) (sym down) refl,
+            still old new (is ∙ sym was) shown w s,
+            record {
+              leaves = same_disk old new (is ∙ sym was) h w (w.kept ++ w.pending) s;
+              done = λ up rose. absurd (true≢false (sym up ∙ down));
+              spent = λ up stayed. absurd (true≢false (sym up ∙ down));
+            },
+          );
+    }
 
   pub open_up : (old new : Running D) (store : Stored D) → old.server ≡ Up store → new.server ≡ Up store → new.shown ≡ old.shown → Meets disk opened (Leaves disk) old new
   open_up old new store was is shown = unfit old new (is ∙ sym was) shown opened

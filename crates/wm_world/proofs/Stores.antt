@@ -28,7 +28,7 @@ use Rattle.wm_world.specs.declared.world.Server.TheVariants.{Up, Down}
 use Rattle.wm_world.specs.Worlds.{World, begun_between, registry, replay, without_answer}
 use Rattle.wm_world.specs.Steps.{BatchCut, BatchDone, Checkpointed, Cut, batch, checkpointed, down}
 use Rattle.wm_world.specs.Standings.{AreViews, IsServer, IsUp, Meets, Stands, disk_of_server}
-use Rattle.wm_world.specs.Passes.{KeepsBetween, Leaves}
+use Rattle.wm_world.specs.Passes.{KeepsBetween, Leaves, Raises, Switches}
 use Rattle.wm_journal.proofs.Opening.{weaker}
 use Rattle.wm_store.proofs.Runs.{OnlyNow}
 use Rattle.wm_world.proofs.Batching.{answered_more, same_incarnation}
@@ -244,7 +244,7 @@ module _ {D : Type 0} (disk : disks.Ghosts D) where
         → (before.failed ≡ false → disk.honest after.disk → LeavesOnly disk.moment disk.left_since before.disk after.disk (MeansState watches before.registry))
         → (e ≡ refusals.DeviceFailed → Rose (disk.failures before.disk) (disk.failures after.disk)) → disk.failures before.disk ≤ disk.failures after.disk
         → (before.failed ≡ false → disk.honest after.disk → (c : List ℕ) → disk.may_leave after.disk c → IsNumberedTo (before.number + 1) c)
-        → Meets disk checkpointed (Leaves disk) old new
+        → Meets disk checkpointed (Switches disk) old new
     checkpoint_cut law e kinds memory counter closed leaves rose later numbered = record {
       honest = is_honest;
       goes = λ h w reached s.
@@ -255,7 +255,11 @@ module _ {D : Type 0} (disk : disks.Ghosts D) where
             v,
             subst (λ b. MatchBool b (Checkpointed w v ⊎ Cut 1 w [] v) (v ≡ w)) (sym up.up) (inr (is_cut w 1 [] s (rose d) later)),
             cut_stands w 1 [] s (λ c left. none_yet before.registry [] c (now law before.disk after.disk (MeansState watches before.registry) there (leaves up.whole there) c left)) (numbered up.whole there),
-            moved old new before after.disk (KeepsBetween w (w.kept ++ [])) is_up (ap (disk_of_server disk) server) (stays_meant w before.registry before.disk after.disk (w.kept ++ []) up.registry_is (leaves up.whole there)),
+            record {
+              leaves = moved old new before after.disk (KeepsBetween w (w.kept ++ [])) is_up (ap (disk_of_server disk) server) (stays_meant w before.registry before.disk after.disk (w.kept ++ []) up.registry_is (leaves up.whole there));
+              done = λ up. absurd (true≢false (sym up));
+              spent = λ up. absurd (true≢false (sym up));
+            },
           );
     }
       where
@@ -267,12 +271,21 @@ module _ {D : Type 0} (disk : disks.Ghosts D) where
 
   -- ---- a checkpoint
 
+  -- the content means the registry of the store, under the store's number
+  abbrev IsCounted : Stored D → List ℕ → Type 0
+  IsCounted store c = (m : MeansState watches store.registry c) × (m.number ≡ store.number)
+
+  counted_in : (w : World) (store : Stored D) → store.registry ≡ registry w → ((c : List ℕ) → disk.may_leave store.disk c → IsCounted store c)
+      → (c : List ℕ) → disk.may_leave store.disk c → (m : MeansState watches (registry w) c) × (m.number ≡ store.number)
+  counted_in w store is counted c left = subst (λ r. (m : MeansState watches r c) × (m.number ≡ store.number)) is (counted c left)
+
   module _ (old new : Running D) (before after : Stored D) (is_up : old.server ≡ Up before) (server : new.server ≡ Up after) (said : new.shown.replies ≡ old.shown.replies) (clients : new.shown.clients ≡ old.shown.clients) (views : new.shown.views ≡ old.shown.views) where
     pub checkpoint_done : (disk.honest after.disk → disk.honest before.disk) → disk.failures after.disk ≡ disk.failures before.disk → after.failed ≡ false → after.closed ≡ false
         → after.number ≡ before.number + 1 → after.registry ≡ before.registry
         → (disk.honest after.disk → (slot : Slot) × ((c : List ℕ) → disk.may_leave after.disk c → Means watches c slot after.number after.registry []))
-        → (before.failed ≡ false → disk.honest after.disk → LeavesOnly disk.moment disk.left_since before.disk after.disk (MeansState watches before.registry)) → Meets disk checkpointed (Leaves disk) old new
-    checkpoint_done honest faults whole open_yet number same means leaves = record {
+        → (before.failed ≡ false → disk.honest before.disk → (c : List ℕ) → disk.may_leave before.disk c → IsCounted before c)
+        → (before.failed ≡ false → disk.honest after.disk → LeavesOnly disk.moment disk.left_since before.disk after.disk (MeansState watches before.registry)) → Meets disk checkpointed (Switches disk) old new
+    checkpoint_done honest faults whole open_yet number same means counted leaves = record {
       honest = λ h. subst (λ x. disk.honest (disk_of_server disk x)) (sym is_up) (honest (subst (λ x. disk.honest (disk_of_server disk x)) server h));
       goes = λ h w reached s.
           let up = up_of old before w is_up s in
@@ -302,14 +315,24 @@ module _ {D : Type 0} (disk : disks.Ghosts D) where
               replies = ap (λ r. r.items) said ∙ s.replies;
               clients = ap (λ r. r.items) clients ∙ s.clients;
             },
-            moved old new before after.disk (KeepsBetween w (w.kept ++ w.pending)) is_up (ap (disk_of_server disk) server) (stays_meant w before.registry before.disk after.disk (w.kept ++ w.pending) up.registry_is (leaves up.whole there)),
+            record {
+              leaves = moved old new before after.disk (KeepsBetween w (w.kept ++ w.pending)) is_up (ap (disk_of_server disk) server) (stays_meant w before.registry before.disk after.disk (w.kept ++ w.pending) up.registry_is (leaves up.whole there));
+              done = λ alive rose. subst (λ x. Raises disk (disk_of_server disk x) w (disk_of_server disk new.server)) (sym is_up) (subst (λ x. Raises disk before.disk w (disk_of_server disk x)) (sym server) (record {
+                slot = m.0;
+                number = before.number;
+                before = counted_in w before up.registry_is (counted up.whole (honest there));
+                afterwards = λ c left. subst (λ r. Means watches c m.0 (before.number + 1) r []) led (subst (λ n. Means watches c m.0 n after.registry []) number (m.1 c left));
+              }));
+              spent = λ alive stayed. absurd (omega (arith, stayed));
+            },
           );
     }
 
     -- the counter is spent: nothing happens
     pub checkpoint_spent : after ≡ before → limit ≤ before.number
-        → (before.failed ≡ false → disk.honest after.disk → LeavesOnly disk.moment disk.left_since before.disk after.disk (MeansState watches before.registry)) → Meets disk checkpointed (Leaves disk) old new
-    checkpoint_spent same spent leaves = record {
+        → (before.failed ≡ false → disk.honest before.disk → (c : List ℕ) → disk.may_leave before.disk c → IsCounted before c)
+        → (before.failed ≡ false → disk.honest after.disk → LeavesOnly disk.moment disk.left_since before.disk after.disk (MeansState watches before.registry)) → Meets disk checkpointed (Switches disk) old new
+    checkpoint_spent same spent counted leaves = record {
       honest = subst (λ x. disk.honest (disk_of_server disk x) → disk.honest (disk_of_server disk old.server)) (sym (server ∙ ap Up same ∙ sym is_up)) (λ h. h);
       goes = λ h w reached s.
           let up = up_of old before w is_up s in (
@@ -320,8 +343,14 @@ module _ {D : Type 0} (disk : disks.Ghosts D) where
               replies = ap (λ r. r.items) said ∙ s.replies;
               clients = ap (λ r. r.items) clients ∙ s.clients;
             },
-            moved old new before after.disk (KeepsBetween w (w.kept ++ w.pending)) is_up (ap (disk_of_server disk) server)
-                (stays_meant w before.registry before.disk after.disk (w.kept ++ w.pending) up.registry_is (leaves up.whole (subst (λ x. disk.honest (disk_of_server disk x)) server h))),
+            record {
+              leaves = moved old new before after.disk (KeepsBetween w (w.kept ++ w.pending)) is_up (ap (disk_of_server disk) server)
+                  (stays_meant w before.registry before.disk after.disk (w.kept ++ w.pending) up.registry_is (leaves up.whole (subst (λ x. disk.honest (disk_of_server disk x)) server h)));
+              done = λ alive rose. absurd (omega (arith, rose));
+              spent = λ alive stayed c left.
+                  let is = counted_in w before up.registry_is (counted up.whole (subst (λ x. disk.honest (disk_of_server disk x)) (server ∙ ap Up same) h)) c (subst (λ x. disk.may_leave (disk_of_server disk x) c) is_up left) in
+                  (is.0, subst (λ n. limit ≤ n) (sym is.1) spent);
+            },
           );
     }
 

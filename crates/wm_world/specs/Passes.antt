@@ -1,14 +1,16 @@
 -- How the disk goes on within an event.
-use Rattle.std.specs.Prelude.{◌≡◌, ◌⊎◌, ℕ, List, ◌++◌}
+use Rattle.std.specs.Prelude.{◌≡◌, ◌≤◌, ◌+◌, ◌⊎◌, ℕ, true, List, [], ◌++◌}
 use Rattle.wm_disk.specs.Contents.{NoMore, Only}
 use Rattle.wm_disk.specs.Moments.{LeavesOnly}
 use Rattle.wm_disk.specs.declared.disk.Disk as disks
-use Rattle.wm_checkpoint.specs.Meanings.{MeansState}
+use Rattle.wm_checkpoint.specs.Meanings.{Means, MeansState}
+use Rattle.wm_checkpoint.specs.declared.layout.Slot.{Slot}
+use Rattle.wm_clock.specs.Clocks.{limit}
 use Rattle.wm_registry.specs.declared.command.Command.{Command}
 use Rattle.wm_registry.specs.MachineLaws.{watches}
 use Rattle.wm_world.specs.declared.event.Event.{Event}
 use Rattle.wm_world.specs.declared.event.Event.TheVariants as events
-use Rattle.wm_world.specs.Worlds.{World, replay}
+use Rattle.wm_world.specs.Worlds.{World, registry, replay}
 use Rattle.wm_world.specs.Steps.{Begins}
 
 -- A content that a crash within an event may leave: it means the replay of what was kept and a beginning of what was in flight, or of
@@ -25,6 +27,20 @@ module _ {D : Type 0} (disk : disks.Ghosts D) where
   abbrev pub Leaves : D → World → D → World → Type 0
   Leaves d w e v = LeavesOnly disk.moment disk.left_since d e (KeepsBetween w (v.kept ++ v.pending))
 
+  -- The slot's number on the disk is one higher than before, and the registry stands in that slot with no command behind it.
+  pub record Raises (d : D) (w : World) (e : D) : Type 0 where
+    pub slot : Slot
+    pub number : ℕ
+    pub before : (c : List ℕ) → disk.may_leave d c → (m : MeansState watches (registry w) c) × (m.number ≡ number)
+    pub afterwards : (c : List ℕ) → disk.may_leave e c → Means watches c slot (number + 1) (registry w) []
+
+  -- a checkpoint
+  pub record Switches (d : D) (w : World) (e : D) (v : World) : Type 0 where
+    pub leaves : Leaves d w e v
+    -- It is done where the server stays up and the bound rises, and else the number is spent.
+    pub done : v.up ≡ true → v.slot ≡ w.slot + 1 → Raises d w e
+    pub spent : v.up ≡ true → v.slot ≡ w.slot → (c : List ℕ) → disk.may_leave d c → (m : MeansState watches (registry w) c) × (limit ≤ m.number)
+
   -- a plan of failures
   abbrev pub Armed : D → World → D → World → Type 0
   Armed d w e v = NoMore (disk.may_leave d) (disk.may_leave e)
@@ -38,6 +54,7 @@ module _ {D : Type 0} (disk : disks.Ghosts D) where
   Halted d w e v = (disk.seen e ≡ disk.seen d) × NoMore (disk.may_leave d) (disk.may_leave e)
 
   abbrev pub Passes : Event → D → World → D → World → Type 0
+  Passes events.Checkpoint d w e v = Switches d w e v
   Passes (events.Arm calls) d w e v = Armed d w e v
   Passes events.Crash d w e v = PowerLost d w e v
   Passes events.Stop d w e v = Halted d w e v

@@ -4,7 +4,7 @@ ghost use Rattle.wm_expr.specs.Views.{term};
 ghost use Rattle.wm_world.specs.Worlds.{connected, nothing_yet, without_answer};
 ghost use Rattle.wm_world.specs.Steps.{Crashed as IsCrashed, Step, asking, batch, checkpointed, opened, down, operated, receiving, with_client};
 ghost use Rattle.wm_world.specs.Standings.{Meets, Stands, disk_of, disk_of_server, clients_of, number_at as number_at_lem, registry_of, replies_of, views_of};
-ghost use Rattle.wm_world.specs.Passes.{Armed, Halted, Leaves, Passes, PowerLost};
+ghost use Rattle.wm_world.specs.Passes.{Armed, Halted, Leaves, Passes, PowerLost, Switches};
 ghost use Rattle.wm_world.specs.Headline.{IsFormatted};
 
 use crate::connection::Connection;
@@ -274,7 +274,7 @@ impl<D: Crashed + Drop> World<D> {
 
     /// The state goes into the other slot.
     fn checkpoint(self, alloc: Global) -> Result<World<D>, NoMemory>
-        ensures { IfOk result (Meets D.Disk checkpointed (Leaves D.Disk) self) }
+        ensures { IfOk result (Meets D.Disk checkpointed (Switches D.Disk) self) }
     {
         let World { server, shown } = self;
         let mut store = match server {

@@ -10,7 +10,7 @@ use Rattle.wm_checkpoint.specs.Layout.{other_slot}
 use Rattle.wm_disk.specs.Moments.{LeavesOnly}
 use Rattle.wm_checkpoint.proofs.Numbering.{kept_numbered, numbered_more}
 use Rattle.wm_store.proofs.Runs.{stood, both_ok}
-use Rattle.wm_store.proofs.Stores.{stored, inside_after}
+use Rattle.wm_store.proofs.Stores.{counted_up, stored, inside_after}
 use Rattle.wm_store.proofs.store.Store.checkpoint.Goals as goal
 
 pub checkpoint-requires : goal.checkpoint-requires
@@ -30,6 +30,7 @@ returns-then-self g c =
     rw (← c.self.view_is) (record {
       fresh = λ h. tt;
       number = (tt, refl);
+      counted = λ alive h x left. counted_up g.D.Disk i.keeper c.self.invariant.0 alive i.before (c.self.invariant.1 alive) h x left;
       registry = refl;
       numbered = λ alive h x left. numbered_more (number_of i.keeper) (number_of i.keeper + 1) x (omega arith) (kept_numbered g.D.Disk watches i.keeper (c.self.invariant.0.kept alive h) x left);
       any_moment = λ alive h. subst (λ (b : Option State). LeavesOnly g.D.Disk.moment g.D.Disk.left_since (disk_of i.keeper) (disk_of i.keeper) (MeansState watches (unwrap_or b (state_of i.keeper)))) (sym (c.self.invariant.1 alive)) (stood g.D.Disk g.met.D.Disk.only_now i.keeper c.self.invariant.0 alive h);
@@ -61,6 +62,7 @@ returns g c =
           (subst (λ (t : State). Means watches (D.seen (disk_of new)) (slot_of new) (number_of new) t []) (sym k.state) here) in
           (slot_of new, λ x left. subst (λ (l : List ℕ). Means watches l (slot_of new) (number_of new) (unwrap_or i.before (state_of new)) []) (sym (kept.at_rest.durable x left)) means))
           (k.fresh h) k.slot;
+      counted = λ alive h x left. counted_up D i.keeper c.self.invariant.0 alive i.before (c.self.invariant.1 alive) h x left;
       number = (on_ok_weaker c.checkpoint.result (λ s. s.1) k.slot, on_err_weaker c.checkpoint.result (λ s. s.1) k.stays);
       registry = ap (unwrap_or i.before) k.state;
       numbered = λ alive h x left. k.numbered alive h x left;

@@ -17,13 +17,13 @@ returns-then-branch g c =
 pub returns-else-branch : goal.returns-else-branch
 returns-else-branch g c =
     let spent = c.in-Err.ensures.exhausted (ap Err (c.in_ok-takes_down-in-Err.ensures.up c.if-branch.false)) in
-    checkpoint_spent g.D.Disk c.args.self _ c.in-Up.store c.checkpoint.new.self c.in-Up.is refl refl refl refl spent.1 spent.0 c.checkpoint.ensures.any_moment
+    checkpoint_spent g.D.Disk c.args.self _ c.in-Up.store c.checkpoint.new.self c.in-Up.is refl refl refl refl spent.1 spent.0 c.checkpoint.ensures.counted c.checkpoint.ensures.any_moment
 
 pub returns-in-Ok : goal.returns-in-Ok
 returns-in-Ok g c =
     let e = c.checkpoint.ensures in
     checkpoint_done g.D.Disk c.args.self _ c.in-Up.store c.checkpoint.new.self c.in-Up.is refl refl refl refl
-    e.honest c.in-Ok.ensures.whole.0 c.in-Ok.ensures.whole.1 c.in-Ok.ensures.whole.2 c.in-Ok.ensures.number.0 e.registry c.in-Ok.ensures.fresh e.any_moment
+    e.honest c.in-Ok.ensures.whole.0 c.in-Ok.ensures.whole.1 c.in-Ok.ensures.whole.2 c.in-Ok.ensures.number.0 e.registry c.in-Ok.ensures.fresh e.counted e.any_moment
 
 pub returns-in-Down : goal.returns-in-Down
 returns-in-Down g c = checkpoint_down g.D.Disk g.met.D.Disk.only_now c.args.self _ c.in-Down.disk c.in-Down.is refl refl
