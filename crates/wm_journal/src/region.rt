@@ -1,5 +1,5 @@
 //! A journal in an area of a disk.
-ghost use Rattle.std.specs.Prelude.{◌≡◌, ◌≤◌, ◌<◌, ◌+◌, ◌-◌, ◌^◌, ◌⊎◌, ◌++◌, ℕ, List, length, IfOk, IfErr, OnOk, OnErr, IsErrOf, EachIndex, slice_index};
+ghost use Rattle.std.specs.Prelude.{◌≡◌, ◌≢◌, ◌≤◌, ◌<◌, ◌+◌, ◌-◌, ◌^◌, ◌⊎◌, ◌++◌, ℕ, List, length, IfOk, IfErr, OnOk, OnErr, IsErrOf, EachIndex, slice_index};
 ghost use Rattle.wm_disk.specs.Contents.{NoMore, Rose, Counts};
 ghost use Rattle.wm_disk.specs.Moments.{Elapses, LeavesOnly};
 ghost use Rattle.wm_journal.specs.Records.{Holds, taken};
@@ -82,6 +82,7 @@ impl<D: Disk> Region<D> {
         ensures later { D.failures self.old.disk ≤ D.failures self.new.disk }
         ensures whole { OnOk result (D.failures self.new.disk ≡ D.failures self.old.disk) }
         ensures failed { IsErrOf result device_failed → Rose (D.failures self.old.disk) (D.failures self.new.disk) }
+        ensures stood { IfErr result (λ e. e ≢ device_failed → D.failures self.new.disk ≡ D.failures self.old.disk) }
         ensures kinds { IfErr result (λ e. (e ≡ device_failed) ⊎ (e ≡ no_memory) ⊎ (e ≡ damaged)) }
         ensures place { InSamePlace self.old self.new }
         ensures refused { OnErr result (IsOtherwise self.old self.new) }
