@@ -75,3 +75,15 @@ pub record LinesBroken {D : Type 0} (disk : Ghosts D) (old : D) (input : List �
 -- what a program that is refused tells: its name, and the number and name of the refusal
 abbrev pub message_of : Refusal → List ℕ
 message_of refusal = (codes "watchmand: " ++ text_of refusal) ++ codes "\n"
+
+-- Lines were answered with these bytes from some start on, at which the store works and each root has a view that has just begun. This
+-- asks nothing of the disk.
+pub record LinesAnswered (input : List ℕ) (held holds : Option (List ℕ)) : Type 0 where
+  pub begun : Standing
+  pub works : begun.state.has_failed ≡ false
+  pub views : begun.state.views ≡ first_views begun.state.registry
+  pub ways : List Way
+  pub bytes : List ℕ
+  pub left : Standing
+  pub run : Run begun line_number 0 (lines_of input) ways bytes left
+  pub appends : Appends held holds bytes

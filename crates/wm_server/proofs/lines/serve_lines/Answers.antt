@@ -75,3 +75,9 @@ returns-in-Err-default-clause-refused g c =
     let found = rw (← c.new-session.ensures) at c.in-Ok.ensures in
     close_refused g.D.Disk c.args.disk c.new-session.result.front.store c.run-ran.new.session.front c.close-closed.result.1 c.in-Err-default.refusal found.later found.working.0 c.run-ran.ensures.later c.close-closed.ensures.later
     (rw c.in-Err-default.is-0 at c.close-closed.ensures.refused)
+
+pub returns-in-Ok-Ok-clause-answered : goal.returns-in-Ok-Ok-clause-answered
+returns-in-Ok-Ok-clause-answered g c = λ served input e.
+    let found = rw (← c.new-session.ensures) at c.in-Ok.ensures in
+    let s = (rw c.in-Ok-Ok.is-1 at c.run-ran.ensures.served) input e in
+    record { begun = _; works = found.working.0; views = found.views; ways = s.ways; bytes = s.bytes; left = _; run = s.run; appends = s.appends }
