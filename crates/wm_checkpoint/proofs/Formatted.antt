@@ -1,11 +1,12 @@
 -- What an empty file means.
-use Rattle.std.proofs.Common.{◌≡◌, inl, inr, ℕ, ◌+◌, ◌-◌, ◌<◌, ◌≤◌, List, [], ◌∷◌, ◌++◌, length, take, drop, get_or, sym, ◌∙◌, ap, arith, length-append}
-use Rattle.std.proofs.lemmas.List.{drop-take, drop-drop, length-take-le, get_or_append_left, get_or-take, get_or-append_right}
+use Rattle.std.proofs.Common.{◌≡◌, ⊎_elim, inl, inr, refl, ℕ, ◌+◌, ◌-◌, ◌<◌, ◌≤◌, List, [], ◌∷◌, ◌++◌, length, take, drop, get_or, sym, ◌∙◌, ap, arith, length-append}
+use Rattle.std.proofs.lemmas.List.{take_at, take-take, drop-take, drop-drop, length-take-le, get_or_append_left, get_or-take, get_or-append_right}
 use Rattle.std.proofs.lemmas.Bool.{cases_lt}
 use Rattle.wm_disk.specs.Contents.{overwritten}
 use Rattle.wm_disk.specs.PointLaws.{length-overwritten}
 use Rattle.wm_journal.specs.Areas.{area, SameOutside}
 use Rattle.wm_journal.proofs.Contents.{same_itself, written_behind}
+use Rattle.wm_checkpoint.specs.FirstFile.{IsFirstFile}
 use Rattle.wm_checkpoint.specs.Formatting.{IsZeroTo, laid_out}
 use Rattle.wm_checkpoint.specs.Halves.{IsSwitched, half_len}
 use Rattle.wm_checkpoint.specs.Machines.{Meaning}
@@ -92,6 +93,36 @@ module _ (bytes c0 : List ℕ) (zeros : IsZeroTo 2625536 c0) (short : length byt
     filled = record { outside = same_itself 4096 half_len c4; rest = slot_rest.0; behind = slot_rest.1; journal = λ e. omega (arith, e, far 1052672 (omega arith) (omega arith)) };
     gate = slot_gate;
   }
+
+  -- the text alone was written in the slot
+  s5 : SameOutside 4097 (length bytes) c0 c1
+  s5 = done_in 4097 (length bytes) 4097 bytes c0 (omega arith) (omega arith) (omega (arith, zeros.long))
+
+  pub first_file : IsFirstFile bytes (laid_out bytes c0)
+  first_file = record {
+    long = omega (arith, zeros.long, size);
+    header =
+        let b = written_behind 1 4095 0 c1 hdr (omega arith) (omega (arith, zeros.long, s1.size)) in
+        let named : area 1 11 c2 ≡ hdr = sym (take-take 11 4095 (drop 1 c2) (omega arith)) ∙ ap (λ (l : List ℕ). take 11 l) b.1 in
+        let behind : area 1 11 c4 ≡ hdr = area_behind 0 1 1 11 c3 c4 s4 (omega arith) ∙ area_before 4096 1 1 11 c2 c3 s3 (omega arith) ∙ named in
+        let gate : get_or c4 0 0 ≡ 165 = byte_written 0 165 c3 (omega (arith, zeros.long, s1.size, s2.size, s3.size)) in
+        first_byte 0 11 c4 (omega (arith, zeros.long, size)) ∙ ap (λ (x : ℕ). x ∷ area 1 11 c4) gate ∙ ap (λ (l : List ℕ). 165 ∷ l) behind;
+    slot =
+        let there : area 4097 1048575 c4 ≡ bytes ++ slot_rest.0 = sym (ap (λ (l : List ℕ). drop 1 l) (first_byte 4096 1048575 c4 (omega (arith, zeros.long, size)))) ∙ slot_rest.1 in
+        let text : area 4097 (length bytes) c4 ≡ bytes = sym (take-take (length bytes) 1048575 (drop 4097 c4) short) ∙ ap (λ (l : List ℕ). take (length bytes) l) there ∙ take_at bytes slot_rest.0 (length bytes) refl in
+        first_byte 4096 (length bytes) c4 (omega (arith, zeros.long, size)) ∙ ap (λ (x : ℕ). x ∷ area 4097 (length bytes) c4) slot_gate ∙ ap (λ (l : List ℕ). 165 ∷ l) text;
+    zero = λ k. ⊎_elim (between k) (above k);
+  }
+    where
+      between : (k : ℕ) → (12 ≤ k) × (k < 4096) → get_or c4 k 0 ≡ 0
+      between k (le, lt) =
+          byte_behind 0 1 k c3 c4 s4 (omega (arith, le)) (omega (arith, zeros.long, s1.size, s2.size, s3.size, lt)) ∙ byte_before 4096 1 k c2 c3 s3 lt (omega (arith, zeros.long, s1.size, s2.size, lt))
+          ∙ byte_behind 1 11 k c1 c2 s2 le (omega (arith, zeros.long, s1.size, lt)) ∙ byte_before 4097 1048575 k c0 c1 s1 (omega (arith, lt)) (omega (arith, zeros.long, lt)) ∙ zeros.zero k (omega (arith, lt))
+
+      above : (k : ℕ) → (4097 + length bytes ≤ k) × (k < 2625536) → get_or c4 k 0 ≡ 0
+      above k (le, lt) =
+          byte_behind 0 1 k c3 c4 s4 (omega (arith, le)) (omega (arith, zeros.long, s1.size, s2.size, s3.size, lt)) ∙ byte_behind 4096 1 k c2 c3 s3 (omega (arith, le)) (omega (arith, zeros.long, s1.size, s2.size, lt))
+          ∙ byte_behind 1 11 k c1 c2 s2 (omega (arith, le)) (omega (arith, zeros.long, s1.size, lt)) ∙ byte_behind 4097 (length bytes) k c0 c1 s5 le (omega (arith, zeros.long, lt)) ∙ zeros.zero k lt
 
   module _ {S C : Type 0} (m : Meaning S C) where
     pub formatted : (first : S) → IsSlotText m 1 first bytes → Means m (laid_out bytes c0) A 1 first []

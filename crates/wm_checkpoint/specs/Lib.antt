@@ -3,6 +3,7 @@ pub mod Layout
 pub mod Meanings
 pub mod Numbers
 pub mod Found
+pub mod FirstFile
 pub mod Formatting
 pub mod Halves
 pub mod Kept

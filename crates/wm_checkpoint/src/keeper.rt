@@ -33,7 +33,8 @@ pub struct Keeper<D: Disk + Drop, M: Machine> {
 impl<D: Disk + Drop, M: Machine> Keeper<D, M> {
     ghost use Rattle.wm_checkpoint.specs.Layout.{other_slot};
     ghost use Rattle.wm_checkpoint.specs.declared.layout.Slot.TheVariants.{A};
-    ghost use Rattle.wm_checkpoint.specs.Meanings.{Means, MeansState, MeansBeginning, IsRetired, IsDamaged};
+    ghost use Rattle.wm_checkpoint.specs.FirstFile.{IsFirstFile};
+    ghost use Rattle.wm_checkpoint.specs.Meanings.{Means, MeansState, MeansBeginning, IsRetired, IsDamaged, slot_text as slot_text_of};
     ghost use Rattle.wm_checkpoint.specs.Kept.{disk_of, state_of, slot_of, number_of, has_failed, room_left, Keeps};
     ghost use Rattle.wm_checkpoint.specs.Numbers.{IsNumberedTo};
     ghost use Rattle.wm_disk.specs.declared.refusal.Refusal.TheVariants.{DeviceFailed as device_failed, NoMemory as no_memory, Exhausted as exhausted, Damaged as damaged, Retired as retired, StoreFailed as store_failed};
@@ -44,6 +45,8 @@ impl<D: Disk + Drop, M: Machine> Keeper<D, M> {
     /// memory, with no call of the disk.
     pub fn format(alloc: Global, disk: &mut D, first: &M::State) -> Result<(), Refusal>
         ensures formatted { D.honest disk.new → OnOk result (Means (meaning M.Machine M.State.Wire M.Command.Wire) (D.seen disk.new) A 1 first.now []) }
+        // Slot B and the rest of the header are zeros.
+        ensures first { D.honest disk.new → OnOk result (IsFirstFile (slot_text_of M.State.Wire 1 first.now) (D.seen disk.new)) }
         ensures durable { D.honest disk.new → OnOk result (Only (D.seen disk.new) (D.may_leave disk.new)) }
         ensures memory { IsErrOf result no_memory → disk.new ≡ disk.old }
         ensures honest { D.honest disk.new → D.honest disk.old }
