@@ -16,8 +16,8 @@ const SPELLINGS: &[(Plan<'static>, &[u8])] = &[
 ];
 
 // Whether a copy of the trigger is of the plan.
-fn is_copied(alloc: Global, trigger: &Trigger, plan: Plan<'_>) -> Result<bool, Refusal> {
-    let copy = trigger.copy(alloc)?;
+fn is_copied(trigger: &Trigger, plan: Plan<'_>) -> Result<bool, Refusal> {
+    let copy = trigger.copy()?;
     Ok(is_of(&copy, plan))
 }
 
@@ -25,7 +25,7 @@ fn is_copied(alloc: Global, trigger: &Trigger, plan: Plan<'_>) -> Result<bool, R
 // spelling.
 fn is_put(alloc: Global, plan: Plan<'_>, want: &[u8]) -> Result<bool, Refusal> {
     let trigger = made(alloc, plan)?;
-    let shown = is_of(&trigger, plan) && is_copied(alloc, &trigger, plan)?;
+    let shown = is_of(&trigger, plan) && is_copied(&trigger, plan)?;
     Ok(shown && is_spelled(alloc, &trigger, want)?)
 }
 

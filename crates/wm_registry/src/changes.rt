@@ -91,7 +91,7 @@ impl Registry {
         ensures ok { OnOk result (self.new ≡ changed self.old (commands.Trigger path.now trigger.now)) }
         ensures err { OnErr result (self.new ≡ self.old) }
     {
-        let trigger = trigger.copy(alloc)?;
+        let trigger = trigger.copy()?;
         if let Some(root) = self.roots.get_mut(path) {
             let before = root.triggers.size();
             root::define(&mut root.triggers, trigger)?;

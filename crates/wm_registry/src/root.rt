@@ -70,7 +70,7 @@ fn copied(alloc: Global, triggers: &List<Trigger, 64>) -> Result<List<Trigger, 6
 {
     let mut list = List::new(alloc);
     for trigger in triggers.as_slice() {
-        let copy = trigger.copy(alloc)?;
+        let copy = trigger.copy()?;
         if list.push(copy).is_err() {
             return Err(NoMemory);
         }

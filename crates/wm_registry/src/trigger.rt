@@ -9,6 +9,7 @@ use crate::stdin::Stdin;
 use crate::trigger_name::{TriggerName, is_name};
 use std::alloc::Global;
 use std::marker::Model;
+use std::sync::Arc;
 use wm_disk::{NoMemory, Refusal};
 use wm_wire::{List, Optional, Pair, Text, Wire};
 
@@ -23,11 +24,11 @@ type Expression = Optional<Text<4096>>;
 
 /// A program that is to be started where files of a root change: 1 to 16 words of at most 1,024 bytes,
 /// the first of them not empty, and perhaps an expression of at most 4,096 bytes, which chooses the
-/// files. Contracts see it as a `Definition`.
+/// files. A trigger and its copies share their parts, also in several threads. Contracts see it as a
+/// `Definition`.
 #[derive(Drop)]
 pub struct Trigger {
-    // boxed, so that a command is moved as few words
-    parts: Box<Parts>,
+    parts: Arc<Parts>,
 }
 
 /// The parts of a trigger.
@@ -102,7 +103,7 @@ impl Trigger {
         requires { has_program_lem parts.command ≡ true }
         ensures { IfOk result (λ t. t ≡ definition parts.name parts.command parts.expression parts.append_files parts.stdin) }
     {
-        let parts = Box::new(alloc, parts)?;
+        let parts = Arc::new(alloc, parts)?;
         Ok(Trigger { parts })
     }
 
@@ -155,21 +156,13 @@ impl Trigger {
             && self.parts.stdin.is_same(other.parts.stdin)
     }
 
-    /// The same trigger again.
-    pub fn copy(&self, alloc: Global) -> Result<Trigger, NoMemory>
+    /// The same trigger again, which shares its parts. `NoMemory` comes only where they have 2^63 - 1
+    /// owners already.
+    pub fn copy(&self) -> Result<Trigger, NoMemory>
         ensures { IfOk result (λ t. t ≡ self.now) }
     {
-        let name = self.parts.name.copy(alloc)?;
-        let command = copied(alloc, &self.parts.command)?;
-        let expression = copied_expression(alloc, &self.parts.expression)?;
-        let parts = Parts {
-            name,
-            command,
-            expression,
-            append_files: self.parts.append_files,
-            stdin: self.parts.stdin,
-        };
-        Trigger::of(alloc, parts)
+        let parts = self.parts.clone()?;
+        Ok(Trigger { parts })
     }
 
     /// Appends the parts one after another, and may stop between two.
@@ -285,33 +278,6 @@ fn read_expression(alloc: Global, text: Option<&str>) -> Result<Expression, NoMe
     };
     match Optional::some(Text::new(alloc, text)?) {
         Ok(expression) => Ok(expression),
-        Err(_) => Err(NoMemory),
-    }
-}
-
-/// The same words again.
-fn copied(alloc: Global, words: &Words) -> Result<Words, NoMemory>
-    ensures { IfOk result (λ l. l ≡ words.now) }
-{
-    let mut list = List::new(alloc);
-    for word in words.as_slice() {
-        let word = word.copy(alloc)?;
-        if list.push(word).is_err() {
-            return Err(NoMemory);
-        }
-    }
-    Ok(list)
-}
-
-/// The same expression again.
-fn copied_expression(alloc: Global, expression: &Expression) -> Result<Expression, NoMemory>
-    ensures { IfOk result (λ e. e ≡ expression.now) }
-{
-    let Some(text) = expression.as_option() else {
-        return Ok(Optional::none());
-    };
-    match Optional::some(text.copy(alloc)?) {
-        Ok(copy) => Ok(copy),
         Err(_) => Err(NoMemory),
     }
 }
