@@ -11,7 +11,7 @@ use Rattle.wm_world.specs.Worlds.{World, registry, replay}
 use Rattle.wm_world.specs.Steps.{Begins}
 use Rattle.wm_world.specs.Standings.{IsOn}
 use Rattle.wm_world.specs.Passes.{KeepsBetween}
-use Rattle.wm_registry.proofs.Numbers.{replay_more}
+use Rattle.wm_world.proofs.Replays.{replay_more}
 
 pub take-drop : {A : Type 0} (n : ℕ) (xs : List A) → take n xs ++ drop n xs ≡ xs
 take-drop zero xs = refl

@@ -32,8 +32,8 @@ use Rattle.wm_world.specs.Passes.{Halted, KeepsBetween, Leaves, PowerLost, Switc
 use Rattle.wm_store.proofs.Runs.{OnlyNow}
 use Rattle.wm_world.proofs.Between.{stays_put, take-drop}
 use Rattle.wm_world.proofs.Clients.{Good, good_reached}
-use Rattle.wm_world.proofs.Moments.{ids_reached}
-use Rattle.wm_registry.proofs.Numbers.{replay_more}
+use Rattle.wm_world.proofs.Reached.{settled_reached}
+use Rattle.wm_world.proofs.Replays.{replay_more}
 use Rattle.wm_world.proofs.Standing.{asking_same, changed_none, changed_set, views_operated}
 
 cond_same : {A : Type 0} (b : Bool) (x : A) → x ≡ cond b x x
@@ -185,7 +185,7 @@ module _ {D : Type 0} (disk : disks.Ghosts D) (only : OnlyNow disk) where
           record {
             server = subst (λ x. IsServer disk x new.shown.views.items v) (sym server) (subst (λ ss. IsServer disk old.server ss v) (sym views)
                 (server_alike disk old.server old.shown.views.items (at_first (is_root n) (λ s. step s op) old.shown.views.items) w v (record { kept = refl; pending = refl; slot = refl; up = refl; faults = refl })
-                (λ up are. views_operated old.shown.views.items w n op (ids_reached w reached).made are) (λ e. ap (at_first (is_root n) (λ s. step s op)) e) s.server));
+                (λ up are. views_operated old.shown.views.items w n op (settled_reached w reached).made are) (λ e. ap (at_first (is_root n) (λ s. step s op)) e) s.server));
             replies = ap (λ r. r.items) replies ∙ s.replies;
             clients = ap (λ r. r.items) clients ∙ s.clients;
           },
@@ -248,7 +248,7 @@ module _ {D : Type 0} (disk : disks.Ghosts D) (only : OnlyNow disk) where
       one_client old new n x server replies views low at asking
       (λ w reached s.
       let up : IsUp disk store old.shown.views.items w = subst (λ y. IsServer disk y old.shown.views.items w) is_up s.server in
-      asked ∙ ap (λ r. asking_by r old.shown.views.items c) up.registry_is ∙ asking_same old.shown.views.items w c (ids_reached w reached).made up.views_are
+      asked ∙ ap (λ r. asking_by r old.shown.views.items c) up.registry_is ∙ asking_same old.shown.views.items w c (settled_reached w reached).made up.views_are
       ∙ ap (asking w) (is ∙ get_same old.shown.clients.items n c x low))
       (λ w v. v ≡ cond w.up (with_client (asking w) n w) w)
       (λ w reached s.

@@ -21,7 +21,7 @@ use Rattle.wm_world.specs.Worlds.{World, at_first, is_of, cannot_rise, nothing_y
 use Rattle.wm_world.specs.Steps.{BatchCut, BatchDone, Begins, Checkpointed, Cut, Finds, OpenDone, Run, Step, begin_on, operated}
 use Rattle.wm_world.specs.Laws.{AcknowledgedStays, IsPartOf, KeptStays, NothingInvented, RestartFinds, given, given_by, without_begins}
 use Rattle.wm_world.proofs.Batching.{none_accepted, not_begin}
-use Rattle.wm_world.proofs.Moments.{Ids, ids_shape, ids_start}
+use Rattle.wm_world.proofs.Reached.{Settled, settled_shape, settled_start}
 use Rattle.wm_world.proofs.Shapes.{shape}
 
 -- ---- what was kept stays
@@ -113,8 +113,8 @@ batch_part old n s commands replies clear answered =
     (subst (λ xs. IsPartOf (old.kept ++ accepted_of commands replies) (xs ++ without_begins commands)) (sym (append-nil old.kept))
     (part_both old.kept old.kept (accepted_of commands replies) (without_begins commands) (part_same old.kept) (accepted_part n s commands replies answered)))
 
-part_step : (old : World) (event : Event) (new : World) → Ids old → Step old event new → IsPartOf (standing new) (standing old ++ given_by event)
-part_step old event new ids s = by event s
+part_step : (old : World) (event : Event) (new : World) → Settled old → Step old event new → IsPartOf (standing new) (standing old ++ given_by event)
+part_step old event new was s = by event s
   where
     to : (more : List Command) (v : World) → new ≡ v → IsPartOf (standing v) (standing old ++ more) → IsPartOf (standing new) (standing old ++ more)
     to more v e h = subst (λ (w : World). IsPartOf (standing w) (standing old ++ more)) (sym e) h
@@ -130,16 +130,16 @@ part_step old event new ids s = by event s
     batch : (u : Bool) → old.up ≡ u → (b : Bool) (commands : List Command) → MatchBool (u && b) (BatchDone old commands new ⊎ BatchCut old commands new) (new ≡ old) → IsPartOf (standing new) (standing old ++ without_begins commands)
     batch true up true commands (inl (replies, answered, long, raise, e)) =
         to (without_begins commands) _ e
-        (subst (λ xs. IsPartOf xs (standing old ++ without_begins commands)) (sym (append-nil (old.kept ++ accepted_of commands replies)) ∙ ap (λ p. (old.kept ++ accepted_of commands replies) ++ p) (sym (ids.pending up)))
-        (batch_part old new.slot (registry old) commands replies (ids.pending up) answered))
-    batch true up true commands (inr (replies, answered, some, (rose, later, raise, e))) = to (without_begins commands) _ e (batch_part old new.slot (registry old) commands replies (ids.pending up) answered)
+        (subst (λ xs. IsPartOf xs (standing old ++ without_begins commands)) (sym (append-nil (old.kept ++ accepted_of commands replies)) ∙ ap (λ p. (old.kept ++ accepted_of commands replies) ++ p) (sym (was.pending up)))
+        (batch_part old new.slot (registry old) commands replies (was.pending up) answered))
+    batch true up true commands (inr (replies, answered, some, (rose, later, raise, e))) = to (without_begins commands) _ e (batch_part old new.slot (registry old) commands replies (was.pending up) answered)
     batch true up false commands e = to (without_begins commands) old e (same (without_begins commands))
     batch false up b commands e = to (without_begins commands) old e (same (without_begins commands))
 
     checkpoint : (u : Bool) → old.up ≡ u → MatchBool u (Checkpointed old new ⊎ Cut 1 old [] new) (new ≡ old) → IsPartOf (standing new) (standing old ++ [])
     checkpoint true up (inl (inl e)) = to [] _ e (same [])
     checkpoint true up (inl (inr (spent, e))) = to [] old e (same [])
-    checkpoint true up (inr (rose, later, raise, e)) = to [] _ e (subst (λ p. IsPartOf (old.kept ++ p) (standing old ++ [])) (ids.pending up) (same []))
+    checkpoint true up (inr (rose, later, raise, e)) = to [] _ e (subst (λ p. IsPartOf (old.kept ++ p) (standing old ++ [])) (was.pending up) (same []))
     checkpoint false up e = to [] old e (same [])
 
     start : (u : Bool) → MatchBool u (new ≡ old) (OpenDone old new) → IsPartOf (standing new) (standing old ++ Begin ∷ [])
@@ -176,15 +176,15 @@ part_step old event new ids s = by event s
     by (events.Receive n) q = to [] _ q (same [])
     by (events.Lose n) q = to [] _ q (same [])
 
-part_run : (old : World) (es : List Event) (new : World) → Ids old → Run old es new → IsPartOf (standing new) (standing old ++ given es)
-part_run old [] new ids e = subst (λ (w : World). IsPartOf (standing w) (standing old ++ [])) e (part_front (standing old) (standing old) [] (part_same (standing old)))
-part_run old (event ∷ es) new ids (mid, step, run) =
-    part_then (standing new) (standing mid ++ given es) (standing old ++ (given_by event ++ given es)) (part_run mid es new (ids_shape old mid (shape old event mid step) ids) run)
+part_run : (old : World) (es : List Event) (new : World) → Settled old → Run old es new → IsPartOf (standing new) (standing old ++ given es)
+part_run old [] new was e = subst (λ (w : World). IsPartOf (standing w) (standing old ++ [])) e (part_front (standing old) (standing old) [] (part_same (standing old)))
+part_run old (event ∷ es) new was (mid, step, run) =
+    part_then (standing new) (standing mid ++ given es) (standing old ++ (given_by event ++ given es)) (part_run mid es new (settled_shape old mid (shape old event mid step) was) run)
     (subst (λ xs. IsPartOf (standing mid ++ given es) xs) (append_assoc (standing old) (given_by event) (given es))
-    (part_both (standing mid) (standing old ++ given_by event) (given es) (given es) (part_step old event mid ids step) (part_same (given es))))
+    (part_both (standing mid) (standing old ++ given_by event) (given es) (given es) (part_step old event mid was step) (part_same (given es))))
 
 pub nothing_invented : NothingInvented
-nothing_invented es w (faults, run) = part_run (nothing_yet faults) es w (ids_start faults) run
+nothing_invented es w (faults, run) = part_run (nothing_yet faults) es w (settled_start faults) run
 
 -- ---- restarts
 

@@ -11,6 +11,8 @@ pub mod Moments
 pub mod Opening
 pub mod Owners
 pub mod Places
+pub mod Reached
+pub mod Replays
 pub mod Shapes
 pub mod Standing
 pub mod Steps

@@ -12,17 +12,17 @@ use Rattle.wm_registry.specs.Spelling.{numbers_of}
 use Rattle.wm_view.specs.Histories.{History, IsMade, after, begun, is_ready, newest, tick_of, up_to}
 use Rattle.wm_view.specs.Laws.{TickInRange}
 use Rattle.wm_view.specs.declared.op.Op.{Op}
-use Rattle.wm_view.proofs.Kept.{made_after}
 use Rattle.wm_since.specs.Answers.{answer_to, clock_of}
 use Rattle.wm_since.specs.declared.query.Answer.{Answer}
 use Rattle.wm_since.specs.Clients.{next_question}
 use Rattle.wm_world.specs.declared.event.Event.{Event}
 use Rattle.wm_world.specs.Worlds.{World, at_first, begun_all, begun_between, history_in, is_of, live, nothing_yet, registry, replay, wants}
 use Rattle.wm_world.specs.Steps.{IsReached, Run}
-use Rattle.wm_world.specs.Laws.{Gives, InRange, IsAmong, OneMoment, OneMomentOfAnswers, PendingIsOwn, SameMoment}
+use Rattle.wm_world.specs.Laws.{Gives, InRange, IsAmong, OneMoment, OneMomentOfAnswers, SameMoment}
 use Rattle.wm_world.proofs.Growing.{Extends, extends_after, ids_of, of_ids, same_Some, same_ticks, Some≢None}
+use Rattle.wm_registry.specs.Laws.{NumbersInOrder, NumbersRise}
 use Rattle.wm_registry.specs.Numbers.{InOrder, Rises}
-use Rattle.wm_registry.proofs.Numbers.{in_order, rises_more}
+use Rattle.wm_world.proofs.Reached.{all_both, all_each, all_first, settled_reached}
 use Rattle.wm_world.proofs.Shapes.{IsGrown, IsUp, Shape, grows_run, runs_on, shape}
 
 -- ---- ids
@@ -41,28 +41,11 @@ abbrev pub Apart : List History → Type 0
 Apart [] = Unit {0}
 Apart (h ∷ hs) = AllByRecursion (Other h) hs × Apart hs
 
--- what every state of a run keeps
+-- what every state of a run keeps of its histories' ids
 pub record Ids (w : World) : Type 0 where
   pub begun : w.up ≡ true → 0 < (registry w).incarnation
-  pub pending : w.up ≡ true → w.pending ≡ []
   pub within : AllByRecursion (Within (registry w)) w.histories
   pub apart : Apart w.histories
-  pub made : AllByRecursion IsMade w.histories
-
-all_each : {A : Type 0} (P Q : A → Type 0) → ((x : A) → P x → Q x) → (xs : List A) → AllByRecursion P xs → AllByRecursion Q xs
-all_each P Q f [] h = tt
-all_each P Q f (x ∷ xs) h = (f x h.0, all_each P Q f xs h.1)
-
-all_both : {A : Type 0} (P : A → Type 0) (xs ys : List A) → AllByRecursion P xs → AllByRecursion P ys → AllByRecursion P (xs ++ ys)
-all_both P [] ys a b = b
-all_both P (x ∷ xs) ys a b = (a.0, all_both P xs ys a.1 b)
-
-all_first : {A : Type 0} (P : A → Type 0) (test : A → Bool) (f : A → A) → ((x : A) → P x → P (f x)) → (xs : List A) → AllByRecursion P xs → AllByRecursion P (at_first test f xs)
-all_first P test f goes [] h = tt
-all_first P test f goes (x ∷ xs) h = elim (test x) as (λ b. AllByRecursion P (cond b (f x ∷ xs) (x ∷ at_first test f xs))) [
-  | true ↦ (goes x h.0, h.1)
-  | false ↦ (h.0, all_first P test f goes xs h.1)
-]
 
 within_rises : (s t : State) → Rises s t → (h : History) → Within s h → Within t h
 within_rises s t r h w = record { begun = w.begun; incarnation = omega (arith, r.incarnation, w.incarnation); some = w.some; root = omega (arith, r.next, w.root) }
@@ -122,10 +105,6 @@ range_apart i a (suc n) = (
   range_apart i (a + 1) n,
 )
 
-range_made : (i : ℕ) (ns : List ℕ) → AllByRecursion IsMade (map (begun i) ns)
-range_made i [] = tt
-range_made i (n ∷ ns) = ((i, n, [], refl), range_made i ns)
-
 -- ---- the histories of a start
 
 roots_begun : (i b : ℕ) (roots : List (List ℕ × Root)) → AllByRecursion (λ r. (0 < r.1.number) × (r.1.number < b)) roots → AllByRecursion (BegunIn i 1 b) (map (λ r. begun i r.1.number) roots)
@@ -140,10 +119,6 @@ roots_apart i (r ∷ roots) h = (others roots h.0, roots_apart i roots h.1)
     others : (qs : List (List ℕ × Root)) → AllByRecursion (λ n. (r.1.number == n) ≡ false) (numbers_of qs) → AllByRecursion (Other (begun i r.1.number)) (map (λ q. begun i q.1.number) qs)
     others [] d = tt
     others (q ∷ qs) d = (other_root (begun i r.1.number) (begun i q.1.number) (λ e. true≢false (sym (eq-eqb r.1.number q.1.number (sym e)) ∙ d.0)), others qs d.1)
-
-roots_made : (i : ℕ) (roots : List (List ℕ × Root)) → AllByRecursion IsMade (map (λ r. begun i r.1.number) roots)
-roots_made i [] = tt
-roots_made i (r ∷ roots) = ((i, r.1.number, [], refl), roots_made i roots)
 
 -- ---- one step, and a run
 
@@ -164,16 +139,14 @@ all_among P (g ∷ gs) a h (inr m) = all_among P gs a.1 h m
 pub record Kept (s : State) (hs : List History) : Type 0 where
   pub within : AllByRecursion (Within s) hs
   pub apart : Apart hs
-  pub made : AllByRecursion IsMade hs
 
 kept_rises : (s t : State) (hs : List History) → Rises s t → Kept s hs → Kept t hs
-kept_rises s t hs r k = record { within = all_each (Within s) (Within t) (within_rises s t r) hs k.within; apart = k.apart; made = k.made }
+kept_rises s t hs r k = record { within = all_each (Within s) (Within t) (within_rises s t r) hs k.within; apart = k.apart }
 
 kept_first : (s : State) (test : History → Bool) (op : Op) (hs : List History) → Kept s hs → Kept s (at_first test (λ h. after h op) hs)
 kept_first s test op hs k = record {
   within = all_first (Within s) test (λ h. after h op) (within_after s (λ h. after h op) (λ h. extends_after h op)) hs k.within;
   apart = apart_first test (λ h. after h op) (λ h. extends_after h op) hs k.apart;
-  made = all_first IsMade test (λ h. after h op) (λ h m. made_after h op m) hs k.made;
 }
 
 kept_batch : (s t : State) (hs : List History) → Rises s t → 0 < s.incarnation → 0 < s.next → Kept s hs → Kept t (hs ++ begun_between s t)
@@ -195,7 +168,6 @@ kept_batch s t hs r begun some k =
           let l : s.next ≤ h.root = b.low in
           let u : g.root < s.next = w.root in
           omega (arith, e, l, u))));
-      made = all_both IsMade hs new k.made (range_made t.incarnation (range_with_len s.next (t.next - s.next)));
     }
 
 kept_start : (s t : State) (hs : List History) → Rises s t → s.incarnation < t.incarnation → InOrder t → Kept s hs → Kept t (hs ++ begun_all t)
@@ -216,55 +188,48 @@ kept_start s t hs r later o k =
           let i : h.incarnation ≡ t.incarnation = b.incarnation in
           let u : g.incarnation ≤ s.incarnation = w.incarnation in
           omega (arith, e, i, u, later))));
-      made = all_both IsMade hs new k.made (roots_made t.incarnation t.roots);
     }
 
-rises : (old new : World) → Shape old new → Rises (registry old) (registry new)
-rises old new s = subst (λ k. Rises (registry old) (replay k)) (sym s.kept) (rises_more old.kept s.more)
-
-kept_grown : (old new : World) → Shape old new → Ids old → Kept (registry new) new.histories
-kept_grown old new s ids = by s.histories
-  where
-    before : Kept (registry old) old.histories
-    before = record { within = ids.within; apart = ids.apart; made = ids.made }
-
-    r : Rises (registry old) (registry new)
-    r = rises old new s
-
-    to : (hs : List History) → new.histories ≡ hs → Kept (registry new) hs → Kept (registry new) new.histories
-    to hs e k = subst (λ ks. Kept (registry new) ks) (sym e) k
-
-    by : IsGrown old new → Kept (registry new) new.histories
-    by (inl e) = to old.histories e (kept_rises (registry old) (registry new) old.histories r before)
-    by (inr (inl (test, op, e))) = to _ e (kept_first (registry new) test op old.histories (kept_rises (registry old) (registry new) old.histories r before))
-    by (inr (inr (inl (up, e)))) = to _ e (kept_batch (registry old) (registry new) old.histories r (ids.begun up) (in_order old.kept).some before)
-    by (inr (inr (inr (later, e)))) = to _ e (kept_start (registry old) (registry new) old.histories r later (in_order new.kept) before)
-
-pub ids_shape : (old new : World) → Shape old new → Ids old → Ids new
-ids_shape old new s ids =
-    let k = kept_grown old new s ids in
-    record { begun = λ t. begins (s.up t); pending = λ t. clear (s.up t); within = k.within; apart = k.apart; made = k.made }
-  where
-    begins : IsUp old new → 0 < (registry new).incarnation
-    begins (inl (up, p)) = let b : 0 < (registry old).incarnation = ids.begun up in let r = rises old new s in omega (arith, b, r.incarnation)
-    begins (inr (clear, b)) = b
-
-    clear : IsUp old new → new.pending ≡ []
-    clear (inl (up, p)) = p ∙ ids.pending up
-    clear (inr (c, b)) = c
-
-pub ids_run : (old : World) (events : List Event) (new : World) → Ids old → Run old events new → Ids new
-ids_run old [] new i e = subst (λ w. Ids w) e i
-ids_run old (event ∷ events) new i (mid, step, run) = ids_run mid events new (ids_shape old mid (shape old event mid step) i) run
-
 pub ids_start : (faults : ℕ) → Ids (nothing_yet faults)
-ids_start faults = record { begun = λ t. absurd (true≢false (sym t)); pending = λ t. refl; within = tt; apart = tt; made = tt }
+ids_start faults = record { begun = λ t. absurd (true≢false (sym t)); within = tt; apart = tt }
 
-pub ids_reached : (w : World) → IsReached w → Ids w
-ids_reached w (events, (faults, run)) = ids_run (nothing_yet faults) events w (ids_start faults) run
+module _ (rising : NumbersRise) (ordered : NumbersInOrder) where
+  rises : (old new : World) → Shape old new → Rises (registry old) (registry new)
+  rises old new s = subst (λ k. Rises (registry old) (replay k)) (sym s.kept) (rising old.kept s.more)
 
-pub pending_is_own : PendingIsOwn
-pending_is_own w reached up = (ids_reached w reached).pending up
+  kept_grown : (old new : World) → Shape old new → Ids old → Kept (registry new) new.histories
+  kept_grown old new s ids = by s.histories
+    where
+      before : Kept (registry old) old.histories
+      before = record { within = ids.within; apart = ids.apart }
+
+      r : Rises (registry old) (registry new)
+      r = rises old new s
+
+      to : (hs : List History) → new.histories ≡ hs → Kept (registry new) hs → Kept (registry new) new.histories
+      to hs e k = subst (λ ks. Kept (registry new) ks) (sym e) k
+
+      by : IsGrown old new → Kept (registry new) new.histories
+      by (inl e) = to old.histories e (kept_rises (registry old) (registry new) old.histories r before)
+      by (inr (inl (test, op, e))) = to _ e (kept_first (registry new) test op old.histories (kept_rises (registry old) (registry new) old.histories r before))
+      by (inr (inr (inl (up, e)))) = to _ e (kept_batch (registry old) (registry new) old.histories r (ids.begun up) (ordered old.kept).some before)
+      by (inr (inr (inr (part, later, e)))) = to _ e (kept_start (registry old) (registry new) old.histories r (omega (arith, (rising old.kept part).incarnation, later)) (ordered new.kept) before)
+
+  pub ids_shape : (old new : World) → Shape old new → Ids old → Ids new
+  ids_shape old new s ids =
+      let k = kept_grown old new s ids in
+      record { begun = λ t. begins (s.up t); within = k.within; apart = k.apart }
+    where
+      begins : IsUp old new → 0 < (registry new).incarnation
+      begins (inl (up, p)) = let b : 0 < (registry old).incarnation = ids.begun up in let r = rises old new s in omega (arith, b, r.incarnation)
+      begins (inr (clear, b)) = b
+
+  pub ids_run : (old : World) (events : List Event) (new : World) → Ids old → Run old events new → Ids new
+  ids_run old [] new i e = subst (λ w. Ids w) e i
+  ids_run old (event ∷ events) new i (mid, step, run) = ids_run mid events new (ids_shape old mid (shape old event mid step) i) run
+
+  pub ids_reached : (w : World) → IsReached w → Ids w
+  ids_reached w (events, (faults, run)) = ids_run (nothing_yet faults) events w (ids_start faults) run
 
 -- ---- one moment
 
@@ -282,18 +247,6 @@ found_apart (g ∷ gs) h a (inr m) =
     turned : (b : Bool) → is_of h.incarnation h.root g ≡ b → b ≡ false
     turned true t = let i = of_ids h.incarnation h.root g t in absurd (true≢false (sym (ids_of g.incarnation g.root h (sym i.0) (sym i.1)) ∙ apart))
     turned false t = refl
-
-one_id : (old new : World) (events : List Event) (g h : History) → IsReached old → Run old events new → IsAmong g old.histories → IsAmong h new.histories → clock_of g ≡ clock_of h → SameMoment g h
-one_id old new events g h reached run mg mh e =
-    let before : Ids old = ids_reached old reached in
-    let after : Ids new = ids_run old events new before run in
-    let i : g.incarnation ≡ h.incarnation = ap (λ (c : ClockId). c.incarnation) e in
-    let r : g.root ≡ h.root = ap (λ (c : ClockId). c.root) e in
-    let t : tick_of g ≡ tick_of h = ap (λ (c : ClockId). c.tick) e in
-    let later = grows_run old events new run g.incarnation g.root g (found_apart old.histories g before.apart mg) in
-    let is_h : later.0 ≡ h = same_Some later.0 h (sym later.1 ∙ (λ j. history_in new.histories (i j) (r j)) ∙ found_apart new.histories h after.apart mh) in
-    let ext : Extends g h = subst (λ k. Extends g k) is_h later.2 in
-    record { incarnation = i; root = r; tick = t; maps = λ u le. ap (λ ts. newest (up_to u ts)) (sym (same_ticks g h ext t)) }
 
 pub goes_on : (old : World) (events : List Event) (new : World) → IsReached old → Run old events new → IsReached new
 goes_on old events new (before, (faults, start)) run = (before ++ events, (faults, runs_on (nothing_yet faults) before old events new start run))
@@ -339,27 +292,40 @@ both a b e f = λ i. e i && f i
 is_in_range : (n : ℕ) → 0 < n → n ≤ limit → is_number n ≡ true
 is_in_range n low high = both (nat_lt 0 n) (nat_le n limit) (lt-ltb 0 n low) (le-leb n limit high)
 
-module _ (ticks : TickInRange) where
-  pub in_range : InRange
-  in_range w h reached m ready =
-      let ids = ids_reached w reached in
-      let within = all_among (Within (registry w)) w.histories ids.within h m in
-      let made = all_among IsMade w.histories ids.made h m in
-      let order = in_order w.kept in
-      both (is_number h.incarnation && is_number h.root) (is_number (tick_of h))
-      (both (is_number h.incarnation) (is_number h.root)
-      (is_in_range h.incarnation within.begun (omega (arith, within.incarnation, order.incarnation)))
-      (is_in_range h.root within.some (omega (arith, within.root, order.next))))
-      (is_in_range (tick_of h) (ltb-true 0 (tick_of h) ready) (ticks h made))
+module _ (rising : NumbersRise) (ordered : NumbersInOrder) where
+  one_id : (old new : World) (events : List Event) (g h : History) → IsReached old → Run old events new → IsAmong g old.histories → IsAmong h new.histories → clock_of g ≡ clock_of h → SameMoment g h
+  one_id old new events g h reached run mg mh e =
+      let before : Ids old = ids_reached rising ordered old reached in
+      let after : Ids new = ids_run rising ordered old events new before run in
+      let i : g.incarnation ≡ h.incarnation = ap (λ (c : ClockId). c.incarnation) e in
+      let r : g.root ≡ h.root = ap (λ (c : ClockId). c.root) e in
+      let t : tick_of g ≡ tick_of h = ap (λ (c : ClockId). c.tick) e in
+      let later = grows_run old events new run g.incarnation g.root g (found_apart old.histories g before.apart mg) in
+      let is_h : later.0 ≡ h = same_Some later.0 h (sym later.1 ∙ (λ j. history_in new.histories (i j) (r j)) ∙ found_apart new.histories h after.apart mh) in
+      let ext : Extends g h = subst (λ k. Extends g k) is_h later.2 in
+      record { incarnation = i; root = r; tick = t; maps = λ u le. ap (λ ts. newest (up_to u ts)) (sym (same_ticks g h ext t)) }
 
-  module _ (texts : OneText) where
-    pub one_moment : OneMoment
-    one_moment old new events g h text reached run mg mh tg th =
-        one_id old new events g h reached run mg mh
-        (texts text (clock_of g) (clock_of h) (tg.1, in_range old g reached mg tg.0) (th.1, in_range new h (goes_on old events new reached run) mh th.0))
+  module _ (ticks : TickInRange) where
+    pub in_range : InRange
+    in_range w h reached m ready =
+        let ids = ids_reached rising ordered w reached in
+        let within = all_among (Within (registry w)) w.histories ids.within h m in
+        let made = all_among IsMade w.histories (settled_reached w reached).made h m in
+        let order = ordered w.kept in
+        both (is_number h.incarnation && is_number h.root) (is_number (tick_of h))
+        (both (is_number h.incarnation) (is_number h.root)
+        (is_in_range h.incarnation within.begun (omega (arith, within.incarnation, order.incarnation)))
+        (is_in_range h.root within.some (omega (arith, within.root, order.next))))
+        (is_in_range (tick_of h) (ltb-true 0 (tick_of h) ready) (ticks h made))
 
-    pub one_moment_of_answers : OneMomentOfAnswers
-    one_moment_of_answers old new events a b g h reached run ga hb e =
-        let x = given_about old a g ga in
-        let y = given_about new b h hb in
-        one_moment old new events g h (clock_text a.clock) reached run x.among y.among (x.ready, ap clock_text x.clock) (y.ready, e ∙ ap clock_text y.clock)
+    module _ (texts : OneText) where
+      pub one_moment : OneMoment
+      one_moment old new events g h text reached run mg mh tg th =
+          one_id old new events g h reached run mg mh
+          (texts text (clock_of g) (clock_of h) (tg.1, in_range old g reached mg tg.0) (th.1, in_range new h (goes_on old events new reached run) mh th.0))
+
+      pub one_moment_of_answers : OneMomentOfAnswers
+      one_moment_of_answers old new events a b g h reached run ga hb e =
+          let x = given_about old a g ga in
+          let y = given_about new b h hb in
+          one_moment old new events g h (clock_text a.clock) reached run x.among y.among (x.ready, ap clock_text x.clock) (y.ready, e ∙ ap clock_text y.clock)

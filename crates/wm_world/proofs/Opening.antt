@@ -16,6 +16,7 @@ use Rattle.wm_registry.specs.declared.command.Command.TheVariants.{Begin}
 use Rattle.wm_registry.specs.declared.reply.Reply.TheVariants.{Refused}
 use Rattle.wm_registry.specs.declared.root.Root.{Root}
 use Rattle.wm_registry.specs.MachineLaws.{watches}
+use Rattle.wm_registry.specs.Laws.{NumbersInOrder, NumbersRise}
 use Rattle.wm_registry.specs.Registry.{after, changed, changes, fresh, is_change, reply_to}
 use Rattle.wm_registry.specs.Roots.{State}
 use Rattle.wm_store.specs.Openings.{IsBegun, IsFound}
@@ -33,7 +34,7 @@ use Rattle.wm_journal.proofs.Opening.{weaker}
 use Rattle.wm_world.proofs.Between.{between_before, between_from, take-drop}
 use Rattle.wm_world.proofs.Calls.{prefix_same}
 use Rattle.wm_world.proofs.Moments.{Within, ids_reached}
-use Rattle.wm_registry.proofs.Numbers.{began, replay_more, rises_more}
+use Rattle.wm_world.proofs.Replays.{began, replay_more}
 use Rattle.wm_checkpoint.proofs.Numbering.{number_within, numbered_more}
 use Rattle.wm_world.proofs.Stores.{CountsNow, none_yet, now}
 
@@ -67,7 +68,7 @@ module _ {D : Type 0} (disk : disks.Ghosts D) where
   abbrev pub ReadsStand : Type 0
   ReadsStand = (d : D) → disk.honest d → disk.may_leave d (disk.seen d)
 
-  module _ (old new : Running D) (d : D) (is_down : old.server ≡ Down d) (one : OneMeaning) (stand : ReadsStand) where
+  module _ (old new : Running D) (d : D) (is_down : old.server ≡ Down d) (one : OneMeaning) (rising : NumbersRise) (ordered : NumbersInOrder) (stand : ReadsStand) where
     down_of : (w : World) → Stands disk old w → IsDown disk d old.shown.views.items w
     down_of w s = subst (λ x. IsServer disk x old.shown.views.items w) is_down s.server
 
@@ -124,7 +125,7 @@ module _ {D : Type 0} (disk : disks.Ghosts D) where
           let kept : List Command = k.found ++ Begin ∷ [] in
           let led : store.registry ≡ replay kept = b.registry ∙ ap (λ r. after r Begin) at ∙ sym (replay_more fresh k.found (Begin ∷ [])) in
           let next : (replay kept).incarnation ≡ (replay k.found).incarnation + 1 = ap (λ (r : State). r.incarnation) (replay_more fresh k.found (Begin ∷ [])) ∙ began (replay k.found) accepts in
-          let rise : (registry w).incarnation ≤ (replay k.found).incarnation = subst (λ cs. (registry w).incarnation ≤ (replay cs).incarnation) (sym k.finds.2) (rises_more w.kept k.finds.0).incarnation in
+          let rise : (registry w).incarnation ≤ (replay k.found).incarnation = subst (λ cs. (registry w).incarnation ≤ (replay cs).incarnation) (sym k.finds.2) (rising w.kept k.finds.0).incarnation in
           let low : b.opened.means.number ≤ w.slot = number_within (disk.seen d) b.opened.means w.slot k.numbered in
           let high : store.number ≤ w.slot + 1 = omega (arith, b.number, low) in
           let v : World = record w { kept = kept; pending = []; up = true; slot = w.slot + 1; histories = w.histories ++ begun_all (replay kept) } in
@@ -149,7 +150,7 @@ module _ {D : Type 0} (disk : disks.Ghosts D) where
                   past = w.histories;
                   present = begun_all (replay kept);
                   all = refl;
-                  over = all_over (registry w) (replay kept).incarnation (omega (arith, next, rise)) w.histories (ids_reached w reached).within;
+                  over = all_over (registry w) (replay kept).incarnation (omega (arith, next, rise)) w.histories (ids_reached rising ordered w reached).within;
                   now = all_now (replay kept).incarnation (replay kept).roots;
                   shown = views ∙ ap (λ r. map summary (begun_all r)) led;
                 };

@@ -1,5 +1,5 @@
 -- What each step leaves of the commands, and how it makes the histories grow.
-use Rattle.std.proofs.Common.{◌≡◌, ◌⊎◌, inl, inr, ℕ, ◌+◌, ◌<◌, ◌≤◌, Bool, true, false, cond, ◌&&◌, List, [], ◌∷◌, ◌++◌, length, nat_le, Option, Some, None, refl, sym, ap, subst, ◌∙◌, arith, true≢false, append_assoc, append-nil, MatchBool}
+use Rattle.std.proofs.Common.{◌≡◌, ◌⊎◌, inl, inr, ℕ, ◌+◌, ◌<◌, Bool, true, false, cond, ◌&&◌, List, [], ◌∷◌, ◌++◌, length, nat_le, Option, Some, None, refl, sym, ap, subst, ◌∙◌, arith, true≢false, append_assoc, append-nil, MatchBool}
 use Rattle.wm_names.specs.Paths.{Path}
 use Rattle.wm_registry.specs.declared.command.Command.{Command}
 use Rattle.wm_registry.specs.declared.command.Command.TheVariants.{Begin}
@@ -18,7 +18,7 @@ use Rattle.wm_world.specs.declared.event.Event.TheVariants as events
 use Rattle.wm_world.specs.Worlds.{World, at_first, begun_all, begun_between, is_of, registry, replay}
 use Rattle.wm_world.specs.Steps.{BatchCut, BatchDone, Checkpointed, Cut, OpenDone, Opened, Run, Step, begin_on, down, operated}
 use Rattle.wm_world.proofs.Growing.{Grows, extends_after, grows_append, grows_at, grows_same, grows_then}
-use Rattle.wm_registry.proofs.Numbers.{began, replay_more, rises_more}
+use Rattle.wm_world.proofs.Replays.{began, replay_more}
 
 -- the server was up before, or it has just been opened
 abbrev pub IsUp : World → World → Type 0
@@ -30,7 +30,7 @@ IsGrown old new =
     (new.histories ≡ old.histories)
     ⊎ ((test : History → Bool) × (op : Op) × (new.histories ≡ at_first test (λ h. after h op) old.histories))
     ⊎ ((old.up ≡ true) × (new.histories ≡ old.histories ++ begun_between (registry old) (registry new)))
-    ⊎ (((registry old).incarnation < (registry new).incarnation) × (new.histories ≡ old.histories ++ begun_all (registry new)))
+    ⊎ ((part : List Command) × ((replay (old.kept ++ part)).incarnation < (registry new).incarnation) × (new.histories ≡ old.histories ++ begun_all (registry new)))
 
 pub record Shape (old new : World) : Type 0 where
   pub more : List Command
@@ -110,11 +110,12 @@ opened old new (found, (part, begins, is), raise, accepts, e) =
     let whole : found ++ Begin ∷ [] ≡ old.kept ++ more = ap (λ cs. cs ++ Begin ∷ []) is ∙ append_assoc old.kept part (Begin ∷ []) in
     let next : (replay (found ++ Begin ∷ [])).incarnation ≡ (replay found).incarnation + 1 =
     ap (λ (s : State). s.incarnation) (replay_more fresh found (Begin ∷ [])) ∙ began (replay found) accepts in
-    let rise : (registry old).incarnation ≤ (replay found).incarnation = subst (λ cs. (registry old).incarnation ≤ (replay cs).incarnation) (sym is) (rises_more old.kept part).incarnation in
+    let later : (replay (old.kept ++ part)).incarnation < (replay (found ++ Begin ∷ [])).incarnation =
+    subst (λ cs. (replay cs).incarnation < (replay (found ++ Begin ∷ [])).incarnation) is (omega (arith, next)) in
     like old _ new e (record {
       more = more;
       kept = whole;
-      histories = inr (inr (inr (omega (arith, next, rise), refl)));
+      histories = inr (inr (inr (part, later, refl)));
       up = λ t. inr (refl, omega (arith, next));
     })
 
@@ -166,7 +167,7 @@ grows_shape old new s = by s.histories
     by (inl e) = to old.histories e (grows_same old.histories)
     by (inr (inl (test, op, e))) = to _ e (grows_at test (λ h. after h op) (λ h. extends_after h op) old.histories)
     by (inr (inr (inl (up, e)))) = to _ e (grows_append old.histories (begun_between (registry old) (registry new)))
-    by (inr (inr (inr (later, e)))) = to _ e (grows_append old.histories (begun_all (registry new)))
+    by (inr (inr (inr (part, later, e)))) = to _ e (grows_append old.histories (begun_all (registry new)))
 
 pub grows_run : (old : World) (events : List Event) (new : World) → Run old events new → Grows old.histories new.histories
 grows_run old [] new e = subst (λ (w : World). Grows old.histories w.histories) e (grows_same old.histories)

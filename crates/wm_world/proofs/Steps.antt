@@ -4,6 +4,7 @@ use Rattle.std.specs.List.{FoldsTo}
 use Rattle.wm_disk.specs.declared.disk.Disk as disks
 use Rattle.wm_checkpoint.specs.Meanings.{Means}
 use Rattle.wm_checkpoint.specs.declared.layout.Slot.TheVariants.{A}
+use Rattle.wm_registry.specs.Laws.{NumbersInOrder, NumbersRise}
 use Rattle.wm_registry.specs.MachineLaws.{watches}
 use Rattle.wm_registry.specs.Registry.{fresh}
 use Rattle.wm_view.specs.Laws.{TickInRange}
@@ -26,7 +27,25 @@ folds_more : {V X : Type 0} (R : V → X → V → Type 0) (a b c : V) (xs : Lis
 folds_more R a b c [] x e r = (c, subst (λ v. R v x c) (sym e) r, refl)
 folds_more R a b c (y ∷ ys) x (mid, first, rest) r = (mid, first, folds_more R mid b c ys x rest r)
 
-module _ {D : Type 0} (disk : disks.Ghosts D) (ticks : TickInRange) where
+module _ {D : Type 0} (disk : disks.Ghosts D) where
+  -- a world that has just been made
+  pub begins : (d : D) (world : Running D) → world.server ≡ Down d → world.shown.views.items ≡ [] → world.shown.replies.items ≡ [] → world.shown.clients.items ≡ [] → IsFormatted disk d → Stands disk world (nothing_yet (disk.failures d))
+  begins d world server none replies clients f = record {
+    server = subst (λ s. IsServer disk s world.shown.views.items (nothing_yet (disk.failures d))) (sym server) (record {
+      down = refl;
+      none = none;
+      on = record {
+        prefix = λ c left.
+            let m : Means watches c A 1 fresh [] = subst (λ x. Means watches x A 1 fresh []) (sym (f.durable c left)) f.formatted in
+            record { means = none_yet fresh [] c (record { slot = A; number = 1; base = fresh; commands = []; means = m; is = refl }); numbered = means_numbered watches c A 1 fresh [] m };
+        faults = refl;
+      };
+    });
+    replies = replies;
+    clients = clients;
+  }
+
+module _ {D : Type 0} (disk : disks.Ghosts D) (rising : NumbersRise) (ordered : NumbersInOrder) (ticks : TickInRange) where
   holds : (world : Running D) (w : World) → disk.honest (disk_of disk world) → IsReached w → Stands disk world w → Holds disk (record { disk = disk_of disk world; world = w })
   holds world w h reached s =
       let on = on_of disk world.server world.shown.views.items w s.server in
@@ -34,7 +53,7 @@ module _ {D : Type 0} (disk : disks.Ghosts D) (ticks : TickInRange) where
         honest = h;
         prefix = on.prefix;
         clients = clients_hold w reached;
-        clocks = λ g among ready. in_range ticks w g reached among ready;
+        clocks = λ g among ready. in_range rising ordered ticks w g reached among ready;
         faults = on.faults;
       }
 
@@ -59,20 +78,3 @@ module _ {D : Type 0} (disk : disks.Ghosts D) (ticks : TickInRange) where
         run = folds_more (Goes disk) (start disk d) (record { disk = disk_of disk old; world = driven.last }) (record { disk = disk_of disk new; world = next.0 }) events event driven.run (record { step = next.1; passes = next.3; holds = holds new next.0 h reached next.2 });
         stands = next.2;
       }
-
-  -- a world that has just been made
-  pub begins : (d : D) (world : Running D) → world.server ≡ Down d → world.shown.views.items ≡ [] → world.shown.replies.items ≡ [] → world.shown.clients.items ≡ [] → IsFormatted disk d → Stands disk world (nothing_yet (disk.failures d))
-  begins d world server none replies clients f = record {
-    server = subst (λ s. IsServer disk s world.shown.views.items (nothing_yet (disk.failures d))) (sym server) (record {
-      down = refl;
-      none = none;
-      on = record {
-        prefix = λ c left.
-            let m : Means watches c A 1 fresh [] = subst (λ x. Means watches x A 1 fresh []) (sym (f.durable c left)) f.formatted in
-            record { means = none_yet fresh [] c (record { slot = A; number = 1; base = fresh; commands = []; means = m; is = refl }); numbered = means_numbered watches c A 1 fresh [] m };
-        faults = refl;
-      };
-    });
-    replies = replies;
-    clients = clients;
-  }

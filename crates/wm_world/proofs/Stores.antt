@@ -34,8 +34,8 @@ use Rattle.wm_store.proofs.Runs.{OnlyNow}
 use Rattle.wm_world.proofs.Batching.{answered_more, same_incarnation}
 use Rattle.wm_world.proofs.Between.{between_before, between_more}
 use Rattle.wm_world.proofs.Calls.{nothing}
-use Rattle.wm_world.proofs.Moments.{pending_is_own}
-use Rattle.wm_registry.proofs.Numbers.{replay_more}
+use Rattle.wm_world.proofs.Reached.{pending_is_own}
+use Rattle.wm_world.proofs.Replays.{replay_more}
 
 -- ---- contents
 

@@ -8,6 +8,7 @@ use crate::event::Event;
 use crate::world::World;
 use std::alloc::Global;
 use wm_disk::{Crashed, Refusal};
+use wm_registry::every_registry;
 
 /// A world after these events, from a disk as a `format` that succeeded left it. An event that doesn't
 /// fit changes nothing. `16 NoMemory` alone is answered, as soon as an event meets it; the disk is dropped
@@ -27,6 +28,7 @@ pub fn drive<D: Crashed + Drop>(
     ensures answers { OneMomentOfAnswers }
     ensures memory { IfErr result (λ e. e ≡ no_memory) }
 {
+    every_registry();
     let mut world = World::new(alloc, disk);
     for event in events {
         world = world.step(alloc, event)?;

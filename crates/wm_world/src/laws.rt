@@ -1,5 +1,7 @@
 ghost use Rattle.wm_world.specs.Laws.{AcknowledgedStays, ClientsHold, InRange, KeptStays, NothingInvented, OneMoment, OneMomentOfAnswers, PendingIsOwn, RestartFinds, SlotBound};
 
+use wm_registry::every_registry;
+
 /// What holds of every run, whatever the events are.
 pub fn every_run()
     // Each client holds exactly the matching files in the view at its last clock.
@@ -15,4 +17,6 @@ pub fn every_run()
     ensures pending { PendingIsOwn }
     ensures bound { SlotBound }
     ensures restart { RestartFinds }
-{}
+{
+    every_registry();
+}

@@ -15,7 +15,7 @@ use wm_checkpoint::every_content;
 use wm_disk::{Crashed, NoMemory};
 use wm_expr::Expr;
 use wm_names::RootPath;
-use wm_registry::{Command, Registry, Reply};
+use wm_registry::{Command, Registry, Reply, every_registry};
 use wm_since::Mirror;
 use wm_store::{MAX_BATCH, Store};
 use wm_view::{Op, View};
@@ -314,6 +314,7 @@ impl<D: Crashed + Drop> World<D> {
             Server::Down(disk) => disk,
         };
         every_content::<Registry>();
+        every_registry();
         match Store::open(alloc, disk) {
             Ok(store) => {
                 shown.views = store::first_views(alloc, store.registry())?;
