@@ -1,5 +1,5 @@
 -- The numbers of a registry along a replay: they never go back, they stay in range, and no two roots have one.
-use Rattle.std.proofs.Common.{◌≡◌, ℕ, ◌+◌, ◌<◌, Bool, true, false, cond, List, [], ◌∷◌, ◌++◌, nat_lt, ◌==◌, Option, Some, None, refl, sym, ap, subst, arith, true≢false, ne_eqb}
+use Rattle.std.proofs.Common.{◌≡◌, ℕ, ◌+◌, ◌<◌, Bool, true, false, cond, List, [], ◌∷◌, ◌++◌, nat_lt, ◌==◌, Option, Some, None, refl, sym, subst, arith, true≢false, ne_eqb}
 use Rattle.std.proofs.lemmas.Bool.{ltb-true}
 use Rattle.std.proofs.lemmas.List.{map-append}
 use Rattle.std.specs.List.{AllByRecursion, IsDistinct}
@@ -19,6 +19,7 @@ use Rattle.wm_registry.specs.Triggers.{Definition, defined, without}
 use Rattle.wm_registry.proofs.Changing.{may_watch}
 use Rattle.wm_registry.proofs.Entries.{AllByRecursion-each, AllByRecursion-push, AllByRecursion-remove_entry, AllByRecursion-set_value, IsDistinct-push, IsDistinct-remove_entry, map-set_value}
 use Rattle.wm_checkpoint.specs.Machines.{replay_on}
+use Rattle.wm_checkpoint.proofs.Outside.{replayed_append}
 
 -- what a command makes of a registry
 pub record Goes (s t : State) : Type 0 where
@@ -110,7 +111,7 @@ goes_changed s (WatchDel path) h = goes_without_root s path
 goes_changed s (Trigger path trigger) h = goes_at s path (λ root. with_triggers s path root (defined trigger root.triggers)) (λ root at. goes_with_triggers s path root (defined trigger root.triggers) at)
 goes_changed s (TriggerDel path name) h = goes_at s path (λ root. with_triggers s path root (without name root.triggers)) (λ root at. goes_with_triggers s path root (without name root.triggers) at)
 
-pub goes_after : (s : State) (c : Command) → Goes s (after s c)
+goes_after : (s : State) (c : Command) → Goes s (after s c)
 goes_after s c = by (changes s c) refl
   where
     by : (b : Bool) → changes s c ≡ b → Goes s (cond b (changed s c) s)
@@ -125,16 +126,12 @@ goes_then s t u a b = record {
   order = λ o. b.order (a.order o);
 }
 
-pub goes_replay : (s : State) (cs : List Command) → Goes s (replay_on watches s cs)
+goes_replay : (s : State) (cs : List Command) → Goes s (replay_on watches s cs)
 goes_replay s [] = goes_same s
 goes_replay s (c ∷ cs) = goes_then s (after s c) (replay_on watches (after s c) cs) (goes_after s c) (goes_replay (after s c) cs)
 
-pub replay_more : (s : State) (cs ds : List Command) → replay_on watches s (cs ++ ds) ≡ replay_on watches (replay_on watches s cs) ds
-replay_more s [] ds = refl
-replay_more s (c ∷ cs) ds = replay_more (after s c) cs ds
-
 pub rises_more : (cs ds : List Command) → Rises (replay_on watches fresh cs) (replay_on watches fresh (cs ++ ds))
-rises_more cs ds = subst (λ t. Rises (replay_on watches fresh cs) t) (sym (replay_more fresh cs ds)) (goes_replay (replay_on watches fresh cs) ds).rises
+rises_more cs ds = subst (λ t. Rises (replay_on watches fresh cs) t) (sym (replayed_append after fresh cs ds)) (goes_replay (replay_on watches fresh cs) ds).rises
 
 fresh_in_order : InOrder fresh
 unfolding IsDistinct
@@ -142,7 +139,3 @@ fresh_in_order = record { incarnation = omega arith; some = omega arith; next = 
 
 pub in_order : (cs : List Command) → InOrder (replay_on watches fresh cs)
 in_order cs = (goes_replay fresh cs).order fresh_in_order
-
--- a Begin that is accepted makes the next incarnation
-pub began : (s : State) → changes s Begin ≡ true → (after s Begin).incarnation ≡ s.incarnation + 1
-began s h = ap (λ b. (cond b (changed s Begin) s).incarnation) h
