@@ -9,7 +9,7 @@ VIEW_BENCH := crates/view_bench/out/view_bench
 FILES ?= 100000
 SOURCES := crates.txt $(shell find crates -name out -prune -o -type f \( -name '*.rt' -o -name '*.antt' \) -print)
 
-.PHONY: test build run install bench bench-journal bench-store bench-view bench-match session examples kill
+.PHONY: test build run install bench bench-journal bench-store bench-view bench-match session examples kill state-file
 
 test:
 	rt ci
@@ -21,6 +21,7 @@ $(PROGRAM): $(SOURCES)
 	cd crates/watchmand && rt run -- --help </dev/null >&2
 	@touch $@
 
+# A `format` that fails ends it, and has taken its file away. A part that a killed one left is answered `14 Damaged`.
 run: $(PROGRAM)
 	@test -e $(STATE) || $(PROGRAM) format $(STATE) >&2
 	@$(PROGRAM) lines $(STATE)
@@ -40,6 +41,10 @@ examples: $(PROGRAM)
 # Kills the built program in the midst of commands, again and again, and looks for what it answered.
 kill: $(PROGRAM)
 	tools/kill_loop.py $(PROGRAM)
+
+# The built program over a state file that another has open, and where `format` fails or is killed.
+state-file: $(PROGRAM)
+	tools/state_file.sh $(PROGRAM)
 
 bench: $(PROGRAM)
 	bench/watch_list.sh $(PROGRAM)

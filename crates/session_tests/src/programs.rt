@@ -1,5 +1,6 @@
 //! The program as its mains call it: its words, its files, and its calls from end to end.
 mod calls;
 mod files;
+mod owners;
 mod read_only;
 mod words;

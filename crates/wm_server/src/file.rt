@@ -162,7 +162,8 @@ impl<S: Start> FileDisk<S> {
         }
     }
 
-    /// Opens a regular file that is there, to read and write it, and makes what it reads durable.
+    /// Opens a regular file that is there, to read and write it, and makes what it reads durable. The file
+    /// is locked until the disk is dropped: where another program has its lock, nothing is opened.
     pub fn open(files: &impl Files<File = File>, path: &str) -> Result<FileDisk<S>, DeviceFailed>
         ensures fresh { IfOk result (λ disk. IsFresh disk) }
     {
@@ -174,13 +175,15 @@ impl<S: Start> FileDisk<S> {
             _ => return Err(DeviceFailed),
         }
         match above_standard(file) {
-            Ok(file) if file.sync_all().is_ok() => Ok(FileDisk::fresh(file)),
+            Ok(file) if file.try_lock().is_ok() && file.sync_all().is_ok() => {
+                Ok(FileDisk::fresh(file))
+            }
             _ => Err(DeviceFailed),
         }
     }
 
-    /// Makes a new file, which holds nothing, and makes its name durable. Where that fails, the empty
-    /// file may stay.
+    /// Makes a new file, which holds nothing, locks it until the disk is dropped, and makes its name
+    /// durable. Where that fails, a file that was made is taken away again.
     pub fn create(files: &impl Files<File = File>, path: &str) -> Result<FileDisk<S>, DeviceFailed>
         requires empty { S.Start.content ≡ [] }
         ensures fresh { IfOk result (λ disk. IsFresh disk) }
@@ -189,8 +192,14 @@ impl<S: Start> FileDisk<S> {
             return Err(DeviceFailed);
         };
         match above_standard(file) {
-            Ok(file) if sync_folder(files, path).is_ok() => Ok(FileDisk::fresh(file)),
-            _ => Err(DeviceFailed),
+            Ok(file) if file.try_lock().is_ok() && sync_folder(files, path).is_ok() => {
+                Ok(FileDisk::fresh(file))
+            }
+            _ => {
+                // Where it can't be taken away either, it stays: a start over it is refused.
+                let _taken = files.remove_file(path);
+                Err(DeviceFailed)
+            }
         }
     }
 }

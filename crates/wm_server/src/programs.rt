@@ -1,5 +1,5 @@
 //! What the programs' mains call.
-ghost use Rattle.std.specs.Prelude.{◌≡◌, ◌⊎◌, ◌<◌, ◌≤◌, codes, map};
+ghost use Rattle.std.specs.Prelude.{◌≡◌, ◌⊎◌, ◌<◌, ◌≤◌, OnOk, codes, map};
 ghost use Rattle.std.specs.Io.KnownBytes.{Appends};
 ghost use Rattle.wm_server.specs.Words.{asked, shown as shown_lem};
 
@@ -9,7 +9,7 @@ use crate::words::Words;
 use std::alloc::Global;
 use std::fs::{File, Files};
 use std::io::{BufRead, Write};
-use wm_disk::{NoMemory, Refusal};
+use wm_disk::{Disk, NoMemory, Refusal};
 
 /// `watchmand` with these words, of which its own name is none: gives the status to end with. Replies
 /// and help go to `writer`, and what goes wrong is told on `faults`.
@@ -44,7 +44,8 @@ fn shown<W: Write>(text: &str, status: u8, writer: &mut W) -> u8
     }
 }
 
-/// `watchmand format FILE`: makes a state file, which must not be there yet.
+/// `watchmand format FILE`: makes a state file, which must not be there yet. Where that fails, the file
+/// that was made is taken away again.
 fn format<W: Write, E: Write>(
     alloc: Global,
     files: &impl Files<File = File>,
@@ -58,12 +59,26 @@ fn format<W: Write, E: Write>(
     let Ok(mut disk) = FileDisk::<Unknown>::create(files, path) else {
         return refuse(Refusal::DeviceFailed, faults);
     };
-    if let Err(refusal) = wm_store::format(alloc, &mut disk) {
-        return refuse(refusal, faults);
-    }
+    let Err(refusal) = write_format(alloc, &mut disk, writer) else {
+        return 0;
+    };
+    // Where it can't be taken away either, it stays: a start over it is refused.
+    let _taken = files.remove_file(path);
+    refuse(refusal, faults)
+}
+
+/// Writes a new state file, and says so.
+fn write_format<D: Disk + Drop, W: Write>(
+    alloc: Global,
+    disk: &mut D,
+    writer: &mut W,
+) -> Result<(), Refusal>
+    ensures formatted { OnOk result (Appends (W.contents writer.old) (W.contents writer.new) (codes "formatted\n")) }
+{
+    wm_store::format(alloc, disk)?;
     match writer.write_all(b"formatted\n") {
-        Ok(()) => 0,
-        Err(_) => refuse(Refusal::DeviceFailed, faults),
+        Ok(()) => Ok(()),
+        Err(_) => Err(Refusal::DeviceFailed),
     }
 }
 

@@ -1,4 +1,5 @@
 //! Calls of the program over a real file.
+use super::read_only::ReadOnly;
 use crate::disks::journal;
 use std::alloc::Global;
 use std::fs;
@@ -77,6 +78,21 @@ fn calls_the_program(rt: HostRuntime) -> Result<(), Fail> {
     let content = fs::read(&rt, PATH)?;
     fs::remove_file(&rt, PATH)?;
     assert!(rt; journal(&content, USED.len()) == USED);
+    Ok(())
+}
+
+/// A `format` that fails leaves nothing that it made, and all that was there before.
+#[test]
+fn takes_away_what_it_made(rt: HostRuntime) -> Result<(), Fail> {
+    const MADE: &str = "wm_server_program_unformatted";
+    let _ = fs::remove_file(&rt, MADE);
+    let call = (["format", MADE].as_slice(), "", 1, "", DEVICE_FAILED);
+    assert!(rt; answers(rt.alloc(), &ReadOnly(&rt), &call)?);
+    assert!(rt; fs::metadata(&rt, MADE).is_err());
+    fs::write(&rt, MADE, b"abc".as_slice())?;
+    assert!(rt; answers(rt.alloc(), &ReadOnly(&rt), &call)?);
+    assert!(rt; fs::read_to_string(&rt, MADE)?.as_str() == "abc");
+    fs::remove_file(&rt, MADE)?;
     Ok(())
 }
 

@@ -1,10 +1,10 @@
-//! The files of a runtime, of which none is opened to be written.
+//! The files of a runtime, of which none can be written.
 use std::alloc::Allocator;
 use std::fs::{Files, Metadata, OpenOptions};
 use std::io;
 use std::io::ErrorKind;
 
-/// Opens what is there to be read alone, whatever was asked for, and does nothing else.
+/// Opens or makes what is asked for, but to be read alone. It can take a file away, and does nothing else.
 #[derive(Drop)]
 pub(super) struct ReadOnly<'a, R>(pub(super) &'a R);
 
@@ -17,7 +17,8 @@ impl<R: Files> Files for ReadOnly<'_, R> {
 
     type Dir = R::Dir;
 
-    fn open_file(&self, _how: &OpenOptions, path: &str) -> io::Result<R::File> {
+    fn open_file(&self, how: &OpenOptions, path: &str) -> io::Result<R::File> {
+        let _made = how.open(self.0, path)?;
         OpenOptions::new().read(true).open(self.0, path)
     }
 
@@ -41,8 +42,8 @@ impl<R: Files> Files for ReadOnly<'_, R> {
         Err(unsupported())
     }
 
-    fn remove_file(&self, _path: &str) -> io::Result<()> {
-        Err(unsupported())
+    fn remove_file(&self, path: &str) -> io::Result<()> {
+        self.0.remove_file(path)
     }
 
     fn create_dir(&self, _path: &str) -> io::Result<()> {

@@ -1,0 +1,58 @@
+//! A state file has one owner at a time.
+use std::alloc::Global;
+use std::fs;
+use std::fs::{File, Files};
+use std::test::Fail;
+use wm_server::file::{FileDisk, Unknown};
+use wm_server::programs::watchmand;
+
+fn opens(files: &impl Files<File = File>, path: &str) -> bool {
+    FileDisk::<Unknown>::open(files, path).is_ok()
+}
+
+/// What `lines` on a path ends with and tells of faults.
+fn served(
+    alloc: Global,
+    files: &impl Files<File = File>,
+    path: &str,
+) -> Result<(u8, String), Fail> {
+    let mut output = Vec::new(alloc);
+    let mut faults = Vec::new(alloc);
+    let words = ["lines", path];
+    let status = watchmand(
+        alloc,
+        files,
+        &words,
+        &mut b"".as_slice(),
+        &mut output,
+        &mut faults,
+    );
+    Ok((status, String::from_utf8(faults)?))
+}
+
+#[test]
+fn opens_no_file_that_another_has(rt: HostRuntime) -> Result<(), Fail> {
+    const PATH: &str = "wm_server_owner_opened";
+    fs::write(&rt, PATH, b"abc".as_slice())?;
+    let first = FileDisk::<Unknown>::open(&rt, PATH)?;
+    assert!(rt; !opens(&rt, PATH));
+    let (status, faults) = served(rt.alloc(), &rt, PATH)?;
+    assert!(rt; status == 1 && faults.as_str() == "watchmand: 13 DeviceFailed\n");
+    assert!(rt; fs::read_to_string(&rt, PATH)?.as_str() == "abc");
+    drop(first);
+    assert!(rt; opens(&rt, PATH));
+    fs::remove_file(&rt, PATH)?;
+    Ok(())
+}
+
+#[test]
+fn opens_no_file_that_another_makes(rt: HostRuntime) -> Result<(), Fail> {
+    const PATH: &str = "wm_server_owner_made";
+    let _ = fs::remove_file(&rt, PATH);
+    let first = FileDisk::<Unknown>::create(&rt, PATH)?;
+    assert!(rt; !opens(&rt, PATH));
+    drop(first);
+    assert!(rt; opens(&rt, PATH));
+    fs::remove_file(&rt, PATH)?;
+    Ok(())
+}
