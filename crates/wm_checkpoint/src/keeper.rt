@@ -1,5 +1,5 @@
 //! A machine's state on a disk.
-ghost use Rattle.std.specs.Prelude.{true, false, ◌≡◌, ◌≢◌, ◌≤◌, ◌<◌, ◌+◌, ◌⊎◌, [], List, ℕ, length, IfOk, IfErr, OnOk, OnErr, IsErrOf};
+ghost use Rattle.std.specs.Prelude.{true, false, Some, ◌≡◌, ◌≢◌, ◌≤◌, ◌<◌, ◌+◌, ◌⊎◌, [], List, ℕ, length, IfOk, IfErr, OnOk, OnErr, IsErrOf};
 ghost use Rattle.wm_disk.specs.Contents.{NoMore, Only, Rose};
 ghost use Rattle.wm_disk.specs.Moments.{Elapses, LeavesOnly};
 ghost use Rattle.wm_journal.specs.Records.{taken};
@@ -275,6 +275,7 @@ impl<D: Crashed + Drop, M: Machine> Keeper<D, M> {
         ensures kept { Keeps (meaning M.Machine M.State.Wire M.Command.Wire) self.new }
         ensures state { (state_of self.new ≡ state_of self.old) × (has_failed self.new ≡ has_failed self.old) }
         ensures slot { (slot_of self.new ≡ slot_of self.old) × (number_of self.new ≡ number_of self.old) × (room_left self.new ≡ room_left self.old) }
+        ensures plan { D.plan (disk_of self.new) ≡ Some calls }
         ensures seen { D.honest (disk_of self.new) → D.seen (disk_of self.new) ≡ D.seen (disk_of self.old) }
         ensures crash { D.honest (disk_of self.new) → NoMore (D.may_leave (disk_of self.old)) (D.may_leave (disk_of self.new)) }
         ensures time { D.honest (disk_of self.new) → Elapses (D.moment (disk_of self.old)) (D.moment (disk_of self.new)) (D.left_since (disk_of self.old)) (D.left_since (disk_of self.new)) (D.may_leave (disk_of self.new)) }

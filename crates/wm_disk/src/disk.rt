@@ -1,5 +1,5 @@
 //! A disk, by what a read gives, what a crash may leave, and how often it has failed.
-ghost use Rattle.std.specs.Prelude.{◌≡◌, ◌≤◌, ◌+◌, ◌↔◌, List, ℕ, length, take, drop, IfOk, OnOk};
+ghost use Rattle.std.specs.Prelude.{◌≡◌, ◌≤◌, ◌+◌, ◌↔◌, List, ℕ, Option, Some, None, length, take, drop, IfOk, OnOk};
 ghost use Rattle.wm_disk.specs.Contents.{Only, Follows, NoMore, Torn, overwritten, Counts};
 ghost use Rattle.wm_disk.specs.Moments.{Elapses};
 
@@ -77,8 +77,12 @@ pub trait Disk {
 
 /// A disk on which a test can plan failures, crashes and stops.
 pub trait Crashed: Disk {
+    /// How many calls still pass before each fails, where failures are planned.
+    ghost plan: { Self → Option ℕ };
+
     /// So many calls pass, and then each call fails and has no effect.
     fn arm(&mut self, calls: u64)
+        ensures plan { plan self.new ≡ Some calls }
         ensures seen { Self.honest self.new → Self.seen self.new ≡ Self.seen self.old }
         ensures crash { Self.honest self.new → NoMore (Self.may_leave self.old) (Self.may_leave self.new) }
         ensures time { Self.honest self.new → Elapses (Self.moment self.old) (Self.moment self.new) (Self.left_since self.old) (Self.left_since self.new) (Self.may_leave self.new) }
@@ -87,6 +91,7 @@ pub trait Crashed: Disk {
 
     /// The disk after a loss of power, with a content that the model allows.
     fn crash(self) -> Self
+        ensures plan { plan result ≡ None }
         ensures left { Self.honest self → Self.may_leave self (Self.seen result) }
         ensures durable { Self.honest self → Only (Self.seen result) (Self.may_leave result) }
         ensures honest { Self.honest result ↔ Self.honest self }
@@ -94,6 +99,7 @@ pub trait Crashed: Disk {
 
     /// The disk after a stop of the process. What a read gives need not be durable.
     fn stop(self) -> Self
+        ensures plan { plan result ≡ None }
         ensures seen { Self.honest self → Self.seen result ≡ Self.seen self }
         ensures crash { Self.honest self → NoMore (Self.may_leave self) (Self.may_leave result) }
         ensures honest { Self.honest result ↔ Self.honest self }

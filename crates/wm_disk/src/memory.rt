@@ -1,6 +1,6 @@
 //! A disk in memory, which keeps a record of its calls and is honest always.
 ghost use Rattle.std.specs.Prelude.{◌≡◌, ◌≤◌, ◌<◌, ◌+◌, ◌++◌, [], ◌∷◌, ℕ, ⊤, max, List, length, vec_len, vec_capacity, OnOk, OnErr};
-ghost use Rattle.wm_disk.specs.Contents.{Torn, Rose, overwritten};
+ghost use Rattle.wm_disk.specs.Contents.{Only, Torn, Rose, overwritten};
 ghost use Rattle.wm_disk.specs.Points.{begun, reached, TornBy, MayLeave, LeftSince};
 ghost use Rattle.wm_disk.specs.PointLaws.{left_now, left_last};
 ghost use Rattle.std.proofs.Common.{inl, refl, subst, sym};
@@ -171,6 +171,7 @@ impl MemDisk {
     /// 64) of the choice is set, else what was there at the last good sync, or `00` past its end.
     pub fn new(alloc: Global, choice: u64) -> Self
         ensures empty { memory_bytes result ≡ [] }
+        ensures durable { Only [] (⟦<MemDisk as Disk>⟧.may_leave result) }
         ensures count { memory_failures result ≡ 0 }
         ensures calls { memory_calls result ≡ (0, 0, 0) }
     {
@@ -311,6 +312,8 @@ impl Disk for MemDisk {
 }
 
 impl Crashed for MemDisk {
+    ghost plan = { λ m. m.passes };
+
     fn arm(&mut self, calls: u64) {
         self.passes = Some(calls);
     }

@@ -1,4 +1,4 @@
-ghost use Rattle.std.specs.Prelude.{◌≡◌};
+ghost use Rattle.std.specs.Prelude.{◌≡◌, Some};
 ghost use Rattle.wm_disk.specs.Contents.{NoMore};
 
 use crate::store::Store;
@@ -9,6 +9,7 @@ impl<D: Crashed + Drop> Store<D> {
     pub fn arm(&mut self, calls: u64)
         ensures registry { (self.new.registry ≡ self.old.registry) × (self.new.number ≡ self.old.number) }
         ensures up { (self.new.failed ≡ self.old.failed) × (self.new.closed ≡ self.old.closed) }
+        ensures plan { D.plan self.new.disk ≡ Some calls }
         ensures crash { D.honest self.new.disk → NoMore (D.may_leave self.old.disk) (D.may_leave self.new.disk) }
         ensures honest { D.honest self.new.disk → D.honest self.old.disk }
         ensures count { D.failures self.new.disk ≡ D.failures self.old.disk }

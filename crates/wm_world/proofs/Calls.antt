@@ -285,13 +285,13 @@ module _ {D : Type 0} (disk : disks.Ghosts D) (only : OnlyNow disk) where
       (λ w reached s. pushed ∙ ap (λ cs. cs ++ connected path test ∷ []) s.clients)
       (λ w reached s. sym (ap (λ b. cond b (record w { clients = w.clients ++ connected path test ∷ [] }) w) only))
 
-module _ {D : Type 0} (disk : disks.Ghosts D) where
+module _ {D : Type 0} (disk : disks.Ghosts D) (plan : D → Option ℕ) where
   -- ---- going down
 
   pub stop_met : (old new : Running D) (d : D) → new.server ≡ Down d → new.shown.views.items ≡ [] → new.shown.replies ≡ old.shown.replies → new.shown.clients.items ≡ map without_answer old.shown.clients.items
       → (disk.honest d → disk.honest (disk_of disk old)) → disk.failures d ≡ disk.failures (disk_of disk old) → (disk.honest (disk_of disk old) → NoMore (disk.may_leave (disk_of disk old)) (disk.may_leave d))
-      → (disk.honest (disk_of disk old) → disk.seen d ≡ disk.seen (disk_of disk old)) → Meets disk (λ w v. v ≡ down w) (Halted disk) old new
-  stop_met old new d server none replies clients honest faults less reads = record {
+      → (disk.honest (disk_of disk old) → disk.seen d ≡ disk.seen (disk_of disk old)) → plan d ≡ None → Meets disk (λ w v. v ≡ down w) (Halted disk plan) old new
+  stop_met old new d server none replies clients honest faults less reads planned = record {
     honest = λ h. honest (subst (λ s. disk.honest (disk_of_server disk s)) server h);
     goes = λ h w reached s.
         let was : disk.honest (disk_of disk old) = honest (subst (λ x. disk.honest (disk_of_server disk x)) server h) in
@@ -304,14 +304,14 @@ module _ {D : Type 0} (disk : disks.Ghosts D) where
             replies = ap (λ r. r.items) replies ∙ s.replies;
             clients = clients ∙ ap (λ cs. map without_answer cs) s.clients;
           },
-          subst (λ x. Halted disk (disk_of disk old) w (disk_of_server disk x) (down w)) (sym server) (reads was, less was),
+          subst (λ x. Halted disk plan (disk_of disk old) w (disk_of_server disk x) (down w)) (sym server) (reads was, less was, planned),
         );
   }
 
   pub crash_met : (old new : Running D) (d : D) → new.server ≡ Down d → new.shown.views.items ≡ [] → new.shown.replies ≡ old.shown.replies → new.shown.clients.items ≡ map without_answer old.shown.clients.items
       → (disk.honest d → disk.honest (disk_of disk old)) → disk.failures d ≡ disk.failures (disk_of disk old)
-      → (disk.honest (disk_of disk old) → disk.may_leave (disk_of disk old) (disk.seen d)) → (disk.honest (disk_of disk old) → Only (disk.seen d) (disk.may_leave d)) → Meets disk Crashed (PowerLost disk) old new
-  crash_met old new d server none replies clients honest faults left only = record {
+      → (disk.honest (disk_of disk old) → disk.may_leave (disk_of disk old) (disk.seen d)) → (disk.honest (disk_of disk old) → Only (disk.seen d) (disk.may_leave d)) → plan d ≡ None → Meets disk Crashed (PowerLost disk plan) old new
+  crash_met old new d server none replies clients honest faults left only planned = record {
     honest = λ h. honest (subst (λ s. disk.honest (disk_of_server disk s)) server h);
     goes = λ h w reached s.
         let was : disk.honest (disk_of disk old) = honest (subst (λ x. disk.honest (disk_of_server disk x)) server h) in
@@ -337,6 +337,6 @@ module _ {D : Type 0} (disk : disks.Ghosts D) where
             replies = ap (λ r. r.items) replies ∙ s.replies;
             clients = clients ∙ ap (λ cs. map without_answer cs) s.clients;
           },
-          subst (λ x. PowerLost disk (disk_of disk old) w (disk_of_server disk x) v) (sym server) (left was, only was),
+          subst (λ x. PowerLost disk plan (disk_of disk old) w (disk_of_server disk x) v) (sym server) (left was, only was, planned),
         );
   }

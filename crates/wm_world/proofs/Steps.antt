@@ -1,5 +1,5 @@
 -- A world that is driven by one event more.
-use Rattle.std.proofs.Common.{◌≡◌, List, [], ◌∷◌, ◌++◌, refl, sym, ap, subst}
+use Rattle.std.proofs.Common.{◌≡◌, ℕ, Option, List, [], ◌∷◌, ◌++◌, refl, sym, ap, subst}
 use Rattle.std.specs.List.{FoldsTo}
 use Rattle.wm_disk.specs.declared.disk.Disk as disks
 use Rattle.wm_checkpoint.specs.Meanings.{Means}
@@ -57,24 +57,25 @@ module _ {D : Type 0} (disk : disks.Ghosts D) (rising : NumbersRise) (ordered : 
         faults = on.faults;
       }
 
-  pub driven_none : (d : D) (world : Running D) → disk.honest (disk_of disk world) → disk_of disk world ≡ d → Stands disk world (nothing_yet (disk.failures d)) → IsDriven disk d [] world
-  driven_none d world h is s = record {
-    first = subst (λ x. Holds disk (record { disk = x; world = nothing_yet (disk.failures d) })) is (holds world (nothing_yet (disk.failures d)) h ([], (disk.failures d, refl)) s);
-    last = nothing_yet (disk.failures d);
-    steps = refl;
-    run = ap (λ x. record { disk = x; world = nothing_yet (disk.failures d) }) (sym is);
-    stands = s;
-  }
+  module _ (plan : D → Option ℕ) where
+    pub driven_none : (d : D) (world : Running D) → disk.honest (disk_of disk world) → disk_of disk world ≡ d → Stands disk world (nothing_yet (disk.failures d)) → IsDriven disk plan d [] world
+    driven_none d world h is s = record {
+      first = subst (λ x. Holds disk (record { disk = x; world = nothing_yet (disk.failures d) })) is (holds world (nothing_yet (disk.failures d)) h ([], (disk.failures d, refl)) s);
+      last = nothing_yet (disk.failures d);
+      steps = refl;
+      run = ap (λ x. record { disk = x; world = nothing_yet (disk.failures d) }) (sym is);
+      stands = s;
+    }
 
-  pub driven_more : (d : D) (events : List Event) (event : Event) (old new : Running D) → disk.honest (disk_of disk new) → IsDriven disk d events old → Meets disk (λ w v. Step w event v) (Passes disk event) old new → IsDriven disk d (events ++ event ∷ []) new
-  driven_more d events event old new h driven meets =
-      let next = meets.goes h driven.last (events, (disk.failures d, driven.steps)) driven.stands in
-      let steps : Run (nothing_yet (disk.failures d)) (events ++ event ∷ []) next.0 = runs_on (nothing_yet (disk.failures d)) events driven.last (event ∷ []) next.0 driven.steps (next.0, next.1, refl) in
-      let reached : IsReached next.0 = (events ++ event ∷ [], (disk.failures d, steps)) in
-      record {
-        first = driven.first;
-        last = next.0;
-        steps = steps;
-        run = folds_more (Goes disk) (start disk d) (record { disk = disk_of disk old; world = driven.last }) (record { disk = disk_of disk new; world = next.0 }) events event driven.run (record { step = next.1; passes = next.3; holds = holds new next.0 h reached next.2 });
-        stands = next.2;
-      }
+    pub driven_more : (d : D) (events : List Event) (event : Event) (old new : Running D) → disk.honest (disk_of disk new) → IsDriven disk plan d events old → Meets disk (λ w v. Step w event v) (Passes disk plan event) old new → IsDriven disk plan d (events ++ event ∷ []) new
+    driven_more d events event old new h driven meets =
+        let next = meets.goes h driven.last (events, (disk.failures d, driven.steps)) driven.stands in
+        let steps : Run (nothing_yet (disk.failures d)) (events ++ event ∷ []) next.0 = runs_on (nothing_yet (disk.failures d)) events driven.last (event ∷ []) next.0 driven.steps (next.0, next.1, refl) in
+        let reached : IsReached next.0 = (events ++ event ∷ [], (disk.failures d, steps)) in
+        record {
+          first = driven.first;
+          last = next.0;
+          steps = steps;
+          run = folds_more (Goes disk plan) (start disk d) (record { disk = disk_of disk old; world = driven.last }) (record { disk = disk_of disk new; world = next.0 }) events event driven.run (record { step = next.1; passes = next.3; holds = holds new next.0 h reached next.2 });
+          stands = next.2;
+        }

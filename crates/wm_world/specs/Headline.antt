@@ -1,5 +1,5 @@
 -- A world that was driven by a list of events.
-use Rattle.std.specs.Prelude.{◌≡◌, ℕ, true, List, []}
+use Rattle.std.specs.Prelude.{◌≡◌, ℕ, true, List, [], Option}
 use Rattle.std.specs.List.{AllByRecursion, FoldsTo}
 use Rattle.wm_disk.specs.Contents.{Only}
 use Rattle.wm_disk.specs.declared.disk.Disk as disks
@@ -39,19 +39,21 @@ module _ {D : Type 0} (disk : disks.Ghosts D) where
     pub clocks : (h : History) → IsAmong h m.world.histories → is_ready h ≡ true → is_clock (clock_of h) ≡ true
     pub faults : disk.failures m.disk ≡ m.world.faults
 
-  -- from one moment to the next
-  pub record Goes (old : Moment D) (event : Event) (new : Moment D) : Type 0 where
-    pub step : Step old.world event new.world
-    pub passes : Passes disk event old.disk old.world new.disk new.world
-    pub holds : Holds new
-
   abbrev pub start : D → Moment D
   start d = record { disk = d; world = nothing_yet (disk.failures d) }
 
-  -- The world that runs stands at the end of a run over just these events, from nothing accepted on this disk.
-  pub record IsDriven (d : D) (events : List Event) (world : Running D) : Type 0 where
-    pub first : Holds (start d)
-    pub last : World
-    pub steps : Run (nothing_yet (disk.failures d)) events last
-    pub run : FoldsTo Goes (start d) events (record { disk = disk_of disk world; world = last })
-    pub stands : Stands disk world last
+  -- how many calls of a disk still pass before each fails, where failures are planned
+  module _ (plan : D → Option ℕ) where
+    -- from one moment to the next
+    pub record Goes (old : Moment D) (event : Event) (new : Moment D) : Type 0 where
+      pub step : Step old.world event new.world
+      pub passes : Passes disk plan event old.disk old.world new.disk new.world
+      pub holds : Holds new
+
+    -- The world that runs stands at the end of a run over just these events, from nothing accepted on this disk.
+    pub record IsDriven (d : D) (events : List Event) (world : Running D) : Type 0 where
+      pub first : Holds (start d)
+      pub last : World
+      pub steps : Run (nothing_yet (disk.failures d)) events last
+      pub run : FoldsTo Goes (start d) events (record { disk = disk_of disk world; world = last })
+      pub stands : Stands disk world last

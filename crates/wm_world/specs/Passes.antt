@@ -1,5 +1,5 @@
 -- How the disk goes on within an event.
-use Rattle.std.specs.Prelude.{◌≡◌, ◌≤◌, ◌+◌, ◌⊎◌, ℕ, true, List, [], ◌++◌}
+use Rattle.std.specs.Prelude.{◌≡◌, ◌≤◌, ◌+◌, ◌⊎◌, ℕ, true, List, [], ◌++◌, Option, Some, None}
 use Rattle.wm_disk.specs.Contents.{NoMore, Only}
 use Rattle.wm_disk.specs.Moments.{LeavesOnly}
 use Rattle.wm_disk.specs.declared.disk.Disk as disks
@@ -41,21 +41,23 @@ module _ {D : Type 0} (disk : disks.Ghosts D) where
     pub done : v.up ≡ true → v.slot ≡ w.slot + 1 → Raises d w e
     pub spent : v.up ≡ true → v.slot ≡ w.slot → (c : List ℕ) → disk.may_leave d c → (m : MeansState watches (registry w) c) × (limit ≤ m.number)
 
-  -- a plan of failures
-  abbrev pub Armed : D → World → D → World → Type 0
-  Armed d w e v = NoMore (disk.may_leave d) (disk.may_leave e)
+  -- how many calls of a disk still pass before each fails, where failures are planned
+  module _ (plan : D → Option ℕ) where
+    -- a plan of failures
+    abbrev pub Armed : ℕ → D → World → D → World → Type 0
+    Armed calls d w e v = NoMore (disk.may_leave d) (disk.may_leave e) × (plan e ≡ Some calls)
 
-  -- a loss of power: what it left is there, and durable
-  abbrev pub PowerLost : D → World → D → World → Type 0
-  PowerLost d w e v = disk.may_leave d (disk.seen e) × Only (disk.seen e) (disk.may_leave e)
+    -- a loss of power: what it left is there, and durable, and no failure is planned
+    abbrev pub PowerLost : D → World → D → World → Type 0
+    PowerLost d w e v = disk.may_leave d (disk.seen e) × Only (disk.seen e) (disk.may_leave e) × (plan e ≡ None)
 
-  -- a stop: the disk reads as before
-  abbrev pub Halted : D → World → D → World → Type 0
-  Halted d w e v = (disk.seen e ≡ disk.seen d) × NoMore (disk.may_leave d) (disk.may_leave e)
+    -- a stop: the disk reads as before, and no failure is planned
+    abbrev pub Halted : D → World → D → World → Type 0
+    Halted d w e v = (disk.seen e ≡ disk.seen d) × NoMore (disk.may_leave d) (disk.may_leave e) × (plan e ≡ None)
 
-  abbrev pub Passes : Event → D → World → D → World → Type 0
-  Passes events.Checkpoint d w e v = Switches d w e v
-  Passes (events.Arm calls) d w e v = Armed d w e v
-  Passes events.Crash d w e v = PowerLost d w e v
-  Passes events.Stop d w e v = Halted d w e v
-  Passes _ d w e v = Leaves d w e v
+    abbrev pub Passes : Event → D → World → D → World → Type 0
+    Passes events.Checkpoint d w e v = Switches d w e v
+    Passes (events.Arm calls) d w e v = Armed calls d w e v
+    Passes events.Crash d w e v = PowerLost d w e v
+    Passes events.Stop d w e v = Halted d w e v
+    Passes _ d w e v = Leaves d w e v

@@ -21,7 +21,7 @@ pub fn drive<D: Crashed + Drop>(
     requires formatted { D.honest disk → IsFormatted D.Disk disk }
     // The world stands at the end of a run over just these events, and at each moment of it every content
     // that a crash may leave keeps the prefix, and each client has exactly the matching files.
-    ensures run { IfOk result (λ world. D.honest (disk_of D.Disk world) → IsDriven D.Disk disk events.items world) }
+    ensures run { IfOk result (λ world. D.honest (disk_of D.Disk world) → IsDriven D.Disk D.plan disk events.items world) }
     ensures honest { IfOk result (λ world. D.honest (disk_of D.Disk world) → D.honest disk) }
     // No clock text names two moments of a run.
     ensures one_moment { OneMoment }

@@ -86,7 +86,7 @@ impl<D: Crashed + Drop> World<D> {
 
     /// One event more.
     pub(crate) fn step(mut self, alloc: Global, event: Event) -> Result<World<D>, NoMemory>
-        ensures { IfOk result (Meets D.Disk (λ w v. Step w event v) (Passes D.Disk event) self) }
+        ensures { IfOk result (Meets D.Disk (λ w v. Step w event v) (Passes D.Disk D.plan event) self) }
     {
         match event {
             Event::Open => self.open(alloc),
@@ -223,7 +223,7 @@ impl<D: Crashed + Drop> World<D> {
 
     /// So many calls of the disk pass, and then each fails.
     fn arm(&mut self, calls: u64)
-        ensures { Meets D.Disk (λ w v. v ≡ w) (Armed D.Disk) self.old self.new }
+        ensures { Meets D.Disk (λ w v. v ≡ w) (Armed D.Disk D.plan calls) self.old self.new }
     {
         match &mut self.server {
             Server::Up(store) => store.arm(calls),
@@ -335,14 +335,14 @@ impl<D: Crashed + Drop> World<D> {
 
     /// A loss of power.
     fn crash(self) -> World<D>
-        ensures { Meets D.Disk IsCrashed (PowerLost D.Disk) self result }
+        ensures { Meets D.Disk IsCrashed (PowerLost D.Disk D.plan) self result }
     {
         fallen(self.server.into_disk().crash(), self.shown)
     }
 
     /// A stop of the process.
     fn stop(self) -> World<D>
-        ensures { Meets D.Disk (λ w v. v ≡ down w) (Halted D.Disk) self result }
+        ensures { Meets D.Disk (λ w v. v ≡ down w) (Halted D.Disk D.plan) self result }
     {
         fallen(self.server.into_disk().stop(), self.shown)
     }

@@ -15,7 +15,7 @@ loop-event-init g c =
     let there = c.new-world.ensures.disk in
     record {
       honest = λ h. subst g.D.Disk.honest there h;
-      driven = λ h. driven_none g.D.Disk c.every_registry.ensures.rises c.every_registry.ensures.in_order tick_in_range c.args.disk c.new-world.result h there (c.new-world.ensures.stands (c.requires.formatted (subst g.D.Disk.honest there h)));
+      driven = λ h. driven_none g.D.Disk c.every_registry.ensures.rises c.every_registry.ensures.in_order tick_in_range g.D.Crashed.plan c.args.disk c.new-world.result h there (c.new-world.ensures.stands (c.requires.formatted (subst g.D.Disk.honest there h)));
     }
 
 pub loop-event-preserved : goal.loop-event-preserved
@@ -24,7 +24,7 @@ loop-event-preserved g c =
     let m = c.in_ok-world.ensures in
     record {
       honest = λ h. l.invariant.honest (m.honest h);
-      driven = λ h. driven_more g.D.Disk c.every_registry.ensures.rises c.every_registry.ensures.in_order tick_in_range c.args.disk l.yielded c.in-Some.event l.world c.in_ok-world.world h (l.invariant.driven (m.honest h)) m;
+      driven = λ h. driven_more g.D.Disk c.every_registry.ensures.rises c.every_registry.ensures.in_order tick_in_range g.D.Crashed.plan c.args.disk l.yielded c.in-Some.event l.world c.in_ok-world.world h (l.invariant.driven (m.honest h)) m;
     }
 
 pub returns : goal.returns
@@ -37,7 +37,7 @@ returns g c =
     let end : (map (λ x. x) l.yielded ≡ all) × (length l.yielded ≡ length all) = YieldsList-end road l.yielded l.event-iterator l.yielded_by c.next.result c.next.new.self c.in-None.is c.next.ensures.steps in
     let ended : l.yielded ≡ all = sym (map-id l.yielded) ∙ end.0 in
     record {
-      run = λ h. subst (λ (es : List Event). IsDriven D c.args.disk es l.world) ended (l.invariant.driven h);
+      run = λ h. subst (λ (es : List Event). IsDriven D g.D.Crashed.plan c.args.disk es l.world) ended (l.invariant.driven h);
       honest = l.invariant.honest;
       one_moment = one_moment c.every_registry.ensures.rises c.every_registry.ensures.in_order tick_in_range one_text;
       answers = one_moment_of_answers c.every_registry.ensures.rises c.every_registry.ensures.in_order tick_in_range one_text;

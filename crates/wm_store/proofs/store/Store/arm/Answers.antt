@@ -21,6 +21,7 @@ returns g c =
     rw (← c.self.view_is) (record {
       registry = (ap (unwrap_or i.before) k.state.0, k.slot.1);
       up = (k.state.1, refl);
+      plan = k.plan;
       crash = k.crash;
       honest = k.honest;
       count = k.count;
