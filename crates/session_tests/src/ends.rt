@@ -4,7 +4,7 @@ use std::alloc::{AllocError, Global};
 use std::io::BufRead;
 use std::process::Abort;
 use std::test::Fail;
-use wm_disk::MemDisk;
+use wm_disk::{MemDisk, OneFault};
 use wm_server::lines::lines_on;
 
 /// A line and its reply.
@@ -37,6 +37,28 @@ pub(crate) fn end_of<R: BufRead>(
     let mut output = Vec::new(alloc);
     let mut faults = Vec::new(alloc);
     let (status, disk) = lines_on(alloc, disk, reader, &mut output, &mut faults);
+    end_with(alloc, status, output, faults, disk)
+}
+
+/// How a session ended on a disk of which one call fails.
+pub(crate) fn end_of_one_fault<R: BufRead>(
+    alloc: Global,
+    disk: OneFault<MemDisk>,
+    reader: &mut R,
+) -> Result<End, Fail> {
+    let mut output = Vec::new(alloc);
+    let mut faults = Vec::new(alloc);
+    let (status, disk) = lines_on(alloc, disk, reader, &mut output, &mut faults);
+    end_with(alloc, status, output, faults, disk.disk)
+}
+
+fn end_with(
+    alloc: Global,
+    status: u8,
+    output: Vec<u8>,
+    faults: Vec<u8>,
+    disk: MemDisk,
+) -> Result<End, Fail> {
     Ok(End {
         status,
         output: String::from_utf8(output)?,

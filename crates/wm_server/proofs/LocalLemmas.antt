@@ -16,7 +16,9 @@ use Rattle.wm_registry.specs.Registry.{after, changed, is_change, reply_to}
 use Rattle.wm_store.specs.Batches.{AreAnswered, IsBatch, accepted_of, is_begin, unless_begin}
 use Rattle.wm_store.specs.Stored.{Stored}
 use Rattle.wm_server.specs.Faults.{Standing, Submits, Lasts, Defined, Device, Memory, Spent}
-use Rattle.wm_server.specs.LocalLaws.{stays}
+use Rattle.wm_checkpoint.specs.Meanings.{MeansBeginning}
+use Rattle.wm_server.specs.Asked.{ArePartOf}
+use Rattle.wm_server.specs.LocalLaws.{CountsNow, left_now, none_of, stays}
 use Rattle.wm_server.specs.Sessions.{State, accepted, reply_to_command, state_after_command, views_after}
 use Rattle.wm_server.specs.Stores.{IsUp, LeadsTo, standing_with, state_with, views_met}
 
@@ -215,8 +217,16 @@ module _ {D : Type 0} (disk : Ghosts D) (old new : Stored D) (command : Command)
 
   -- ---- what it keeps
 
+  taken_alone : (replies : List Reply) → ArePartOf (accepted_of (command ∷ []) replies) (command ∷ [])
+  taken_alone [] = none_of (command ∷ [])
+  taken_alone (reply ∷ replies) =
+      elim (is_change reply) as (λ b. ArePartOf (cond b (command ∷ []) []) (command ∷ [])) [
+        | true ↦ inl ([], refl, refl)
+        | false ↦ none_of (command ∷ [])
+      ]
+
   pub leads_alone : (replies : List Reply) → old.failed ≡ false → new.failed ≡ false → (disk.honest new.disk → disk.honest old.disk) → disk.failures old.disk ≤ disk.failures new.disk
-      → IsBatch disk old new (command ∷ []) replies → new.registry ≡ replay_on watches old.registry (accepted_of (command ∷ []) replies) → LeadsTo disk old new
+      → IsBatch disk old new (command ∷ []) replies → new.registry ≡ replay_on watches old.registry (accepted_of (command ∷ []) replies) → LeadsTo disk (command ∷ []) old new
   leads_alone replies works works' honest failures batch registry =
       let all = accepted_of (command ∷ []) replies in
       record {
@@ -227,15 +237,17 @@ module _ {D : Type 0} (disk : Ghosts D) (old new : Stored D) (command : Command)
         commits = λ e. record {
           accepted = all;
           in_flight = [];
+          part = subst (λ (l : List Command). ArePartOf l (command ∷ [])) (sym (append-nil all)) (taken_alone replies);
+          leaves = λ f. let bad : false ≡ true = sym works' ∙ f in absurd cc;
           registry = registry;
           works = λ f. refl;
           any_moment = inr (rw (append-nil all) batch.any_moment);
         };
       }
 
-  pub leads_device : (replies : List Reply) → old.failed ≡ false → new.failed ≡ true → new.registry ≡ old.registry → (disk.honest new.disk → disk.honest old.disk)
-      → disk.failures old.disk ≤ disk.failures new.disk → Rose (disk.failures old.disk) (disk.failures new.disk) → IsBatch disk old new (command ∷ []) replies → LeadsTo disk old new
-  leads_device replies works failed registry honest failures rose batch = record {
+  pub leads_device : CountsNow disk → (replies : List Reply) → old.failed ≡ false → new.failed ≡ true → new.registry ≡ old.registry → (disk.honest new.disk → disk.honest old.disk)
+      → disk.failures old.disk ≤ disk.failures new.disk → Rose (disk.failures old.disk) (disk.failures new.disk) → IsBatch disk old new (command ∷ []) replies → LeadsTo disk (command ∷ []) old new
+  leads_device counts_now replies works failed registry honest failures rose batch = record {
     later = record { honest = honest; count = failures };
     failed = λ e. failed;
     still = λ e. let bad : false ≡ true = sym works ∙ e in absurd cc;
@@ -243,14 +255,17 @@ module _ {D : Type 0} (disk : Ghosts D) (old new : Stored D) (command : Command)
     commits = λ e. record {
       accepted = [];
       in_flight = accepted_of (command ∷ []) replies;
+      part = taken_alone replies;
+      leaves = λ f h c left. subst (λ r. MeansBeginning watches r (accepted_of (command ∷ []) replies) c) (sym registry)
+          (left_now disk counts_now old.disk new.disk (MeansBeginning watches old.registry (accepted_of (command ∷ []) replies)) h (batch.any_moment h) c left);
       registry = registry;
       works = λ f. let bad : false ≡ true = sym f ∙ failed in absurd cc;
       any_moment = inr batch.any_moment;
     };
   }
 
-  pub leads_same : new ≡ old → LeadsTo disk old new
-  leads_same same = subst (λ (s : Stored D). LeadsTo disk old s) (sym same) (stays disk old)
+  pub leads_same : new ≡ old → LeadsTo disk (command ∷ []) old new
+  leads_same same = subst (λ (s : Stored D). LeadsTo disk (command ∷ []) old s) (sym same) (stays disk (command ∷ []) old)
 
 -- ---- a batch of one that was refused
 
@@ -312,13 +327,13 @@ module _ {D : Type 0} (disk : Ghosts D) (old new : Stored D) (command : Command)
         ]
       ]
 
-  pub refused_leads : (e : Refusal) → Refuses e → LeadsTo disk old new
-  refused_leads e r =
+  pub refused_leads : CountsNow disk → (e : Refusal) → Refuses e → LeadsTo disk (command ∷ []) old new
+  refused_leads counts_now e r =
       elim r.kinds [
         | inl device ↦
             let works = worked e r (λ bad. let no : refusals.DeviceFailed ≡ refusals.StoreFailed = sym device ∙ bad in absurd cc) in
             let cut = r.cut works in
-            leads_device disk old new command plain cut.0 works (r.failed device).1 r.registry r.honest r.failures (r.failed device).0 cut.1
+            leads_device disk old new command plain counts_now cut.0 works (r.failed device).1 r.registry r.honest r.failures (r.failed device).0 cut.1
         | inr other ↦ elim other [
           | inl memory ↦ leads_same disk old new command plain (r.memory memory)
           | inr down ↦ leads_same disk old new command plain (r.down down).1

@@ -1,5 +1,6 @@
 -- Lines over a file.
-use Rattle.std.proofs.Common.{◌≡◌, ◌≤◌, ℕ, ◌+◌, List, [], ◌∷◌, true, false, Option, Some, None, Result, Ok, Err, refl, sym, ap, ◌∙◌, subst, arith}
+use Rattle.std.proofs.Common.{◌≡◌, ◌≤◌, ℕ, ◌+◌, List, [], ◌∷◌, ◌++◌, Bool, true, false, Option, Some, None, Result, Ok, Err, refl, sym, ap, ◌∙◌, subst, arith, inl, inr, ⊎_elim}
+use Rattle.std.proofs.lemmas.List.{append-nil}
 use Rattle.std.specs.List.{AllByRecursion}
 use Rattle.wm_disk.specs.declared.refusal.Refusal.{Refusal}
 use Rattle.wm_disk.specs.declared.refusal.Refusal.TheVariants.{BadCommand}
@@ -16,7 +17,10 @@ use Rattle.wm_server.specs.declared.query.Inquiry.{Inquiry}
 use Rattle.wm_server.specs.Inquiries.{inquired}
 use Rattle.serde_json.specs.Data.{Data}
 use Rattle.wm_disk.specs.declared.disk.Disk.{Ghosts}
+use Rattle.wm_disk.specs.Moments.{LeavesOnly, then_runs}
 use Rattle.wm_checkpoint.specs.Machines.{replay_on}
+use Rattle.wm_checkpoint.specs.Meanings.{MeansBeginning, MeansState}
+use Rattle.wm_registry.specs.declared.command.Command.{Command}
 use Rattle.wm_registry.specs.declared.command.Command.TheVariants.{Begin}
 use Rattle.wm_registry.specs.declared.root.Root.{Root}
 use Rattle.wm_registry.specs.MachineLaws.{watches}
@@ -28,16 +32,19 @@ use Rattle.wm_server.specs.declared.request.Request.{Request}
 use Rattle.wm_server.specs.declared.request.Request.TheVariants.{Version, Watch, WatchDel, WatchList, Trigger, TriggerList, TriggerDel, Observe, Listing, AgeOut, Clock, Query}
 use Rattle.wm_server.specs.Inputs.{lines_of}
 use Rattle.wm_server.specs.Lines.{request_of_line}
-use Rattle.wm_server.specs.LocalLaws.{rose_later}
+use Rattle.wm_server.specs.Asked.{AreAskedOf, ArePartOf, asked_in}
+use Rattle.wm_server.specs.Endings.{CutsLines, LeavesAnytime, LinesRefused, Passes}
+use Rattle.wm_server.specs.LocalLaws.{CountsNow, left_now, more_before, more_behind, part_in_front, rose_later, weaker}
+use Rattle.wm_server.proofs.RunLemmas.{asked_behind}
 use Rattle.wm_server.specs.Locals.{CloseRefused}
 use Rattle.wm_server.specs.declared.local.LocalFront.{LocalFront}
 use Rattle.wm_server.specs.Sessions.{State, question_met, line_met, met_or_refused, operated, operation_met, answered, cursor_moved, inquiry_met, triggers_met, view_of}
-use Rattle.wm_server.specs.Stores.{IsKeptOn, Later, LeadsTo, LinesRefused, StartCut, StartRefused, standing_with, state_with}
+use Rattle.wm_server.specs.Stores.{IsKeptOn, Later, LeadsTo, StartCut, StartRefused, standing_with, state_with}
 use Rattle.wm_server.specs.Replies.{clock_reply}
 use Rattle.wm_server.specs.Watched.{clock_answer, first_views, view_after}
 use Rattle.wm_server.specs.Faults.{Standing, Way, Defined, Device, Memory, Spent, state_or}
-use Rattle.wm_server.specs.Runs.{Run, Broke, Served}
-use Rattle.wm_server.specs.Programs.{IsQuiet, Kept, LinesBroken, LinesMet, LinesServed, first_state, line_number}
+use Rattle.wm_server.specs.Runs.{MeetsFront, Run, Served}
+use Rattle.wm_server.specs.Programs.{CutShort, IsQuiet, Kept, LinesBroken, LinesCut, LinesMet, LinesServed, first_state, line_number}
 
 -- ---- a store that has failed stays so
 
@@ -122,69 +129,204 @@ quiet_run old moment k (line ∷ lines) (way ∷ ways) bytes new e r = (
 same_state : (s : State) (was : registry.State) → s.registry ≡ after was Begin → s.has_failed ≡ false → s.views ≡ first_views s.registry → s ≡ first_state was
 same_state s was e works views = λ i. record { registry = e i; has_failed = works i; views = (views ∙ ap first_views e) i }
 
+-- what a whole input asks for has in it what a beginning of its lines asks for
+in_all : (input : List ℕ) (met more : List (List ℕ)) (asked some : List Command) → lines_of input ≡ met ++ more → asked ≡ asked_in met → ArePartOf some asked → ArePartOf some (asked_in (lines_of input))
+in_all input met more asked some lines is p =
+    let all : asked ++ asked_in more ≡ asked_in (lines_of input) = ap (λ (l : List Command). l ++ asked_in more) is ∙ sym (asked_behind met more) ∙ ap asked_in (sym lines) in
+    subst (λ (l : List Command). ArePartOf some l) all (part_in_front some asked (asked_in more) p)
+
+none_asked : (holds : Option (List ℕ)) → AreAskedOf holds []
+none_asked None = tt
+none_asked (Some input) = ([], lines_of input, refl, refl)
+
+-- a content that means a state means it after a beginning of any commands
+nothing_more : (state : registry.State) (commands : List Command) (content : List ℕ) → MeansState watches state content → MeansBeginning watches state commands content
+nothing_more state [] content m = record { count = 0; within = omega arith; means = m }
+nothing_more state (command ∷ commands) content m = record { count = 0; within = omega arith; means = m }
+
 module _ {D : Type 0} (disk : Ghosts D) where
-  -- a store was opened, went on to left, and what it had then was kept
-  pub record Session (old : D) (begun left : Stored D) (new : D) : Type 0 where
+  -- a store was opened, went on to left, and was closed
+  pub record Course (old : D) (begun left : Stored D) (new : D) : Type 0 where
     pub works : begun.failed ≡ false
-    pub start : IsBegun disk old begun
-    pub leads : LeadsTo disk begun left
-    pub kept : IsKeptOn disk left.registry new
+    pub start : disk.honest new → IsBegun disk old begun
+    pub honest : disk.honest new → disk.honest left.disk
+    pub still : left.failed ≡ true → new ≡ left.disk
+    pub closing : left.failed ≡ false → disk.honest new → LeavesOnly disk.moment disk.left_since left.disk new (MeansState watches left.registry)
 
-  pub keeps : (old : D) (begun left : Stored D) (new : D) → (s : Session old begun left new) → Kept disk old s.start.found left.registry new
-  keeps old begun left new s =
-      let commits = s.leads.commits s.works in
-      record {
-        means = s.start.opened.means;
-        begins = s.start.changed;
-        accepted = commits.accepted;
-        replayed = commits.registry ∙ ap (λ (r : registry.State). replay_on watches r commits.accepted) s.start.registry;
-        kept = s.kept;
+  module _ (old : D) (begun left : Stored D) (new : D) (course : Course old begun left new) where
+    module _ (asked : List Command) (leads : LeadsTo disk asked begun left) where
+      -- ---- what is kept
+
+      pub keeps : (wanted : List Command) → ((some : List Command) → ArePartOf some asked → ArePartOf some wanted) → left.failed ≡ false → IsKeptOn disk left.registry new → (h : disk.honest new) → Kept disk old (course.start h).found left.registry wanted new
+      keeps wanted wider worked kept h =
+          let commits = leads.commits course.works in
+          let start = course.start h in
+          let none : commits.accepted ++ commits.in_flight ≡ commits.accepted = ap (λ (l : List Command). commits.accepted ++ l) (commits.works worked) ∙ append-nil commits.accepted in
+          record {
+            means = start.opened.means;
+            begins = start.changed;
+            accepted = commits.accepted;
+            part = wider commits.accepted (subst (λ (l : List Command). ArePartOf l asked) none commits.part);
+            replayed = commits.registry ∙ ap (λ (r : registry.State). replay_on watches r commits.accepted) start.registry;
+            kept = kept;
+          }
+
+      -- what a crash leaves, whether or not the device failed
+      left_at_end : CountsNow disk → disk.honest new → (b : Bool) → left.failed ≡ b → (c : List ℕ) → disk.may_leave new c → MeansBeginning watches left.registry (leads.commits course.works).in_flight c
+      left_at_end counts_now h true failed c may =
+          let same = course.still failed in
+          (leads.commits course.works).leaves failed (course.honest h) c (subst (λ (d : D). disk.may_leave d c) same may)
+      left_at_end counts_now h false worked c may =
+          nothing_more left.registry (leads.commits course.works).in_flight c (left_now disk counts_now left.disk new (MeansState watches left.registry) h (course.closing worked h) c may)
+
+      cut_short : CountsNow disk → (wanted : List Command) → asked ≡ wanted → (h : disk.honest new) → CutShort disk old (course.start h).found left.registry wanted new
+      cut_short counts_now wanted is h =
+          let commits = leads.commits course.works in
+          let start = course.start h in
+          record {
+            means = start.opened.means;
+            begins = start.changed;
+            accepted = commits.accepted;
+            in_flight = commits.in_flight;
+            part = subst (λ (l : List Command). ArePartOf (commits.accepted ++ commits.in_flight) l) is commits.part;
+            replayed = commits.registry ∙ ap (λ (r : registry.State). replay_on watches r commits.accepted) start.registry;
+            leaves = left_at_end counts_now h left.failed refl;
+          }
+
+      -- ---- moments
+
+      passes : (h : disk.honest new) → Passes disk old (course.start h).found asked new
+      passes h =
+          let commits = leads.commits course.works in
+          let start = course.start h in
+          let taken = commits.accepted ++ commits.in_flight in
+          let synced = start.opened.synced in
+          let Whole : List ℕ → Type 0 = MeansBeginning watches start.found (Begin ∷ taken) in
+          let after_begin : (c : List ℕ) → MeansBeginning watches begun.registry taken c → Whole c = λ c. more_before watches start.found begun.registry (Begin ∷ []) taken c start.registry in
+          let opening : LeavesOnly disk.moment disk.left_since synced begun.disk Whole =
+          weaker disk.moment disk.left_since synced begun.disk (MeansBeginning watches start.found (Begin ∷ [])) Whole start.opened.from (more_behind watches start.found (Begin ∷ []) taken) in
+          let meeting : LeavesOnly disk.moment disk.left_since synced left.disk Whole =
+          elim commits.any_moment [
+            | inl same ↦ subst (λ (s : Stored D). LeavesOnly disk.moment disk.left_since synced s.disk Whole) (sym same) opening
+            | inr run ↦ then_runs disk.moment disk.left_since synced begun.disk left.disk Whole (MeansBeginning watches begun.registry taken) opening (run (course.honest h)) after_begin
+          ] in
+          let at_close : (c : List ℕ) → MeansState watches left.registry c → Whole c = λ c m.
+          after_begin c (more_before watches begun.registry left.registry commits.accepted commits.in_flight c commits.registry (nothing_more left.registry commits.in_flight c m)) in
+          record {
+            means = start.opened.means;
+            taken = taken;
+            part = commits.part;
+            synced = synced;
+            until = start.opened.until;
+            from = closed h synced Whole meeting at_close left.failed refl;
+          }
+        where
+          closed : disk.honest new → (synced : D) (Whole : List ℕ → Type 0) → LeavesOnly disk.moment disk.left_since synced left.disk Whole → ((c : List ℕ) → MeansState watches left.registry c → Whole c)
+              → (b : Bool) → left.failed ≡ b → LeavesOnly disk.moment disk.left_since synced new Whole
+          closed h synced Whole meeting at_close true failed = subst (λ (d : D). LeavesOnly disk.moment disk.left_since synced d Whole) (sym (course.still failed)) meeting
+          closed h synced Whole meeting at_close false worked = then_runs disk.moment disk.left_since synced left.disk new Whole (MeansState watches left.registry) meeting (course.closing worked h) at_close
+
+    -- ---- all of a session
+
+    module _ (views views' : List RootView) (views_are : views ≡ first_views begun.registry) where
+      pub lines_met : (asked : List Command) → LeadsTo disk asked begun left → (lines : List (List ℕ)) (ways : List Way) (bytes : List ℕ) → ((some : List Command) → ArePartOf some asked → ArePartOf some (asked_in lines))
+          → left.failed ≡ false → IsKeptOn disk left.registry new → disk.honest new → Run (standing_with disk begun views) line_number 0 lines ways bytes (standing_with disk left views') → LinesMet disk old lines bytes new
+      unfolding keeps
+      lines_met asked leads lines ways bytes wider worked kept h run =
+          let start = course.start h in
+          let first : state_with begun views ≡ first_state start.found = same_state (state_with begun views) start.found start.registry course.works views_are in
+          record {
+            was = start.found;
+            before = disk.failures begun.disk;
+            number = begun.number;
+            ways = ways;
+            quiet = quiet_run (standing_with disk begun views) line_number 0 lines ways bytes (standing_with disk left views') worked run;
+            left = standing_with disk left views';
+            run = subst (λ (t : State). Run (record { state = t; failures = disk.failures begun.disk; number = begun.number }) line_number 0 lines ways bytes (standing_with disk left views')) first run;
+            kept = keeps asked leads (asked_in lines) wider worked kept h;
+            number_is = start.number;
+          }
+
+      pub lines_served : (faults : ℕ) (input : List ℕ) (held holds : Option (List ℕ)) → left.failed ≡ false → IsKeptOn disk left.registry new → disk.honest new
+          → (asked : List Command) × MeetsFront (standing_with disk begun views) line_number input asked (standing_with disk left views') × LeadsTo disk asked begun left
+          → Served (standing_with disk begun views) line_number 0 input faults held holds (standing_with disk left views') → LinesServed disk old input held holds new
+      lines_served faults input held holds worked kept h front served = record {
+        bytes = served.bytes;
+        met = lines_met front.0 front.2 (lines_of input) served.ways served.bytes (λ some. in_all input front.1.met front.1.more front.0 some front.1.lines front.1.asked_is) worked kept h served.run;
+        appends = served.appends;
       }
 
-  lines_met : (old : D) (begun left : Stored D) (views views' : List RootView) (new : D) (lines : List (List ℕ)) (ways : List Way) (bytes : List ℕ)
-      → Session old begun left new → views ≡ first_views begun.registry → left.failed ≡ false
-      → Run (standing_with disk begun views) line_number 0 lines ways bytes (standing_with disk left views') → LinesMet disk old lines bytes new
-  unfolding keeps
-  lines_met old begun left views views' new lines ways bytes s views_are worked run =
-      let start : state_with begun views ≡ first_state s.start.found = same_state (state_with begun views) s.start.found s.start.registry s.works views_are in
-      record {
-        was = s.start.found;
-        before = disk.failures begun.disk;
-        number = begun.number;
-        ways = ways;
-        quiet = quiet_run (standing_with disk begun views) line_number 0 lines ways bytes (standing_with disk left views') worked run;
-        left = standing_with disk left views';
-        run = subst (λ (t : State). Run (record { state = t; failures = disk.failures begun.disk; number = begun.number }) line_number 0 lines ways bytes (standing_with disk left views')) start run;
-        kept = keeps old begun left new s;
-        number_is = s.start.number;
+      pub lines_broken : (input : List ℕ) → left.failed ≡ false → IsKeptOn disk left.registry new → disk.honest new
+          → (asked : List Command) × MeetsFront (standing_with disk begun views) line_number input asked (standing_with disk left views') × LeadsTo disk asked begun left → LinesBroken disk old input new
+      lines_broken input worked kept h front = record {
+        front = front.1.met;
+        more = front.1.more;
+        lines = front.1.lines;
+        bytes = front.1.bytes;
+        met = lines_met front.0 front.2 front.1.met front.1.ways front.1.bytes (λ some p. subst (λ (l : List Command). ArePartOf some l) front.1.asked_is p) worked kept h front.1.run;
       }
 
-  pub lines_served : (old : D) (begun left : Stored D) (views views' : List RootView) (new : D) (faults : ℕ) (input : List ℕ) (held holds : Option (List ℕ))
-      → Session old begun left new → views ≡ first_views begun.registry → left.failed ≡ false
-      → Served (standing_with disk begun views) line_number 0 input faults held holds (standing_with disk left views') → LinesServed disk old input held holds new
-  lines_served old begun left views views' new faults input held holds s views_are worked served =
-      record { bytes = served.bytes; met = lines_met old begun left views views' new (lines_of input) served.ways served.bytes s views_are worked served.run; appends = served.appends }
+      lines_cut : CountsNow disk → (input : List ℕ) → disk.honest new
+          → (asked : List Command) × MeetsFront (standing_with disk begun views) line_number input asked (standing_with disk left views') × LeadsTo disk asked begun left → LinesCut disk old input new
+      unfolding cut_short
+      lines_cut counts_now input h front =
+          let start = course.start h in
+          let first : state_with begun views ≡ first_state start.found = same_state (state_with begun views) start.found start.registry course.works views_are in
+          record {
+            front = front.1.met;
+            more = front.1.more;
+            lines = front.1.lines;
+            was = start.found;
+            before = disk.failures begun.disk;
+            number = begun.number;
+            ways = front.1.ways;
+            bytes = front.1.bytes;
+            left = standing_with disk left views';
+            run = subst (λ (t : State). Run (record { state = t; failures = disk.failures begun.disk; number = begun.number }) line_number 0 front.1.met front.1.ways front.1.bytes (standing_with disk left views')) first front.1.run;
+            cut = cut_short front.0 front.2 counts_now (asked_in front.1.met) front.1.asked_is h;
+            number_is = start.number;
+          }
 
-  pub lines_broken : (old : D) (begun left : Stored D) (views views' : List RootView) (new : D) (input : List ℕ)
-      → Session old begun left new → views ≡ first_views begun.registry → left.failed ≡ false
-      → Broke (standing_with disk begun views) line_number input (standing_with disk left views') → LinesBroken disk old input new
-  lines_broken old begun left views views' new input s views_are worked broke =
-      record { front = broke.met; more = broke.more; lines = broke.lines; bytes = broke.bytes; met = lines_met old begun left views views' new broke.met broke.ways broke.bytes s views_are worked broke.run }
+      pub cuts_lines : CountsNow disk → (holds : Option (List ℕ)) → (asked : List Command) × LeadsTo disk asked begun left
+          → ((input : List ℕ) → holds ≡ Some input → (asked : List Command) × MeetsFront (standing_with disk begun views) line_number input asked (standing_with disk left views') × LeadsTo disk asked begun left)
+          → CutsLines disk holds old new
+      cuts_lines counts_now holds some front = λ h. (
+        ((course.start h).found, left.registry, some.0, cut_short some.0 some.1 counts_now some.0 refl h),
+        λ input e. lines_cut counts_now input h (front input e),
+      )
+
+      -- as far as the reader tells
+      asked_for : (holds : Option (List ℕ)) → (asked : List Command) × LeadsTo disk asked begun left
+          → ((input : List ℕ) → holds ≡ Some input → (asked : List Command) × MeetsFront (standing_with disk begun views) line_number input asked (standing_with disk left views') × LeadsTo disk asked begun left)
+          → (asked : List Command) × AreAskedOf holds asked × LeadsTo disk asked begun left
+      asked_for None some front = (some.0, tt, some.1)
+      asked_for (Some input) some front = let here = front input refl in (here.0, (here.1.met, here.1.more, here.1.lines, here.1.asked_is), here.2)
+
+      pub session_anytime : (holds : Option (List ℕ)) → (asked : List Command) × LeadsTo disk asked begun left
+          → ((input : List ℕ) → holds ≡ Some input → (asked : List Command) × MeetsFront (standing_with disk begun views) line_number input asked (standing_with disk left views') × LeadsTo disk asked begun left)
+          → LeavesAnytime disk holds old new
+      session_anytime holds some front = λ h. let told = asked_for holds some front in inr ((course.start h).found, told.0, told.1, passes told.0 told.2 h)
 
   -- ---- a refusal
 
-  pub start_refused : (old new : D) (e : Refusal) → StartRefused disk e old new → StartCut disk old new → LinesRefused disk e old new
-  start_refused old new refusals.DeviceFailed why cut = why
-  start_refused old new refusals.StoreFailed why cut = absurd why
-  start_refused old new e why cut = (why, cut)
+  pub start_refused : (holds : Option (List ℕ)) (old new : D) (e : Refusal) → StartRefused disk e old new → StartCut disk old new → LinesRefused disk e holds old new
+  start_refused holds old new refusals.DeviceFailed why cut = (why, inl cut)
+  start_refused holds old new refusals.StoreFailed why cut = absurd why
+  start_refused holds old new e why cut = (why, cut)
+
+  pub start_anytime : (holds : Option (List ℕ)) (old new : D) → StartCut disk old new → LeavesAnytime disk holds old new
+  start_anytime holds old new cut = λ h. ⊎_elim inl (λ f. inr (f.0, [], none_asked holds, record { means = f.1.means; taken = []; part = refl; synced = f.1.synced; until = f.1.until; from = f.1.from })) (cut h)
 
   -- the device failed meanwhile, or at the close
-  pub close_refused : {g : Ghosts D} (old : D) (begun : Stored D) (left : LocalFront D g) (new : D) (e : Refusal) → Later disk old begun.disk → begun.failed ≡ false → LeadsTo disk begun left.store → Later disk left.store.disk new
-      → CloseRefused disk e left new → LinesRefused disk e old new
-  close_refused old begun left new refusals.StoreFailed first works leads last why = λ below.
-      let there = rose_later (disk.failures old) (disk.failures begun.disk) (disk.failures left.store.disk) first.count (leads.cause works why) leads.later.count below in
-      omega (arith, there, last.count)
-  close_refused old begun left new refusals.DeviceFailed first works leads last why =
+  pub close_refused : {g : Ghosts D} (holds : Option (List ℕ)) (old : D) (begun : Stored D) (asked : List Command) (left : LocalFront D g) (new : D) (e : Refusal) → Later disk old begun.disk → begun.failed ≡ false → LeadsTo disk asked begun left.store
+      → Later disk left.store.disk new → CloseRefused disk e left new → CutsLines disk holds old new → LinesRefused disk e holds old new
+  close_refused holds old begun asked left new refusals.StoreFailed first works leads last why cuts = (
+    λ below.
+        let there = rose_later (disk.failures old) (disk.failures begun.disk) (disk.failures left.store.disk) first.count (leads.cause works why) leads.later.count below in
+        omega (arith, there, last.count),
+    cuts,
+  )
+  close_refused holds old begun asked left new refusals.DeviceFailed first works leads last why cuts =
       let so_far : disk.failures old ≤ disk.failures left.store.disk = omega (arith, first.count, leads.later.count) in
-      rose_later (disk.failures old) (disk.failures left.store.disk) (disk.failures new) so_far why last.count
-  close_refused old begun left new e first works leads last why = absurd why
+      (rose_later (disk.failures old) (disk.failures left.store.disk) (disk.failures new) so_far why last.count, inr cuts)
+  close_refused holds old begun asked left new e first works leads last why cuts = absurd why

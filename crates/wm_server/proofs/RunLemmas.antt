@@ -9,12 +9,14 @@ use Rattle.std.specs.Io.KnownBytes.{Appends}
 use Rattle.serde_json.proofs.OnLiterals.{serde_json_on_literals}
 use Rattle.wm_disk.specs.declared.refusal.Refusal.TheVariants as refusals
 use Rattle.wm_server.specs.Inputs.{lines_of, in_front, max_kept}
-use Rattle.wm_server.specs.Lines.{text_of, max_line, request_of_text}
+use Rattle.wm_registry.specs.declared.command.Command.{Command}
+use Rattle.wm_server.specs.Asked.{asked_by, asked_in}
+use Rattle.wm_server.specs.Lines.{text_of, max_line, request_of_line, request_of_text}
 use Rattle.wm_server.proofs.Texts.{text_of-cut}
 use Rattle.wm_server.specs.Replies.{line_text, refusal_reply, reply_bytes}
 use Rattle.wm_server.specs.Sessions.{State, Outcome, line_met, met_or_refused}
 use Rattle.wm_server.specs.Faults.{Standing, Way, Defined, Device, Memory, Spent, HasCause, Lasts, Answers, faults_of, refusal_or, state_or}
-use Rattle.wm_server.specs.Runs.{Run, Broke, Served, ServedCleanly, Serves, Untold, output_of, state_after, faults_in}
+use Rattle.wm_server.specs.Runs.{Run, MeetsFront, Served, ServedCleanly, Serves, Untold, output_of, state_after, faults_in}
 use Rattle.wm_server.specs.declared.input.LineRead.{LineRead}
 use Rattle.wm_server.specs.declared.input.LineRead.TheVariants as reads
 use Rattle.wm_server.specs.Reading.{ReadsLine, Stands}
@@ -74,6 +76,10 @@ answers_kept way old new moment kept whole bytes e a =
 pub stands_kept : (old new : Standing) (moment n : ℕ) (kept whole : List ℕ) (held holds : Option (List ℕ)) → kept ≡ take max_kept whole → Serves old moment kept n held holds new → Serves old moment whole n held holds new
 stands_kept old new moment n kept whole held holds e s =
     record { way = s.way; bytes = s.bytes; faults_are = s.faults_are; appends = s.appends; answers = answers_kept s.way old new moment kept whole s.bytes e s.answers }
+
+-- and asks for the same
+pub same_request : (kept whole : List ℕ) → kept ≡ take max_kept whole → request_of_line kept ≡ request_of_line whole
+same_request kept whole e = ap request_of_text (same_text kept whole e)
 
 pub untold_kept : (old new : Standing) (moment : ℕ) (kept whole : List ℕ) → kept ≡ take max_kept whole → Untold old moment kept new → Untold old moment whole new
 untold_kept old new moment kept whole e u = record { way = u.way; bytes = u.bytes; answers = answers_kept u.way old new moment kept whole u.bytes e u.answers }
@@ -177,44 +183,55 @@ run_more old moment k (l ∷ met) (w ∷ ways) bytes now line way front next r a
     (r.0, r.1 ++ front, r.2, ap (λ (t : List ℕ). t ++ front) r.3 ∙ append_assoc r.0 r.1 front, r.4, run_more r.2 moment (k + 1) met ways r.1 now line way front next r.5 later)
 
 -- the lines of the input in front of the rest were met
-pub record Underway (old : Standing) (moment : ℕ → ℕ) (input : List ℕ) (ways : List Way) (now : Standing) (place : ℕ) (rest written : List ℕ) : Type 0 where
+pub record Underway (old : Standing) (moment : ℕ → ℕ) (input : List ℕ) (asked : List Command) (ways : List Way) (now : Standing) (place : ℕ) (rest written : List ℕ) : Type 0 where
   pub met : List (List ℕ)
+  pub asked_is : asked ≡ asked_in met
   pub lines : lines_of input ≡ met ++ lines_of rest
   pub place_is : place ≡ length met
   pub run : Run old moment 0 met ways written now
 
-one_more : (old : Standing) (moment : ℕ → ℕ) (input : List ℕ) (ways : List Way) (now next : Standing) (place : ℕ) (rest written front : List ℕ) (way : Way)
-    → Underway old moment input ways now place rest written → rest ≢ [] → Answers way now (moment place) (take_through 10 rest) front next
-    → Underway old moment input (ways ++ way ∷ []) next (place + 1) (drop_through 10 rest) (written ++ front)
-one_more old moment input ways now next place rest written front way u ne a =
+-- what lines ask for, and then more lines
+pub asked_behind : (first second : List (List ℕ)) → asked_in (first ++ second) ≡ asked_in first ++ asked_in second
+asked_behind [] second = refl
+asked_behind (line ∷ first) second = ap (λ (l : List Command). asked_by (request_of_line line) ++ l) (asked_behind first second) ∙ sym (append_assoc (asked_by (request_of_line line)) (asked_in first) (asked_in second))
+
+-- one line more is asked
+asked_next : (met : List (List ℕ)) (line : List ℕ) → asked_in (met ++ line ∷ []) ≡ asked_in met ++ asked_by (request_of_line line)
+asked_next met line = asked_behind met (line ∷ []) ∙ ap (λ (l : List Command). asked_in met ++ l) (append-nil (asked_by (request_of_line line)))
+
+one_more : (old : Standing) (moment : ℕ → ℕ) (input : List ℕ) (asked : List Command) (ways : List Way) (now next : Standing) (place : ℕ) (rest written front : List ℕ) (way : Way)
+    → Underway old moment input asked ways now place rest written → rest ≢ [] → Answers way now (moment place) (take_through 10 rest) front next
+    → Underway old moment input (asked ++ asked_by (request_of_line (take_through 10 rest))) (ways ++ way ∷ []) next (place + 1) (drop_through 10 rest) (written ++ front)
+one_more old moment input asked ways now next place rest written front way u ne a =
     let line : List ℕ = take_through 10 rest in
     let here : Answers way now (moment (0 + length u.met)) line front next = subst (λ (m : ℕ). Answers way now (moment m) line front next) (omega (arith, u.place_is)) a in
     record {
       met = u.met ++ line ∷ [];
+      asked_is = ap (λ (l : List Command). l ++ asked_by (request_of_line line)) u.asked_is ∙ sym (asked_next u.met line);
       lines = u.lines ∙ ap (λ (ls : List (List ℕ)). u.met ++ ls) (lines_of-next rest ne) ∙ sym (append_assoc u.met (line ∷ []) (lines_of (drop_through 10 rest)));
       place_is = omega (arith, u.place_is, length-append u.met (line ∷ []));
       run = run_more old moment 0 u.met ways written now line way front next u.run here;
     }
 
 -- a run that is underway is cut
-cut : (old : Standing) (moment : ℕ → ℕ) (input : List ℕ) (ways : List Way) (now : Standing) (place : ℕ) (rest written : List ℕ) → Underway old moment input ways now place rest written → Broke old moment input now
-cut old moment input ways now place rest written u = record { met = u.met; more = lines_of rest; lines = u.lines; ways = ways; bytes = written; run = u.run }
+cut : (old : Standing) (moment : ℕ → ℕ) (input : List ℕ) (asked : List Command) (ways : List Way) (now : Standing) (place : ℕ) (rest written : List ℕ) → Underway old moment input asked ways now place rest written → MeetsFront old moment input asked now
+cut old moment input asked ways now place rest written u = record { met = u.met; more = lines_of rest; lines = u.lines; asked_is = u.asked_is; ways = ways; bytes = written; run = u.run }
 
 sum-one : (ways : List Way) (way : Way) → faults_in (ways ++ way ∷ []) ≡ faults_in ways + faults_of way
 sum-one [] way = omega arith
 sum-one (w ∷ ways) way = omega (arith, sum-one ways way)
 
 -- one turn
-pub record Loop (old : Standing) (moment : ℕ → ℕ) (input : List ℕ) (held : Option (List ℕ)) (faults : ℕ) (now : Standing) (place : ℕ) (left holds : Option (List ℕ)) : Type 0 where
+pub record Loop (old : Standing) (moment : ℕ → ℕ) (input : List ℕ) (asked : List Command) (held : Option (List ℕ)) (faults : ℕ) (now : Standing) (place : ℕ) (left holds : Option (List ℕ)) : Type 0 where
   pub ways : List Way
   pub rest : List ℕ
   pub written : List ℕ
   pub faults_are : faults ≡ faults_in ways
   pub left_is : left ≡ Some rest
   pub appends : Appends held holds written
-  pub underway : Underway old moment input ways now place rest written
+  pub underway : Underway old moment input asked ways now place rest written
 
-pub begins : (old : Standing) (moment : ℕ → ℕ) (input : List ℕ) (held left : Option (List ℕ)) (place : ℕ) → place ≡ 0 → left ≡ Some input → Loop old moment input held 0 old place left held
+pub begins : (old : Standing) (moment : ℕ → ℕ) (input : List ℕ) (held left : Option (List ℕ)) (place : ℕ) → place ≡ 0 → left ≡ Some input → Loop old moment input [] held 0 old place left held
 begins old moment input held left place first e = record {
   ways = [];
   rest = input;
@@ -222,7 +239,7 @@ begins old moment input held left place first e = record {
   faults_are = refl;
   left_is = e;
   appends = appends-none held;
-  underway = record { met = []; lines = refl; place_is = first; run = (refl, refl) };
+  underway = record { met = []; asked_is = refl; lines = refl; place_is = first; run = (refl, refl) };
 }
 
 -- what was read of a line that is there, and the rest
@@ -232,31 +249,35 @@ some_line reads.Kept kept rest left' more r = r
 some_line reads.Lost kept rest left' more r = (r.0, tt, r.1)
 some_line reads.End kept rest left' more r = absurd (more refl)
 
-pub turns : (old : Standing) (moment now_moment : ℕ → ℕ) (input : List ℕ) (held : Option (List ℕ)) (faults : ℕ) (now next : Standing) (place place' m n : ℕ) (left left' holds holds' : Option (List ℕ)) (reading : LineRead) (kept : List ℕ)
-    → Loop old moment input held faults now place left holds
+pub turns : (old : Standing) (moment now_moment : ℕ → ℕ) (input : List ℕ) (asked : List Command) (held : Option (List ℕ)) (faults : ℕ) (now next : Standing) (place place' m n : ℕ) (left left' holds holds' : Option (List ℕ)) (reading : LineRead) (kept : List ℕ)
+    → Loop old moment input asked held faults now place left holds
     → reading ≢ reads.End → ((rest : List ℕ) → left ≡ Some rest → ReadsLine rest reading kept left')
     → now_moment ≡ moment → m ≡ now_moment place → place' ≡ place + 1
     → ((whole : List ℕ) → Stands reading kept whole → Serves now m whole n holds holds' next)
-    → Loop old moment input held (faults + n) next place' left' holds'
-turns old moment now_moment input held faults now next place place' m n left left' holds holds' reading kept l more read same m_is place_is serves =
+    → (Leads : List Command → Type 0) → ((whole : List ℕ) → Stands reading kept whole → Leads (asked ++ asked_by (request_of_line whole)))
+    → (next_asked : List Command) × Loop old moment input next_asked held (faults + n) next place' left' holds' × Leads next_asked
+turns old moment now_moment input asked held faults now next place place' m n left left' holds holds' reading kept l more read same m_is place_is serves Leads leads =
     let r = some_line reading kept l.rest left' more (read l.rest l.left_is) in
     let s = serves (take_through 10 l.rest) r.1 in
     let m_at : m ≡ moment place = m_is ∙ ap (λ (f : ℕ → ℕ). f place) same in
-    let a : Answers s.way now (moment place) (take_through 10 l.rest) s.bytes next = rw (← m_at) s.answers in
-    record {
-      ways = l.ways ++ s.way ∷ [];
-      rest = drop_through 10 l.rest;
-      written = l.written ++ s.bytes;
-      faults_are = omega (arith, l.faults_are, s.faults_are, sum-one l.ways s.way);
-      left_is = r.2;
-      appends = appends-then held holds holds' l.written s.bytes l.appends s.appends;
-      underway = rw place_is (one_more old moment input l.ways now next place l.rest l.written s.bytes s.way l.underway r.0 a);
-    }
+    let a : Answers s.way now (moment place) (take_through 10 l.rest) s.bytes next = rw (← m_at) s.answers in (
+      asked ++ asked_by (request_of_line (take_through 10 l.rest)),
+      record {
+        ways = l.ways ++ s.way ∷ [];
+        rest = drop_through 10 l.rest;
+        written = l.written ++ s.bytes;
+        faults_are = omega (arith, l.faults_are, s.faults_are, sum-one l.ways s.way);
+        left_is = r.2;
+        appends = appends-then held holds holds' l.written s.bytes l.appends s.appends;
+        underway = rw place_is (one_more old moment input asked l.ways now next place l.rest l.written s.bytes s.way l.underway r.0 a);
+      },
+      leads (take_through 10 l.rest) r.1,
+    )
 
-pub ends : (old : Standing) (moment : ℕ → ℕ) (input : List ℕ) (held : Option (List ℕ)) (faults : ℕ) (now : Standing) (place : ℕ) (left holds : Option (List ℕ)) (reading : LineRead) (kept : List ℕ) (left' : Option (List ℕ))
-    → Loop old moment input held faults now place left holds → reading ≡ reads.End → ((rest : List ℕ) → left ≡ Some rest → ReadsLine rest reading kept left')
+pub ends : (old : Standing) (moment : ℕ → ℕ) (input : List ℕ) (asked : List Command) (held : Option (List ℕ)) (faults : ℕ) (now : Standing) (place : ℕ) (left holds : Option (List ℕ)) (reading : LineRead) (kept : List ℕ) (left' : Option (List ℕ))
+    → Loop old moment input asked held faults now place left holds → reading ≡ reads.End → ((rest : List ℕ) → left ≡ Some rest → ReadsLine rest reading kept left')
     → Served old moment 0 input faults held holds now
-ends old moment input held faults now place left holds reading kept left' l end read =
+ends old moment input asked held faults now place left holds reading kept left' l end read =
     let none : l.rest ≡ [] = rw end at (read l.rest l.left_is) in
     let all : lines_of input ≡ l.underway.met = l.underway.lines ∙ ap (λ (t : List ℕ). l.underway.met ++ lines_of t) none ∙ append-nil l.underway.met in
     record {
@@ -267,23 +288,28 @@ ends old moment input held faults now place left holds reading kept left' l end 
       appends = l.appends;
     }
 
--- the reader failed
-pub breaks : (old : Standing) (moment : ℕ → ℕ) (input : List ℕ) (held : Option (List ℕ)) (faults : ℕ) (now : Standing) (place : ℕ) (left holds : Option (List ℕ)) → Loop old moment input held faults now place left holds → Broke old moment input now
-breaks old moment input held faults now place left holds l = cut old moment input l.ways now place l.rest l.written l.underway
+-- a beginning of the lines was met
+pub breaks : (old : Standing) (moment : ℕ → ℕ) (input : List ℕ) (asked : List Command) (held : Option (List ℕ)) (faults : ℕ) (now : Standing) (place : ℕ) (left holds : Option (List ℕ)) → Loop old moment input asked held faults now place left holds → MeetsFront old moment input asked now
+breaks old moment input asked held faults now place left holds l = cut old moment input asked l.ways now place l.rest l.written l.underway
 
 -- the writer failed
-pub breaks_untold : (old : Standing) (moment now_moment : ℕ → ℕ) (input : List ℕ) (held : Option (List ℕ)) (faults : ℕ) (now next : Standing) (place m : ℕ) (left left' holds : Option (List ℕ)) (reading : LineRead) (kept : List ℕ)
-    → Loop old moment input held faults now place left holds
+pub breaks_untold : (old : Standing) (moment now_moment : ℕ → ℕ) (input : List ℕ) (asked : List Command) (held : Option (List ℕ)) (faults : ℕ) (now next : Standing) (place m : ℕ) (left left' holds : Option (List ℕ)) (reading : LineRead) (kept : List ℕ)
+    → Loop old moment input asked held faults now place left holds
     → reading ≢ reads.End → ((rest : List ℕ) → left ≡ Some rest → ReadsLine rest reading kept left')
     → now_moment ≡ moment → m ≡ now_moment place
     → ((whole : List ℕ) → Stands reading kept whole → Untold now m whole next)
-    → Broke old moment input next
-breaks_untold old moment now_moment input held faults now next place m left left' holds reading kept l more read same m_is untold =
+    → (Leads : List Command → Type 0) → ((whole : List ℕ) → Stands reading kept whole → Leads (asked ++ asked_by (request_of_line whole)))
+    → (next_asked : List Command) × MeetsFront old moment input next_asked next × Leads next_asked
+breaks_untold old moment now_moment input asked held faults now next place m left left' holds reading kept l more read same m_is untold Leads leads =
     let r = some_line reading kept l.rest left' more (read l.rest l.left_is) in
     let u = untold (take_through 10 l.rest) r.1 in
     let m_at : m ≡ moment place = m_is ∙ ap (λ (f : ℕ → ℕ). f place) same in
     let a : Answers u.way now (moment place) (take_through 10 l.rest) u.bytes next = rw (← m_at) u.answers in
-    cut old moment input (l.ways ++ u.way ∷ []) next (place + 1) (drop_through 10 l.rest) (l.written ++ u.bytes) (one_more old moment input l.ways now next place l.rest l.written u.bytes u.way l.underway r.0 a)
+    let here = asked ++ asked_by (request_of_line (take_through 10 l.rest)) in (
+      here,
+      cut old moment input here (l.ways ++ u.way ∷ []) next (place + 1) (drop_through 10 l.rest) (l.written ++ u.bytes) (one_more old moment input asked l.ways now next place l.rest l.written u.bytes u.way l.underway r.0 a),
+      leads (take_through 10 l.rest) r.1,
+    )
 
 pub cleanly : (old : Standing) (moment : ℕ → ℕ) (input : List ℕ) (held : Option (List ℕ)) (faults : ℕ) (now : Standing) (holds : Option (List ℕ))
     → Served old moment 0 input faults held holds now → faults ≡ 0 → now.number < 9223372036854775807 → ServedCleanly old.state moment 0 input held holds now.state

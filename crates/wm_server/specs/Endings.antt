@@ -1,27 +1,64 @@
 -- How `lines` ends.
-use Rattle.std.specs.Prelude.{◌≡◌, ℕ, List, Option, Some}
+use Rattle.std.specs.Prelude.{◌≡◌, ◌⊎◌, ℕ, List, ◌∷◌, Option, Some}
 use Rattle.wm_registry.specs.Roots as registry
+use Rattle.wm_registry.specs.declared.command.Command.{Command}
+use Rattle.wm_registry.specs.declared.command.Command.TheVariants.{Begin}
+use Rattle.wm_registry.specs.MachineLaws.{watches}
+use Rattle.wm_checkpoint.specs.Meanings.{MeansBeginning, MeansState}
+use Rattle.wm_disk.specs.Contents.{Rose}
+use Rattle.wm_disk.specs.Moments.{LeavesOnly}
 use Rattle.wm_disk.specs.declared.disk.Disk.{Ghosts}
-use Rattle.wm_server.specs.Stores.{LinesRefused}
-use Rattle.wm_server.specs.Programs.{Kept, LinesBroken}
+use Rattle.wm_disk.specs.declared.refusal.Refusal.{Refusal}
+use Rattle.wm_disk.specs.declared.refusal.Refusal.TheVariants as refusals
+use Rattle.wm_server.specs.Asked.{AreAskedOf, ArePartOf}
+use Rattle.wm_server.specs.Stores.{StartCut, StartRefused, WritesNothing}
+use Rattle.wm_server.specs.Programs.{CutShort, Kept, LinesBroken, LinesCut}
 use Rattle.wm_server.specs.declared.lines.Ending.{Ending}
 use Rattle.wm_server.specs.declared.lines.Ending.TheVariants.{Served, Refused, Broken}
 
 -- what was accepted is kept in a file that is closed
 abbrev pub KeepsAll : {D : Type 0} → Ghosts D → D → D → Type 0
-KeepsAll disk old new = disk.honest new → (was : registry.State) × (left : registry.State) × Kept disk old was left new
+KeepsAll disk old new = disk.honest new → (was : registry.State) × (left : registry.State) × (asked : List Command) × Kept disk old was left asked new
 
 -- the reader or the writer failed, where the reader told what it holds: what a beginning of its lines left is kept
 abbrev pub KeepsBeginning : {D : Type 0} → Ghosts D → Option (List ℕ) → D → D → Type 0
 KeepsBeginning disk holds old new = disk.honest new → (input : List ℕ) → holds ≡ Some input → LinesBroken disk old input new
 
+-- the device failed after the start: what was accepted stands, and, where the reader told what it holds, a beginning of its lines did that
+abbrev pub CutsLines : {D : Type 0} → Ghosts D → Option (List ℕ) → D → D → Type 0
+CutsLines disk holds old new = disk.honest new → ((was : registry.State) × (left : registry.State) × (asked : List Command) × CutShort disk old was left asked new)
+    × ((input : List ℕ) → holds ≡ Some input → LinesCut disk old input new)
+
+-- why `lines` was refused: at its start, and what that left; or because the device failed, at its close or meanwhile
+abbrev pub LinesRefused : {D : Type 0} → Ghosts D → Refusal → Option (List ℕ) → D → D → Type 0
+LinesRefused disk refusals.StoreFailed holds old new = Rose (disk.failures old) (disk.failures new) × CutsLines disk holds old new
+LinesRefused disk refusals.DeviceFailed holds old new = Rose (disk.failures old) (disk.failures new) × (StartCut disk old new ⊎ CutsLines disk holds old new)
+LinesRefused disk refusal holds old new = StartRefused disk refusal old new × StartCut disk old new
+
 -- A refusal has its cause, and has left the file as it says. In the other endings what was accepted is kept.
 abbrev pub Ends : {D : Type 0} → Ghosts D → Ending → Option (List ℕ) → D → D → Type 0
 Ends disk Served holds old new = KeepsAll disk old new
-Ends disk (Refused refusal) holds old new = LinesRefused disk refusal old new
+Ends disk (Refused refusal) holds old new = LinesRefused disk refusal holds old new
 Ends disk Broken holds old new = KeepsAll disk old new × KeepsBeginning disk holds old new
 
 abbrev pub status_of : Ending → ℕ
 status_of Served = 0
 status_of (Refused refusal) = 1
 status_of Broken = 1
+
+-- ---- moments
+
+-- From old to new a file was taken up that meant a registry. There is a moment between the two: until it a crash leaves what one before
+-- old might have left; and from it on that registry, or that with a beginning of a `Begin` and some of the commands asked for, in their
+-- order.
+pub record Passes {D : Type 0} (disk : Ghosts D) (old : D) (was : registry.State) (asked : List Command) (new : D) : Type 0 where
+  pub means : MeansState watches was (disk.seen old)
+  pub taken : List Command
+  pub part : ArePartOf taken asked
+  pub synced : D
+  pub until : WritesNothing disk old synced
+  pub from : LeavesOnly disk.moment disk.left_since synced new (MeansBeginning watches was (Begin ∷ taken))
+
+-- what a crash at any moment of a session leaves
+abbrev pub LeavesAnytime : {D : Type 0} → Ghosts D → Option (List ℕ) → D → D → Type 0
+LeavesAnytime disk holds old new = disk.honest new → WritesNothing disk old new ⊎ ((was : registry.State) × (asked : List Command) × AreAskedOf holds asked × Passes disk old was asked new)

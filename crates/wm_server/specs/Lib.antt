@@ -1,6 +1,7 @@
 pub mod AgeOutLines
 pub mod AnswerTexts
 pub mod Arguments
+pub mod Asked
 pub mod ClockLines
 pub mod Endings
 pub mod Expressions

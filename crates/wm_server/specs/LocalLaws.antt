@@ -1,5 +1,5 @@
 -- Moments of a store follow each other.
-use Rattle.std.proofs.Common.{◌≡◌, ◌≤◌, ◌+◌, ℕ, List, [], ◌++◌, length, take, Bool, true, false, refl, sym, ap, ◌∙◌, subst, ⊎_elim, arith, inl, inr, append_assoc}
+use Rattle.std.proofs.Common.{◌≡◌, ◌≤◌, ◌+◌, ℕ, List, [], ◌∷◌, ◌++◌, length, take, Bool, true, false, refl, sym, ap, ◌∙◌, subst, ⊎_elim, arith, inl, inr, append_assoc}
 use Rattle.std.proofs.Math.Seq.{take-append-add}
 use Rattle.std.proofs.lemmas.Bool.{cases_lt}
 use Rattle.std.proofs.lemmas.List.{append-nil, length-append, take-append-le}
@@ -12,6 +12,7 @@ use Rattle.wm_checkpoint.proofs.Outside.{replayed_append}
 use Rattle.wm_registry.specs.MachineLaws.{watches}
 use Rattle.wm_registry.specs.declared.command.Command.{Command}
 use Rattle.wm_store.specs.Stored.{Stored}
+use Rattle.wm_server.specs.Asked.{ArePartOf}
 use Rattle.wm_server.specs.Stores.{Later, Commits, LeadsTo}
 
 -- ---- counts
@@ -29,12 +30,20 @@ not_failed false h = refl
 
 -- ---- what a crash leaves
 
-weaker : {D : Type 0} (moment : D → ℕ) (left_since : D → ℕ → List ℕ → Type 0) (old new : D) (P Q : List ℕ → Type 0) → LeavesOnly moment left_since old new P → ((c : List ℕ) → P c → Q c) → LeavesOnly moment left_since old new Q
+pub weaker : {D : Type 0} (moment : D → ℕ) (left_since : D → ℕ → List ℕ → Type 0) (old new : D) (P Q : List ℕ → Type 0) → LeavesOnly moment left_since old new P → ((c : List ℕ) → P c → Q c) → LeavesOnly moment left_since old new Q
 weaker moment left_since old new P Q run weaken = record {
   later = run.later;
   each = λ c left. weaken c (run.each c left);
   before = λ t c le left. ⊎_elim inl (λ now. inr (weaken c now)) (run.before t c le left);
 }
+
+-- a disk's law
+abbrev pub CountsNow : {D : Type 0} → Ghosts D → Type 0
+CountsNow disk = (d : _) (t : ℕ) (c : List ℕ) → disk.honest d → t ≤ disk.moment d → disk.may_leave d c → disk.left_since d t c
+
+-- what a crash may leave at the end of a run
+pub left_now : {D : Type 0} (disk : Ghosts D) → CountsNow disk → (old new : D) (P : List ℕ → Type 0) → disk.honest new → LeavesOnly disk.moment disk.left_since old new P → (c : List ℕ) → disk.may_leave new c → P c
+left_now disk counts_now old new P h run c left = run.each c (counts_now new (disk.moment old) c h run.later left)
 
 -- ---- beginnings of lists of commands
 
@@ -58,6 +67,23 @@ module _ {S C : Type 0} (m : Meaning S C) where
         means = subst (λ (s : S). MeansState m s content) here b.means;
       }
 
+-- ---- some of a list of commands
+
+pub none_of : (asked : List Command) → ArePartOf [] asked
+none_of [] = refl
+none_of (first ∷ asked) = inr (none_of asked)
+
+pub parts_of : (some asked more next : List Command) → ArePartOf some asked → ArePartOf more next → ArePartOf (some ++ more) (asked ++ next)
+parts_of some [] more next p q = subst (λ (l : List Command). ArePartOf (l ++ more) next) (sym p) q
+parts_of some (first ∷ asked) more next (inl here) q = inl (here.0 ++ more, ap (λ (l : List Command). l ++ more) here.1, parts_of here.0 asked more next here.2 q)
+parts_of some (first ∷ asked) more next (inr there) q = inr (parts_of some asked more next there q)
+
+pub part_in_front : (some asked next : List Command) → ArePartOf some asked → ArePartOf some (asked ++ next)
+part_in_front some asked next p = subst (λ (l : List Command). ArePartOf l (asked ++ next)) (append-nil some) (parts_of some asked [] next p (none_of next))
+
+part_behind : (some asked next : List Command) → ArePartOf some next → ArePartOf some (asked ++ next)
+part_behind some asked next p = parts_of [] asked some next (none_of asked) p
+
 -- ---- moments of a store
 
 module _ {D : Type 0} (disk : Ghosts D) where
@@ -68,23 +94,43 @@ module _ {D : Type 0} (disk : Ghosts D) where
   later_then a b c p q = record { honest = λ h. p.honest (q.honest h); count = omega (arith, p.count, q.count) }
 
   -- nothing was done
-  pub commits_none : (a : Stored D) → Commits disk a a
-  commits_none a = record { accepted = []; in_flight = []; registry = refl; works = λ e. refl; any_moment = inl refl }
+  commits_none : (asked : List Command) (a : Stored D) → a.failed ≡ false → Commits disk asked a a
+  commits_none asked a works = record {
+    accepted = [];
+    in_flight = [];
+    part = none_of asked;
+    registry = refl;
+    works = λ e. refl;
+    leaves = λ f. let bad : false ≡ true = sym works ∙ f in absurd cc;
+    any_moment = inl refl;
+  }
 
-  pub stays : (a : Stored D) → LeadsTo disk a a
-  stays a = record { later = later_same a.disk; failed = λ e. e; still = λ e. refl; cause = λ e f. let bad : false ≡ true = sym e ∙ f in absurd cc; commits = λ e. commits_none a }
+  pub stays : (asked : List Command) (a : Stored D) → LeadsTo disk asked a a
+  stays asked a = record { later = later_same a.disk; failed = λ e. e; still = λ e. refl; cause = λ e f. let bad : false ≡ true = sym e ∙ f in absurd cc; commits = λ e. commits_none asked a e }
+
+  -- more was asked for
+  asks_more : (asked more : List Command) (a b : Stored D) → ((some : List Command) → ArePartOf some asked → ArePartOf some more) → Commits disk asked a b → Commits disk more a b
+  asks_more asked more a b wider p = record {
+    accepted = p.accepted;
+    in_flight = p.in_flight;
+    part = wider (p.accepted ++ p.in_flight) p.part;
+    registry = p.registry;
+    works = p.works;
+    leaves = p.leaves;
+    any_moment = p.any_moment;
+  }
 
   -- the device failed in the first part or in the second
-  rises : (a b c : Stored D) → LeadsTo disk a b → LeadsTo disk b c → (middle : Bool) → b.failed ≡ middle → a.failed ≡ false → c.failed ≡ true → Rose (disk.failures a.disk) (disk.failures c.disk)
-  rises a b c p q true m e f = λ below. omega (arith, p.cause e m below, q.later.count)
-  rises a b c p q false m e f = λ below. rose_later (disk.failures a.disk) (disk.failures b.disk) (disk.failures c.disk) p.later.count (q.cause m f) q.later.count below
+  rises : (xs ys : List Command) (a b c : Stored D) → LeadsTo disk xs a b → LeadsTo disk ys b c → (middle : Bool) → b.failed ≡ middle → a.failed ≡ false → c.failed ≡ true → Rose (disk.failures a.disk) (disk.failures c.disk)
+  rises xs ys a b c p q true m e f = λ below. omega (arith, p.cause e m below, q.later.count)
+  rises xs ys a b c p q false m e f = λ below. rose_later (disk.failures a.disk) (disk.failures b.disk) (disk.failures c.disk) p.later.count (q.cause m f) q.later.count below
 
   -- Two runs of commands are one.
-  both_run : (a b c : Stored D) → (disk.honest c.disk → disk.honest b.disk) → b.failed ≡ false → (p : Commits disk a b) (q : Commits disk b c)
+  both_run : (xs ys : List Command) (a b c : Stored D) → (disk.honest c.disk → disk.honest b.disk) → b.failed ≡ false → (p : Commits disk xs a b) (q : Commits disk ys b c)
       → (disk.honest b.disk → LeavesOnly disk.moment disk.left_since a.disk b.disk (MeansBeginning watches a.registry (p.accepted ++ p.in_flight)))
       → (disk.honest c.disk → LeavesOnly disk.moment disk.left_since b.disk c.disk (MeansBeginning watches b.registry (q.accepted ++ q.in_flight)))
-      → Commits disk a c
-  both_run a b c honest works p q first second =
+      → Commits disk (xs ++ ys) a c
+  both_run xs ys a b c honest works p q first second =
       let none : p.accepted ++ p.in_flight ≡ p.accepted = ap (λ (l : List Command). p.accepted ++ l) (p.works works) ∙ append-nil p.accepted in
       let all : p.accepted ++ (q.accepted ++ q.in_flight) ≡ (p.accepted ++ q.accepted) ++ q.in_flight = sym (append_assoc p.accepted q.accepted q.in_flight) in
       let Whole : List ℕ → Type 0 = MeansBeginning watches a.registry ((p.accepted ++ q.accepted) ++ q.in_flight) in
@@ -96,6 +142,8 @@ module _ {D : Type 0} (disk : Ghosts D) where
       record {
         accepted = p.accepted ++ q.accepted;
         in_flight = q.in_flight;
+        part = subst (λ (l : List Command). ArePartOf l (xs ++ ys)) all (parts_of p.accepted xs (q.accepted ++ q.in_flight) ys (subst (λ (l : List Command). ArePartOf l xs) none p.part) q.part);
+        leaves = q.leaves;
         registry = q.registry ∙ ap (λ s. replay_on watches s q.accepted) p.registry ∙ sym (replayed_append watches.after a.registry p.accepted q.accepted);
         works = q.works;
         any_moment = inr (λ h. then_runs disk.moment disk.left_since a.disk b.disk c.disk Whole (MeansBeginning watches b.registry (q.accepted ++ q.in_flight))
@@ -104,25 +152,25 @@ module _ {D : Type 0} (disk : Ghosts D) where
             of_second);
       }
 
-  commits_then : (a b c : Stored D) → (disk.honest c.disk → disk.honest b.disk) → b.failed ≡ false → Commits disk a b → Commits disk b c → Commits disk a c
-  commits_then a b c honest works p q =
+  commits_then : (xs ys : List Command) (a b c : Stored D) → (disk.honest c.disk → disk.honest b.disk) → b.failed ≡ false → Commits disk xs a b → Commits disk ys b c → Commits disk (xs ++ ys) a c
+  commits_then xs ys a b c honest works p q =
       elim p.any_moment [
-        | inl same ↦ subst (λ (s : Stored D). Commits disk s c) same q
+        | inl same ↦ asks_more ys (xs ++ ys) a c (λ some. part_behind some xs ys) (subst (λ (s : Stored D). Commits disk ys s c) same q)
         | inr first ↦ elim q.any_moment [
-          | inl same ↦ subst (λ (s : Stored D). Commits disk a s) (sym same) p
-          | inr second ↦ both_run a b c honest works p q first second
+          | inl same ↦ asks_more xs (xs ++ ys) a c (λ some. part_in_front some xs ys) (subst (λ (s : Stored D). Commits disk xs a s) (sym same) p)
+          | inr second ↦ both_run xs ys a b c honest works p q first second
         ]
       ]
 
-  commits_on : (a b c : Stored D) → LeadsTo disk a b → LeadsTo disk b c → a.failed ≡ false → (middle : Bool) → b.failed ≡ middle → Commits disk a c
-  commits_on a b c p q e true m = subst (λ (s : Stored D). Commits disk a s) (sym (q.still m)) (p.commits e)
-  commits_on a b c p q e false m = commits_then a b c q.later.honest m (p.commits e) (q.commits m)
+  commits_on : (xs ys : List Command) (a b c : Stored D) → LeadsTo disk xs a b → LeadsTo disk ys b c → a.failed ≡ false → (middle : Bool) → b.failed ≡ middle → Commits disk (xs ++ ys) a c
+  commits_on xs ys a b c p q e true m = asks_more xs (xs ++ ys) a c (λ some. part_in_front some xs ys) (subst (λ (s : Stored D). Commits disk xs a s) (sym (q.still m)) (p.commits e))
+  commits_on xs ys a b c p q e false m = commits_then xs ys a b c q.later.honest m (p.commits e) (q.commits m)
 
-  pub goes_on : (a b c : Stored D) → LeadsTo disk a b → LeadsTo disk b c → LeadsTo disk a c
-  goes_on a b c p q = record {
+  pub goes_on : (xs ys : List Command) (a b c : Stored D) → LeadsTo disk xs a b → LeadsTo disk ys b c → LeadsTo disk (xs ++ ys) a c
+  goes_on xs ys a b c p q = record {
     later = later_then a.disk b.disk c.disk p.later q.later;
     failed = λ e. q.failed (p.failed e);
     still = λ e. q.still (p.failed e) ∙ p.still e;
-    cause = λ e f. rises a b c p q b.failed refl e f;
-    commits = λ e. commits_on a b c p q e b.failed refl;
+    cause = λ e f. rises xs ys a b c p q b.failed refl e f;
+    commits = λ e. commits_on xs ys a b c p q e b.failed refl;
   }

@@ -11,9 +11,10 @@ use Rattle.wm_registry.specs.Registry.{reply_to, after}
 use Rattle.wm_registry.specs.Roots as registry
 use Rattle.wm_registry.specs.MachineLaws.{watches}
 use Rattle.wm_checkpoint.specs.Machines.{replay_on}
-use Rattle.wm_checkpoint.specs.Meanings.{MeansState}
+use Rattle.wm_checkpoint.specs.Meanings.{MeansBeginning, MeansState}
 use Rattle.wm_disk.specs.declared.disk.Disk.{Ghosts}
 use Rattle.wm_server.specs.Stores.{IsKeptOn}
+use Rattle.wm_server.specs.Asked.{ArePartOf, asked_in}
 use Rattle.wm_server.specs.Inputs.{lines_of}
 use Rattle.wm_server.specs.Sessions.{State}
 use Rattle.wm_server.specs.Faults.{Standing, Way, Defined, Device, Memory, Spent}
@@ -36,13 +37,26 @@ IsQuiet Spent = Unit {0}
 abbrev pub first_state : registry.State → State
 first_state was = record { registry = after was Begin; has_failed = false; views = first_views (after was Begin) }
 
--- A file meant a registry, and is left to mean it with a `Begin` and the accepted commands, whatever a crash does.
-pub record Kept {D : Type 0} (disk : Ghosts D) (old : D) (was left : registry.State) (new : D) : Type 0 where
+-- A file meant a registry, and is left to mean it with a `Begin` and the accepted commands, whatever a crash does. These are of the
+-- commands that were asked for, in their order.
+pub record Kept {D : Type 0} (disk : Ghosts D) (old : D) (was left : registry.State) (asked : List Command) (new : D) : Type 0 where
   pub means : MeansState watches was (disk.seen old)
   pub begins : reply_to was Begin ≡ Changed
   pub accepted : List Command
+  pub part : ArePartOf accepted asked
   pub replayed : left ≡ replay_on watches (after was Begin) accepted
   pub kept : IsKeptOn disk left new
+
+-- The device failed over a file that meant a registry: a crash leaves it to mean that with a `Begin` and the accepted commands, and
+-- perhaps a beginning of those that were in flight. All these are of the commands that were asked for, in their order.
+pub record CutShort {D : Type 0} (disk : Ghosts D) (old : D) (was left : registry.State) (asked : List Command) (new : D) : Type 0 where
+  pub means : MeansState watches was (disk.seen old)
+  pub begins : reply_to was Begin ≡ Changed
+  pub accepted : List Command
+  pub in_flight : List Command
+  pub part : ArePartOf (accepted ++ in_flight) asked
+  pub replayed : left ≡ replay_on watches (after was Begin) accepted
+  pub leaves : (c : List ℕ) → disk.may_leave new c → MeansBeginning watches left in_flight c
 
 -- Lines were met over a file that meant a registry, with these bytes as their replies, and what they left was kept.
 pub record LinesMet {D : Type 0} (disk : Ghosts D) (old : D) (lines : List (List ℕ)) (bytes : List ℕ) (new : D) : Type 0 where
@@ -54,7 +68,7 @@ pub record LinesMet {D : Type 0} (disk : Ghosts D) (old : D) (lines : List (List
   pub quiet : AllByRecursion IsQuiet ways
   pub left : Standing
   pub run : Run (record { state = first_state was; failures = before; number = number }) line_number 0 lines ways bytes left
-  pub kept : Kept disk old was left.state.registry new
+  pub kept : Kept disk old was left.state.registry (asked_in lines) new
   -- a start raises the number of the file's slot by one at most
   pub number_is : number ≤ kept.means.number + 1
 
@@ -71,6 +85,21 @@ pub record LinesBroken {D : Type 0} (disk : Ghosts D) (old : D) (input : List �
   pub lines : lines_of input ≡ front ++ more
   pub bytes : List ℕ
   pub met : LinesMet disk old front bytes new
+
+-- a beginning of an input's lines was met, and the device failed among them, or behind them
+pub record LinesCut {D : Type 0} (disk : Ghosts D) (old : D) (input : List ℕ) (new : D) : Type 0 where
+  pub front : List (List ℕ)
+  pub more : List (List ℕ)
+  pub lines : lines_of input ≡ front ++ more
+  pub was : registry.State
+  pub before : ℕ
+  pub number : ℕ
+  pub ways : List Way
+  pub bytes : List ℕ
+  pub left : Standing
+  pub run : Run (record { state = first_state was; failures = before; number = number }) line_number 0 front ways bytes left
+  pub cut : CutShort disk old was left.state.registry (asked_in front) new
+  pub number_is : number ≤ cut.means.number + 1
 
 -- what a program that is refused tells: its name, and the number and name of the refusal
 abbrev pub message_of : Refusal → List ℕ

@@ -1,6 +1,8 @@
 -- A whole session: what is written for what is read, and what state is left.
 use Rattle.std.specs.Prelude.{◌≡◌, ℕ, ◌+◌, List, [], ◌∷◌, ◌++◌, Option}
 use Rattle.std.specs.Io.KnownBytes.{Appends}
+use Rattle.wm_registry.specs.declared.command.Command.{Command}
+use Rattle.wm_server.specs.Asked.{asked_in}
 use Rattle.wm_server.specs.Inputs.{lines_of}
 use Rattle.wm_server.specs.Replies.{reply_bytes}
 use Rattle.wm_server.specs.Sessions.{State, line_met}
@@ -44,11 +46,13 @@ pub record ServedCleanly (old : State) (moment : ℕ → ℕ) (k : ℕ) (input :
   pub appends : Appends held holds (output_of old moment k (lines_of input))
   pub state_is : new ≡ state_after old moment k (lines_of input)
 
--- the reader or the writer failed: a beginning of the input's lines was met, of which the last reply may be told in part or not at all
-pub record Broke (old : Standing) (moment : ℕ → ℕ) (input : List ℕ) (new : Standing) : Type 0 where
+-- A beginning of the input's lines was met, and these commands are what it asks for. Where the reader or the writer failed the last reply
+-- may be told in part or not at all.
+pub record MeetsFront (old : Standing) (moment : ℕ → ℕ) (input : List ℕ) (asked : List Command) (new : Standing) : Type 0 where
   pub met : List (List ℕ)
   pub more : List (List ℕ)
   pub lines : lines_of input ≡ met ++ more
+  pub asked_is : asked ≡ asked_in met
   pub ways : List Way
   pub bytes : List ℕ
   pub run : Run old moment 0 met ways bytes new

@@ -20,6 +20,7 @@ use Rattle.wm_store.specs.Stored.{Stored}
 use Rattle.wm_server.specs.KeptExpressions.{have_expressions}
 use Rattle.wm_server.specs.Sessions.{State, views_after}
 use Rattle.wm_server.specs.Faults.{Standing}
+use Rattle.wm_server.specs.Asked.{ArePartOf}
 
 -- a crash leaves a content that means this registry
 abbrev pub IsKeptOn : {D : Type 0} → Ghosts D → registry.State → D → Type 0
@@ -46,44 +47,46 @@ module _ {D : Type 0} where
     pub honest : disk.honest new → disk.honest old
     pub count : disk.failures old ≤ disk.failures new
 
-  -- Commands were accepted between an earlier and a later moment of a store, and perhaps others were in flight when the device failed.
-  -- Either the two are the same and no call of the disk was made between them; or a crash between them leaves the registry after a
-  -- beginning of all these commands.
-  pub record Commits (disk : Ghosts D) (old new : Stored D) : Type 0 where
+  -- Of the commands asked for between an earlier and a later moment of a store some were accepted, and perhaps others were in flight when
+  -- the device failed. Either the two moments are the same and no call of the disk was made between them; or a crash between them leaves
+  -- the registry after a beginning of all these commands. After a failure a crash leaves what was accepted, with a beginning of what was
+  -- in flight.
+  pub record Commits (disk : Ghosts D) (asked : List Command) (old new : Stored D) : Type 0 where
     pub accepted : List Command
     pub in_flight : List Command
+    pub part : ArePartOf (accepted ++ in_flight) asked
     pub registry : new.registry ≡ replay_on watches old.registry accepted
     pub works : new.failed ≡ false → in_flight ≡ []
+    pub leaves : new.failed ≡ true → disk.honest new.disk → (c : List ℕ) → disk.may_leave new.disk c → MeansBeginning watches new.registry in_flight c
     pub any_moment : (new ≡ old) ⊎ (disk.honest new.disk → LeavesOnly disk.moment disk.left_since old.disk new.disk (MeansBeginning watches old.registry (accepted ++ in_flight)))
 
-  -- an earlier and a later moment of a store
-  pub record LeadsTo (disk : Ghosts D) (old new : Stored D) : Type 0 where
+  -- an earlier and a later moment of a store, and the commands that were asked for between them
+  pub record LeadsTo (disk : Ghosts D) (asked : List Command) (old new : Stored D) : Type 0 where
     pub later : Later disk old.disk new.disk
     pub failed : old.failed ≡ true → new.failed ≡ true
     -- nothing more is asked of a disk that has failed
     pub still : old.failed ≡ true → new ≡ old
     pub cause : old.failed ≡ false → new.failed ≡ true → Rose (disk.failures old.disk) (disk.failures new.disk)
-    pub commits : old.failed ≡ false → Commits disk old new
+    pub commits : old.failed ≡ false → Commits disk asked old new
 
   -- the store was begun, and a trigger keeps a text that is no expression
   abbrev pub KeepsNoExpression : Ghosts D → D → D → Type 0
   KeepsNoExpression disk old new = (found : registry.State) × (have_expressions found ≡ false) × IsFound disk old new found
 
-  -- why a start was refused
+  -- at no moment a crash leaves what one before might not have left
+  abbrev pub WritesNothing : Ghosts D → D → D → Type 0
+  WritesNothing disk old new = LeavesOnly disk.moment disk.left_since old new (disk.may_leave old)
+
+  -- why a start was refused; that nothing was written where the file means no registry; and that it has no `Begin` where that is refused
   abbrev pub StartRefused : Ghosts D → Refusal → D → D → Type 0
-  StartRefused disk refusals.Damaged old new = disk.honest new → IsDamaged watches (disk.seen old) ⊎ KeepsNoExpression disk old new
-  StartRefused disk refusals.Retired old new = disk.honest new → IsRetired (disk.seen old)
-  StartRefused disk refusals.Exhausted old new = disk.honest new → (found : registry.State) × (m : MeansState watches found (disk.seen old)) × ((reply_to found Begin ≡ Refused refusals.Exhausted) ⊎ (9223372036854775807 ≤ m.number))
+  StartRefused disk refusals.Damaged old new = disk.honest new → (IsDamaged watches (disk.seen old) × WritesNothing disk old new) ⊎ KeepsNoExpression disk old new
+  StartRefused disk refusals.Retired old new = disk.honest new → IsRetired (disk.seen old) × WritesNothing disk old new
+  StartRefused disk refusals.Exhausted old new = disk.honest new → ((found : registry.State) × (m : MeansState watches found (disk.seen old)) × ((reply_to found Begin ≡ Refused refusals.Exhausted) ⊎ (9223372036854775807 ≤ m.number)))
+      × ((found : registry.State) × MeansState watches found (disk.seen old) × IsKeptOn disk found new)
   StartRefused disk refusals.DeviceFailed old new = Rose (disk.failures old) (disk.failures new)
   StartRefused disk refusals.NoMemory old new = Unit {0}
   StartRefused disk _ old new = ⊥
 
   -- what a refused start left: what a crash might have left before, or the registry that the file meant, perhaps with one more `Begin`
   abbrev pub StartCut : Ghosts D → D → D → Type 0
-  StartCut disk old new = disk.honest new → LeavesOnly disk.moment disk.left_since old new (disk.may_leave old) ⊎ ((found : registry.State) × IsFound disk old new found)
-
-  -- why `lines` was refused: at its start, and what that left; or because the device failed, at its close or meanwhile
-  abbrev pub LinesRefused : Ghosts D → Refusal → D → D → Type 0
-  LinesRefused disk refusals.StoreFailed old new = Rose (disk.failures old) (disk.failures new)
-  LinesRefused disk refusals.DeviceFailed old new = Rose (disk.failures old) (disk.failures new)
-  LinesRefused disk refusal old new = StartRefused disk refusal old new × StartCut disk old new
+  StartCut disk old new = disk.honest new → WritesNothing disk old new ⊎ ((found : registry.State) × IsFound disk old new found)

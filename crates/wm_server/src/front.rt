@@ -1,4 +1,5 @@
-ghost use Rattle.std.specs.Prelude.{◌≡◌, ◌≢◌, true, Ok, Err, IfOk, IfErr};
+ghost use Rattle.std.specs.Prelude.{◌≡◌, ◌≢◌, ◌∷◌, ◌++◌, [], List, true, Ok, Err, IfOk, IfErr};
+ghost use Rattle.wm_registry.specs.declared.command.Command as commands;
 ghost use Rattle.wm_expr.specs.Meanings.{holds};
 ghost use Rattle.wm_expr.specs.Views.{term};
 ghost use Rattle.wm_since.specs.Answers.{question};
@@ -21,20 +22,21 @@ pub trait Front {
     /// What lines read and change, and how often the device under it has failed.
     ghost standing: { Self → Standing };
 
-    /// Holds of an earlier and a later moment of one front: what each call keeps, beyond what lines see.
-    ghost leads_to: { Self → Self → Type 0 };
+    /// Holds of an earlier and a later moment of one front, and of the commands that were submitted
+    /// between them: what each call keeps, beyond what lines see.
+    ghost leads_to: { Self → List commands.Command → Self → Type 0 };
 
     /// Submits a command; a `Begin` is refused. After a failure of the device each later command is
     /// refused.
     fn submit(&mut self, alloc: Global, command: Command) -> Reply
         ensures met { Submits (standing self.old) command result (standing self.new) }
-        ensures later { leads_to self.old self.new };
+        ensures later { leads_to self.old (command ∷ []) self.new };
 
     /// Performs an operation on the view of a watched root, and tells where that stands after it.
     /// `NotWatched`, what the view refuses, and `NoMemory`; a refusal changes nothing.
     fn operate(&mut self, alloc: Global, root: &RootPath, op: &Op) -> Result<Stand, Refusal>
         ensures met { Operates (standing self.old) root.now op.now result (standing self.new) }
-        ensures later { leads_to self.old self.new };
+        ensures later { leads_to self.old [] self.new };
 
     /// The registry as it is.
     fn registry(&self) -> &Registry
@@ -59,11 +61,11 @@ pub trait Front {
     fn move_cursor(&mut self, root: &RootPath, name: CursorName, clock: ClockId)
         requires { may_move (view_of (standing self.old).state root.now) name ≡ true }
         ensures met { standing self.new ≡ record (standing self.old) { state = cursor_moved (standing self.old).state root.now (view_of (standing self.old).state root.now) name clock } }
-        ensures later { leads_to self.old self.new };
+        ensures later { leads_to self.old [] self.new };
 
-    /// A front leads to itself.
-    ghost stays: { (a : Self) → leads_to a a };
+    /// A front leads to itself, whatever was asked for: a command may be refused.
+    ghost stays: { (a : Self) (asked : List commands.Command) → leads_to a asked a };
 
     /// What leads on leads on.
-    ghost goes_on: { (a b c : Self) → leads_to a b → leads_to b c → leads_to a c };
+    ghost goes_on: { (a b c : Self) (first second : List commands.Command) → leads_to a first b → leads_to b second c → leads_to a (first ++ second) c };
 }

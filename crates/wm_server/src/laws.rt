@@ -11,6 +11,7 @@ ghost use Rattle.wm_server.specs.Watched.{AreOfHistories, first_views, of_histor
 ghost use Rattle.wm_server.specs.Programs.{Kept};
 ghost use Rattle.wm_server.specs.Sessions.{State, line_met};
 ghost use Rattle.wm_registry.specs.Roots as registry;
+ghost use Rattle.wm_registry.specs.declared.command.Command.{Command};
 
 use wm_checkpoint::every_content;
 use wm_disk::Disk;
@@ -35,7 +36,7 @@ pub fn every_line()
 /// What holds of two sessions over one honest disk, one after the other: the second begins on what the first
 /// left, which is the replay of all that it accepted, and so with one more `Begin`.
 pub fn every_restart<D: Disk>()
-    ensures { (old middle new : D) (was left found last : registry.State) → D.honest middle → Kept D.Disk old was left middle → Kept D.Disk middle found last new → found ≡ left }
+    ensures { (old middle new : D) (was left found last : registry.State) (asked again : List Command) → D.honest middle → Kept D.Disk old was left asked middle → Kept D.Disk middle found last again new → found ≡ left }
 {
     every_content::<Registry>();
 }

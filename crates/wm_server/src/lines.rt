@@ -2,7 +2,7 @@
 ghost use Rattle.std.specs.Prelude.{◌≡◌, ℕ, List, Some, OnOk};
 ghost use Rattle.std.specs.Io.KnownBytes.{Appends};
 ghost use Rattle.wm_server.specs.Stores.{Later};
-ghost use Rattle.wm_server.specs.Endings.{Ends, status_of};
+ghost use Rattle.wm_server.specs.Endings.{Ends, LeavesAnytime, status_of};
 ghost use Rattle.wm_server.specs.Programs.{LinesAnswered, LinesServed, message_of};
 
 use crate::local::LocalFront;
@@ -36,6 +36,7 @@ pub fn serve_lines<D: Disk + Drop, R: BufRead, W: Write>(
         LinesServed D.Disk disk input (W.contents writer.old) (W.contents writer.new) result.1 }
     ensures answered { result.0 ≡ Ending.Served → (input : List ℕ) → R.remaining reader.old ≡ Some input → LinesAnswered input (W.contents writer.old) (W.contents writer.new) }
     ensures refused { Ends D.Disk result.0 (R.remaining reader.old) disk result.1 }
+    ensures any_moment { LeavesAnytime D.Disk (R.remaining reader.old) disk result.1 }
     ensures later { Later D.Disk disk result.1 }
 {
     let front = match LocalFront::open(alloc, disk) {
@@ -85,6 +86,7 @@ pub fn lines_on<D: Disk + Drop, R: BufRead, W: Write, E: Write>(
     ensures answered { result.0 ≡ 0 → (input : List ℕ) → R.remaining reader.old ≡ Some input → LinesAnswered input (W.contents writer.old) (W.contents writer.new) }
     ensures quiet { result.0 ≡ 0 → faults.new ≡ faults.old }
     ensures refused { (ending : Ending) × (result.0 ≡ status_of ending) × Ends D.Disk ending (R.remaining reader.old) disk result.1 }
+    ensures any_moment { LeavesAnytime D.Disk (R.remaining reader.old) disk result.1 }
     ensures later { Later D.Disk disk result.1 }
 {
     let (ending, disk) = serve_lines(alloc, disk, reader, writer);

@@ -1,4 +1,4 @@
-ghost use Rattle.std.specs.Prelude.{◌≡◌, ◌⊎◌, ◌<◌, true, false, List, vec_len, vec_capacity, IfOk, IfErr};
+ghost use Rattle.std.specs.Prelude.{◌≡◌, ◌⊎◌, ◌<◌, ◌∷◌, [], true, false, List, vec_len, vec_capacity, IfOk, IfErr};
 ghost use Rattle.wm_names.specs.Paths.{Path};
 ghost use Rattle.wm_registry.specs.declared.command.Command as commands;
 ghost use Rattle.wm_server.specs.Faults.{Submits};
@@ -46,6 +46,9 @@ enum ViewChange {
 impl<D: Disk + Drop> LocalFront<D> {
     ghost use Rattle.std.specs.Prelude.{MatchResult, OnOk};
     ghost use Rattle.wm_server.specs.Locals.{CloseRefused, disk_of, state_of};
+    ghost use Rattle.wm_disk.specs.Moments.{LeavesOnly};
+    ghost use Rattle.wm_checkpoint.specs.Meanings.{MeansState};
+    ghost use Rattle.wm_registry.specs.MachineLaws.{watches};
     ghost use Rattle.wm_server.specs.Stores.{IsKeptOn, Later, StartCut, StartRefused};
     ghost use Rattle.wm_store.specs.Openings.{IsBegun};
 
@@ -78,6 +81,9 @@ impl<D: Disk + Drop> LocalFront<D> {
         ensures ok { OnOk result.0 ((state_of self).has_failed ≡ false) }
         ensures kept { D.honest result.1 → OnOk result.0 (IsKeptOn D.Disk (state_of self).registry result.1) }
         ensures refused { IfErr result.0 (λ e. CloseRefused D.Disk e self result.1) }
+        // A crash at any moment of it leaves the registry; and nothing more is asked of a disk that has failed.
+        ensures any_moment { (state_of self).has_failed ≡ false → D.honest result.1 → LeavesOnly D.moment D.left_since (disk_of self) result.1 (MeansState watches (state_of self).registry) }
+        ensures still { (state_of self).has_failed ≡ true → result.1 ≡ disk_of self }
     {
         let LocalFront {
             mut store,
@@ -113,7 +119,7 @@ impl<D: Disk + Drop> Front for LocalFront<D> {
 
     ghost standing = { λ f. standing_of D.Disk f };
 
-    ghost leads_to = { λ a b. LeadsTo D.Disk a.store b.store };
+    ghost leads_to = { λ a asked b. LeadsTo D.Disk asked a.store b.store };
 
     fn submit(&mut self, alloc: Global, command: Command) -> Reply {
         if let Command::Begin = command {
@@ -181,9 +187,9 @@ impl<D: Disk + Drop> Front for LocalFront<D> {
         watched::move_cursor(root, roots, &mut self.views, name, clock);
     }
 
-    ghost stays = { λ a. stays_lem _ a.store };
+    ghost stays = { λ a asked. stays_lem _ asked a.store };
 
-    ghost goes_on = { λ a b c. goes_on_lem _ a.store b.store c.store };
+    ghost goes_on = { λ a b c first second. goes_on_lem _ first second a.store b.store c.store };
 }
 
 /// The first views of a registry. `Damaged` where a trigger keeps a text that is no expression.
@@ -214,7 +220,7 @@ fn commit_alone<D: Disk + Drop>(alloc: Global, store: &mut Store<D>, command: Co
     requires plain { is_begin command ≡ false }
     requires up { IsUp store.old }
     ensures met { (views : List RootView) → Submits (standing_with D.Disk store.old views) command result (standing_with D.Disk store.new (views_met result (state_with store.old views) command)) }
-    ensures later { LeadsTo D.Disk store.old store.new }
+    ensures later { LeadsTo D.Disk (command ∷ []) store.old store.new }
     ensures up { IsUp store.new }
 {
     let Ok(batch) = vec![in alloc; command] else {

@@ -1,8 +1,11 @@
 ghost use Rattle.std.specs.Prelude.{◌≡◌, ◌+◌, ◌-◌, ◌^◌, ◌<◌, ◌≤◌, ℕ, List, Some, Err, IfOk, OnErr};
 ghost use Rattle.std.specs.Io.KnownBytes.{Appends};
+ghost use Rattle.wm_registry.specs.declared.command.Command.{Command};
+ghost use Rattle.wm_server.specs.Asked.{asked_by};
+ghost use Rattle.wm_server.specs.Lines.{request_of_line};
 ghost use Rattle.wm_server.specs.Reading.{Stands};
 ghost use Rattle.wm_server.specs.Replies.{reply_bytes};
-ghost use Rattle.wm_server.specs.Runs.{Broke, Served, ServedCleanly, Serves, Untold};
+ghost use Rattle.wm_server.specs.Runs.{MeetsFront, Served, ServedCleanly, Serves, Untold};
 
 use crate::front::Front;
 use crate::input::{LineRead, read_line};
@@ -83,7 +86,7 @@ fn answer_kept<F: Front, W: Write>(
     ensures served { IfOk result (λ n. Serves (F.standing session.old.front) moment line.now n (W.contents writer.old) (W.contents writer.new) (F.standing session.new.front)) }
     ensures few { IfOk result (λ n. n ≤ 1) }
     ensures untold { OnErr result (Untold (F.standing session.old.front) moment line.now (F.standing session.new.front)) }
-    ensures later { F.leads_to session.old.front session.new.front }
+    ensures later { F.leads_to session.old.front (asked_by (request_of_line line.now)) session.new.front }
 {
     let mut reply = Vec::new(alloc);
     match session.answer(alloc, moment, line, &mut reply) {
@@ -108,7 +111,8 @@ fn serve_line<F: Front, W: Write>(
         Serves (F.standing session.old.front) moment whole n (W.contents writer.old) (W.contents writer.new) (F.standing session.new.front)) }
     ensures few { IfOk result (λ n. n ≤ 1) }
     ensures untold { OnErr result ((whole : List ℕ) → Stands read line.now whole → Untold (F.standing session.old.front) moment whole (F.standing session.new.front)) }
-    ensures later { F.leads_to session.old.front session.new.front }
+    ensures later { (asked : List Command) × F.leads_to session.old.front asked session.new.front }
+    ensures asked { (whole : List ℕ) → Stands read line.now whole → F.leads_to session.old.front (asked_by (request_of_line whole)) session.new.front }
 {
     let faults = match read {
         LineRead::Kept => answer_kept(alloc, session, moment, line, writer)?,
@@ -139,10 +143,11 @@ pub fn run<F: Front, M: Moments, R: BufRead, W: Write>(
         ServedCleanly (F.standing session.old.front).state (M.moment moments.old) 0 input
         (W.contents writer.old) (W.contents writer.new) (F.standing session.new.front).state) }
 
-    // Where the reader or the writer fails, a beginning of the lines was met.
-    ensures broke { OnErr result ((input : List ℕ) → R.remaining reader.old ≡ Some input →
-        Broke (F.standing session.old.front) (M.moment moments.old) input (F.standing session.new.front)) }
-    ensures later { F.leads_to session.old.front session.new.front }
+    // A beginning of the lines was met, also where the reader or the writer fails.
+    ensures met { (input : List ℕ) → R.remaining reader.old ≡ Some input → (asked : List Command)
+        × MeetsFront (F.standing session.old.front) (M.moment moments.old) input asked (F.standing session.new.front)
+        × F.leads_to session.old.front asked session.new.front }
+    ensures later { (asked : List Command) × F.leads_to session.old.front asked session.new.front }
 {
     let mut faults = 0u64;
     let mut line = Vec::new(alloc);

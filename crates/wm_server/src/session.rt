@@ -1,5 +1,7 @@
-ghost use Rattle.std.specs.Prelude.{◌≡◌, ◌≢◌, Err, ◌++◌, ◌+◌, ◌≤◌, ◌<◌, List, ℕ, vec_len, vec_capacity, IfOk, IfErr, OnOk, OnErr};
+ghost use Rattle.std.specs.Prelude.{◌≡◌, ◌≢◌, Ok, Err, [], ◌∷◌, ◌++◌, ◌+◌, ◌≤◌, ◌<◌, List, ℕ, vec_len, vec_capacity, IfOk, IfErr, OnOk, OnErr};
 ghost use Rattle.wm_registry.specs.Roots.{root_at};
+ghost use Rattle.wm_server.specs.Asked.{asked_by};
+ghost use Rattle.wm_server.specs.Lines.{request_of_line};
 ghost use Rattle.wm_server.specs.Sessions.{commanded, triggers_met, question_met, line_met, inquiry_met, met, operated, view_of};
 ghost use Rattle.wm_server.specs.Replies.{clock_reply};
 ghost use Rattle.wm_server.specs.Watched.{answer_of, clock_answer};
@@ -50,7 +52,7 @@ impl<F: Front> Session<F> {
     fn command(&mut self, alloc: Global, command: Command, out: &mut Vec<u8>) -> Result<(), Refusal>
         ensures met { Meets (commanded (F.standing self.old.front).state command) (page (F.standing self.old.front) out.old.items) result (page (F.standing self.new.front) out.new.items) }
         ensures room { vec_capacity out.old ≤ vec_capacity out.new }
-        ensures later { F.leads_to self.old.front self.new.front }
+        ensures later { F.leads_to self.old.front (command ∷ []) self.new.front }
     {
         let changed = reply::line_to(alloc, &command, Reply::Changed)?;
         let replaced = reply::line_to(alloc, &command, Reply::Replaced)?;
@@ -88,7 +90,7 @@ impl<F: Front> Session<F> {
     ) -> Result<(), Refusal>
         ensures met { let s = (F.standing self.old.front).state in Meets (operated s root.now op.now) (page (F.standing self.old.front) out.old.items) result (page (F.standing self.new.front) out.new.items) }
         ensures room { vec_capacity out.old ≤ vec_capacity out.new }
-        ensures later { F.leads_to self.old.front self.new.front }
+        ensures later { F.leads_to self.old.front [] self.new.front }
     {
         out.try_reserve(reply::STAND_ROOM)?;
         match self.front.operate(alloc, root, op) {
@@ -153,7 +155,7 @@ impl<F: Front> Session<F> {
     ) -> Result<(), Refusal>
         ensures met { let s = (F.standing self.old.front).state in Meets (inquiry_met s root.now inquiry (inquired (view_of s root.now) inquiry)) (page (F.standing self.old.front) out.old.items) result (page (F.standing self.new.front) out.new.items) }
         ensures room { vec_capacity out.old ≤ vec_capacity out.new }
-        ensures later { F.leads_to self.old.front self.new.front }
+        ensures later { F.leads_to self.old.front [] self.new.front }
     {
         let Inquiry {
             since,
@@ -183,7 +185,7 @@ impl<F: Front> Session<F> {
     ) -> Result<(), Refusal>
         ensures met { Meets (met (F.standing self.old.front).state moment request) (page (F.standing self.old.front) out.old.items) result (page (F.standing self.new.front) out.new.items) }
         ensures room { vec_capacity out.old ≤ vec_capacity out.new }
-        ensures later { F.leads_to self.old.front self.new.front }
+        ensures later { F.leads_to self.old.front (asked_by (Ok request)) self.new.front }
     {
         match request {
             Request::Version => reply::put_version(alloc, out)?,
@@ -222,7 +224,7 @@ impl<F: Front> Session<F> {
     ) -> Result<(), Refusal>
         ensures met { Meets (line_met (F.standing self.old.front).state moment line.now) (page (F.standing self.old.front) out.old.items) result (page (F.standing self.new.front) out.new.items) }
         ensures room { vec_capacity out.old ≤ vec_capacity out.new }
-        ensures later { F.leads_to self.old.front self.new.front }
+        ensures later { F.leads_to self.old.front (asked_by (request_of_line line.now)) self.new.front }
     {
         let request = Request::read(alloc, line)?;
         self.meet(alloc, moment, request, out)
@@ -240,7 +242,7 @@ impl<F: Front> Session<F> {
             × Answers way (F.standing self.old.front) moment line.now bytes (F.standing self.new.front)) }
         ensures err { OnErr result ((out.new.items ≡ out.old.items) × (self.new ≡ self.old)) }
         ensures full { OnErr result (vec_capacity out.old < vec_len out.old + REFUSAL_ROOM) }
-        ensures later { F.leads_to self.old.front self.new.front }
+        ensures later { F.leads_to self.old.front (asked_by (request_of_line line.now)) self.new.front }
     {
         out.try_reserve(REFUSAL_ROOM)?;
         match self.perform(alloc, moment, line, out) {
@@ -266,7 +268,7 @@ impl<F: Front> Session<F> {
             × Answers way (F.standing self.old.front) moment line.now bytes (F.standing self.new.front)) }
         ensures err { OnErr result ((out.new.items ≡ out.old.items) × (self.new ≡ self.old)) }
         ensures full { OnErr result (vec_capacity out.old < vec_len out.old + REFUSAL_ROOM) }
-        ensures later { F.leads_to self.old.front self.new.front }
+        ensures later { F.leads_to self.old.front (asked_by (request_of_line line.now)) self.new.front }
     {
         self.answer(alloc, moment, line, out)?;
         Ok(())

@@ -1,12 +1,12 @@
 //! Damaged files, and devices, readers and writers that fail.
 use crate::disks::{content_of, disk_of, journal, new_file};
-use crate::ends::{End, assert_ends, end_of};
+use crate::ends::{End, assert_ends, end_of, end_of_one_fault};
 use std::alloc::Global;
 use std::io;
 use std::io::{BufReader, ErrorKind, Read, Write};
 use std::process::Abort;
 use std::test::Fail;
-use wm_disk::{Crashed, MemDisk};
+use wm_disk::{Crashed, MemDisk, OneFault};
 use wm_server::lines::lines_on;
 
 /// Starts over a file, which must be refused and left as it was.
@@ -115,20 +115,39 @@ fn place_of(end: &End, found: &str) -> Option<usize> {
     None
 }
 
-/// The outcome on a device that fails after so many calls.
-fn outcome_after(alloc: Global, calls: u64) -> Result<Option<usize>, Fail> {
+/// Whether each call fails from one on, or that one alone.
+#[derive(Clone, Copy)]
+enum Failing {
+    FromThere,
+    Once,
+}
+
+/// How the session ends on a device that fails after so many calls.
+fn end_after(alloc: Global, failing: Failing, calls: u64) -> Result<End, Fail> {
     let mut disk = new_file(alloc)?;
-    disk.arm(calls);
-    let end = end_of(alloc, disk, &mut LINES.as_bytes())?;
+    match failing {
+        Failing::FromThere => {
+            disk.arm(calls);
+            end_of(alloc, disk, &mut LINES.as_bytes())
+        }
+        Failing::Once => {
+            let disk = OneFault::new(disk, calls);
+            end_of_one_fault(alloc, disk, &mut LINES.as_bytes())
+        }
+    }
+}
+
+/// The outcome of that session, whose file is then opened again.
+fn outcome_after(alloc: Global, failing: Failing, calls: u64) -> Result<Option<usize>, Fail> {
+    let end = end_after(alloc, failing, calls)?;
     let found = roots_found(alloc, &end.content)?;
     Ok(place_of(&end, &found))
 }
 
-#[test]
-fn tells_a_failing_device(rt: HostRuntime) -> Result<(), Fail> {
+fn assert_outcomes(rt: &impl Abort, alloc: Global, failing: Failing) -> Result<(), Fail> {
     let mut reached = 0;
     for calls in 0..200 {
-        let Some(place) = outcome_after(rt.alloc(), calls)? else {
+        let Some(place) = outcome_after(alloc, failing, calls)? else {
             panic!(rt; "after {calls} calls the session ends otherwise");
         };
         // The failing call comes later than before, and so does what it meets.
@@ -140,6 +159,17 @@ fn tells_a_failing_device(rt: HostRuntime) -> Result<(), Fail> {
     }
     assert!(rt; reached == 4);
     Ok(())
+}
+
+#[test]
+fn tells_a_failing_device(rt: HostRuntime) -> Result<(), Fail> {
+    assert_outcomes(&rt, rt.alloc(), Failing::FromThere)
+}
+
+/// After the one failure the device would take every write: none is made that changes what the file means.
+#[test]
+fn tells_a_device_that_failed_once(rt: HostRuntime) -> Result<(), Fail> {
+    assert_outcomes(&rt, rt.alloc(), Failing::Once)
 }
 
 /// A reader and writer whose calls fail.

@@ -1,11 +1,11 @@
-use Rattle.std.proofs.Common.{Err, ap, inl}
+use Rattle.std.proofs.Common.{[], ◌∷◌, Err, ap, inl}
 use Rattle.wm_disk.specs.declared.refusal.Refusal.TheVariants.{StoreFailed}
 use Rattle.wm_server.specs.LocalLaws.{stays}
 use Rattle.wm_server.proofs.LocalLemmas.{err_is, leads_alone, met_alone, not_true, only_reply, refused_alone, refused_leads}
 use Rattle.wm_server.proofs.local.commit_alone.Goals as goal
 
 pub returns-in_default-clause-later : goal.returns-in_default-clause-later
-returns-in_default-clause-later g c = stays g.D.Disk c.args.store.now
+returns-in_default-clause-later g c = stays g.D.Disk (c.args.command ∷ []) c.args.store.now
 
 pub returns-in-Ok-commit_batch-clause-met : goal.returns-in-Ok-commit_batch-clause-met
 returns-in-Ok-commit_batch-clause-met g c =
@@ -46,7 +46,7 @@ returns-in-Err-clause-met g c =
 pub returns-in-Err-clause-later : goal.returns-in-Err-clause-later
 returns-in-Err-clause-later g c =
     let told = rw c.in-Ok.ensures.items at c.in-Err.ensures in
-    refused_leads g.D.Disk c.args.store.now c.commit_batch.new.self c.args.command c.requires.plain c.in-Err.refusal (record {
+    refused_leads g.D.Disk c.args.store.now c.commit_batch.new.self c.args.command c.requires.plain g.met.D.Disk.counts_now c.in-Err.refusal (record {
       up = c.requires.up;
       registry = told.unchanged;
       honest = told.honest;

@@ -1,10 +1,12 @@
 use Rattle.std.proofs.Common.{◌≡◌, ◌≤◌, List, ℕ, Some}
+use Rattle.wm_registry.specs.declared.command.Command.{Command}
 use Rattle.wm_server.proofs.RunLemmas.{Loop}
 use Rattle.wm_server.proofs.run.run.Given as goal
 
 abbrev pub invariant-loop : goal.invariant-loop
 invariant-loop g l = (l.faults ≤ l.counter) × (g.M.Moments.place l.moments ≡ l.counter) × (g.M.Moments.moment l.moments ≡ g.M.Moments.moment l.fn.moments)
-    × g.F.Front.leads_to l.fn.session.front l.session.front
-    × ((input : List ℕ) → g.R.Read.remaining l.fn.reader ≡ Some input
-    → Loop (g.F.Front.standing l.fn.session.front) (g.M.Moments.moment l.fn.moments) input (g.W.Write.contents l.fn.writer)
-    l.faults (g.F.Front.standing l.session.front) (g.M.Moments.place l.moments) (g.R.Read.remaining l.reader) (g.W.Write.contents l.writer))
+    × ((asked : List Command) × g.F.Front.leads_to l.fn.session.front asked l.session.front)
+    × ((input : List ℕ) → g.R.Read.remaining l.fn.reader ≡ Some input → (asked : List Command)
+    × Loop (g.F.Front.standing l.fn.session.front) (g.M.Moments.moment l.fn.moments) input asked (g.W.Write.contents l.fn.writer)
+    l.faults (g.F.Front.standing l.session.front) (g.M.Moments.place l.moments) (g.R.Read.remaining l.reader) (g.W.Write.contents l.writer)
+    × g.F.Front.leads_to l.fn.session.front asked l.session.front)

@@ -8,7 +8,7 @@ use Rattle.wm_server.proofs.local.LocalFront.open.Goals as goal
 pub returns-in-Err-clause-refused : goal.returns-in-Err-clause-refused
 returns-in-Err-clause-refused g c =
     let told = c.in-Err.ensures in
-    start_refused g.D.Disk c.args.disk c.in-Err.disk c.in-Err.refusal told.damaged told.retired told.exhausted told.failed told.kinds
+    start_refused g.D.Disk c.args.disk c.in-Err.disk c.in-Err.refusal told.cut told.damaged told.retired told.exhausted told.refused told.failed told.kinds
 
 pub returns-in-Err-views_for-clause-cut : goal.returns-in-Err-views_for-clause-cut
 returns-in-Err-views_for-clause-cut g c =

@@ -1,4 +1,4 @@
-use Rattle.std.proofs.Common.{ap, subst, ◌∙◌}
+use Rattle.std.proofs.Common.{[], ap, subst, ◌∙◌}
 use Rattle.wm_server.specs.Locals.{standing_of}
 use Rattle.wm_server.specs.LocalLaws.{stays}
 use Rattle.wm_server.specs.Watched.{Operated}
@@ -11,4 +11,4 @@ returns-clause-met g c =
     (subst (λ roots. Operated c.args.root.now c.args.op.now roots c.args.self.now.views.items c.operate.result c.operate.new.views.items) (c.roots-roots.ensures ∙ ap (λ r. r.roots) c.registry.ensures.value) c.operate.ensures)
 
 pub returns-clause-later : goal.returns-clause-later
-returns-clause-later g c = stays g.D.Disk c.args.self.now.store
+returns-clause-later g c = stays g.D.Disk [] c.args.self.now.store

@@ -1,4 +1,4 @@
-use Rattle.std.proofs.Common.{sym, refl, ◌∙◌}
+use Rattle.std.proofs.Common.{[], ◌∷◌, sym, refl, ◌∙◌}
 use Rattle.wm_server.specs.Locals.{standing_of, state_of}
 use Rattle.wm_server.specs.LocalLaws.{stays}
 use Rattle.wm_server.proofs.LocalLemmas.{begin_refused, met_with, no_room, views_changed, views_same}
@@ -7,19 +7,19 @@ use Rattle.wm_server.proofs.local.LocalFrontFront.submit.Goals as goal
 pub returns-in-Begin : goal.returns-in-Begin
 returns-in-Begin g c = record {
   met = begin_refused (standing_of g.D.Disk c.args.self.now) c.args.command (rw c.in-Begin.is refl);
-  later = stays g.D.Disk c.args.self.now.store;
+  later = stays g.D.Disk (c.args.command ∷ []) c.args.self.now.store;
 }
 
 pub returns-in_default-view_change : goal.returns-in_default-view_change
 returns-in_default-view_change g c = record {
   met = no_room (standing_of g.D.Disk c.args.self.now) c.args.command;
-  later = stays g.D.Disk c.args.self.now.store;
+  later = stays g.D.Disk (c.args.command ∷ []) c.args.self.now.store;
 }
 
 pub returns-then-is_err : goal.returns-then-is_err
 returns-then-is_err g c = record {
   met = rw c.try_reserve.ensures.items (no_room (standing_of g.D.Disk c.args.self.now) c.args.command);
-  later = stays g.D.Disk c.args.self.now.store;
+  later = stays g.D.Disk (c.args.command ∷ []) c.args.self.now.store;
 }
 
 pub returns-then-is_change : goal.returns-then-is_change
