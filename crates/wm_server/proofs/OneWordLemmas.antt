@@ -1,4 +1,4 @@
--- What clap makes of one word, where a command has the flags of help and no others.
+-- What clap makes of one word, where a command has the flags of help and of the version, and no others.
 use Rattle.std.proofs.Common.{◌≡◌, ◌∙◌, ◌+◌, ℕ, Bool, true, false, List, [], ◌∷◌, Option, Some, None, inl, inr, refl, sym, ap, subst, true≢false, codes, is_some, length, arith, suc}
 use Rattle.std.proofs.lemmas.Bool.{cases_Bool, eq-eqb, eqb-true}
 use Rattle.std.proofs.lemmas.Slice.Eq.{bytes_eq-Decides}
@@ -9,9 +9,9 @@ use Rattle.std.specs.Str.{bytes_eq, chars}
 use Rattle.clap.specs.Lexer.{long_of, has_byte, short_of}
 use Rattle.clap.specs.Faults.{bundle_fault, bundle_step_fault, flag_word_fault, settle_fault, long_fault, flags_fault, step_fault, turn_fault}
 use Rattle.clap.specs.Kinds.{Kinds, or_else}
-use Rattle.clap.specs.Simple.{Shape, help_rule, filled}
+use Rattle.clap.specs.Simple.{Shape, help_rule, version_rule, filled}
 use Rattle.clap.specs.Walk.{Held, Names, Row, Rule, Text, Walk, after_step, arg_by_long, arg_by_short, bundle_met, idle, long_or_other, subcommand_met, value, walked}
-use Rattle.wm_server.specs.Words.{asked_by_stray, ends_flags, fault, flag_of, help, is_flag, is_help, shown, shown_for}
+use Rattle.wm_server.specs.Words.{asked_by_stray, asks_to_tell, ends_flags, fault, flag_of, is_flag, shown, shown_for, told}
 
 -- ---- tests
 
@@ -30,10 +30,6 @@ flip_nat x y miss = elim (cases_Bool (y == x)) [
 or_false : (a b : Bool) → (a || b) ≡ false → (a ≡ false) × (b ≡ false)
 or_false true b e = absurd (true≢false e)
 or_false false b e = (refl, e)
-
-pub if_or_false : {X : Type 0} (b : Bool) (x y : X) → (if b || false then x else y) ≡ (if b then x else y)
-if_or_false true x y = refl
-if_or_false false x y = refl
 
 not_some : {X : Type 0} (o : Option X) → is_some o ≡ false → o ≡ None
 not_some None e = refl
@@ -59,13 +55,26 @@ or_else-Shows status (k ∷ ks) next shows = shows
 abbrev pub help_arg : Rule
 help_arg = filled help_rule
 
+abbrev pub version_arg : Rule
+version_arg = filled version_rule
+
+-- the flag with this name, by whether it is that of help and whether it is that of the version
+abbrev pub flag_by : Bool → Bool → Option Rule
+flag_by is_help is_version = if is_help then Some help_arg else (if is_version then Some version_arg else None)
+
+abbrev pub long_flag : Text → Option Rule
+long_flag name = flag_by (bytes_eq (codes "help") name) (bytes_eq (codes "version") name)
+
+abbrev pub short_flag : ℕ → Option Rule
+short_flag x = flag_by (104 == x) (86 == x)
+
 abbrev pub status_of : Text → ℕ
-status_of word = if is_help word then 0 else 2
+status_of word = if asks_to_tell word then 0 else 2
 
 pub by_status : (word : Text) → asked_by_stray word ≡ shown (status_of word)
-by_status word = go (is_help word)
+by_status word = go (asks_to_tell word)
   where
-    go : (b : Bool) → (if b then help else fault) ≡ shown (if b then 0 else 2)
+    go : (b : Bool) → (if b then told else fault) ≡ shown (if b then 0 else 2)
     go true = refl
     go false = refl
 
@@ -87,21 +96,22 @@ once_dashed x xs miss = (rw miss refl, rw miss refl)
 abbrev pub held : List Row → Option (Text × List Text) → Held
 held rows pending = record { rows = rows; pending = pending; skip = 0 }
 
--- the rules have the flags of help, and no others
+-- the rules have these flags, and no others
 module _ (c : List Rule) (again : Bool)
-    (long : (name : Text) → arg_by_long c name ≡ (if bytes_eq (codes "help") name then Some help_arg else None))
-    (short : (x : ℕ) → arg_by_short c x ≡ (if 104 == x then Some help_arg else None))
+    (long : (name : Text) → arg_by_long c name ≡ long_flag name)
+    (short : (x : ℕ) → arg_by_short c x ≡ short_flag x)
     (rows : List Row) (pending : Option (Text × List Text)) where
-  long_other : (name : Text) (v : Option Text) → bytes_eq (codes "help") name ≡ false
+  long_other : (name : Text) (v : Option Text) → bytes_eq (codes "help") name ≡ false → bytes_eq (codes "version") name ≡ false
       → Shows 2 (long_fault c again (arg_by_long c name) v (held rows pending))
-  long_other name v miss = rw (long name, miss) (refl, tt)
+  long_other name v no_help no_version = rw (long name, no_help, no_version) (refl, tt)
 
   long_valued : (name v : Text) → Shows 2 (long_fault c again (arg_by_long c name) (Some v) (held rows pending))
-  long_valued name v = rw (long name) (go (bytes_eq (codes "help") name))
+  long_valued name v = rw (long name) (go (bytes_eq (codes "help") name) (bytes_eq (codes "version") name))
     where
-      go : (b : Bool) → Shows 2 (long_fault c again (if b then Some help_arg else None) (Some v) (held rows pending))
-      go true = (refl, tt)
-      go false = (refl, tt)
+      go : (b d : Bool) → Shows 2 (long_fault c again (flag_by b d) (Some v) (held rows pending))
+      go true d = (refl, tt)
+      go false true = (refl, tt)
+      go false false = (refl, tt)
 
   module _ (clean : settle_fault c again (held rows pending) ≡ []) where
     abbrev Answered : Text → Type 0
@@ -111,27 +121,38 @@ module _ (c : List Rule) (again : Bool)
     unfolding chars
     long_help = rw (long (codes "help"), clean) (refl, tt)
 
+    long_version : Answered (45 ∷ 45 ∷ codes "version")
+    unfolding chars
+    long_version = rw (long (codes "version"), clean) (refl, tt)
+
     long_word : (x : ℕ) (xs : Text) → Answered (45 ∷ 45 ∷ x ∷ xs)
     unfolding chars
     long_word x xs = elim (cases_Bool (bytes_eq (x ∷ xs) (codes "help"))) [
       | inl hit ↦ subst (λ (w : Text). Answered (45 ∷ 45 ∷ w)) (sym ((bytes_eq-Decides (x ∷ xs) (codes "help")).0 hit)) long_help
-      | inr miss ↦ rw miss (go miss (has_byte 61 (x ∷ xs)) refl)
+      | inr no_help ↦ elim (cases_Bool (bytes_eq (x ∷ xs) (codes "version"))) [
+        | inl hit ↦ subst (λ (w : Text). Answered (45 ∷ 45 ∷ w)) (sym ((bytes_eq-Decides (x ∷ xs) (codes "version")).0 hit)) long_version
+        | inr no_version ↦ rw (no_help, no_version) (go no_help no_version (has_byte 61 (x ∷ xs)) refl)
+      ]
     ]
       where
-        go : bytes_eq (x ∷ xs) (codes "help") ≡ false → (b : Bool) → has_byte 61 (x ∷ xs) ≡ b
+        go : bytes_eq (x ∷ xs) (codes "help") ≡ false → bytes_eq (x ∷ xs) (codes "version") ≡ false → (b : Bool) → has_byte 61 (x ∷ xs) ≡ b
             → Shows 2 (long_fault c again (arg_by_long c (before_first (λ y. y == 61) (x ∷ xs)))
             (if b then Some (after_first (λ y. y == 61) (x ∷ xs)) else None) (held rows pending))
-        go miss true e = long_valued _ _
-        go miss false e = subst (λ (n : Text). Shows 2 (long_fault c again (arg_by_long c n) None (held rows pending)))
-            (sym (before_all (x ∷ xs) e)) (long_other (x ∷ xs) None (flip (x ∷ xs) (codes "help") miss))
+        go no_help no_version true e = long_valued _ _
+        go no_help no_version false e = subst (λ (n : Text). Shows 2 (long_fault c again (arg_by_long c n) None (held rows pending)))
+            (sym (before_all (x ∷ xs) e)) (long_other (x ∷ xs) None (flip (x ∷ xs) (codes "help") no_help) (flip (x ∷ xs) (codes "version") no_version))
 
-    short_char : (y x : ℕ) (xs : Text) → Shows (if y == 104 then 0 else 2)
+    abbrev Bundled : ℕ → ℕ → Text → Type 0
+    Bundled y x xs = Shows (if y == 104 || y == 86 then 0 else 2)
         (bundle_step_fault c again (Some y) (x ∷ xs) 0 (held rows pending) (flags_fault c again (length xs)))
+
+    short_char : (y x : ℕ) (xs : Text) → Bundled y x xs
     short_char y x xs = elim (cases_Bool (y == 104)) [
-      | inl hit ↦ subst (λ (z : ℕ). Shows (if z == 104 then 0 else 2)
-          (bundle_step_fault c again (Some z) (x ∷ xs) 0 (held rows pending) (flags_fault c again (length xs))))
-          (sym (eqb-true y 104 hit)) (rw (short 104, clean) (refl, tt))
-      | inr miss ↦ rw (miss, short y, flip_nat y 104 miss) (refl, tt)
+      | inl hit ↦ subst (λ (z : ℕ). Bundled z x xs) (sym (eqb-true y 104 hit)) (rw (short 104, clean) (refl, tt))
+      | inr no_help ↦ elim (cases_Bool (y == 86)) [
+        | inl hit ↦ subst (λ (z : ℕ). Bundled z x xs) (sym (eqb-true y 86 hit)) (rw (short 86, clean) (refl, tt))
+        | inr no_version ↦ rw (no_help, no_version, short y, flip_nat y 104 no_help, flip_nat y 86 no_version) (refl, tt)
+      ]
     ]
 
     short_word : (x : ℕ) (xs : Text) → (x == 45) ≡ false → is_flag (45 ∷ x ∷ xs) ≡ true → Answered (45 ∷ x ∷ xs)
@@ -141,11 +162,11 @@ module _ (c : List Rule) (again : Bool)
         let bundled : flag_word_fault c again (long_of (45 ∷ x ∷ xs)) (45 ∷ x ∷ xs) (held rows pending) ≡ bundle_fault c again (x ∷ xs) (held rows pending) =
         ap (λ o. flag_word_fault c again o (45 ∷ x ∷ xs) (held rows pending)) read.0
         ∙ ap (λ o. option_map_or (λ flags. bundle_fault c again flags (held rows pending)) o []) read.1 in
-        let status : status_of (45 ∷ x ∷ xs) ≡ (if option_map_or (λ y. y == 104) (slice_get (chars (x ∷ xs)) 0) false then 0 else 2) = rw miss refl in
+        let status : status_of (45 ∷ x ∷ xs) ≡ (if option_map_or (λ y. y == 104 || y == 86) (slice_get (chars (x ∷ xs)) 0) false then 0 else 2) = rw miss refl in
         subst (λ (ks : Kinds). Shows (status_of (45 ∷ x ∷ xs)) ks) (sym bundled)
         (subst (λ (n : ℕ). Shows n (bundle_fault c again (x ∷ xs) (held rows pending))) (sym status) (go (slice_get (chars (x ∷ xs)) 0) flag))
       where
-        go : (o : Option ℕ) → is_some o ≡ true → Shows (if option_map_or (λ y. y == 104) o false then 0 else 2)
+        go : (o : Option ℕ) → is_some o ≡ true → Shows (if option_map_or (λ y. y == 104 || y == 86) o false then 0 else 2)
             (bundle_step_fault c again o (x ∷ xs) 0 (held rows pending) (flags_fault c again (length xs)))
         go None e = absurd (true≢false (sym e))
         go (Some y) e = short_char y x xs
@@ -208,15 +229,22 @@ module _ (c : List Rule) (again : Bool)
           (sym (eqb-true b 45 hit)) (plain_45 rest) other plain
       go false miss = let read = not_dashed b rest miss in undashed (b ∷ rest) read.0 read.1
 
--- a word that is no flag asks for no help
+-- a word that is no flag asks for nothing to be told
 help_is_flag : is_flag (codes "--help") ≡ false → ⊥
 unfolding chars
 help_is_flag flag = true≢false flag
 
-pub no_help : (word : Text) → is_flag word ≡ false → is_help word ≡ false
-no_help word plain = elim (cases_Bool (bytes_eq word (codes "--help"))) [
+version_is_flag : is_flag (codes "--version") ≡ false → ⊥
+unfolding chars
+version_is_flag flag = true≢false flag
+
+pub asks_nothing : (word : Text) → is_flag word ≡ false → asks_to_tell word ≡ false
+asks_nothing word plain = elim (cases_Bool (bytes_eq word (codes "--help"))) [
   | inl hit ↦ absurd (subst (λ (w : Text). is_flag w ≡ false → ⊥) (sym ((bytes_eq-Decides word (codes "--help")).0 hit)) help_is_flag plain)
-  | inr miss ↦ let none : flag_of word ≡ None = not_some _ plain in rw (miss, none) refl
+  | inr no_help ↦ elim (cases_Bool (bytes_eq word (codes "--version"))) [
+    | inl hit ↦ absurd (subst (λ (w : Text). is_flag w ≡ false → ⊥) (sym ((bytes_eq-Decides word (codes "--version")).0 hit)) version_is_flag plain)
+    | inr no_version ↦ let none : flag_of word ≡ None = not_some _ plain in rw (no_help, no_version, none) refl
+  ]
 ]
 
 -- ---- one word
@@ -231,8 +259,8 @@ at rows pending position is_trailing = record {
 }
 
 module _ (s : Shape) (names : Names)
-    (long : (name : Text) → arg_by_long s.rules name ≡ (if bytes_eq (codes "help") name then Some help_arg else None))
-    (short : (x : ℕ) → arg_by_short s.rules x ≡ (if 104 == x then Some help_arg else None))
+    (long : (name : Text) → arg_by_long s.rules name ≡ long_flag name)
+    (short : (x : ℕ) → arg_by_short s.rules x ≡ short_flag x)
     (rows : List Row) (pending : Option (Text × List Text)) (position : ℕ) (word : Text)
     (unmet : subcommand_met names idle word ≡ None) where
   abbrev now : Walk

@@ -17,7 +17,7 @@ use Rattle.clap.specs.declared.error.ErrorKind.TheVariants.{OutOfMemory}
 use Rattle.clap.specs.declared.parser.ArgMatches.{ArgMatches}
 use Rattle.clap.proofs.WalkLemmas.{first_value-rows, walk_stopped}
 use Rattle.wm_server.specs.Words.{Asked, asked, asked_after_dashes, asked_after_file, asked_by, asked_by_stray, asked_after_command, bare_app, ends_flags, fault, file_app, format, is_flag, lines, shown, shown_for, watchmand_app}
-use Rattle.wm_server.proofs.OneWordLemmas.{AllShow, Shows, at, by_status, flip, held, help_arg, if_or_false, no_help, or_else-Shows, status_of, turn_dashes, turn_flag, turn_plain}
+use Rattle.wm_server.proofs.OneWordLemmas.{AllShow, Shows, asks_nothing, at, by_status, flag_by, flip, held, long_flag, or_else-Shows, short_flag, status_of, turn_dashes, turn_flag, turn_plain}
 
 -- ---- the words after `format` or `lines`
 
@@ -35,15 +35,17 @@ level_of s faults end has_subcommand below = or_else faults (or_else below
     (or_else (defaults_fault (settled s.rules end.held).rows s.rules)
     (check_fault s (finished s.rules end.held) has_subcommand))))
 
-knows_help : (b : Bool) → (if b || false then Some help_arg else None) ≡ (if b then Some help_arg else None)
-knows_help b = if_or_false b (Some help_arg) None
+knows_flags : (b d : Bool) → flag_by (b || false) (d || false) ≡ flag_by b d
+knows_flags true d = refl
+knows_flags false true = refl
+knows_flags false false = refl
 
 module _ (name : Text) where
-  command_long : (n : Text) → arg_by_long (command name).rules n ≡ (if bytes_eq (codes "help") n then Some help_arg else None)
-  command_long n = knows_help (bytes_eq (codes "help") n)
+  command_long : (n : Text) → arg_by_long (command name).rules n ≡ long_flag n
+  command_long n = knows_flags (bytes_eq (codes "help") n) (bytes_eq (codes "version") n)
 
-  command_short : (x : ℕ) → arg_by_short (command name).rules x ≡ (if 104 == x then Some help_arg else None)
-  command_short x = knows_help (104 == x)
+  command_short : (x : ℕ) → arg_by_short (command name).rules x ≡ short_flag x
+  command_short x = knows_flags (104 == x) (86 == x)
 
 module _ (name : Text) (make : Text → Asked) (Fits : Asked → Kinds → Option Text → Type 0)
     (good : (file : Text) (ks : Kinds) (o : Option Text) → ks ≡ [] → o ≡ Some file → Fits (make file) ks o)
@@ -114,9 +116,9 @@ module _ (name : Text) (make : Text → Asked) (Fits : Asked → Kinds → Optio
       go true flag = flagged (Some (codes "FILE", file ∷ [])) 2 word rest refl other flag
       go false plain =
           let turn = turn_plain (command name) [] (command_long name) (command_short name) [] (Some (codes "FILE", file ∷ [])) 2 word refl other plain in
-          let no_help_here : asked_by_stray word ≡ fault = rw (no_help word plain) refl in
+          let untold : asked_by_stray word ≡ fault = rw (asks_nothing word plain) refl in
           let stray : Shows 2 (turn_fault (command name) [] (got file false) word) = subst (λ (ks : Kinds). Shows 2 ks) (sym turn.0) (refl, tt) in
-          subst (λ (a : Asked). Goes a (got file false) (word ∷ rest)) (sym no_help_here) (stop 2 (got file false) word rest stray)
+          subst (λ (a : Asked). Goes a (got file false) (word ∷ rest)) (sym untold) (stop 2 (got file false) word rest stray)
 
   after_file : (file : Text) (words : List Text) → Goes (asked_after_file (make file) words) (got file false) words
   after_file file [] = end_got file false
@@ -232,11 +234,11 @@ unfolding walk_fault walked defaults_fault chars
 dashes_read [] = (refl, tt)
 dashes_read (word ∷ rest) = (refl, (refl, tt))
 
-top_long : (n : Text) → arg_by_long top.rules n ≡ (if bytes_eq (codes "help") n then Some help_arg else None)
-top_long n = knows_help (bytes_eq (codes "help") n)
+top_long : (n : Text) → arg_by_long top.rules n ≡ long_flag n
+top_long n = knows_flags (bytes_eq (codes "help") n) (bytes_eq (codes "version") n)
 
-top_short : (x : ℕ) → arg_by_short top.rules x ≡ (if 104 == x then Some help_arg else None)
-top_short x = knows_help (104 == x)
+top_short : (x : ℕ) → arg_by_short top.rules x ≡ short_flag x
+top_short x = knows_flags (104 == x) (86 == x)
 
 no_command : (word : Text) → bytes_eq word (codes "format") ≡ false → bytes_eq word (codes "lines") ≡ false → subcommand_met names idle word ≡ None
 no_command word no_format no_lines =
@@ -250,9 +252,9 @@ module _ (word : Text) (rest : List Text) (unmet : subcommand_met names idle wor
       (fails (status_of word) first word rest (turn_flag top names top_long top_short [] None 1 word unmet refl other flag))
   flag_reads other false plain =
       let turn = turn_plain top names top_long top_short [] None 1 word unmet other plain in
-      let no_help_here : asked_by_stray word ≡ fault = rw (no_help word plain) refl in
+      let untold : asked_by_stray word ≡ fault = rw (asks_nothing word plain) refl in
       let stray : Shows 2 (turn_fault top names first word) = subst (λ (ks : Kinds). Shows 2 ks) (sym turn.0) (refl, (refl, tt)) in
-      subst (λ (a : Asked). Reads a first (word ∷ rest)) (sym no_help_here) (fails 2 first word rest stray)
+      subst (λ (a : Asked). Reads a first (word ∷ rest)) (sym untold) (fails 2 first word rest stray)
 
   other_reads : (t : Bool) → ends_flags word ≡ t → Reads (asked_by_stray word) first (word ∷ rest)
   other_reads true ends = subst (λ (w : Text). Reads (asked_by_stray w) first (w ∷ rest)) (sym ((bytes_eq-Decides word (codes "--")).0 ends)) (dashes_read rest)

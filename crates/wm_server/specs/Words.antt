@@ -22,8 +22,9 @@ pub data Asked : Type 0 where
   -- a text is shown, and the program ends with this status
   shown : ℕ → Asked
 
-abbrev pub help : Asked
-help = shown 0
+-- help or the version
+abbrev pub told : Asked
+told = shown 0
 
 abbrev pub fault : Asked
 fault = shown 2
@@ -49,15 +50,15 @@ flag_of (byte ∷ rest) = if byte == 45 then slice_get (chars rest) 0 else None
 abbrev pub is_flag : Text → Bool
 is_flag word = is_some (flag_of word)
 
--- `--help`, or `-h` (104) with anything after it
-abbrev pub is_help : Text → Bool
-is_help word = bytes_eq word (codes "--help")
-    || option_map_or (λ character. character == 104) (flag_of word) false
+-- `--help` or `--version`, or `-h` (104) or `-V` (86) with anything after it
+abbrev pub asks_to_tell : Text → Bool
+asks_to_tell word = (bytes_eq word (codes "--help") || bytes_eq word (codes "--version"))
+    || option_map_or (λ character. character == 104 || character == 86) (flag_of word) false
 
--- ---- all the words: the first one that has no place decides between help and a fault
+-- ---- all the words: the first one that has no place decides between what is told and a fault
 
 abbrev pub asked_by_stray : Text → Asked
-asked_by_stray word = if is_help word then help else fault
+asked_by_stray word = if asks_to_tell word then told else fault
 
 -- after `--`: exactly one FILE, whatever it looks like
 abbrev pub asked_after_dashes : (Text → Asked) → List Text → Asked
@@ -102,6 +103,8 @@ bare_app = record {
     no_binary_name = true;
     disable_help_subcommand = true;
     subcommand_required = true;
+    has_version = true;
+    propagate_version = true;
   };
   subs = [];
 }
@@ -123,6 +126,6 @@ asked_by (Some met) =
 -- what an error of this kind shows; want of memory is never shown
 abbrev pub shown_for : ErrorKind → Option Asked
 shown_for kind.OutOfMemory = None
-shown_for kind.DisplayHelp = Some help
-shown_for kind.DisplayVersion = Some help
+shown_for kind.DisplayHelp = Some told
+shown_for kind.DisplayVersion = Some told
 shown_for other = Some fault

@@ -19,6 +19,9 @@ use wm_registry::{Command, Reply, Root, Stdin, Trigger, Word};
 use wm_since::{Answer, Fields, render};
 use wm_view::Op;
 
+/// What `version` and `--version` tell, and each reply carries.
+pub(crate) const VERSION: &str = "w1";
+
 /// The most bytes of a refusal's line.
 pub const REFUSAL_ROOM: usize = 64;
 
@@ -99,7 +102,7 @@ pub(crate) fn put_stand(op: &Op, stand: Stand, out: &mut Vec<u8>)
 fn version(alloc: Global) -> Result<Value, AllocError>
     ensures { IfOk result (λ v. view v ≡ version_reply) }
 {
-    json!(in alloc; {"version": "w1"})
+    json!(in alloc; {"version": VERSION})
 }
 
 /// Appends the reply to `version`.
@@ -114,13 +117,13 @@ pub(crate) fn put_version(alloc: Global, out: &mut Vec<u8>) -> Result<(), NoMemo
 fn watch(alloc: Global, path: &str) -> Result<Value, AllocError>
     ensures { IfOk result (λ v. view v ≡ watch_reply path.now) }
 {
-    json!(in alloc; {"version": "w1", "watch": path})
+    json!(in alloc; {"version": VERSION, "watch": path})
 }
 
 fn watch_del(alloc: Global, path: &str) -> Result<Value, AllocError>
     ensures { IfOk result (λ v. view v ≡ watch_del_reply path.now) }
 {
-    json!(in alloc; {"root": path, "version": "w1", "watch-del": true})
+    json!(in alloc; {"root": path, "version": VERSION, "watch-del": true})
 }
 
 fn trigger(alloc: Global, reply: Reply, name: &str) -> Result<Value, AllocError>
@@ -131,13 +134,13 @@ fn trigger(alloc: Global, reply: Reply, name: &str) -> Result<Value, AllocError>
         Reply::Replaced => "replaced",
         Reply::Unchanged | Reply::Refused(_) => "already_defined",
     };
-    json!(in alloc; {"disposition": disposition, "triggerid": name, "version": "w1"})
+    json!(in alloc; {"disposition": disposition, "triggerid": name, "version": VERSION})
 }
 
 fn trigger_del(alloc: Global, is_deleted: bool, name: &str) -> Result<Value, AllocError>
     ensures { IfOk result (λ v. view v ≡ trigger_del_reply is_deleted name.now) }
 {
-    json!(in alloc; {"deleted": is_deleted, "trigger": name, "version": "w1"})
+    json!(in alloc; {"deleted": is_deleted, "trigger": name, "version": VERSION})
 }
 
 /// The reply to a command that met this reply of the registry.
@@ -242,7 +245,7 @@ fn trigger_list(alloc: Global, triggers: &[Trigger]) -> Result<Value, NoMemory>
     ensures { IfOk result (λ v. view v ≡ triggers_reply triggers.now) }
 {
     let list = Value::Array(triggers_shown(alloc, triggers)?);
-    Ok(json!(in alloc; {"triggers": list, "version": "w1"})?)
+    Ok(json!(in alloc; {"triggers": list, "version": VERSION})?)
 }
 
 /// Appends the reply to `trigger-list`.
@@ -272,7 +275,7 @@ fn watch_list(alloc: Global, roots: &IndexMap<RootPath, Root>) -> Result<Value, 
     ensures { IfOk result (λ v. view v ≡ roots_reply roots.now.entries) }
 {
     let list = Value::Array(paths(alloc, roots)?);
-    json!(in alloc; {"roots": list, "version": "w1"})
+    json!(in alloc; {"roots": list, "version": VERSION})
 }
 
 /// Appends the reply to `watch-list`.

@@ -6,6 +6,7 @@ ghost use Rattle.clap.specs.Words.{app_of, rule_of, subcommand_rows_of};
 ghost use Rattle.wm_server.specs.Words.{asked, asked_by, asked_of, file_app, file_rule, shown_for};
 ghost use Rattle.wm_server.specs.Words.{watchmand_app};
 
+use crate::reply::VERSION;
 use clap::error::ErrorKind;
 use clap::{Arg, ArgAction, ArgMatches, Command, Error};
 use std::alloc::Global;
@@ -18,8 +19,8 @@ pub enum Words {
     Format { file: String },
     /// `lines FILE`
     Lines { file: String },
-    /// Help or a fault is to be shown, and the program ends with the status: help (0) on standard
-    /// output, a fault (2) on standard error.
+    /// A text is to be shown, and the program ends with the status: help or the version (0) on
+    /// standard output, a fault (2) on standard error.
     Shown { text: String, status: u8 },
 }
 
@@ -27,8 +28,8 @@ impl Words {
     /// What the words ask for; the program's own name is not among them.
     ///
     /// The words are `format FILE` or `lines FILE`. A FILE that begins with a hyphen and isn't just
-    /// `-` needs a word `--` before it. `--help` and `-h` ask for help where each word before them
-    /// has its place. All else is a fault. `Err` comes only where memory runs out.
+    /// `-` needs a word `--` before it. `--help` and `-h` ask for help, `--version` and `-V` for the
+    /// version, where each word before them has its place. All else is a fault. `Err` comes only where memory runs out.
     pub fn read<'a>(alloc: Global, words: &'a [&'a str]) -> Result<Words, NoMemory>
         ensures { IfOk result (λ r. asked_of r ≡ asked (map (λ word. word.now) words.entry.now)) }
     {
@@ -39,6 +40,11 @@ impl Words {
         }
     }
 }
+
+const STATUSES: &str = "Exit status:
+  0  the input was answered to its end, or the file was made
+  1  refused, or the input or the output failed; standard error says why
+  2  the words aren't understood";
 
 // The command of the program, with a command for each thing that it does.
 fn watchmand<'a>(alloc: Global) -> Result<Command<'a>, NoMemory>
@@ -56,6 +62,9 @@ fn watchmand<'a>(alloc: Global) -> Result<Command<'a>, NoMemory>
     )?;
     let command = Command::new(alloc, "watchmand")
         .about("A file watch server whose answers can be trusted")
+        .after_help(STATUSES)
+        .version(VERSION)
+        .propagate_version(true)
         .no_binary_name(true)
         .disable_help_subcommand(true)
         .subcommand_required(true)
