@@ -61,10 +61,10 @@ no_room old command = record { way = Memory; cause = (lasts_same old, refl); rep
 -- ---- a batch of one
 
 -- the one reply
-one_reply : (number : ℕ) (s : _) (command : Command) (replies : List Reply) → AreAnswered number s (command ∷ []) replies → (reply : Reply) × (replies ≡ reply ∷ [])
-one_reply number s command [] a = absurd a
-one_reply number s command (reply ∷ []) a = (reply, refl)
-one_reply number s command (reply ∷ (other ∷ more)) a =
+one_reply : (number room : ℕ) (s : _) (command : Command) (replies : List Reply) → AreAnswered number room s (command ∷ []) replies → (reply : Reply) × (replies ≡ reply ∷ [])
+one_reply number room s command [] a = absurd a
+one_reply number room s command (reply ∷ []) a = (reply, refl)
+one_reply number room s command (reply ∷ (other ∷ more)) a =
     elim a [
       | inl met ↦ absurd met.1
       | inr spent ↦ let bad : other ∷ more ≡ [] = ap (λ (l : List Reply). rest_of l) spent.2 in absurd cc
@@ -142,7 +142,7 @@ module _ {D : Type 0} (disk : Ghosts D) (old new : Stored D) (command : Command)
 
   -- by what the reply is in a batch of one
   answered_so : (reply : Reply) (views : List RootView) → old.failed ≡ false → new.failed ≡ false → Lasts (before views) (behind reply views) → disk.failures new.disk ≡ disk.failures old.disk
-      → AreAnswered new.number old.registry (command ∷ []) (reply ∷ [])
+      → AreAnswered new.number new.room old.registry (command ∷ []) (reply ∷ [])
       → new.registry ≡ replay_on watches old.registry (accepted_of (command ∷ []) (reply ∷ []))
       → (b : Bool) → is_change reply ≡ b → Submits (before views) command reply (behind reply views)
   answered_so reply views works works' last failures answered registry b change =
@@ -159,7 +159,7 @@ module _ {D : Type 0} (disk : Ghosts D) (old new : Stored D) (command : Command)
         | inr spent ↦
             let is : reply ≡ Refused refusals.Exhausted = ap (λ (l : List Reply). first_of_list l) spent.2 ∙ met_so command (Refused refusals.Exhausted) plain in
             let change' : is_change (reply_to old.registry command) ≡ true = ap is_change (sym (met_so command (reply_to old.registry command) plain)) ∙ spent.1 in
-            spent_so reply views works last failures (stays (ap is_change is)) (works' ∙ sym works) is spent.0 change'
+            spent_so reply views works last failures (stays (ap is_change is)) (works' ∙ sym works) is spent.0.0 change'
       ]
     where
       first_of_list : List Reply → Reply
@@ -183,14 +183,14 @@ module _ {D : Type 0} (disk : Ghosts D) (old new : Stored D) (command : Command)
       → Submits (before views) command reply (behind reply views)
   met_alone replies reply views one works works' failures number batch registry =
       answered_so reply views works works' (lasts reply views (omega (arith, failures)) number) failures
-      (subst (λ (l : List Reply). AreAnswered new.number old.registry (command ∷ []) l) one batch.answered)
+      (subst (λ (l : List Reply). AreAnswered new.number new.room old.registry (command ∷ []) l) one batch.answered)
       (subst (λ (l : List Reply). new.registry ≡ replay_on watches old.registry (accepted_of (command ∷ []) l)) one registry)
       (is_change reply) refl
 
   -- the device failed with the command in flight
-  was_accepted : (number : ℕ) (reply : Reply) → AreAnswered number old.registry (command ∷ []) (reply ∷ []) → (b : Bool) → is_change reply ≡ b → (cond b (command ∷ []) [] ≡ [] → ⊥) → is_change (reply_to old.registry command) ≡ true
-  was_accepted number reply answered false change some = absurd (some refl)
-  was_accepted number reply answered true change some =
+  was_accepted : (number room : ℕ) (reply : Reply) → AreAnswered number room old.registry (command ∷ []) (reply ∷ []) → (b : Bool) → is_change reply ≡ b → (cond b (command ∷ []) [] ≡ [] → ⊥) → is_change (reply_to old.registry command) ≡ true
+  was_accepted number room reply answered false change some = absurd (some refl)
+  was_accepted number room reply answered true change some =
       elim answered [
         | inl met ↦ elim met.0 [
           | inl is ↦ ap is_change (sym (is ∙ met_so command (reply_to old.registry command) plain)) ∙ change
@@ -204,9 +204,9 @@ module _ {D : Type 0} (disk : Ghosts D) (old new : Stored D) (command : Command)
       → IsBatch disk old new (command ∷ []) replies → (accepted_of (command ∷ []) replies ≡ [] → ⊥)
       → Submits (before views) command (Refused refusals.DeviceFailed) (behind (Refused refusals.DeviceFailed) views)
   device_so replies views works failed registry failures rose number batch some =
-      let one = one_reply new.number old.registry command replies batch.answered in
+      let one = one_reply new.number new.room old.registry command replies batch.answered in
       let accepts : is_change (reply_to old.registry command) ≡ true =
-      was_accepted new.number one.0 (subst (λ (l : List Reply). AreAnswered new.number old.registry (command ∷ []) l) one.1 batch.answered) (is_change one.0) refl
+      was_accepted new.number new.room one.0 (subst (λ (l : List Reply). AreAnswered new.number new.room old.registry (command ∷ []) l) one.1 batch.answered) (is_change one.0) refl
       (subst (λ (l : List Reply). accepted_of (command ∷ []) l ≡ [] → ⊥) one.1 some) in
       record {
         way = Device;
@@ -273,9 +273,9 @@ first_is : (replies : List Reply) (one reply : Reply) → replies ≡ one ∷ []
 first_is replies one reply is at = at ∙ ap (λ (l : List Reply). get_or l 0 reply) is
 
 -- the replies to one command are the first of them
-pub only_reply : (number : ℕ) (s : registry.State) (command : Command) (replies : List Reply) (reply : Reply) → AreAnswered number s (command ∷ []) replies → reply ≡ get_or replies 0 reply → replies ≡ reply ∷ []
-only_reply number s command replies reply answered at =
-    let one = one_reply number s command replies answered in
+pub only_reply : (number room : ℕ) (s : registry.State) (command : Command) (replies : List Reply) (reply : Reply) → AreAnswered number room s (command ∷ []) replies → reply ≡ get_or replies 0 reply → replies ≡ reply ∷ []
+only_reply number room s command replies reply answered at =
+    let one = one_reply number room s command replies answered in
     one.1 ∙ ap (λ (r : Reply). r ∷ []) (sym (first_is replies one.0 reply one.1 at))
 
 pub err_is : {T : Type 0} (r : Result T Refusal) (a b : Refusal) → r ≡ Err a → r ≡ Err b → a ≡ b

@@ -22,7 +22,7 @@ use Rattle.wm_checkpoint.specs.Meanings.{MeansState, MeansBeginning}
 use Rattle.wm_checkpoint.specs.Kept.{disk_of, state_of, has_failed, number_of, room_left, Keeps}
 use Rattle.wm_checkpoint.proofs.Outside.{replayed_append}
 use Rattle.wm_store.specs.Batches.{accepted_of}
-use Rattle.wm_store.specs.UnderWay.{K, AreCalls, IsPast, IsCut, IsDown, IsReady, IsRoomMade, IsWhole, KeepsRoom}
+use Rattle.wm_store.specs.UnderWay.{K, AreCalls, IsPast, IsCut, IsDown, IsReady, IsRoomMade, IsSpared, IsWhole, KeepsRoom}
 use Rattle.wm_store.specs.declared.batch.Batch.{Batch}
 use Rattle.wm_store.proofs.Runs.{Leaves}
 
@@ -227,8 +227,16 @@ is_device_two x (inr (inr h)) n s = absurd (s h)
 pub keeps_room : (a b e : Batch) → KeepsRoom a b → KeepsRoom b e → KeepsRoom a e
 keeps_room a b e x y = record { replies = omega (arith, x.replies, y.replies); group = omega (arith, x.group, y.group) }
 
+-- no call of the keeper
+pub spared_none : {D : Type 0} (disk : disks.Ghosts D) (old new : K disk) (commands left : List Command) → new ≡ old → left ≡ commands → IsSpared disk old commands new left
+spared_none disk old new commands left same all = record {
+  number = ap (λ k. number_of k) same;
+  room = ap (λ k. room_left k + taken command_spelling commands) same ∙ ap (λ (l : List Command). room_left old + taken command_spelling l) (sym all);
+}
+
 -- room that is made behind a group: from a batch whose group wasn't empty
-pub made_later : {D : Type 0} (disk : disks.Ghosts D) (old mid new : K disk) (a b e : Batch) → IsRoomMade disk mid b new e → (a.group.items ≡ [] → ⊥) → IsRoomMade disk old a new e
-made_later disk old mid new a b e (inl h) some = inl h
-made_later disk old mid new a b e (inr (inl h)) some = inr (inl (h.0, λ none. absurd (some none)))
-made_later disk old mid new a b e (inr (inr h)) some = inr (inr (h.0, h.1, h.2, λ none. absurd (some none)))
+pub made_later : {D : Type 0} (disk : disks.Ghosts D) (old mid new : K disk) (a b e : Batch) → IsSpared disk old a.group.items mid [] → b.group.items ≡ [] → IsRoomMade disk mid b new e → (a.group.items ≡ [] → ⊥) → IsRoomMade disk old a new e
+made_later disk old mid new a b e first none (inl h) some = inl h
+made_later disk old mid new a b e first none (inr (inl h)) some = inr (inl (h.0, λ none. absurd (some none)))
+made_later disk old mid new a b e first none (inr (inr h)) some =
+    inr (inr (h.0, h.1, h.2, (λ none. absurd (some none)), subst (λ k. IsSpared disk old a.group.items k []) (sym (h.3 none)) first))

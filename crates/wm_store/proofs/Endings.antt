@@ -1,7 +1,8 @@
 -- A batch from its first command to its end.
-use Rattle.std.proofs.Common.{◌≡◌, ◌⊎◌, ⊎_elim, inl, inr, refl, sym, ◌∙◌, ap, subst, ℕ, zero, suc, ◌+◌, ◌≤◌, ◌<◌, Bool, true, false, List, [], ◌∷◌, ◌++◌, length, take, drop, get_or, arith, length-append, vec_len, vec_capacity}
+use Rattle.std.proofs.Common.{◌≡◌, ◌⊎◌, ⊎_elim, inl, inr, refl, sym, ◌∙◌, ap, subst, ℕ, zero, suc, ◌+◌, ◌≤◌, ◌<◌, Bool, true, false, List, [], ◌∷◌, ◌++◌, length, take, drop, get_or, arith, append_assoc, length-append, vec_len, vec_capacity}
 use Rattle.std.specs.Prelude.{Option, Some, None, Result, Ok, Err, IfErr, OnErr, if◌then◌else◌}
 use Rattle.std.specs.Option.{unwrap_or}
+use Rattle.std.proofs.lemmas.List.{length-take-le, take-append-drop}
 use Rattle.wm_disk.specs.declared.disk.Disk as disks
 use Rattle.wm_disk.specs.declared.refusal.Refusal.TheVariants.{NoMemory, Exhausted}
 use Rattle.wm_journal.specs.Records.{taken}
@@ -15,12 +16,12 @@ use Rattle.wm_registry.specs.Roots.{State}
 use Rattle.wm_registry.specs.MachineLaws.{watches}
 use Rattle.wm_checkpoint.specs.Machines.{replay_on, Accepts}
 use Rattle.wm_checkpoint.specs.Meanings.{MeansBeginning}
-use Rattle.wm_checkpoint.specs.Kept.{disk_of, state_of, has_failed, number_of, Keeps}
+use Rattle.wm_checkpoint.specs.Kept.{disk_of, state_of, has_failed, number_of, room_left, Keeps}
 use Rattle.wm_checkpoint.proofs.Outside.{replayed_append}
 use Rattle.wm_store.specs.Batches.{IsBatch, IsShort, AreAnswered, accepted_of, is_begin, met}
-use Rattle.wm_store.specs.UnderWay.{K, AreCalls, AreMet, IsCut, IsDone, IsNew, IsPast, IsReady, IsSoFar, IsWhole, KeepsRoom}
+use Rattle.wm_store.specs.UnderWay.{K, AreCalls, AreIdle, AreMet, IsCut, IsDone, IsNew, IsPast, IsReady, IsSoFar, IsSparing, IsWhole, KeepsRoom}
 use Rattle.wm_store.specs.declared.batch.Batch.{Batch}
-use Rattle.wm_store.proofs.Batching.{calls_none, calls_then, whole_none, whole_then, longer}
+use Rattle.wm_store.proofs.Batching.{calls_more, calls_none, calls_then, whole_none, whole_then, longer}
 use Rattle.wm_store.proofs.Replying.{accepted_append, all_short, answered_met, met_append, short_append, short_last, short_replies}
 use Rattle.wm_store.proofs.Runs.{Leaves, OnlyNow, stood, unbegun}
 use Rattle.wm_store.proofs.Stores.{stored}
@@ -57,6 +58,20 @@ parted (d ∷ cs) (suc n) c lt e = ap (λ (l : List Command). d ∷ l) (parted c
 pub at_turn : (all seen : List Command) (c : Command) → seen ≡ take (length seen) all → length seen < length all → c ≡ get_or all (length seen) c → all ≡ seen ++ (c ∷ drop (suc (length seen)) all)
 at_turn all seen c front lt is = parted all (length seen) c lt is ∙ ap (λ (l : List Command). l ++ (c ∷ drop (suc (length seen)) all)) (sym front)
 
+-- the same, where the loop begins behind the first n commands
+pub at_turn_behind : (n : ℕ) (all seen : List Command) (c : Command) → seen ≡ take (length seen) (drop n all) → length seen < length (drop n all) → c ≡ get_or (drop n all) (length seen) c
+    → all ≡ (take n all ++ seen) ++ (c ∷ drop (suc (length seen)) (drop n all))
+at_turn_behind n all seen c front lt is =
+    sym (take-append-drop n all) ∙ ap (λ (l : List Command). take n all ++ l) (at_turn (drop n all) seen c front lt is)
+    ∙ sym (append_assoc (take n all) seen (c ∷ drop (suc (length seen)) (drop n all)))
+
+-- how many commands are met, and how many there are
+pub len_behind : (n : ℕ) (all seen : List Command) → n ≤ length all → (length (take n all ++ seen) ≡ n + length seen) × (n + length (drop n all) ≡ length all)
+len_behind n all seen le = (
+  omega (arith, length-append (take n all) seen, length-take-le n all le),
+  omega (arith, ap (λ (l : List Command). length l) (take-append-drop n all), length-append (take n all) (drop n all), length-take-le n all le),
+)
+
 -- what a failure has, by two clauses
 pub err_both : {T E Q : Type 0} {P R : E → Type 0} (r : Result T E) → ((x : E) → P x → Q → R x) → IfErr r P → OnErr r Q → IfErr r R
 err_both (Ok x) f p q = tt
@@ -67,7 +82,8 @@ module _ {D : Type 0} (disk : disks.Ghosts D) where
   pub record IsUnderWay (start : K disk) (commands done : List Command) (keeper : K disk) (batch : Batch) : Type 0 where
     pub ready : IsReady disk keeper batch
     pub past : IsPast disk start done keeper batch
-    pub so_far : IsSoFar (number_of keeper) (state_of start) done batch
+    pub so_far : IsSoFar (number_of keeper) (room_left keeper) (state_of start) done batch
+    pub slot : IsSparing disk start done batch.replies.items keeper batch.group.items
     pub idle : accepted_of done batch.replies.items ≡ [] → (keeper ≡ start) ⊎ IsShort batch.replies.items
     pub calls : AreCalls disk (length done) start keeper
     pub whole : IsWhole disk start keeper
@@ -75,36 +91,44 @@ module _ {D : Type 0} (disk : disks.Ghosts D) where
     pub replies : length commands ≤ vec_capacity batch.replies
     pub group : length commands ≤ vec_capacity batch.group
 
-  pub none_yet : (start : K disk) (commands : List Command) (batch : Batch) → Keeps watches start → has_failed start ≡ false → IsNew (state_of start) (length commands) batch
-      → (disk.honest (disk_of start) → Leaves disk (disk_of start) (disk_of start) (MeansBeginning watches (state_of start) [])) → IsUnderWay start commands [] start batch
-  none_yet start commands batch kp alive new standing = record {
-    ready = record {
-      kept = kp;
-      whole = alive;
-      accepted = subst (λ (l : List Command). Accepts watches (state_of start) l) (sym new.group) tt;
-      next = new.next ∙ ap (λ (l : List Command). replay_on watches (state_of start) l) (sym new.group);
-      size = new.size ∙ ap (λ (l : List Command). taken command_spelling l) (sym new.group);
-      fits = omega (arith, new.size);
-      len = omega (arith, new.group_len, new.replies_len);
-    };
-    past = record {
-      committed = [];
-      led = refl;
-      len = ap (λ (l : List Reply). length l) (sym new.replies);
-      accepted = sym new.group;
-      first = omega (arith, new.first);
-      front = ap (λ (n : ℕ). accepted_of (take n []) (take n batch.replies.items)) new.first;
-      before = inr (new.before, refl);
-      run = standing;
-    };
-    so_far = inl (new.refused, subst (λ (l : List Reply). AreMet (state_of start) [] l) (sym new.replies) tt);
-    idle = λ _. inl refl;
-    calls = calls_none disk 0 start start refl;
-    whole = whole_none disk start start refl kp alive;
-    len = new.replies_len;
-    replies = omega (arith, new.replies_room);
-    group = omega (arith, new.group_room);
-  }
+  -- the first commands are answered, and none of them is accepted
+  pub idle_yet : (start : K disk) (commands : List Command) (batch : Batch) → Keeps watches start → has_failed start ≡ false → AreIdle (state_of start) commands batch.replies → IsNew (state_of start) batch.replies (length commands) batch
+      → (disk.honest (disk_of start) → Leaves disk (disk_of start) (disk_of start) (MeansBeginning watches (state_of start) [])) → IsUnderWay start commands (take (vec_len batch.replies) commands) start batch
+  idle_yet start commands batch kp alive idle new standing =
+      let done : List Command = take (vec_len batch.replies) commands in
+      let len : length done ≡ vec_len batch.replies = length-take-le (vec_len batch.replies) commands idle.within in
+      record {
+        ready = record {
+          kept = kp;
+          whole = alive;
+          accepted = subst (λ (l : List Command). Accepts watches (state_of start) l) (sym new.group) tt;
+          next = new.next ∙ ap (λ (l : List Command). replay_on watches (state_of start) l) (sym new.group);
+          size = new.size ∙ ap (λ (l : List Command). taken command_spelling l) (sym new.group);
+          fits = omega (arith, new.size);
+          len = omega (arith, new.group_len);
+        };
+        past = record {
+          committed = [];
+          led = refl;
+          len = len ∙ batch.replies.ok.0;
+          accepted = idle.none ∙ sym new.group;
+          first = omega (arith, new.first);
+          front = ap (λ (n : ℕ). accepted_of (take n done) (take n batch.replies.items)) new.first;
+          before = inr (new.before, refl);
+          run = standing;
+        };
+        so_far = inl (new.refused, idle.met);
+        slot = inl (record {
+          number = refl;
+          room = ap (λ (l : List Command). room_left start + taken command_spelling l) (idle.none ∙ sym new.group);
+        });
+        idle = λ _. inl refl;
+        calls = calls_more disk 0 (length done) start start (omega arith) (calls_none disk 0 start start refl);
+        whole = whole_none disk start start refl kp alive;
+        len = sym len;
+        replies = omega (arith, idle.room);
+        group = omega (arith, new.group_room);
+      }
 
   -- one command more
   module _ (start : K disk) (commands done : List Command) (old new : K disk) (a b : Batch) (c : Command) (u : IsUnderWay start commands done old a) where
@@ -124,15 +148,17 @@ module _ {D : Type 0} (disk : disks.Ghosts D) where
 
     pub one_more : IsReady disk new b → vec_len b.replies ≡ vec_len a.replies + 1 → KeepsRoom a b
         → ((s : K disk) (cs : List Command) → IsPast disk s cs old a → IsPast disk s (cs ++ (c ∷ [])) new b)
-        → ((s : K disk) (cs : List Command) → IsPast disk s cs old a → IsSoFar (number_of old) (state_of s) cs a → IsSoFar (number_of new) (state_of s) (cs ++ (c ∷ [])) b)
+        → ((s : K disk) (cs : List Command) → IsPast disk s cs old a → IsSoFar (number_of old) (room_left old) (state_of s) cs a → IsSoFar (number_of new) (room_left new) (state_of s) (cs ++ (c ∷ [])) b)
+        → ((s : K disk) (cs : List Command) → IsPast disk s cs old a → IsSparing disk s cs a.replies.items old a.group.items → IsSparing disk s (cs ++ (c ∷ [])) b.replies.items new b.group.items)
         → ((q : Reply) × (b.replies.items ≡ a.replies.items ++ (q ∷ [])) × (is_change q ≡ false → a.group.items ≡ [] → (new ≡ old) ⊎ (q ≡ Refused NoMemory)))
         → AreCalls disk 1 old new → IsWhole disk old new → IsUnderWay start commands (done ++ (c ∷ [])) new b
-    one_more ready len room past so_far idle calls whole =
+    one_more ready len room past so_far slot idle calls whole =
         let one : length (done ++ (c ∷ [])) ≡ length done + 1 = length-append done (c ∷ []) in
         record {
           ready = ready;
           past = past start done u.past;
           so_far = so_far start done u.past u.so_far;
+          slot = slot start done u.past u.slot;
           idle = still_idle idle.0 idle.1 idle.2;
           calls = subst (λ (n : ℕ). AreCalls disk n start new) (sym one) (calls_then disk (length done) 1 start old new u.calls calls);
           whole = whole_then disk start old new u.whole whole;
@@ -198,27 +224,31 @@ module _ {D : Type 0} (disk : disks.Ghosts D) where
   -- ---- what a store has of it
 
   module _ (start : K disk) (before : Option State) (closed : Bool) (none : before ≡ None) where
-    registry_is : unwrap_or before (state_of start) ≡ state_of start
+    pub registry_is : unwrap_or before (state_of start) ≡ state_of start
     registry_is = ap (λ (o : Option State). unwrap_or o (state_of start)) none
 
     -- from the store's registry on
     from_registry : (new : D) (cs : List Command) → Leaves disk (disk_of start) new (MeansBeginning watches (state_of start) cs) → Leaves disk (disk_of start) new (MeansBeginning watches (unwrap_or before (state_of start)) cs)
     from_registry new cs run = subst (λ (s : State). Leaves disk (disk_of start) new (MeansBeginning watches s cs)) (sym registry_is) run
 
-    -- no command was met
-    pub none_met : OnlyNow disk → Keeps watches start → has_failed start ≡ false → (commands : List Command) → IsBatch disk (stored disk start before closed) (stored disk start before closed) commands (short_replies commands)
-    none_met only_now kp alive commands =
-        let replies : List Reply = short_replies commands in
+    -- nothing was done
+    pub still_met : OnlyNow disk → Keeps watches start → has_failed start ≡ false → (commands : List Command) (replies : List Reply) → AreMet (unwrap_or before (state_of start)) commands replies
+        → IsBatch disk (stored disk start before closed) (stored disk start before closed) commands replies
+    still_met only_now kp alive commands replies met =
         record {
-          answered = answered_met (number_of start) (unwrap_or before (state_of start)) commands replies (all_short (unwrap_or before (state_of start)) commands);
+          answered = answered_met (number_of start) (room_left start) (unwrap_or before (state_of start)) commands replies met;
           any_moment = λ h. from_registry (disk_of start) (accepted_of commands replies) (unbegun disk (disk_of start) (disk_of start) (state_of start) (accepted_of commands replies) (stood disk only_now start kp alive h));
         }
+
+    -- no command was met
+    pub none_met : OnlyNow disk → Keeps watches start → has_failed start ≡ false → (commands : List Command) → IsBatch disk (stored disk start before closed) (stored disk start before closed) commands (short_replies commands)
+    none_met only_now kp alive commands = still_met only_now kp alive commands (short_replies commands) (all_short (unwrap_or before (state_of start)) commands)
 
     -- the device failed
     module _ (new : K disk) (commands : List Command) (replies : List Reply) (was : Option State) (cut : IsCut disk start commands replies new was) where
       pub cut_batch : AreMet (state_of start) commands replies → IsBatch disk (stored disk start before closed) (stored disk new was closed) commands replies
       cut_batch met = record {
-        answered = subst (λ (s : State). AreAnswered (number_of new) s commands replies) (sym registry_is) (answered_met (number_of new) (state_of start) commands replies met);
+        answered = subst (λ (s : State). AreAnswered (number_of new) (room_left new) s commands replies) (sym registry_is) (answered_met (number_of new) (room_left new) (state_of start) commands replies met);
         any_moment = λ h. from_registry (disk_of new) (accepted_of commands replies) (cut.run h);
       }
 
@@ -229,12 +259,15 @@ module _ {D : Type 0} (disk : disks.Ghosts D) where
     module _ (new : K disk) (commands : List Command) (replies : List Reply) (d : IsDone disk start commands new replies) where
       pub done_batch : IsBatch disk (stored disk start before closed) (stored disk new before closed) commands replies
       done_batch = record {
-        answered = subst (λ (s : State). AreAnswered (number_of new) s commands replies) (sym registry_is) d.answered;
+        answered = subst (λ (s : State). AreAnswered (number_of new) (room_left new) s commands replies) (sym registry_is) d.answered;
         any_moment = λ h. from_registry (disk_of new) (accepted_of commands replies) (d.run h);
       }
 
       pub done_registry : unwrap_or before (state_of new) ≡ replay_on watches (unwrap_or before (state_of start)) (accepted_of commands replies)
       done_registry = ap (λ (o : Option State). unwrap_or o (state_of new)) none ∙ d.led ∙ ap (λ (s : State). replay_on watches s (accepted_of commands replies)) (sym registry_is)
+
+      pub done_slot : IsShort replies ⊎ (taken command_spelling (accepted_of commands replies) ≤ room_left start → (number_of new ≡ number_of start) × (room_left new + taken command_spelling (accepted_of commands replies) ≡ room_left start))
+      done_slot = ⊎_elim (λ h. inr (λ fits. (h.number, omega (arith, h.room)))) (λ w. ⊎_elim (λ h. inr (λ fits. absurd (omega (arith, h, fits)))) (λ h. inl h) w) d.slot
 
       pub done_idle : accepted_of commands replies ≡ [] → (stored disk new before closed ≡ stored disk start before closed) ⊎ IsShort replies
       done_idle e = ⊎_elim (λ k. inl (ap (λ (x : K disk). stored disk x before closed) k)) (λ short. inr short) (d.idle e)

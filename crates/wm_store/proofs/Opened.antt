@@ -1,11 +1,13 @@
 -- How a store is opened over what its keeper found.
-use Rattle.std.proofs.Common.{◌≡◌, ◌⊎◌, inl, inr, subst, ℕ, ◌+◌, ◌≤◌, List, [], ◌∷◌}
+use Rattle.std.proofs.Common.{◌≡◌, ◌⊎◌, inl, inr, subst, arith, ℕ, ◌+◌, ◌≤◌, ◌<◌, List, [], ◌∷◌}
 use Rattle.std.specs.Prelude.{Result, Ok, Err, IfOk, IfErr}
 use Rattle.wm_disk.specs.declared.disk.Disk as disks
 use Rattle.wm_disk.specs.Moments.{then_runs}
 use Rattle.wm_disk.specs.declared.refusal.Refusal.{Refusal}
 use Rattle.wm_disk.specs.declared.refusal.Refusal.TheVariants.{DeviceFailed, NoMemory, Exhausted, Damaged, Retired}
 use Rattle.wm_journal.proofs.Opening.{weaker}
+use Rattle.wm_journal.specs.Records.{taken}
+use Rattle.wm_registry.specs.Commands.{command_spelling}
 use Rattle.wm_registry.specs.declared.command.Command.{Command}
 use Rattle.wm_registry.specs.declared.command.Command.TheVariants.{Begin}
 use Rattle.wm_registry.specs.declared.reply.Reply.{Reply}
@@ -14,13 +16,17 @@ use Rattle.wm_registry.specs.Registry.{after, reply_to}
 use Rattle.wm_registry.specs.Roots.{State}
 use Rattle.wm_registry.specs.MachineLaws.{watches}
 use Rattle.wm_checkpoint.specs.Meanings.{Means, MeansState, MeansBeginning}
-use Rattle.wm_checkpoint.specs.Kept.{disk_of, state_of, number_of, IsKept}
+use Rattle.wm_checkpoint.specs.Kept.{disk_of, state_of, number_of, room_left, IsKept, Keeps}
 use Rattle.wm_checkpoint.specs.Numbers.{IsNumberedTo}
 use Rattle.wm_checkpoint.proofs.Numbering.{number_within}
 use Rattle.wm_checkpoint.specs.declared.keeper.Keeper.{Keeper}
 use Rattle.wm_store.specs.Openings.{IsBegun, IsFound}
 use Rattle.wm_store.specs.Stored.{Stored}
 use Rattle.wm_store.proofs.Runs.{Leaves}
+
+-- the journal's bytes: those that its commands take, and those that are left
+pub journal_is : {D : Type 0} (disk : disks.Ghosts D) (keeper : Keeper D State State Command Reply disk) → Keeps watches keeper → (k : IsKept watches keeper) → room_left keeper + taken command_spelling k.commands ≡ 262143
+journal_is disk keeper kp k = omega (arith, kp.place.len_is, k.at_rest.read.end, keeper.region.within)
 
 module _ {D : Type 0} (disk : disks.Ghosts D) (old : D) (keeper : Keeper D State State Command Reply disk) (k : IsKept watches keeper) (seen : disk.seen (disk_of keeper) ≡ disk.seen old) where
   -- what the disk means, with the number of its slot
@@ -52,9 +58,18 @@ module _ {D : Type 0} (disk : disks.Ghosts D) (old : D) (keeper : Keeper D State
   spent why = (state_of keeper, means_seen, why)
 
   pub is_begun : Leaves disk old (disk_of keeper) (disk.may_leave old) → (store : Stored D) → Leaves disk (disk_of keeper) store.disk (MeansBeginning watches (state_of keeper) (Begin ∷ []))
-      → reply_to (state_of keeper) Begin ≡ Changed → store.registry ≡ after (state_of keeper) Begin → store.number ≤ number_of keeper + 1 → IsBegun disk old store
+      → reply_to (state_of keeper) Begin ≡ Changed → store.registry ≡ after (state_of keeper) Begin → store.number ≤ number_of keeper + 1 → room_left keeper + taken command_spelling k.commands ≡ 262143
+      → (2 ≤ room_left keeper → (store.number ≡ number_of keeper) × (store.room + 2 ≡ room_left keeper)) → (room_left keeper < 2 → (store.number ≡ number_of keeper + 1) × (store.room + 2 ≡ 262143)) → IsBegun disk old store
   unfolding means_seen found
-  is_begun until store run is led le = record { found = state_of keeper; changed = is; registry = led; opened = found until store.disk run; number = le }
+  is_begun until store run is led le all stays moves = record {
+    found = state_of keeper;
+    changed = is;
+    registry = led;
+    opened = found until store.disk run;
+    number = le;
+    stays = λ fits. let s = stays (omega (arith, all, fits)) in (s.0, omega (arith, all, s.1));
+    moves = λ over. moves (omega (arith, all, over));
+  }
 
   pub number_of_found : (n : ℕ) → IsNumberedTo n (disk.seen old) → number_of keeper ≤ n
   unfolding means_seen
@@ -75,6 +90,11 @@ pub kinds_begun : (x : Refusal) → (x ≡ DeviceFailed) ⊎ (x ≡ NoMemory) �
 kinds_begun x (inl h) = inl h
 kinds_begun x (inr (inl h)) = inr (inl h)
 kinds_begun x (inr (inr h)) = inr (inr (inl h))
+
+pub is_exhausted : (x : Refusal) → (x ≡ DeviceFailed) ⊎ (x ≡ NoMemory) ⊎ (x ≡ Exhausted) → (x ≡ DeviceFailed → ⊥) → (x ≡ NoMemory → ⊥) → x ≡ Exhausted
+is_exhausted x (inl h) up room = absurd (up h)
+is_exhausted x (inr (inl h)) up room = absurd (room h)
+is_exhausted x (inr (inr h)) up room = h
 
 pub not_exhausted : (x : Refusal) → (x ≡ DeviceFailed) ⊎ (x ≡ NoMemory) ⊎ (x ≡ Damaged) ⊎ (x ≡ Retired) → x ≡ Exhausted → ⊥
 not_exhausted x (inl h) e = absurd cc

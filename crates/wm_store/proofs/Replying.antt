@@ -1,5 +1,5 @@
 -- Lists of replies, as a batch makes them.
-use Rattle.std.proofs.Common.{◌≡◌, ◌≢◌, ◌⊎◌, ⊎_elim, inl, inr, refl, sym, ◌∙◌, ap, subst, ℕ, zero, suc, ◌+◌, ◌≤◌, Bool, true, false, List, [], ◌∷◌, ◌++◌, length, take, drop, map, arith}
+use Rattle.std.proofs.Common.{◌≡◌, ◌≢◌, ◌⊎◌, ⊎_elim, inl, inr, refl, sym, ◌∙◌, ap, subst, ℕ, zero, suc, ◌+◌, Bool, true, false, List, [], ◌∷◌, ◌++◌, length, take, drop, map, arith}
 use Rattle.std.specs.Prelude.{if◌then◌else◌}
 use Rattle.wm_disk.specs.declared.refusal.Refusal.{Refusal}
 use Rattle.wm_disk.specs.declared.refusal.Refusal.TheVariants.{BadArguments, NoMemory, Exhausted}
@@ -12,7 +12,7 @@ use Rattle.wm_registry.specs.Registry.{after, changed, changes, is_change, reply
 use Rattle.wm_registry.specs.Roots.{State}
 use Rattle.wm_registry.specs.MachineLaws.{watches}
 use Rattle.wm_checkpoint.specs.Machines.{replay_on}
-use Rattle.wm_store.specs.Batches.{IsMet, IsShort, AreAnswered, accepted_of, in_batch, is_begin, met, unless_begin}
+use Rattle.wm_store.specs.Batches.{IsMet, IsShort, IsWithoutRoom, AreAnswered, accepted_of, in_batch, is_begin, met, unless_begin}
 use Rattle.wm_store.specs.UnderWay.{AreMet, AreSpent, shortened, spent, with_command}
 use Rattle.wm_store.proofs.Replies.{never_bad}
 
@@ -92,36 +92,44 @@ met_len s [] (r ∷ rs) h = absurd h
 met_len s (c ∷ cs) [] h = absurd h
 met_len s (c ∷ cs) (r ∷ rs) h = omega (arith, met_len (met s c r) cs rs h.1)
 
-pub answered_met : (n : ℕ) (s : State) (cs : List Command) (rs : List Reply) → AreMet s cs rs → AreAnswered n s cs rs
-answered_met n s [] [] h = tt
-answered_met n s [] (r ∷ rs) h = absurd h
-answered_met n s (c ∷ cs) [] h = absurd h
-answered_met n s (c ∷ cs) (r ∷ rs) h = inl (h.0, answered_met n (met s c r) cs rs h.1)
+-- one command more that is answered as the registry has it, and isn't accepted
+pub idle_more : (s : State) (cs : List Command) (rs : List Reply) (d : Command) (q : Reply) → AreMet s cs rs → accepted_of cs rs ≡ [] → q ≡ in_batch s d → is_change q ≡ false
+    → AreMet s (cs ++ (d ∷ [])) (rs ++ (q ∷ [])) × (accepted_of (cs ++ (d ∷ [])) (rs ++ (q ∷ [])) ≡ [])
+idle_more s cs rs d q met none is idle = (
+  met_more s cs rs d q met (subst (λ (l : List Command). IsMet (replay_on watches s l) d q) (sym none) (inl is)),
+  accepted_append cs (d ∷ []) rs (q ∷ []) (met_len s cs rs met) ∙ ap (λ (l : List Command). l ++ accepted_of (d ∷ []) (q ∷ [])) none ∙ if_nil (is_change q) d [] idle,
+)
+
+pub answered_met : (n room : ℕ) (s : State) (cs : List Command) (rs : List Reply) → AreMet s cs rs → AreAnswered n room s cs rs
+answered_met n room s [] [] h = tt
+answered_met n room s [] (r ∷ rs) h = absurd h
+answered_met n room s (c ∷ cs) [] h = absurd h
+answered_met n room s (c ∷ cs) (r ∷ rs) h = inl (h.0, answered_met n room (met s c r) cs rs h.1)
 
 -- ---- a spent number
 
-pub answered_spent : (n : ℕ) (s : State) (cs : List Command) (rs : List Reply) → AreSpent n s cs rs → AreAnswered n s cs rs
-answered_spent n s [] rs h = absurd h
-answered_spent n s (c ∷ cs) [] h = absurd h
-answered_spent n s (c ∷ cs) (r ∷ rs) (inl h) = inl (h.0, answered_spent n (met s c r) cs rs h.1)
-answered_spent n s (c ∷ cs) (r ∷ rs) (inr h) = inr h
+pub answered_spent : (n room : ℕ) (s : State) (cs : List Command) (rs : List Reply) → AreSpent n room s cs rs → AreAnswered n room s cs rs
+answered_spent n room s [] rs h = absurd h
+answered_spent n room s (c ∷ cs) [] h = absurd h
+answered_spent n room s (c ∷ cs) (r ∷ rs) (inl h) = inl (h.0, answered_spent n room (met s c r) cs rs h.1)
+answered_spent n room s (c ∷ cs) (r ∷ rs) (inr h) = inr h
 
 spent_append : (cs : List Command) (d : Command) → spent (cs ++ (d ∷ [])) ≡ spent cs ++ (unless_begin d (Refused Exhausted) ∷ [])
 spent_append [] d = refl
 spent_append (c ∷ cs) d = ap (λ (l : List Reply). unless_begin c (Refused Exhausted) ∷ l) (spent_append cs d)
 
-pub spent_more : (n : ℕ) (s : State) (cs : List Command) (rs : List Reply) (d : Command) → AreSpent n s cs rs → AreSpent n s (cs ++ (d ∷ [])) (rs ++ (unless_begin d (Refused Exhausted) ∷ []))
-spent_more n s [] rs d h = absurd h
-spent_more n s (c ∷ cs) [] d h = absurd h
-spent_more n s (c ∷ cs) (r ∷ rs) d (inl h) = inl (h.0, spent_more n (met s c r) cs rs d h.1)
-spent_more n s (c ∷ cs) (r ∷ rs) d (inr h) = inr (h.0, h.1, ap (λ (l : List Reply). l ++ (unless_begin d (Refused Exhausted) ∷ [])) h.2 ∙ sym (spent_append (c ∷ cs) d))
+pub spent_more : (n room : ℕ) (s : State) (cs : List Command) (rs : List Reply) (d : Command) → AreSpent n room s cs rs → AreSpent n room s (cs ++ (d ∷ [])) (rs ++ (unless_begin d (Refused Exhausted) ∷ []))
+spent_more n room s [] rs d h = absurd h
+spent_more n room s (c ∷ cs) [] d h = absurd h
+spent_more n room s (c ∷ cs) (r ∷ rs) d (inl h) = inl (h.0, spent_more n room (met s c r) cs rs d h.1)
+spent_more n room s (c ∷ cs) (r ∷ rs) d (inr h) = inr (h.0, h.1, ap (λ (l : List Reply). l ++ (unless_begin d (Refused Exhausted) ∷ [])) h.2 ∙ sym (spent_append (c ∷ cs) d))
 
-pub spent_first : (n : ℕ) (s : State) (cs : List Command) (rs : List Reply) (d : Command) → AreMet s cs rs → 9223372036854775807 ≤ n → is_change (in_batch (replay_on watches s (accepted_of cs rs)) d) ≡ true → AreSpent n s (cs ++ (d ∷ [])) (rs ++ (unless_begin d (Refused Exhausted) ∷ []))
-spent_first n s [] [] d h le is = inr (le, is, refl)
-spent_first n s [] (r ∷ rs) d h le is = absurd h
-spent_first n s (c ∷ cs) [] d h le is = absurd h
-spent_first n s (c ∷ cs) (r ∷ rs) d h le is =
-    inl (h.0, spent_first n (met s c r) cs rs d h.1 le (subst (λ (t : State). is_change (in_batch t d) ≡ true) (replay_met s c r (accepted_of cs rs) h.0) is))
+pub spent_first : (n room : ℕ) (s : State) (cs : List Command) (rs : List Reply) (d : Command) → AreMet s cs rs → IsWithoutRoom n room d → is_change (in_batch (replay_on watches s (accepted_of cs rs)) d) ≡ true → AreSpent n room s (cs ++ (d ∷ [])) (rs ++ (unless_begin d (Refused Exhausted) ∷ []))
+spent_first n room s [] [] d h less is = inr (less, is, refl)
+spent_first n room s [] (r ∷ rs) d h less is = absurd h
+spent_first n room s (c ∷ cs) [] d h less is = absurd h
+spent_first n room s (c ∷ cs) (r ∷ rs) d h less is =
+    inl (h.0, spent_first n room (met s c r) cs rs d h.1 less (subst (λ (t : State). is_change (in_batch t d) ≡ true) (replay_met s c r (accepted_of cs rs) h.0) is))
 
 -- ---- refusals for want of memory
 

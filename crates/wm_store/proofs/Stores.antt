@@ -9,7 +9,7 @@ use Rattle.wm_registry.specs.declared.reply.Reply.{Reply}
 use Rattle.wm_registry.specs.Roots.{State}
 use Rattle.wm_registry.specs.MachineLaws.{watches}
 use Rattle.wm_checkpoint.specs.Meanings.{Means, MeansState, MeansBeginning}
-use Rattle.wm_checkpoint.specs.Kept.{disk_of, state_of, has_failed, number_of, IsKept, Keeps}
+use Rattle.wm_checkpoint.specs.Kept.{disk_of, state_of, has_failed, number_of, room_left, IsKept, Keeps}
 use Rattle.wm_checkpoint.specs.declared.keeper.Keeper.{Keeper}
 use Rattle.wm_checkpoint.proofs.Keeping.{kept_means}
 use Rattle.wm_checkpoint.proofs.Outside.{beginning_none}
@@ -26,7 +26,7 @@ module _ {D : Type 0} (disk : disks.Ghosts D) where
 
   -- a store, by its fields
   abbrev pub stored : K → Option State → Bool → Stored D
-  stored keeper before closed = record { disk = disk_of keeper; registry = unwrap_or before (state_of keeper); failed = has_failed keeper; closed = closed; number = number_of keeper }
+  stored keeper before closed = record { disk = disk_of keeper; registry = unwrap_or before (state_of keeper); failed = has_failed keeper; closed = closed; number = number_of keeper; room = room_left keeper }
 
   -- what it keeps
   abbrev pub IsInside : K → Option State → Bool → Type 0

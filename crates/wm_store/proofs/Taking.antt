@@ -1,5 +1,5 @@
 -- A command that a batch takes: its reply, and what it leaves of the batch.
-use Rattle.std.proofs.Common.{◌≡◌, ◌⊎◌, ⊎_elim, inl, inr, refl, sym, ◌∙◌, ap, subst, ℕ, ◌+◌, ◌≤◌, Bool, true, false, List, [], ◌∷◌, ◌++◌, length, take, arith, append-nil, append_assoc, length-append}
+use Rattle.std.proofs.Common.{◌≡◌, ◌⊎◌, ⊎_elim, inl, inr, refl, sym, ◌∙◌, ap, subst, ℕ, ◌+◌, ◌≤◌, ◌<◌, Bool, true, false, List, [], ◌∷◌, ◌++◌, length, take, arith, append-nil, append_assoc, length-append}
 use Rattle.std.specs.Prelude.{Option, Some, None, IfSome, if◌then◌else◌}
 use Rattle.std.proofs.lemmas.List.{take-append-le}
 use Rattle.wm_disk.specs.declared.disk.Disk as disks
@@ -16,10 +16,11 @@ use Rattle.wm_registry.specs.MachineLaws.{watches}
 use Rattle.wm_checkpoint.specs.Machines.{Accepts, replay_on}
 use Rattle.wm_checkpoint.specs.Kept.{state_of, number_of, room_left}
 use Rattle.wm_checkpoint.proofs.Outside.{all_append, replayed_append}
-use Rattle.wm_store.specs.Batches.{IsMet, accepted_of, in_batch, is_begin, met, unless_begin}
-use Rattle.wm_store.specs.UnderWay.{AreMet, AreSpent, IsPast, IsPushed, IsReady, IsRefused, IsSoFar, K, with_command}
+use Rattle.wm_store.specs.Batches.{IsMet, IsShort, IsWithoutRoom, accepted_of, in_batch, is_begin, met, unless_begin}
+use Rattle.wm_store.specs.UnderWay.{AreMet, AreSpent, IsPast, IsPushed, IsReady, IsRefused, IsSoFar, IsSpared, IsSparing, K, with_command}
 use Rattle.wm_store.specs.declared.batch.Batch.{Batch}
-use Rattle.wm_store.proofs.Replying.{accepted_append, changes_met, met_more, one_met, refusal_stays, spent_first, spent_more, taken_append}
+use Rattle.wm_store.proofs.Batching.{spared_none}
+use Rattle.wm_store.proofs.Replying.{accepted_append, changes_met, met_more, one_met, refusal_stays, short_append, short_last, spent_first, spent_more, taken_append}
 
 -- ---- one reply
 
@@ -67,8 +68,15 @@ module _ {D : Type 0} (disk : disks.Ghosts D) where
   abbrev pub IsSpentHere : Command → K disk → Batch → K disk → Batch → Reply → Type 0
   IsSpentHere command old a new b reply =
       (reply ≡ unless_begin command (Refused Exhausted)) × (b.refused ≡ Some Exhausted)
-      × (((a.refused ≡ None) × (is_change (in_batch a.next command) ≡ true) × (9223372036854775807 ≤ number_of new) × (b.group.items ≡ []))
-      ⊎ ((a.refused ≡ Some Exhausted) × (number_of new ≡ number_of old) × (b.group.items ≡ a.group.items)))
+      × (((a.refused ≡ None) × (is_change (in_batch a.next command) ≡ true) × IsWithoutRoom (number_of new) (room_left new) command × (b.group.items ≡ []))
+      ⊎ ((a.refused ≡ Some Exhausted) × (new ≡ old) × (b.group.items ≡ a.group.items)))
+
+  -- No checkpoint was made for the command, or it didn't fit behind the group, or it found no memory.
+  abbrev pub IsSparingHere : Command → K disk → Batch → K disk → Batch → Reply → Type 0
+  IsSparingHere command old a new b reply =
+      IsSpared disk old a.group.items new b.group.items
+      ⊎ ((is_change reply ≡ true) × (room_left old < taken command_spelling (a.group.items ++ (command ∷ []))))
+      ⊎ (reply ≡ Refused NoMemory)
 
   -- From a to b, and from old to new, the command got this reply, which leads to the state `next`.
   pub record IsTaken (command : Command) (old : K disk) (a : Batch) (new : K disk) (b : Batch) (reply : Reply) (next : State) : Type 0 where
@@ -77,6 +85,7 @@ module _ {D : Type 0} (disk : disks.Ghosts D) where
     pub changing : is_change reply ≡ true → changes a.next command ≡ true
     pub fits : is_change reply ≡ true → taken command_spelling (b.group.items ++ (command ∷ [])) ≤ room_left new
     pub idle : is_change reply ≡ false → a.group.items ≡ [] → (new ≡ old) ⊎ (reply ≡ Refused NoMemory)
+    pub slot : IsSparingHere command old a new b reply
 
   refused_so : (command : Command) (old : K disk) (a : Batch) (new : K disk) (b : Batch) (reply : Reply) (x : Refusal) → (a.refused ≡ None) ⊎ (a.refused ≡ Some NoMemory) ⊎ (a.refused ≡ Some Exhausted)
       → IsRefused disk command old a new b x → reply ≡ Refused x → IsMetHere command a b reply ⊎ IsSpentHere command old a new b reply
@@ -88,7 +97,7 @@ module _ {D : Type 0} (disk : disks.Ghosts D) where
       (λ k. inl (inl here, inl k, inl (same ∙ k)))
       (λ w. ⊎_elim
       (λ k. inl (inl here, inr k, inr (same ∙ k)))
-      (λ k. inr (bad ∙ sym (unless_true command (Refused Exhausted) h.0), same ∙ k, inr (k, ap (λ y. number_of y) h.2, ap (λ (y : Batch). y.group.items) h.3)))
+      (λ k. inr (bad ∙ sym (unless_true command (Refused Exhausted) h.0), same ∙ k, inr (k, h.2, ap (λ (y : Batch). y.group.items) h.3)))
       w)
       which
   refused_so command old a new b reply x which (inr (inl h)) is =
@@ -97,13 +106,21 @@ module _ {D : Type 0} (disk : disks.Ghosts D) where
       let this : reply ≡ unless_begin command (Refused Exhausted) = is ∙ ap (λ (y : Refusal). Refused y) h.1 ∙ sym (unless_false command (Refused Exhausted) h.0) in
       ⊎_elim
       (λ k. inr (this, h.2, inl (k.0, ap is_change (unless_false command (reply_to a.next command) h.0) ∙ k.1, k.2, k.3)))
-      (λ k. inr (this, h.2, inr (k.0, ap (λ y. number_of y) k.1, ap (λ v. v.items) k.2)))
+      (λ k. inr (this, h.2, inr (k.0, k.1, ap (λ v. v.items) k.2)))
       h.4
 
   refused_idle : (command : Command) (old : K disk) (a : Batch) (new : K disk) (b : Batch) (x : Refusal) → IsRefused disk command old a new b x → a.group.items ≡ [] → new ≡ old
   refused_idle command old a new b x (inl h) none = h.2
   refused_idle command old a new b x (inr (inl h)) none = h.4 none
   refused_idle command old a new b x (inr (inr h)) none = h.3 none
+
+  refused_slot : (command : Command) (old : K disk) (a : Batch) (new : K disk) (b : Batch) (reply : Reply) (x : Refusal) → IsRefused disk command old a new b x → reply ≡ Refused x → IsSparingHere command old a new b reply
+  refused_slot command old a new b reply x (inl h) is = inl (spared_none disk old new a.group.items b.group.items h.2 (ap (λ (y : Batch). y.group.items) h.3))
+  refused_slot command old a new b reply x (inr (inl h)) is = inr (inr (is ∙ ap (λ (y : Refusal). Refused y) h.1))
+  refused_slot command old a new b reply x (inr (inr h)) is = ⊎_elim
+      (λ k. inl (subst (λ (l : List Command). IsSpared disk old a.group.items new l) (sym k.3) k.4))
+      (λ k. inl (spared_none disk old new a.group.items b.group.items k.1 (ap (λ v. v.items) k.2)))
+      h.4
 
   -- a command that is refused before the registry is asked
   pub taken_refused : (command : Command) (old : K disk) (a : Batch) (new : K disk) (b : Batch) (reply : Reply) (next : State) (x : Refusal) → (a.refused ≡ None) ⊎ (a.refused ≡ Some NoMemory) ⊎ (a.refused ≡ Some Exhausted)
@@ -114,12 +131,14 @@ module _ {D : Type 0} (disk : disks.Ghosts D) where
     changing = λ h. absurd (not_changed reply x is h);
     fits = λ h. absurd (not_changed reply x is h);
     idle = λ _ none. inl (refused_idle command old a new b x why none);
+    slot = refused_slot command old a new b reply x why is;
   }
 
   -- what is known where the registry is asked
   abbrev pub IsAsked : Command → K disk → Batch → K disk → Batch → Type 0
   IsAsked command old a new b =
-      (b.refused ≡ None) × (a.refused ≡ None) × (is_begin command ≡ false) × ((new ≡ old) ⊎ (is_change (reply_to a.next command) ≡ true))
+      (b.refused ≡ None) × (a.refused ≡ None) × (is_begin command ≡ false)
+      × (((new ≡ old) × (b.group ≡ a.group)) ⊎ ((is_change (reply_to a.next command) ≡ true) × (room_left old < taken command_spelling (a.group.items ++ (command ∷ [])))))
       × (is_change (reply_to a.next command) ≡ true → taken command_spelling (b.group.items ++ (command ∷ [])) ≤ room_left new)
 
   pub taken_asked : (command : Command) (old : K disk) (a : Batch) (new : K disk) (b : Batch) (reply : Reply) (next : State) → IsAsked command old a new b
@@ -130,6 +149,7 @@ module _ {D : Type 0} (disk : disks.Ghosts D) where
     changing = λ is. absurd (not_changed reply NoMemory h.0 is);
     fits = λ is. absurd (not_changed reply NoMemory h.0 is);
     idle = λ _ none. inr h.0;
+    slot = inr (inr h.0);
   }
   taken_asked command old a new b reply next o (inr h) =
       let here : IsMet a.next command reply = inl (h.0 ∙ sym (unless_false command (reply_to a.next command) o.2)) in
@@ -138,7 +158,11 @@ module _ {D : Type 0} (disk : disks.Ghosts D) where
         leads = h.1 ∙ ap (λ (y : Reply). met a.next command y) (sym h.0) ∙ sym (one_met a.next command reply here);
         changing = λ is. changes_met a.next command reply here is;
         fits = λ is. o.4 (ap is_change (sym h.0) ∙ is);
-        idle = λ is none. ⊎_elim (λ k. inl k) (λ k. let clash : false ≡ true = sym is ∙ ap is_change h.0 ∙ k in absurd cc) o.3;
+        idle = λ is none. ⊎_elim (λ k. inl k.0) (λ k. let clash : false ≡ true = sym is ∙ ap is_change h.0 ∙ k.0 in absurd cc) o.3;
+        slot = ⊎_elim
+            (λ k. inl (spared_none disk old new a.group.items b.group.items k.0 (ap (λ v. v.items) k.1)))
+            (λ k. inr (inl (ap is_change h.0 ∙ k.0, k.1)))
+            o.3;
       }
 
   -- ---- what it leaves of the batch
@@ -198,24 +222,24 @@ module _ {D : Type 0} (disk : disks.Ghosts D) where
       ∙ sym r.next
 
   -- where the rest isn't refused for the slot's number
-  met_so_far : (n : ℕ) (s : State) (done : List Command) (a : Batch) → (a.refused ≡ None) ⊎ (a.refused ≡ Some NoMemory) → IsSoFar n s done a → AreMet s done a.replies.items
-  met_so_far n s done a which (inl h) = h.1
-  met_so_far n s done a which (inr (inl h)) = h.1
-  met_so_far n s done a (inl k) (inr (inr h)) = let clash : Some Exhausted ≡ None = sym h.0 ∙ k in absurd cc
-  met_so_far n s done a (inr k) (inr (inr h)) = let clash : Some Exhausted ≡ Some NoMemory = sym h.0 ∙ k in absurd cc
+  met_so_far : (n room : ℕ) (s : State) (done : List Command) (a : Batch) → (a.refused ≡ None) ⊎ (a.refused ≡ Some NoMemory) → IsSoFar n room s done a → AreMet s done a.replies.items
+  met_so_far n room s done a which (inl h) = h.1
+  met_so_far n room s done a which (inr (inl h)) = h.1
+  met_so_far n room s done a (inl k) (inr (inr h)) = let clash : Some Exhausted ≡ None = sym h.0 ∙ k in absurd cc
+  met_so_far n room s done a (inr k) (inr (inr h)) = let clash : Some Exhausted ≡ Some NoMemory = sym h.0 ∙ k in absurd cc
 
   -- where it is
-  spent_so_far : (n : ℕ) (s : State) (done : List Command) (a : Batch) → a.refused ≡ Some Exhausted → IsSoFar n s done a → (a.group.items ≡ []) × AreSpent n s done a.replies.items
-  spent_so_far n s done a k (inl h) = let clash : Some Exhausted ≡ None = sym k ∙ h.0 in absurd cc
-  spent_so_far n s done a k (inr (inl h)) = let clash : Some Exhausted ≡ Some NoMemory = sym k ∙ h.0 in absurd cc
-  spent_so_far n s done a k (inr (inr h)) = (h.1, h.2)
+  spent_so_far : (n room : ℕ) (s : State) (done : List Command) (a : Batch) → a.refused ≡ Some Exhausted → IsSoFar n room s done a → (a.group.items ≡ []) × AreSpent n room s done a.replies.items
+  spent_so_far n room s done a k (inl h) = let clash : Some Exhausted ≡ None = sym k ∙ h.0 in absurd cc
+  spent_so_far n room s done a k (inr (inl h)) = let clash : Some Exhausted ≡ Some NoMemory = sym k ∙ h.0 in absurd cc
+  spent_so_far n room s done a k (inr (inr h)) = (h.1, h.2)
 
   module _ (start : K disk) (done : List Command) (command : Command) (old : K disk) (a : Batch) (new : K disk) (b e : Batch) (reply : Reply) where
     so_far_cases : replay_on watches (state_of start) (accepted_of done a.replies.items) ≡ a.next → e.refused ≡ b.refused → e.group.items ≡ with_command b.group.items command reply → e.replies.items ≡ a.replies.items ++ (reply ∷ [])
-        → IsSoFar (number_of old) (state_of start) done a → IsMetHere command a b reply ⊎ IsSpentHere command old a new b reply → IsSoFar (number_of new) (state_of start) (done ++ (command ∷ [])) e
+        → IsSoFar (number_of old) (room_left old) (state_of start) done a → IsMetHere command a b reply ⊎ IsSpentHere command old a new b reply → IsSoFar (number_of new) (room_left new) (state_of start) (done ++ (command ∷ [])) e
     so_far_cases leads refused group replies f (inl h) =
         let now : AreMet (state_of start) (done ++ (command ∷ [])) e.replies.items = subst (λ (l : List Reply). AreMet (state_of start) (done ++ (command ∷ [])) l) (sym replies)
-        (met_more (state_of start) done a.replies.items command reply (met_so_far (number_of old) (state_of start) done a h.1 f) (subst (λ (s : State). IsMet s command reply) (sym leads) h.0)) in
+        (met_more (state_of start) done a.replies.items command reply (met_so_far (number_of old) (room_left old) (state_of start) done a h.1 f) (subst (λ (s : State). IsMet s command reply) (sym leads) h.0)) in
         ⊎_elim (λ k. inl (refused ∙ k, now)) (λ k. inr (inl (refused ∙ k, now))) h.2
     so_far_cases leads refused group replies f (inr h) =
         let still : with_command b.group.items command reply ≡ b.group.items = none_added b.group.items command reply (ap is_change h.0 ∙ refusal_stays command Exhausted) in
@@ -224,24 +248,51 @@ module _ {D : Type 0} (disk : disks.Ghosts D) where
         (λ k. inr (inr (
           refused ∙ h.1,
           group ∙ still ∙ k.3,
-          subst (λ (l : List Reply). AreSpent (number_of new) (state_of start) (done ++ (command ∷ [])) l) (sym last)
-              (spent_first (number_of new) (state_of start) done a.replies.items command (met_so_far (number_of old) (state_of start) done a (inl k.0) f) k.2 (subst (λ (s : State). is_change (in_batch s command) ≡ true) (sym leads) k.1)),
+          subst (λ (l : List Reply). AreSpent (number_of new) (room_left new) (state_of start) (done ++ (command ∷ [])) l) (sym last)
+              (spent_first (number_of new) (room_left new) (state_of start) done a.replies.items command (met_so_far (number_of old) (room_left old) (state_of start) done a (inl k.0) f) k.2 (subst (λ (s : State). is_change (in_batch s command) ≡ true) (sym leads) k.1)),
         )))
         (λ k.
-        let was = spent_so_far (number_of old) (state_of start) done a k.0 f in
+        let was = spent_so_far (number_of old) (room_left old) (state_of start) done a k.0 f in
         inr (inr (
           refused ∙ h.1,
           group ∙ still ∙ k.2 ∙ was.0,
-          subst (λ (l : List Reply). AreSpent (number_of new) (state_of start) (done ++ (command ∷ [])) l) (sym last)
-              (spent_more (number_of new) (state_of start) done a.replies.items command (subst (λ (n : ℕ). AreSpent n (state_of start) done a.replies.items) (sym k.1) was.1)),
+          subst (λ (l : List Reply). AreSpent (number_of new) (room_left new) (state_of start) (done ++ (command ∷ [])) l) (sym last)
+              (spent_more (number_of new) (room_left new) (state_of start) done a.replies.items command (subst (λ y. AreSpent (number_of y) (room_left y) (state_of start) done a.replies.items) (sym k.1) was.1)),
         )))
         h.2
 
   pub so_far_taken : (start : K disk) (done : List Command) (command : Command) (old : K disk) (a : Batch) (new : K disk) (b mid e : Batch) (reply : Reply) (next : State) → IsTaken command old a new b reply next → IsPast disk start done old a → IsReady disk old a
-      → b.replies ≡ a.replies → mid.group ≡ b.group → mid.replies ≡ b.replies → mid.refused ≡ b.refused → IsPushed command reply mid e → IsSoFar (number_of old) (state_of start) done a → IsSoFar (number_of new) (state_of start) (done ++ (command ∷ [])) e
+      → b.replies ≡ a.replies → mid.group ≡ b.group → mid.replies ≡ b.replies → mid.refused ≡ b.refused → IsPushed command reply mid e → IsSoFar (number_of old) (room_left old) (state_of start) done a → IsSoFar (number_of new) (room_left new) (state_of start) (done ++ (command ∷ [])) e
   so_far_taken start done command old a new b mid e reply next t p r same mid_group mid_replies mid_refused q f =
       so_far_cases start done command old a new b e reply (so_far_leads start done old a p r) (q.refused ∙ mid_refused) (q.group ∙ ap (λ v. with_command v.items command reply) mid_group)
       (q.replies ∙ ap (λ v. v.items ++ (reply ∷ [])) (mid_replies ∙ same)) f t.so
+
+  -- ---- whether a checkpoint was made
+
+  sparing : (start old new : K disk) (was now group left added : List Command) (rs : List Reply) (c : Command) (q : Reply) → now ≡ was ++ with_command [] c q → added ≡ left ++ with_command [] c q
+      → IsSpared disk start was old group ⊎ (room_left start < taken command_spelling was) ⊎ IsShort rs
+      → IsSpared disk old group new left ⊎ ((is_change q ≡ true) × (room_left old < taken command_spelling (group ++ (c ∷ [])))) ⊎ (q ≡ Refused NoMemory)
+      → IsSpared disk start now new added ⊎ (room_left start < taken command_spelling now) ⊎ IsShort (rs ++ (q ∷ []))
+  sparing start old new was now group left added rs c q all more (inl h) (inl k) = inl (record {
+    number = k.number ∙ h.number;
+    room = omega (arith, h.room, k.room, ap (λ (l : List Command). taken command_spelling l) all, taken_append was (with_command [] c q), ap (λ (l : List Command). taken command_spelling l) more, taken_append left (with_command [] c q));
+  })
+  sparing start old new was now group left added rs c q all more (inl h) (inr (inl k)) =
+      let one : with_command [] c q ≡ c ∷ [] = ap (λ (b : Bool). if b then c ∷ [] else []) k.0 in
+      inr (inl (omega (arith, h.room, k.1, ap (λ (l : List Command). taken command_spelling l) all, taken_append was (with_command [] c q), ap (λ (l : List Command). taken command_spelling l) one, taken_append group (c ∷ []))))
+  sparing start old new was now group left added rs c q all more (inl h) (inr (inr k)) = inr (inr (short_last rs q k))
+  sparing start old new was now group left added rs c q all more (inr (inl h)) k = inr (inl (omega (arith, h, ap (λ (l : List Command). taken command_spelling l) all, taken_append was (with_command [] c q))))
+  sparing start old new was now group left added rs c q all more (inr (inr h)) k = inr (inr (short_append rs (q ∷ []) h))
+
+  pub slot_taken : (start : K disk) (done : List Command) (command : Command) (old : K disk) (a : Batch) (new : K disk) (b mid e : Batch) (reply : Reply) (next : State) → IsTaken command old a new b reply next → IsPast disk start done old a
+      → b.replies ≡ a.replies → mid.group ≡ b.group → mid.replies ≡ b.replies → IsPushed command reply mid e → IsSparing disk start done a.replies.items old a.group.items
+      → IsSparing disk start (done ++ (command ∷ [])) e.replies.items new e.group.items
+  slot_taken start done command old a new b mid e reply next t p same mid_group mid_replies q was =
+      let replies : e.replies.items ≡ a.replies.items ++ (reply ∷ []) = q.replies ∙ ap (λ v. v.items ++ (reply ∷ [])) (mid_replies ∙ same) in
+      let group : e.group.items ≡ b.group.items ++ with_command [] command reply = q.group ∙ ap (λ v. with_command v.items command reply) mid_group ∙ added b.group.items command reply in
+      subst (λ (l : List Reply). IsSparing disk start (done ++ (command ∷ [])) l new e.group.items) (sym replies)
+      (sparing start old new (accepted_of done a.replies.items) (accepted_of (done ++ (command ∷ [])) (a.replies.items ++ (reply ∷ []))) a.group.items b.group.items e.group.items a.replies.items command reply
+      (accepted_append done (command ∷ []) a.replies.items (reply ∷ []) p.len) group was t.slot)
 
   -- a command that is answered, by why it is refused before the registry is asked
   pub taken_answered : (command : Command) (old : K disk) (a : Batch) (new : K disk) (b : Batch) (reply : Reply) (next : State) (o : Option Refusal) → (a.refused ≡ None) ⊎ (a.refused ≡ Some NoMemory) ⊎ (a.refused ≡ Some Exhausted) → b.next ≡ a.next

@@ -1,8 +1,10 @@
 -- What a batch of commands is answered.
-use Rattle.std.specs.Prelude.{◌≡◌, ◌⊎◌, ◌≤◌, ℕ, Bool, true, false, List, [], ◌∷◌, if◌then◌else◌, map}
+use Rattle.std.specs.Prelude.{◌≡◌, ◌⊎◌, ◌≤◌, ◌<◌, ℕ, Bool, true, false, List, [], ◌∷◌, if◌then◌else◌, map}
 use Rattle.wm_disk.specs.declared.refusal.Refusal.TheVariants.{BadArguments, Exhausted, NoMemory}
 use Rattle.wm_disk.specs.declared.disk.Disk as disks
 use Rattle.wm_disk.specs.Moments.{LeavesOnly}
+use Rattle.wm_journal.specs.Records.{taken}
+use Rattle.wm_registry.specs.Commands.{command_spelling}
 use Rattle.wm_registry.specs.declared.command.Command.{Command}
 use Rattle.wm_registry.specs.declared.command.Command.TheVariants.{Begin, Watch, WatchDel, Trigger, TriggerDel}
 use Rattle.wm_registry.specs.declared.reply.Reply.{Reply}
@@ -36,15 +38,19 @@ IsMet s command reply = (reply ≡ in_batch s command) ⊎ (reply ≡ unless_beg
 abbrev pub met : State → Command → Reply → State
 met s command reply = if is_change reply then changed s command else s
 
--- Each command is met in the state that those before it leave. Where the slot's number is spent, a command that the registry
--- accepts may be refused for that, with all behind it.
-abbrev pub AreAnswered : ℕ → State → List Command → List Reply → Type 0
-AreAnswered number s [] [] = Unit {0}
-AreAnswered number s [] (reply ∷ replies) = ⊥
-AreAnswered number s (command ∷ commands) [] = ⊥
-AreAnswered number s (command ∷ commands) (reply ∷ replies) =
-    (IsMet s command reply × AreAnswered number (met s command reply) commands replies)
-    ⊎ ((9223372036854775807 ≤ number) × (is_change (in_batch s command) ≡ true)
+-- The command doesn't fit into what the journal has left, and the slot's number is spent.
+abbrev pub IsWithoutRoom : ℕ → ℕ → Command → Type 0
+IsWithoutRoom number room command = (9223372036854775807 ≤ number) × (room < taken command_spelling (command ∷ []))
+
+-- Each command is met in the state that those before it leave. One that the registry accepts, and for which a slot with this number and
+-- room has no room and can't be left, is refused for that, with all behind it.
+abbrev pub AreAnswered : ℕ → ℕ → State → List Command → List Reply → Type 0
+AreAnswered number room s [] [] = Unit {0}
+AreAnswered number room s [] (reply ∷ replies) = ⊥
+AreAnswered number room s (command ∷ commands) [] = ⊥
+AreAnswered number room s (command ∷ commands) (reply ∷ replies) =
+    (IsMet s command reply × AreAnswered number room (met s command reply) commands replies)
+    ⊎ (IsWithoutRoom number room command × (is_change (in_batch s command) ≡ true)
     × (reply ∷ replies ≡ map (λ c. unless_begin c (Refused Exhausted)) (command ∷ commands)))
 
 -- those of the commands that changed the registry, by their replies
@@ -61,5 +67,5 @@ IsShort (reply ∷ replies) = (reply ≡ Refused NoMemory) ⊎ IsShort replies
 
 -- A batch from old to new, with these replies; a crash at any moment of it leaves the registry after a beginning of those accepted.
 pub record IsBatch {D : Type 0} (disk : disks.Ghosts D) (old new : Stored D) (commands : List Command) (replies : List Reply) : Type 0 where
-  pub answered : AreAnswered new.number old.registry commands replies
+  pub answered : AreAnswered new.number new.room old.registry commands replies
   pub any_moment : disk.honest new.disk → LeavesOnly disk.moment disk.left_since old.disk new.disk (MeansBeginning watches old.registry (accepted_of commands replies))

@@ -6,13 +6,15 @@ use Rattle.wm_registry.specs.Roots.{State}
 use Rattle.wm_registry.specs.MachineLaws.{watches}
 use Rattle.wm_checkpoint.specs.Meanings.{MeansState, MeansBeginning}
 
--- the disk, the registry, whether a call was answered 13, whether it was closed, and the number of the slot in use
+-- the disk, the registry, whether a call was answered 13, whether it was closed, the number of the slot in use, and how many bytes
+-- its journal has left for commands, each with its gate
 pub record Stored (D : Type 0) : Type 0 where
   pub disk : D
   pub registry : State
   pub failed : Bool
   pub closed : Bool
   pub number : ℕ
+  pub room : ℕ
 
 -- Every content that a crash may leave means the registry, or, once a call has failed, that after a beginning of some commands.
 pub record IsStored {D : Type 0} (disk : disks.Ghosts D) (store : Stored D) : Type 0 where

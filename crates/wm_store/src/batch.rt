@@ -8,7 +8,7 @@ ghost use Rattle.wm_checkpoint.specs.Kept.{disk_of, state_of, has_failed, number
 ghost use Rattle.wm_registry.specs.Commands.{command_spelling};
 ghost use Rattle.wm_registry.specs.Registry.{after, is_change, reply_to};
 ghost use Rattle.wm_store.specs.Batches.{IsShort, accepted_of, is_begin};
-ghost use Rattle.wm_store.specs.UnderWay.{AreCalls, AreMet, HasRoom, IsCut, IsDone, IsDown, IsNew, IsPast, IsPushed, IsReady, IsRefused, IsRoomMade, IsSoFar, IsWhole, KeepsRoom, shortened, K};
+ghost use Rattle.wm_store.specs.UnderWay.{AreCalls, AreIdle, AreMet, HasRoom, IsCut, IsDone, IsDown, IsNew, IsPast, IsPushed, IsReady, IsRefused, IsRoomMade, IsSoFar, IsSpared, IsSparing, IsWhole, KeepsRoom, shortened, K};
 
 use std::alloc::Global;
 use wm_checkpoint::Keeper;
@@ -34,13 +34,18 @@ pub(crate) struct Batch {
 }
 
 impl Batch {
-    /// A batch of so many commands on this registry, none of them met yet.
-    pub(crate) fn new(alloc: Global, registry: &Registry, len: usize) -> Result<Batch, NoMemory>
-        ensures { IfOk result (IsNew registry.now len) }
+    /// A batch of so many commands on this registry, which accepted none of the first, those that have
+    /// these replies.
+    pub(crate) fn new(
+        alloc: Global,
+        registry: &Registry,
+        replies: Vec<Reply>,
+        len: usize,
+    ) -> Result<Batch, NoMemory>
+        ensures { IfOk result (IsNew registry.now replies len) }
     {
         let next = Draft::new(alloc, registry)?;
         let group = Vec::with_capacity(alloc, len)?;
-        let replies = Vec::with_capacity(alloc, len)?;
         Ok(Batch {
             next,
             group,
@@ -66,8 +71,9 @@ impl Batch {
         ensures len { OnOk result (vec_len self.new.replies ≡ vec_len self.old.replies + 1) }
         ensures room { OnOk result (KeepsRoom self.old self.new) }
         ensures past { OnOk result ((start : K D.Disk) (done : List Command) → IsPast D.Disk start done keeper.old self.old → IsPast D.Disk start (done ++ (command ∷ [])) keeper.new self.new) }
-        ensures so_far { OnOk result ((start : K D.Disk) (done : List Command) → IsPast D.Disk start done keeper.old self.old → IsSoFar (number_of keeper.old) (state_of start) done self.old → IsSoFar (number_of keeper.new) (state_of start) (done ++ (command ∷ [])) self.new) }
+        ensures so_far { OnOk result ((start : K D.Disk) (done : List Command) → IsPast D.Disk start done keeper.old self.old → IsSoFar (number_of keeper.old) (room_left keeper.old) (state_of start) done self.old → IsSoFar (number_of keeper.new) (room_left keeper.new) (state_of start) (done ++ (command ∷ [])) self.new) }
         ensures idle { OnOk result ((reply : Reply) × (self.new.replies.items ≡ self.old.replies.items ++ (reply ∷ [])) × (is_change reply ≡ false → self.old.group.items ≡ [] → (keeper.new ≡ keeper.old) ⊎ (reply ≡ Reply.Refused no_memory))) }
+        ensures slot { OnOk result ((start : K D.Disk) (done : List Command) → IsPast D.Disk start done keeper.old self.old → IsSparing D.Disk start done self.old.replies.items keeper.old self.old.group.items → IsSparing D.Disk start (done ++ (command ∷ [])) self.new.replies.items keeper.new self.new.group.items) }
         ensures cut { OnErr result ((start : K D.Disk) (done : List Command) → IsPast D.Disk start done keeper.old self.old → IsCut D.Disk start done self.old.replies.items keeper.new self.new.before) }
         ensures asked { OnErr result ((self.old.refused ≡ None) × (is_begin command ≡ false) × (is_change (reply_to self.old.next command) ≡ true)) }
         ensures calls { AreCalls D.Disk 1 keeper.old keeper.new }
@@ -95,7 +101,7 @@ impl Batch {
         ensures ready { OnOk result (IsReady D.Disk keeper.new self.new) }
         ensures same { OnOk result ((self.new.next ≡ self.old.next) × (self.new.replies ≡ self.old.replies)) }
         ensures room { OnOk result (KeepsRoom self.old self.new) }
-        ensures open_yet { IfOk result (λ r. r ≡ None → (self.new.refused ≡ None) × (self.old.refused ≡ None) × (is_begin command.now ≡ false) × ((keeper.new ≡ keeper.old) ⊎ (is_change (reply_to self.old.next command.now) ≡ true)) × (is_change (reply_to self.old.next command.now) ≡ true → taken command_spelling (self.new.group.items ++ (command.now ∷ [])) ≤ room_left keeper.new)) }
+        ensures open_yet { IfOk result (λ r. r ≡ None → (self.new.refused ≡ None) × (self.old.refused ≡ None) × (is_begin command.now ≡ false) × (((keeper.new ≡ keeper.old) × (self.new.group ≡ self.old.group)) ⊎ ((is_change (reply_to self.old.next command.now) ≡ true) × (room_left keeper.old < taken command_spelling (self.old.group.items ++ (command.now ∷ []))))) × (is_change (reply_to self.old.next command.now) ≡ true → taken command_spelling (self.new.group.items ++ (command.now ∷ [])) ≤ room_left keeper.new)) }
         ensures refused { IfOk result (λ o. (r : Refusal) → o ≡ Some r → IsRefused D.Disk command.now keeper.old self.old keeper.new self.new r) }
         ensures past { OnOk result ((start : K D.Disk) (done : List Command) → IsPast D.Disk start done keeper.old self.old → IsPast D.Disk start done keeper.new self.new) }
         ensures cut { OnErr result ((start : K D.Disk) (done : List Command) → IsPast D.Disk start done keeper.old self.old → IsCut D.Disk start done self.old.replies.items keeper.new self.new.before) }
@@ -209,7 +215,7 @@ impl Batch {
         ensures ready { OnOk result (IsReady D.Disk keeper.new self.new) }
         ensures same { OnOk result ((self.new.next ≡ self.old.next) × (self.new.replies ≡ self.old.replies)) }
         ensures room { OnOk result (KeepsRoom self.old self.new) }
-        ensures made { OnOk result (((self.new.refused ≡ None) × (self.new.group.items ≡ [])) ⊎ (self.new.refused ≡ Some no_memory)) }
+        ensures made { OnOk result (((self.new.refused ≡ None) × (self.new.group.items ≡ []) × IsSpared D.Disk keeper.old self.old.group.items keeper.new []) ⊎ (self.new.refused ≡ Some no_memory)) }
         ensures past { OnOk result ((start : K D.Disk) (done : List Command) → IsPast D.Disk start done keeper.old self.old → IsPast D.Disk start done keeper.new self.new) }
         ensures cut { OnErr result ((start : K D.Disk) (done : List Command) → IsPast D.Disk start done keeper.old self.old → IsCut D.Disk start done self.old.replies.items keeper.new self.new.before) }
         ensures calls { AreCalls D.Disk 0 keeper.old keeper.new }
@@ -268,7 +274,7 @@ impl Batch {
     ) -> Result<Vec<Reply>, Option<Registry>>
         requires ready { IsReady D.Disk keeper.old self }
         requires first { self.first ≤ vec_len self.replies }
-        ensures done { IfOk result (λ replies. (start : K D.Disk) (commands : List Command) → IsPast D.Disk start commands keeper.old self → IsSoFar (number_of keeper.old) (state_of start) commands self → (accepted_of commands self.replies.items ≡ [] → (keeper.old ≡ start) ⊎ IsShort self.replies.items) → IsDone D.Disk start commands keeper.new replies.items) }
+        ensures done { IfOk result (λ replies. (start : K D.Disk) (commands : List Command) → IsPast D.Disk start commands keeper.old self → IsSoFar (number_of keeper.old) (room_left keeper.old) (state_of start) commands self → (accepted_of commands self.replies.items ≡ [] → (keeper.old ≡ start) ⊎ IsShort self.replies.items) → IsSparing D.Disk start commands self.replies.items keeper.old self.group.items → IsDone D.Disk start commands keeper.new replies.items) }
         ensures cut { IfErr result (λ before. (start : K D.Disk) (commands : List Command) → IsPast D.Disk start commands keeper.old self → IsCut D.Disk start commands self.replies.items keeper.new before) }
         ensures asked { OnErr result (self.group.items ≢ []) }
         ensures calls { AreCalls D.Disk 0 keeper.old keeper.new }
@@ -324,7 +330,7 @@ fn refuse_from(replies: &mut Vec<Reply>, first: usize)
     }
 }
 
-/// Meets the commands of a batch, and gives the replies; or the registry before the batch, where one of
+/// Meets the commands of a batch that aren't answered yet, and gives the replies to all; or the registry before the batch, where one of
 /// its groups had been committed when the device failed.
 pub(crate) fn run<D: Disk + Drop>(
     alloc: Global,
@@ -334,7 +340,8 @@ pub(crate) fn run<D: Disk + Drop>(
 ) -> Result<Vec<Reply>, Option<Registry>>
     requires kept { Keeps watches keeper.old }
     requires whole { has_failed keeper.old ≡ false }
-    requires new { IsNew (state_of keeper.old) (length commands.items) batch }
+    requires idle { AreIdle (state_of keeper.old) commands.items batch.replies }
+    requires new { IsNew (state_of keeper.old) batch.replies (length commands.items) batch }
     requires standing { D.honest (disk_of keeper.old) → LeavesOnly D.moment D.left_since (disk_of keeper.old) (disk_of keeper.old) (MeansBeginning watches (state_of keeper.old) []) }
     ensures done { IfOk result (λ replies. IsDone D.Disk keeper.old commands.items keeper.new replies.items) }
     ensures cut { IfErr result (λ before. (replies : List Reply) × AreMet (state_of keeper.old) commands.items replies × IsCut D.Disk keeper.old commands.items replies keeper.new before × (accepted_of commands.items replies ≡ [] → ⊥)) }
@@ -343,7 +350,8 @@ pub(crate) fn run<D: Disk + Drop>(
     ensures down { OnErr result (IsDown D.Disk keeper.old keeper.new) }
 {
     let mut batch = batch;
-    for command in commands {
+    let answered = batch.replies.len();
+    for command in commands.into_iter().skip(answered) {
         let Ok(()) = batch.take(alloc, keeper, command) else {
             return Err(batch.before);
         };

@@ -1,4 +1,4 @@
-ghost use Rattle.std.specs.Prelude.{◌≡◌, ◌≢◌, ◌⊎◌, ◌≤◌, ◌∷◌, false, [], IfErr, OnOk, IsErrOf};
+ghost use Rattle.std.specs.Prelude.{◌≡◌, ◌≢◌, ◌⊎◌, ◌+◌, ◌≤◌, ◌<◌, ◌∷◌, false, [], IfErr, OnOk, IsErrOf};
 ghost use Rattle.wm_disk.specs.Contents.{Rose};
 ghost use Rattle.wm_disk.specs.Moments.{LeavesOnly};
 ghost use Rattle.wm_disk.specs.declared.refusal.Refusal.TheVariants.{DeviceFailed as device_failed, NoMemory as no_memory, Exhausted as exhausted};
@@ -13,6 +13,9 @@ use wm_checkpoint::Keeper;
 use wm_disk::{Disk, Refusal};
 use wm_registry::{Command, Registry, Reply};
 
+/// The bytes that a `Begin` takes in the journal: its gate and its tag.
+const BEGIN: u64 = 2;
+
 /// Begins the next incarnation of the registry, durably: by a checkpoint first where the journal has no
 /// room for the command.
 pub(crate) fn begin_in<D: Disk + Drop>(
@@ -24,10 +27,12 @@ pub(crate) fn begin_in<D: Disk + Drop>(
     ensures kept { Keeps watches keeper.new }
     ensures begun { OnOk result ((state_of keeper.new ≡ after (state_of keeper.old) Command.Begin) × (has_failed keeper.new ≡ false)) }
     ensures changed { OnOk result (reply_to (state_of keeper.old) Command.Begin ≡ Reply.Changed) }
+    ensures stays { OnOk result (2 ≤ room_left keeper.old → (number_of keeper.new ≡ number_of keeper.old) × (room_left keeper.new + 2 ≡ room_left keeper.old)) }
+    ensures moves { OnOk result (room_left keeper.old < 2 → (number_of keeper.new ≡ number_of keeper.old + 1) × (room_left keeper.new + 2 ≡ 262143)) }
     ensures any_moment { D.honest (disk_of keeper.new) → LeavesOnly D.moment D.left_since (disk_of keeper.old) (disk_of keeper.new) (MeansBeginning watches (state_of keeper.old) (Command.Begin ∷ [])) }
     ensures unbegun { IfErr result (λ e. e ≢ device_failed → (state_of keeper.new ≡ state_of keeper.old) × (has_failed keeper.new ≡ false) × (D.failures (disk_of keeper.new) ≡ D.failures (disk_of keeper.old))) }
-    ensures exhausted { IsErrOf result exhausted → (reply_to (state_of keeper.old) Command.Begin ≡ Reply.Refused exhausted) ⊎ (9223372036854775807 ≤ number_of keeper.old) }
-    ensures still { IsErrOf result exhausted → D.honest (disk_of keeper.new) → LeavesOnly D.moment D.left_since (disk_of keeper.old) (disk_of keeper.new) (MeansState watches (state_of keeper.old)) }
+    ensures exhausted { IsErrOf result exhausted → ((reply_to (state_of keeper.old) Command.Begin ≡ Reply.Refused exhausted) ⊎ (9223372036854775807 ≤ number_of keeper.old)) × (keeper.new ≡ keeper.old) }
+    ensures still { IfErr result (λ e. e ≢ device_failed → D.honest (disk_of keeper.new) → LeavesOnly D.moment D.left_since (disk_of keeper.old) (disk_of keeper.new) (MeansState watches (state_of keeper.old))) }
     ensures calls { AreCalls D.Disk 1 keeper.old keeper.new }
     ensures honest { D.honest (disk_of keeper.new) → D.honest (disk_of keeper.old) }
     ensures later { D.failures (disk_of keeper.old) ≤ D.failures (disk_of keeper.new) }
@@ -57,9 +62,11 @@ fn find_room<D: Disk + Drop>(alloc: Global, keeper: &mut Keeper<D, Registry>) ->
     ensures kept { Keeps watches keeper.new }
     ensures state { state_of keeper.new ≡ state_of keeper.old }
     ensures room { OnOk result ((2 ≤ room_left keeper.new) × (has_failed keeper.new ≡ false)) }
+    ensures stays { 2 ≤ room_left keeper.old → keeper.new ≡ keeper.old }
+    ensures moves { OnOk result (room_left keeper.old < 2 → (number_of keeper.new ≡ number_of keeper.old + 1) × (room_left keeper.new ≡ 262143)) }
     ensures any_moment { D.honest (disk_of keeper.new) → LeavesOnly D.moment D.left_since (disk_of keeper.old) (disk_of keeper.new) (MeansState watches (state_of keeper.old)) }
     ensures unbegun { IfErr result (λ e. e ≢ device_failed → (has_failed keeper.new ≡ false) × (D.failures (disk_of keeper.new) ≡ D.failures (disk_of keeper.old))) }
-    ensures exhausted { IsErrOf result exhausted → 9223372036854775807 ≤ number_of keeper.old }
+    ensures exhausted { IsErrOf result exhausted → (9223372036854775807 ≤ number_of keeper.old) × (keeper.new ≡ keeper.old) }
     ensures calls { AreCalls D.Disk 1 keeper.old keeper.new }
     ensures honest { D.honest (disk_of keeper.new) → D.honest (disk_of keeper.old) }
     ensures later { D.failures (disk_of keeper.old) ≤ D.failures (disk_of keeper.new) }
@@ -67,7 +74,7 @@ fn find_room<D: Disk + Drop>(alloc: Global, keeper: &mut Keeper<D, Registry>) ->
     ensures failed { IsErrOf result device_failed → Rose (D.failures (disk_of keeper.old)) (D.failures (disk_of keeper.new)) }
     ensures kinds { IfErr result (λ e. (e ≡ device_failed) ⊎ (e ≡ no_memory) ⊎ (e ≡ exhausted)) }
 {
-    if keeper.room() >= 2 {
+    if keeper.room() >= BEGIN {
         return Ok(());
     }
     keeper.checkpoint(alloc)

@@ -9,6 +9,7 @@ mod batch;
 mod begin;
 mod crashed;
 mod formatting;
+mod idle;
 mod store;
 
 pub use formatting::format;

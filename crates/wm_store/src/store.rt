@@ -1,12 +1,14 @@
-ghost use Rattle.std.specs.Prelude.{◌≡◌, ◌≢◌, ◌⊎◌, ◌≤◌, ◌+◌, ◌∷◌, true, false, List, ℕ, [], length, IfOk, IfErr, OnOk, OnErr, IsErrOf, MatchResult};
+ghost use Rattle.std.specs.Prelude.{◌≡◌, ◌≢◌, ◌⊎◌, ◌≤◌, ◌<◌, ◌+◌, ◌∷◌, true, false, List, ℕ, [], length, IfOk, IfErr, OnOk, OnErr, IsErrOf, MatchResult};
 ghost use Rattle.wm_disk.specs.Contents.{Rose};
 ghost use Rattle.wm_disk.specs.Moments.{LeavesOnly};
 ghost use Rattle.wm_disk.specs.declared.refusal.Refusal.TheVariants.{DeviceFailed as device_failed, NoMemory as no_memory, Exhausted as exhausted, Damaged as damaged, Retired as retired, StoreFailed as store_failed};
+ghost use Rattle.wm_journal.specs.Records.{taken};
 ghost use Rattle.wm_checkpoint.specs.Machines.{replay_on};
-ghost use Rattle.wm_checkpoint.specs.Kept.{disk_of, state_of, has_failed, number_of, Keeps};
+ghost use Rattle.wm_checkpoint.specs.Kept.{disk_of, state_of, has_failed, number_of, room_left, Keeps};
 ghost use Rattle.wm_checkpoint.specs.Numbers.{IsNumberedTo};
 ghost use Rattle.wm_checkpoint.specs.Meanings.{Means, MeansState, MeansBeginning, IsDamaged, IsRetired};
 ghost use Rattle.wm_registry.specs.MachineLaws.{watches};
+ghost use Rattle.wm_registry.specs.Commands.{command_spelling};
 ghost use Rattle.wm_registry.specs.Registry.{after, reply_to};
 ghost use Rattle.wm_store.specs.Batches.{IsBatch, IsShort, accepted_of};
 ghost use Rattle.wm_store.specs.Openings.{IsBegun, IsFound};
@@ -14,6 +16,7 @@ ghost use Rattle.wm_store.specs.Stored.{IsStored};
 
 use crate::batch::{Batch, run};
 use crate::begin::begin_in;
+use crate::idle::idle_replies;
 use std::alloc::Global;
 use std::marker::Model;
 use wm_checkpoint::Keeper;
@@ -35,16 +38,16 @@ pub struct Store<D: Disk + Drop> {
 impl<D: Disk + Drop> Model for Store<D> {
     ghost use Rattle.std.specs.Prelude.{◌≡◌, false, None};
     ghost use Rattle.std.specs.Option.{unwrap_or};
-    ghost use Rattle.wm_checkpoint.specs.Kept.{disk_of, state_of, has_failed, number_of, Keeps};
+    ghost use Rattle.wm_checkpoint.specs.Kept.{disk_of, state_of, has_failed, number_of, room_left, Keeps};
     ghost use Rattle.wm_registry.specs.MachineLaws.{watches};
     ghost use Rattle.wm_store.specs.Stored.{Stored, IsStored};
 
     ghost Value = { Stored D };
 
-    ghost view = { λ s. record { disk = disk_of s.keeper; registry = unwrap_or s.before (state_of s.keeper); failed = has_failed s.keeper; closed = s.closed; number = number_of s.keeper } };
+    ghost view = { λ s. record { disk = disk_of s.keeper; registry = unwrap_or s.before (state_of s.keeper); failed = has_failed s.keeper; closed = s.closed; number = number_of s.keeper; room = room_left s.keeper } };
 
     ghost invariant = { λ s. Keeps watches s.keeper × (has_failed s.keeper ≡ false → s.before ≡ None)
-        × IsStored D.Disk (record { disk = disk_of s.keeper; registry = unwrap_or s.before (state_of s.keeper); failed = has_failed s.keeper; closed = s.closed; number = number_of s.keeper }) };
+        × IsStored D.Disk (record { disk = disk_of s.keeper; registry = unwrap_or s.before (state_of s.keeper); failed = has_failed s.keeper; closed = s.closed; number = number_of s.keeper; room = room_left s.keeper }) };
 }
 
 impl<D: Disk + Drop> Store<D> {
@@ -76,6 +79,10 @@ impl<D: Disk + Drop> Store<D> {
         ensures refused { IfErr result (λ e. D.honest e.1 → e.0 ≡ exhausted → (found : State) × MeansState watches found (D.seen disk) × ((c : List ℕ) → D.may_leave e.1 c → MeansState watches found c)) }
         // And no `Begin` is in flight at any moment of the call.
         ensures still { IfErr result (λ e. D.honest e.1 → e.0 ≡ exhausted → (found : State) × MeansState watches found (D.seen disk) × LeavesOnly D.moment D.left_since disk e.1 (λ c. D.may_leave disk c ⊎ MeansState watches found c)) }
+        // So does one for want of memory, behind a checkpoint too, where the state was found.
+        ensures short { IfErr result (λ e. D.honest e.1 → e.0 ≡ no_memory → LeavesOnly D.moment D.left_since disk e.1 (D.may_leave disk) ⊎ ((found : State) × MeansState watches found (D.seen disk) × LeavesOnly D.moment D.left_since disk e.1 (λ c. D.may_leave disk c ⊎ MeansState watches found c))) }
+        // The other refusals leave the disk as it reads.
+        ensures seen { IfErr result (λ e. D.honest e.1 → e.0 ≢ device_failed → e.0 ≢ no_memory → D.seen e.1 ≡ D.seen disk) }
         // No slot that stands open in what a crash may leave then has a number that rose by more.
         ensures numbered { IfOk result (λ s. D.honest s.disk → (c : List ℕ) → D.may_leave s.disk c → IsNumberedTo s.number c) × IfErr result (λ e. D.honest e.1 → (n : ℕ) → ((c : List ℕ) → D.may_leave disk c → IsNumberedTo n c) → (c : List ℕ) → D.may_leave e.1 c → IsNumberedTo (n + 1) c) }
         ensures honest { IfOk result (λ s. D.honest s.disk → D.honest disk) × IfErr result (λ e. D.honest e.1 → D.honest disk) }
@@ -137,6 +144,8 @@ impl<D: Disk + Drop> Store<D> {
         ensures idle { IfOk result (λ r. accepted_of commands.items r.items ≡ [] → (self.new ≡ self.old) ⊎ IsShort r.items) }
         // What the batch accepts is in flight; the device fails only where that is something.
         ensures cut { IfErr result (λ e. self.old.failed ≡ false → (replies : List Reply) × IsBatch D.Disk self.old self.new commands.items replies × (e ≡ device_failed → accepted_of commands.items replies ≡ [] → ⊥)) }
+        // Unless a growth was refused, no checkpoint is made for commands that the journal has room for.
+        ensures slot { IfOk result (λ r. IsShort r.items ⊎ (taken command_spelling (accepted_of commands.items r.items) ≤ self.old.room → (self.new.number ≡ self.old.number) × (self.new.room + taken command_spelling (accepted_of commands.items r.items) ≡ self.old.room))) }
         ensures unchanged { OnErr result (self.new.registry ≡ self.old.registry) }
         ensures memory { IsErrOf result no_memory → self.new ≡ self.old }
         ensures down { IsErrOf result store_failed → ((self.old.failed ≡ true) ⊎ (self.old.closed ≡ true)) × (self.new ≡ self.old) }
@@ -153,7 +162,14 @@ impl<D: Disk + Drop> Store<D> {
         if self.closed || self.keeper.has_failed() {
             return Err(Refusal::StoreFailed);
         }
-        let Ok(batch) = Batch::new(alloc, self.keeper.state(), commands.len()) else {
+        let registry = self.keeper.state();
+        let Ok(replies) = idle_replies(alloc, registry, &commands) else {
+            return Err(Refusal::NoMemory);
+        };
+        if replies.len() == commands.len() {
+            return Ok(replies);
+        }
+        let Ok(batch) = Batch::new(alloc, registry, replies, commands.len()) else {
             return Err(Refusal::NoMemory);
         };
         match run(alloc, &mut self.keeper, batch, commands) {
@@ -175,6 +191,7 @@ impl<D: Disk + Drop> Store<D> {
         ensures number { OnOk result (self.new.number ≡ self.old.number + 1) × OnErr result (self.new.number ≡ self.old.number) }
         // The number that is raised is that of what every content means that a crash before the call may leave.
         ensures counted { self.old.failed ≡ false → D.honest self.old.disk → (c : List ℕ) → D.may_leave self.old.disk c → (m : MeansState watches self.old.registry c) × (m.number ≡ self.old.number) }
+        ensures room { OnOk result (self.new.room ≡ 262143) }
         ensures numbered { self.old.failed ≡ false → D.honest self.new.disk → (c : List ℕ) → D.may_leave self.new.disk c → IsNumberedTo (self.old.number + 1) c }
         ensures registry { self.new.registry ≡ self.old.registry }
         // A crash at any moment of the call leaves the registry.
@@ -200,6 +217,7 @@ impl<D: Disk + Drop> Store<D> {
     /// [`Store::commit_batch`]; `13 DeviceFailed` where the sync failed.
     pub fn close(&mut self) -> Result<(), Refusal>
         ensures closed { OnOk result ((self.new.closed ≡ true) × (self.new.failed ≡ false)) }
+        ensures room { self.new.room ≡ self.old.room }
         ensures registry { (self.new.registry ≡ self.old.registry) × (self.new.number ≡ self.old.number) }
         ensures means { D.honest self.new.disk → OnOk result ((c : List ℕ) → D.may_leave self.new.disk c → MeansState watches self.new.registry c) }
         ensures any_moment { self.old.failed ≡ false → D.honest self.new.disk → LeavesOnly D.moment D.left_since self.old.disk self.new.disk (MeansState watches self.old.registry) }
@@ -234,13 +252,16 @@ fn begin<D: Disk + Drop>(
     ensures begun { IfOk result (λ s. s.registry ≡ after (state_of keeper) Command.Begin) }
     ensures changed { IfOk result (λ s. reply_to (state_of keeper) Command.Begin ≡ Reply.Changed) }
     ensures number { IfOk result (λ s. s.number ≤ number_of keeper + 1) }
+    ensures stays { IfOk result (λ s. 2 ≤ room_left keeper → (s.number ≡ number_of keeper) × (s.room + 2 ≡ room_left keeper)) }
+    ensures moves { IfOk result (λ s. room_left keeper < 2 → (s.number ≡ number_of keeper + 1) × (s.room + 2 ≡ 262143)) }
     ensures any_moment { IfOk result (λ s. D.honest s.disk → LeavesOnly D.moment D.left_since (disk_of keeper) s.disk (MeansBeginning watches (state_of keeper) (Command.Begin ∷ []))) }
     ensures means { IfOk result (λ s. D.honest s.disk → (c : List ℕ) → D.may_leave s.disk c → MeansState watches s.registry c) }
     ensures up { IfOk result (λ s. (s.failed ≡ false) × (s.closed ≡ false)) }
     ensures cut { IfErr result (λ e. D.honest e.1 → LeavesOnly D.moment D.left_since (disk_of keeper) e.1 (MeansBeginning watches (state_of keeper) (Command.Begin ∷ []))) }
     ensures unbegun { IfErr result (λ e. D.honest e.1 → e.0 ≢ device_failed → (c : List ℕ) → D.may_leave e.1 c → MeansState watches (state_of keeper) c) }
     ensures exhausted { IfErr result (λ e. e.0 ≡ exhausted → (reply_to (state_of keeper) Command.Begin ≡ Reply.Refused exhausted) ⊎ (9223372036854775807 ≤ number_of keeper)) }
-    ensures still { IfErr result (λ e. D.honest e.1 → e.0 ≡ exhausted → LeavesOnly D.moment D.left_since (disk_of keeper) e.1 (MeansState watches (state_of keeper))) }
+    ensures still { IfErr result (λ e. D.honest e.1 → e.0 ≢ device_failed → LeavesOnly D.moment D.left_since (disk_of keeper) e.1 (MeansState watches (state_of keeper))) }
+    ensures same { IfErr result (λ e. e.0 ≡ exhausted → e.1 ≡ disk_of keeper) }
     ensures numbered { IfOk result (λ s. D.honest s.disk → (c : List ℕ) → D.may_leave s.disk c → IsNumberedTo s.number c) × IfErr result (λ e. D.honest e.1 → (n : ℕ) → number_of keeper ≤ n → ((c : List ℕ) → D.may_leave (disk_of keeper) c → IsNumberedTo n c) → (c : List ℕ) → D.may_leave e.1 c → IsNumberedTo (n + 1) c) }
     ensures honest { IfOk result (λ s. D.honest s.disk → D.honest (disk_of keeper)) × IfErr result (λ e. D.honest e.1 → D.honest (disk_of keeper)) }
     ensures later { IfOk result (λ s. D.failures (disk_of keeper) ≤ D.failures s.disk) × IfErr result (λ e. D.failures (disk_of keeper) ≤ D.failures e.1) }

@@ -16,13 +16,13 @@ use Rattle.wm_checkpoint.specs.Machines.{replay_on}
 use Rattle.wm_store.specs.Batches.{AreAnswered, IsMet, accepted_of, met, unless_begin}
 use Rattle.wm_store.proofs.Replying.{changes_met, refusal_stays}
 
--- a greater number is spent as well
-pub answered_more : (n m : ℕ) (s : State) (cs : List Command) (rs : List Reply) → n ≤ m → AreAnswered n s cs rs → AreAnswered m s cs rs
-answered_more n m s [] [] le h = h
-answered_more n m s [] (r ∷ rs) le h = h
-answered_more n m s (c ∷ cs) [] le h = h
-answered_more n m s (c ∷ cs) (r ∷ rs) le (inl (is, rest)) = inl (is, answered_more n m (met s c r) cs rs le rest)
-answered_more n m s (c ∷ cs) (r ∷ rs) le (inr (spent, accepted, e)) = inr (omega (arith, spent, le), accepted, e)
+-- a greater number is spent as well, and no command fits into no room
+pub answered_more : (n room m : ℕ) (s : State) (cs : List Command) (rs : List Reply) → n ≤ m → AreAnswered n room s cs rs → AreAnswered m 0 s cs rs
+answered_more n room m s [] [] le h = h
+answered_more n room m s [] (r ∷ rs) le h = h
+answered_more n room m s (c ∷ cs) [] le h = h
+answered_more n room m s (c ∷ cs) (r ∷ rs) le (inl (is, rest)) = inl (is, answered_more n room m (met s c r) cs rs le rest)
+answered_more n room m s (c ∷ cs) (r ∷ rs) le (inr (spent, accepted, e)) = inr ((omega (arith, spent.0, le), omega arith), accepted, e)
 
 pub none_accepted : (cs : List Command) → accepted_of cs (map (λ c. unless_begin c (Refused Exhausted)) cs) ≡ []
 none_accepted [] = refl
@@ -50,14 +50,14 @@ stays s (TriggerDel path name) r is h = at (root_at path s)
     at None = refl
     at (Some root) = refl
 
-pub same_incarnation : (n : ℕ) (s : State) (cs : List Command) (rs : List Reply) → AreAnswered n s cs rs → (replay_on watches s (accepted_of cs rs)).incarnation ≡ s.incarnation
+pub same_incarnation : (n : ℕ) (s : State) (cs : List Command) (rs : List Reply) → AreAnswered n 0 s cs rs → (replay_on watches s (accepted_of cs rs)).incarnation ≡ s.incarnation
 same_incarnation n s [] rs h = refl
 same_incarnation n s (c ∷ cs) [] h = refl
 same_incarnation n s (c ∷ cs) (r ∷ rs) (inr (spent, accepted, e)) =
     ap (λ qs. (replay_on watches s (accepted_of (c ∷ cs) qs)).incarnation) e ∙ ap (λ ds. (replay_on watches s ds).incarnation) (none_accepted (c ∷ cs))
 same_incarnation n s (c ∷ cs) (r ∷ rs) (inl (is, rest)) = by (λ t. same_incarnation n t cs rs) (is_change r) refl rest
   where
-    by : ((t : State) → AreAnswered n t cs rs → (replay_on watches t (accepted_of cs rs)).incarnation ≡ t.incarnation) → (b : Bool) → is_change r ≡ b → AreAnswered n (cond b (changed s c) s) cs rs
+    by : ((t : State) → AreAnswered n 0 t cs rs → (replay_on watches t (accepted_of cs rs)).incarnation ≡ t.incarnation) → (b : Bool) → is_change r ≡ b → AreAnswered n 0 (cond b (changed s c) s) cs rs
         → (replay_on watches s (cond b (c ∷ accepted_of cs rs) (accepted_of cs rs))).incarnation ≡ s.incarnation
     by again true t h =
         ap (λ b. (replay_on watches (cond b (changed s c) s) (accepted_of cs rs)).incarnation) (changes_met s c r is t) ∙ again (changed s c) h ∙ stays s c r is t

@@ -79,14 +79,14 @@ part_with s (WatchDel path) r xs cs is t h = inl (refl, h)
 part_with s (Trigger path trigger) r xs cs is t h = inl (refl, h)
 part_with s (TriggerDel path name) r xs cs is t h = inl (refl, h)
 
-accepted_part : (n : ℕ) (s : State) (cs : List Command) (rs : List Reply) → AreAnswered n s cs rs → IsPartOf (accepted_of cs rs) (without_begins cs)
+accepted_part : (n : ℕ) (s : State) (cs : List Command) (rs : List Reply) → AreAnswered n 0 s cs rs → IsPartOf (accepted_of cs rs) (without_begins cs)
 accepted_part n s [] rs h = tt
 accepted_part n s (c ∷ cs) [] h = tt
 accepted_part n s (c ∷ cs) (r ∷ rs) (inr (spent, accepted, e)) =
     subst (λ qs. IsPartOf (accepted_of (c ∷ cs) qs) (without_begins (c ∷ cs))) (sym e) (subst (λ ds. IsPartOf ds (without_begins (c ∷ cs))) (sym (none_accepted (c ∷ cs))) tt)
 accepted_part n s (c ∷ cs) (r ∷ rs) (inl (is, rest)) = by (λ t. accepted_part n t cs rs) (is_change r) refl rest
   where
-    by : ((t : State) → AreAnswered n t cs rs → IsPartOf (accepted_of cs rs) (without_begins cs)) → (b : Bool) → is_change r ≡ b → AreAnswered n (cond b (changed s c) s) cs rs
+    by : ((t : State) → AreAnswered n 0 t cs rs → IsPartOf (accepted_of cs rs) (without_begins cs)) → (b : Bool) → is_change r ≡ b → AreAnswered n 0 (cond b (changed s c) s) cs rs
         → IsPartOf (cond b (c ∷ accepted_of cs rs) (accepted_of cs rs)) (without_begins (c ∷ cs))
     by again true t h = part_with s c r (accepted_of cs rs) cs is t (again (changed s c) h)
     by again false t h = part_of_more (accepted_of cs rs) c cs (again s h)
@@ -107,7 +107,7 @@ found_part old found (part, (rest, whole), is) =
     (subst (λ xs. IsPartOf (old.kept ++ part) xs) (append_assoc old.kept part rest ∙ ap (λ p. old.kept ++ p) whole) (part_front (old.kept ++ part) (old.kept ++ part) rest (part_same (old.kept ++ part))))
 
 -- what a batch kept and what it was given
-batch_part : (old : World) (n : ℕ) (s : State) (commands : List Command) (replies : List Reply) → old.pending ≡ [] → AreAnswered n s commands replies → IsPartOf (old.kept ++ accepted_of commands replies) (standing old ++ without_begins commands)
+batch_part : (old : World) (n : ℕ) (s : State) (commands : List Command) (replies : List Reply) → old.pending ≡ [] → AreAnswered n 0 s commands replies → IsPartOf (old.kept ++ accepted_of commands replies) (standing old ++ without_begins commands)
 batch_part old n s commands replies clear answered =
     subst (λ p. IsPartOf (old.kept ++ accepted_of commands replies) ((old.kept ++ p) ++ without_begins commands)) (sym clear)
     (subst (λ xs. IsPartOf (old.kept ++ accepted_of commands replies) (xs ++ without_begins commands)) (sym (append-nil old.kept))

@@ -102,7 +102,7 @@ module _ {D : Type 0} (disk : disks.Ghosts D) where
   module _ (old new : Running D) (before after : Stored D) (commands : List Command) (replies : List Reply) (is_up : old.server ≡ Up before) (short : length commands ≤ 64) where
     pub batch_done : new.server ≡ Up after → new.shown.replies.items ≡ replies → new.shown.clients ≡ old.shown.clients
         → new.shown.views.items ≡ old.shown.views.items ++ map summary (map (begun after.registry.incarnation) (range_with_len before.registry.next (after.registry.next - before.registry.next)))
-        → AreAnswered after.number before.registry commands replies → (IsShort replies → ⊥)
+        → AreAnswered after.number after.room before.registry commands replies → (IsShort replies → ⊥)
         → after.registry ≡ replay_on watches before.registry (accepted_of commands replies)
         → (disk.honest after.disk → disk.honest before.disk) → disk.failures after.disk ≡ disk.failures before.disk
         → after.failed ≡ false → after.closed ≡ false → after.number ≤ before.number + length commands
@@ -124,7 +124,7 @@ module _ {D : Type 0} (disk : disks.Ghosts D) where
             slot = w.slot + length commands;
             histories = w.histories ++ begun_between (registry w) (replay (w.kept ++ more));
           } in
-          let met : AreAnswered v.slot (registry w) commands replies = subst (λ r. AreAnswered v.slot r commands replies) up.registry_is (answered_more after.number v.slot before.registry commands replies high answered) in
+          let met : AreAnswered v.slot 0 (registry w) commands replies = subst (λ r. AreAnswered v.slot 0 r commands replies) up.registry_is (answered_more after.number after.room v.slot before.registry commands replies high answered) in
           let same : (replay (w.kept ++ more)).incarnation ≡ (registry w).incarnation = ap (λ (r : State). r.incarnation) (replay_more fresh w.kept more) ∙ same_incarnation v.slot (registry w) commands replies met in
           let done : BatchDone w commands v = (replies, met, long, (omega arith, omega arith), refl) in (
             v,
@@ -210,7 +210,7 @@ module _ {D : Type 0} (disk : disks.Ghosts D) where
 
     pub batch_cut : CountsNow → (commands : List Command) (e : Refusal) → length commands ≤ 64
         → (e ≡ refusals.DeviceFailed) ⊎ (e ≡ refusals.NoMemory) ⊎ (e ≡ refusals.StoreFailed) → e ≢ refusals.NoMemory → (e ≡ refusals.StoreFailed → (before.failed ≡ true) ⊎ (before.closed ≡ true))
-        → (before.failed ≡ false → (replies : List Reply) × (AreAnswered after.number before.registry commands replies
+        → (before.failed ≡ false → (replies : List Reply) × (AreAnswered after.number after.room before.registry commands replies
         × (disk.honest after.disk → LeavesOnly disk.moment disk.left_since before.disk after.disk (MeansBeginning watches before.registry (accepted_of commands replies)))
         × (e ≡ refusals.DeviceFailed → accepted_of commands replies ≡ [] → ⊥)))
         → (e ≡ refusals.DeviceFailed → Rose (disk.failures before.disk) (disk.failures after.disk)) → disk.failures before.disk ≤ disk.failures after.disk
@@ -227,7 +227,7 @@ module _ {D : Type 0} (disk : disks.Ghosts D) where
           let pending : List Command = accepted_of commands replies in
           let v : World = cut_to w (length commands) pending in
           let high : after.number ≤ v.slot = omega (arith, number, up.number) in
-          let met : AreAnswered v.slot (registry w) commands replies = subst (λ r. AreAnswered v.slot r commands replies) up.registry_is (answered_more after.number v.slot before.registry commands replies high f.1.0) in
+          let met : AreAnswered v.slot 0 (registry w) commands replies = subst (λ r. AreAnswered v.slot 0 r commands replies) up.registry_is (answered_more after.number after.room v.slot before.registry commands replies high f.1.0) in
           let there = still_there h in
           let cut : BatchCut w commands v = (replies, met, f.1.2 d, is_cut w (length commands) pending s (rose d) later) in (
             v,

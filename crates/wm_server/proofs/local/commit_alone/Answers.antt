@@ -15,7 +15,7 @@ returns-in-Ok-commit_batch-clause-met g c =
     let works = not_true old.failed (λ failed. let bad = told.stays_down (inl failed) in absurd cc) in
     λ views.
     met_alone g.D.Disk old new c.args.command c.requires.plain c.in-Ok-commit_batch.replies.items c.index.result.now views
-    (only_reply new.number old.registry c.args.command c.in-Ok-commit_batch.replies.items c.index.result.now told.answered.answered c.index.ensures)
+    (only_reply new.number new.room old.registry c.args.command c.in-Ok-commit_batch.replies.items c.index.result.now told.answered.answered c.index.ensures)
     works told.whole.1 told.whole.0 told.number.0 told.answered told.registry
 
 pub returns-in-Ok-commit_batch-clause-later : goal.returns-in-Ok-commit_batch-clause-later

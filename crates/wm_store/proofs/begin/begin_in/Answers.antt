@@ -3,7 +3,7 @@ use Rattle.std.specs.Prelude.{true, false}
 use Rattle.std.proofs.lemmas.Result.{on_ok_weaker}
 use Rattle.wm_checkpoint.specs.Kept.{disk_of, state_of, has_failed, number_of, room_left}
 use Rattle.wm_checkpoint.specs.Machines.{Accepts, replay_on}
-use Rattle.wm_checkpoint.specs.Meanings.{MeansBeginning}
+use Rattle.wm_checkpoint.specs.Meanings.{MeansBeginning, MeansState}
 use Rattle.wm_disk.specs.Contents.{Rose}
 use Rattle.wm_disk.specs.Moments.{LeavesOnly}
 use Rattle.wm_journal.specs.Records.{taken}
@@ -20,7 +20,7 @@ use Rattle.wm_registry.specs.Roots.{State}
 use Rattle.wm_checkpoint.proofs.Numbering.{numbered_more}
 use Rattle.wm_store.proofs.Batching.{calls_none, calls_then}
 use Rattle.wm_store.proofs.Replies.{begin_refused, begin_accepted, begin_changed}
-use Rattle.wm_store.proofs.Runs.{stood, unbegun, then_begun, ok_told, two_kinds, three_kinds, told_three}
+use Rattle.wm_store.proofs.Runs.{Leaves, stood, unbegun, then_begun, ok_told, two_kinds, three_kinds, told_three}
 use Rattle.wm_store.proofs.begin.begin_in.Goals as goal
 
 pub returns-in_default : goal.returns-in_default
@@ -30,10 +30,12 @@ returns-in_default g c =
       kept = c.requires.kept;
       begun = tt;
       changed = tt;
+      stays = tt;
+      moves = tt;
       any_moment = λ h. unbegun g.D.Disk (disk_of k) (disk_of k) (state_of k) (Begin ∷ []) (stood g.D.Disk g.met.D.Disk.only_now k c.requires.kept c.requires.whole h);
       unbegun = λ no. (refl, c.requires.whole, refl);
       exhausted = λ e. absurd cc;
-      still = λ e. absurd cc;
+      still = λ no h. stood g.D.Disk g.met.D.Disk.only_now k c.requires.kept c.requires.whole h;
       calls = calls_none g.D.Disk 1 k k refl;
       honest = λ h. h;
       later = omega arith;
@@ -56,10 +58,12 @@ returns-in-Refused g c =
       kept = c.requires.kept;
       begun = tt;
       changed = tt;
+      stays = tt;
+      moves = tt;
       any_moment = λ h. unbegun g.D.Disk (disk_of k) (disk_of k) (state_of k) (Begin ∷ []) (stood g.D.Disk g.met.D.Disk.only_now k c.requires.kept c.requires.whole h);
       unbegun = λ no. (refl, c.requires.whole, refl);
-      exhausted = λ e. ⊎_elim (λ n. absurd cc) (λ x. inl x.1) why;
-      still = λ e h. stood g.D.Disk g.met.D.Disk.only_now k c.requires.kept c.requires.whole h;
+      exhausted = λ e. (⊎_elim (λ n. absurd cc) (λ x. inl x.1) why, refl);
+      still = λ no h. stood g.D.Disk g.met.D.Disk.only_now k c.requires.kept c.requires.whole h;
       calls = calls_none g.D.Disk 1 k k refl;
       honest = λ h. h;
       later = omega arith;
@@ -76,10 +80,12 @@ returns-in-Err g c =
       kept = f.kept;
       begun = tt;
       changed = tt;
+      stays = tt;
+      moves = tt;
       any_moment = λ h. unbegun g.D.Disk (disk_of k) (disk_of c.find_room.new.keeper) (state_of k) (Begin ∷ []) (f.any_moment h);
       unbegun = λ no. let u = f.unbegun no in (f.state, u.0, u.1);
-      exhausted = λ e. inr (f.exhausted e);
-      still = λ e. f.any_moment;
+      exhausted = λ e. let x = f.exhausted e in (inr x.0, x.1);
+      still = λ no. f.any_moment;
       calls = f.calls;
       honest = f.honest;
       later = f.later;
@@ -96,10 +102,12 @@ returns-in_default-vec g c =
       kept = f.kept;
       begun = tt;
       changed = tt;
+      stays = tt;
+      moves = tt;
       any_moment = λ h. unbegun g.D.Disk (disk_of k) (disk_of c.find_room.new.keeper) (state_of k) (Begin ∷ []) (f.any_moment h);
       unbegun = λ no. (f.state, (ok_told c.find_room.result c.in_default-find_room.not-Err f.room).1, ok_told c.find_room.result c.in_default-find_room.not-Err f.whole);
       exhausted = λ e. absurd cc;
-      still = λ e. absurd cc;
+      still = λ no. f.any_moment;
       calls = f.calls;
       honest = f.honest;
       later = f.later;
@@ -133,18 +141,23 @@ returns g c =
     let group : c.deref.result.now ≡ Begin ∷ [] = c.deref.ensures.value ∙ c.in-Ok-vec.ensures.items in
     let room = ok_told c.find_room.result c.in_default-find_room.not-Err f.room in
     let same = ok_told c.find_room.result c.in_default-find_room.not-Err f.whole in
+    let fits = λ (h : room_left c.commit.new.self + taken command_spelling c.deref.result.now ≡ room_left mid). subst (λ (l : List Command). room_left c.commit.new.self + taken command_spelling l ≡ room_left mid) group h in
     let made = after_begin (state_of k) c.in-Ok.next c.apply.new.self c.apply.result (c.in-Ok.ensures ∙ c.state.ensures) c.apply.ensures.reply c.apply.ensures.state c.in_default-apply.not-Refused in
     record {
       kept = m.kept;
       begun = on_ok_weaker c.commit.result (λ h. (h.0 ∙ made.0, h.1)) m.state;
       changed = on_ok_weaker c.commit.result (λ h. begin_changed (state_of k) made.1) m.state;
+      stays = on_ok_weaker c.commit.result (λ h. λ le. (m.slot.1 ∙ ap (λ y. number_of y) (f.stays le), fits h ∙ ap (λ y. room_left y) (f.stays le))) m.room;
+      moves = on_ok_weaker c.commit.result (λ h. λ less. let moved = ok_told c.find_room.result c.in_default-find_room.not-Err f.moves less in (m.slot.1 ∙ moved.0, fits h ∙ moved.1)) m.room;
       any_moment = λ h. then_begun g.D.Disk (disk_of k) (disk_of mid) (disk_of c.commit.new.self) (state_of k) (state_of mid) (Begin ∷ []) f.state (f.any_moment (m.honest h))
           (subst (λ (l : List Command). LeavesOnly g.D.Disk.moment g.D.Disk.left_since (disk_of mid) (disk_of c.commit.new.self) (MeansBeginning watches (state_of mid) l)) group (m.any_moment room.1 h));
       unbegun = told_three c.commit.result ((state_of c.commit.new.self ≡ state_of k) × (has_failed c.commit.new.self ≡ false) × (g.D.Disk.failures (disk_of c.commit.new.self) ≡ g.D.Disk.failures (disk_of k))) m.kinds
           (λ e. (ap (λ y. state_of y) (m.memory e) ∙ f.state, ap (λ y. has_failed y) (m.memory e) ∙ room.1, ap (λ y. g.D.Disk.failures (disk_of y)) (m.memory e) ∙ same))
           (λ e. (ap (λ y. state_of y) (m.down e).1 ∙ f.state, ap (λ y. has_failed y) (m.down e).1 ∙ room.1, ap (λ y. g.D.Disk.failures (disk_of y)) (m.down e).1 ∙ same));
       exhausted = λ e. absurd (three_kinds c.commit.result m.kinds (λ x. let up : true ≡ false = sym (m.down x).0 ∙ room.1 in absurd cc) e);
-      still = λ e. absurd (three_kinds c.commit.result m.kinds (λ x. let up : true ≡ false = sym (m.down x).0 ∙ room.1 in absurd cc) e);
+      still = told_three c.commit.result (g.D.Disk.honest (disk_of c.commit.new.self) → Leaves g.D.Disk (disk_of k) (disk_of c.commit.new.self) (MeansState watches (state_of k))) m.kinds
+          (λ e. subst (λ y. g.D.Disk.honest (disk_of y) → Leaves g.D.Disk (disk_of k) (disk_of y) (MeansState watches (state_of k))) (sym (m.memory e)) f.any_moment)
+          (λ e. subst (λ y. g.D.Disk.honest (disk_of y) → Leaves g.D.Disk (disk_of k) (disk_of y) (MeansState watches (state_of k))) (sym (m.down e).1) f.any_moment);
       calls = calls_then g.D.Disk 1 0 k mid c.commit.new.self f.calls (record {
         least = omega (arith, m.slot.1);
         most = omega (arith, m.slot.1);

@@ -7,11 +7,13 @@ use Rattle.wm_store.proofs.Batching.{calls_none}
 use Rattle.wm_store.proofs.Runs.{stood, kinds_up, told_four}
 use Rattle.wm_store.proofs.begin.find_room.Goals as goal
 
-pub returns-then-room-ge2 : goal.returns-then-room-ge2
-returns-then-room-ge2 g c = record {
+pub returns-then-room-ge-BEGIN : goal.returns-then-room-ge-BEGIN
+returns-then-room-ge-BEGIN g c = record {
   kept = c.requires.kept;
   state = refl;
-  room = (omega (arith, c.room.ensures, c.if-room-ge2.true), c.requires.whole);
+  room = (omega (arith, c.room.ensures, c.if-room-ge-BEGIN.true), c.requires.whole);
+  stays = λ le. refl;
+  moves = λ less. absurd (omega (arith, c.room.ensures, c.if-room-ge-BEGIN.true, less));
   any_moment = λ h. stood g.D.Disk g.met.D.Disk.only_now c.args.keeper.now c.requires.kept c.requires.whole h;
   unbegun = tt;
   exhausted = λ e. absurd cc;
@@ -34,12 +36,14 @@ returns g c =
       kept = k.kept;
       state = k.state;
       room = on_ok_weaker c.checkpoint.result (λ h. (omega (arith, h.2), h.3)) k.slot;
+      stays = λ le. absurd (omega (arith, c.room.ensures, c.if-room-ge-BEGIN.false, le));
+      moves = on_ok_weaker c.checkpoint.result (λ h. λ less. (h.1, h.2)) k.slot;
       any_moment = k.any_moment c.requires.whole;
       unbegun = told_four c.checkpoint.result ((has_failed c.checkpoint.new.self ≡ false) × (g.D.Disk.failures (disk_of c.checkpoint.new.self) ≡ g.D.Disk.failures (disk_of c.args.keeper.now))) k.kinds
           (λ e. (ap (λ y. has_failed y) (k.memory e) ∙ c.requires.whole, ap (λ y. g.D.Disk.failures (disk_of y)) (k.memory e)))
           (λ e. (ap (λ y. has_failed y) (k.exhausted e).1 ∙ c.requires.whole, ap (λ y. g.D.Disk.failures (disk_of y)) (k.exhausted e).1))
           (λ e. (ap (λ y. has_failed y) (k.down e).1 ∙ c.requires.whole, ap (λ y. g.D.Disk.failures (disk_of y)) (k.down e).1));
-      exhausted = λ e. (k.exhausted e).0;
+      exhausted = λ e. let x = k.exhausted e in (x.0, x.1);
       calls = let between = one_more_at_most c.checkpoint.result (number_of c.args.keeper.now) (number_of c.checkpoint.new.self) (on_ok_weaker c.checkpoint.result (λ h. h.1) k.slot) (on_err_weaker c.checkpoint.result (λ h. h.1) k.stays) in record {
         least = between.0;
         most = between.1;

@@ -3,6 +3,7 @@ use Rattle.std.specs.Prelude.{false, Err}
 use Rattle.wm_registry.specs.Roots.{State}
 use Rattle.wm_registry.specs.MachineLaws.{watches}
 use Rattle.wm_checkpoint.specs.Meanings.{MeansState}
+use Rattle.wm_checkpoint.specs.Kept.{disk_of}
 use Rattle.wm_checkpoint.proofs.Numbering.{kept_numbered}
 use Rattle.wm_store.proofs.Stores.{up, means_up}
 use Rattle.wm_store.proofs.store.begin.Goals as goal
@@ -26,7 +27,10 @@ returns-in-Ok g c =
       unbegun = tt;
       exhausted = tt;
       still = tt;
+      same = tt;
       number = k.calls.most;
+      stays = k.stays;
+      moves = k.moves;
       numbered = (λ h x left. kept_numbered g.D.Disk watches c.begin_in.new.keeper (k.kept.kept k.begun.1 h) x left, tt);
       honest = (k.honest, tt);
       later = (k.later, tt);
@@ -49,9 +53,12 @@ returns-in-Err g c =
       up = tt;
       cut = k.any_moment;
       unbegun = λ h no x left. let u = k.unbegun no in subst (λ (t : State). MeansState watches t x) u.0 (means_up D c.begin_in.new.keeper k.kept u.1 h x left);
-      exhausted = λ e. k.exhausted (ap (λ x. Err x) e);
-      still = λ h e. k.still (ap (λ x. Err x) e) h;
+      exhausted = λ e. (k.exhausted (ap (λ x. Err x) e)).0;
+      still = λ h no. k.still no h;
+      same = λ e. ap (λ y. disk_of y) (k.exhausted (ap (λ x. Err x) e)).1;
       number = tt;
+      stays = tt;
+      moves = tt;
       numbered = (tt, λ h n le all x left. k.calls.numbered h n le all x left);
       honest = (tt, k.honest);
       later = (tt, k.later);

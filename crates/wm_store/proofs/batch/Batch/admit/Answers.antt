@@ -1,4 +1,4 @@
-use Rattle.std.proofs.Common.{◌≡◌, ◌≤◌, ⊎_elim, inl, inr, refl, sym, ◌∙◌, ap, subst, arith, ℕ, true, false, List, [], ◌∷◌, ◌++◌}
+use Rattle.std.proofs.Common.{◌≡◌, ◌≤◌, ◌<◌, ⊎_elim, inl, inr, refl, sym, ◌∙◌, ap, subst, arith, ℕ, true, false, List, [], ◌∷◌, ◌++◌}
 use Rattle.std.specs.Prelude.{Some}
 use Rattle.wm_disk.specs.declared.refusal.Refusal.{Refusal}
 use Rattle.wm_disk.specs.declared.refusal.Refusal.TheVariants.{NoMemory, Exhausted, BadArguments}
@@ -80,7 +80,7 @@ returns-then-not-is_change g c =
       ready = subst (λ (b : Batch). IsReady D old b) asked c.requires.ready;
       same = (c.reply_to.ensures.same, refl);
       room = record { replies = omega arith; group = omega arith };
-      open_yet = λ e. (none, none, not_begin c.args.command.now c.in_default.not-Begin, inl refl, λ h. let clash : true ≡ false = sym h ∙ idle in absurd cc);
+      open_yet = λ e. (none, none, not_begin c.args.command.now c.in_default.not-Begin, inl (refl, refl), λ h. let clash : true ≡ false = sym h ∙ idle in absurd cc);
       refused = λ r e. absurd cc;
       past = λ start done p. subst (λ (b : Batch). IsPast D start done old b) asked p;
       cut = tt;
@@ -101,7 +101,7 @@ returns-then-self-size g c =
       ready = c.requires.ready;
       same = (refl, refl);
       room = record { replies = omega arith; group = omega arith };
-      open_yet = λ e. (none, none, not_begin command c.in_default.not-Begin, inl refl, λ h. omega (arith, taken_append a.group.items (command ∷ []), c.requires.ready.size, c.size.ensures.exact, c.room.ensures, c.if-self-size.true));
+      open_yet = λ e. (none, none, not_begin command c.in_default.not-Begin, inl (refl, refl), λ h. omega (arith, taken_append a.group.items (command ∷ []), c.requires.ready.size, c.size.ensures.exact, c.room.ensures, c.if-self-size.true));
       refused = λ r e. absurd cc;
       past = λ start done p. p;
       cut = tt;
@@ -124,6 +124,7 @@ returns-in-Ok g c =
     let other = not_begin command c.in_default.not-Begin in
     let accepted : is_change (reply_to a.next command) ≡ true = ap is_change (sym c.reply_to.ensures.reply) ∙ sym c.if-not-is_change.ensures in
     let asked : c.args.self.now ≡ record c.args.self.now { next = c.reply_to.new.self } = ap (λ (n : State). record c.args.self.now { next = n }) (sym c.reply_to.ensures.same) in
+    let over : room_left old < taken command_spelling (a.group.items ++ (command ∷ [])) = omega (arith, taken_append a.group.items (command ∷ []), c.requires.ready.size, c.size.ensures.exact, c.room.ensures, c.if-self-size.false) in
     record {
       ready = m.ready;
       same = (m.same.0 ∙ c.reply_to.ensures.same, m.same.1);
@@ -132,7 +133,7 @@ returns-in-Ok g c =
         e,
         none,
         other,
-        inr accepted,
+        inr (accepted, over),
         λ h. ⊎_elim
             (λ x. fits_alone b.group.items command x.1 c.size.ensures.fits (room_left new) x.2)
             (λ w. ⊎_elim (λ x. let clash = sym x.0 ∙ e in absurd cc) (λ x. let clash = sym x.0 ∙ e in absurd cc) w)
@@ -142,7 +143,7 @@ returns-in-Ok g c =
           (λ x. let clash = sym x.0 ∙ e in absurd cc)
           (λ w. ⊎_elim
           (λ x. inr (inl (other, same_inside NoMemory r (sym x.0 ∙ e), x.0, inl none, x.1)))
-          (λ x. inr (inr (other, same_inside Exhausted r (sym x.0 ∙ e), x.0, x.3, inl (none, accepted, x.2, x.1))))
+          (λ x. inr (inr (other, same_inside Exhausted r (sym x.0 ∙ e), x.0, x.3, inl (none, accepted, (x.2, omega (arith, over, x.4.room, taken_append a.group.items (command ∷ []))), x.1, x.4))))
           w)
           m.made;
       past = λ start done p. m.past start done (subst (λ (x : Batch). IsPast D start done old x) asked p);

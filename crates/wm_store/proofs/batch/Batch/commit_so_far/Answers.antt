@@ -95,7 +95,14 @@ returns-in-Ok-commit g c =
       };
       same = (ap (λ b. b.next) same, ap (λ b. b.replies) same);
       room = record { replies = subst (λ v. vec_capacity a.replies ≤ vec_capacity v) (sym (ap (λ b. b.replies) same)) (omega arith); group = omega (arith, c.clear.ensures.capacity, ap (λ b. vec_capacity b.group) same) };
-      made = inl (ap (λ b. b.refused) same ∙ c.requires.open_yet, none);
+      made = inl (
+        ap (λ b. b.refused) same ∙ c.requires.open_yet,
+        none,
+        record {
+          number = k.slot.1;
+          room = omega (arith, subst (λ (l : List Command). room_left new + taken command_spelling l ≡ room_left old) group k.room);
+        },
+      );
       past = λ start done p. past_committed D start done old new a _ p (made ∙ ready.next) k.honest
           (λ h. subst (λ (l : List Command). LeavesOnly D.moment D.left_since (disk_of old) (disk_of new) (MeansBeginning watches (state_of old) l)) group (k.any_moment ready.whole h))
           none (ap (λ b. b.replies) same) (c.len-self.ensures ∙ ap (λ b. vec_len b.replies) same ∙ a.replies.ok.0)

@@ -39,7 +39,7 @@ returns-then-is_empty g c =
     let b = c.args.self in
     let none = no_group b c.if-is_empty.ensures in
     record {
-      done = λ start commands p f idle. done_empty D start commands old b none p f idle;
+      done = λ start commands p f idle slot. done_empty D start commands old b none p f idle slot;
       cut = tt;
       asked = tt;
       calls = calls_none D 0 old old refl;
@@ -57,7 +57,8 @@ returns-in-Ok g c =
     let ready = c.requires.ready in
     let group : c.deref.result.now ≡ b.group.items = c.deref.ensures.value in
     record {
-      done = λ start commands p f idle. done_committed D start commands old new b (some_group b c.if-is_empty.ensures) p f k.slot.1 (k.state.0 ∙ c.into_registry.ensures ∙ ready.next) k.honest
+      done = λ start commands p f idle slot. done_committed D start commands old new b (some_group b c.if-is_empty.ensures) p f slot
+          (record { number = k.slot.1; room = omega (arith, subst (λ (l : List Command). room_left new + taken command_spelling l ≡ room_left old) group k.room) }) (k.state.0 ∙ c.into_registry.ensures ∙ ready.next) k.honest
           (λ h. subst (λ (l : List Command). LeavesOnly D.moment D.left_since (disk_of old) (disk_of new) (MeansBeginning watches (state_of old) l)) group (k.any_moment ready.whole h));
       cut = tt;
       asked = tt;
@@ -75,7 +76,7 @@ returns-in-NoMemory g c =
     let k = c.in-Err.ensures in
     let still : new ≡ old = k.memory (ap (λ (x : Refusal). Err x) c.in-NoMemory.is) in
     record {
-      done = λ start commands p f idle. subst (λ (l : List Reply). IsDone D start commands new l) (sym c.refuse_from.ensures) (done_short D start commands old new b (some_group b c.if-is_empty.ensures) p f still);
+      done = λ start commands p f idle slot. subst (λ (l : List Reply). IsDone D start commands new l) (sym c.refuse_from.ensures) (done_short D start commands old new b (some_group b c.if-is_empty.ensures) p f still);
       cut = tt;
       asked = tt;
       calls = calls_none D 0 old new still;

@@ -1,7 +1,7 @@
 use Rattle.std.proofs.Common.{◌≡◌, ⊎_elim, inl, inr, refl, sym, ◌∙◌, ap, subst, arith, ℕ, true, false, List, [], ◌∷◌, length, vec_len, ◌==◌, eqb-true}
 use Rattle.std.proofs.lemmas.Result.{on_ok_weaker, on_err_weaker}
 use Rattle.wm_registry.specs.declared.command.Command.{Command}
-use Rattle.wm_store.specs.UnderWay.{K, KeepsRoom, IsRoomMade, IsPast, IsCut, IsWhole, IsDown}
+use Rattle.wm_store.specs.UnderWay.{K, KeepsRoom, IsRoomMade, IsSpared, IsPast, IsCut, IsWhole, IsDown}
 use Rattle.wm_store.specs.declared.batch.Batch.{Batch}
 use Rattle.wm_store.proofs.Batching.{calls_then, calls_more, whole_then, down_then, keeps_room, made_later}
 use Rattle.wm_store.proofs.batch.Batch.make_room.Goals as goal
@@ -74,11 +74,12 @@ returns-in-None g c =
     let s = c.switch-in-None.ensures in
     let r = c.switch-in-None.result in
     let some : a.group.items ≡ [] → ⊥ = some_group a c.if-is_empty.ensures in
+    let made : (b.group.items ≡ []) × IsSpared D old a.group.items mid [] = ⊎_elim (λ h. (h.1, h.2)) (λ h. let clash = sym h ∙ c.in-None.is in absurd cc) m.made in
     record {
       ready = s.ready;
       same = on_ok_weaker r (λ (x : (e.next ≡ b.next) × (e.replies ≡ b.replies)). (x.0 ∙ m.same.0, x.1 ∙ m.same.1)) s.same;
       room = on_ok_weaker r (λ (x : KeepsRoom b e). keeps_room a b e m.room x) s.room;
-      made = on_ok_weaker r (λ (x : IsRoomMade D mid b new e). made_later D old mid new a b e x some) s.made;
+      made = on_ok_weaker r (λ (x : IsRoomMade D mid b new e). made_later D old mid new a b e made.1 made.0 x some) s.made;
       past = on_ok_weaker r (λ (f : (start : K D) (done : List Command) → IsPast D start done mid b → IsPast D start done new e). λ start done p. f start done (m.past start done p)) s.past;
       cut = on_err_weaker r (λ (f : (start : K D) (done : List Command) → IsPast D start done mid b → IsCut D start done b.replies.items new e.before). λ start done p.
           subst (λ v. IsCut D start done v.items new e.before) m.same.1 (f start done (m.past start done p))) s.cut;

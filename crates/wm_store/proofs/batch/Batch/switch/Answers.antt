@@ -1,10 +1,10 @@
-use Rattle.std.proofs.Common.{◌+◌, ◌≡◌, ◌≤◌, ⊎_elim, inl, inr, refl, sym, ◌∙◌, ap, subst, arith, true, false, Err}
+use Rattle.std.proofs.Common.{◌+◌, ◌≡◌, ◌≤◌, ⊎_elim, inl, inr, refl, sym, ◌∙◌, ap, subst, arith, true, false, [], Err}
 use Rattle.std.specs.Prelude.{Some}
 use Rattle.wm_disk.specs.declared.refusal.Refusal.{Refusal}
 use Rattle.wm_disk.specs.declared.refusal.Refusal.TheVariants.{DeviceFailed}
 use Rattle.wm_checkpoint.specs.Kept.{number_of}
 use Rattle.wm_checkpoint.proofs.Numbering.{numbered_more}
-use Rattle.wm_store.proofs.Batching.{past_same, past_switched, cut_switching, calls_none, whole_none, ready_on, ready_same, empty_size, is_device}
+use Rattle.wm_store.proofs.Batching.{past_same, past_switched, spared_none, cut_switching, calls_none, whole_none, ready_on, ready_same, empty_size, is_device}
 use Rattle.wm_store.proofs.batch.Batch.switch.Goals as goal
 
 pub checkpoint-requires : goal.checkpoint-requires
@@ -44,7 +44,7 @@ returns-in-Exhausted g c =
       same = (refl, refl);
       room = record { replies = omega arith; group = omega arith };
       made = ⊎_elim
-          (λ e. inr (inr (ap (λ (x : Refusal). Some x) e, none, subst (λ y. 9223372036854775807 ≤ number_of y) (sym same) (k.exhausted (ap (λ (x : Refusal). Err x) e)).0, λ _. same)))
+          (λ e. inr (inr (ap (λ (x : Refusal). Some x) e, none, subst (λ y. 9223372036854775807 ≤ number_of y) (sym same) (k.exhausted (ap (λ (x : Refusal). Err x) e)).0, (λ _. same), spared_none D old new b.group.items [] same (sym none))))
           (λ e. inr (inl (ap (λ (x : Refusal). Some x) e, λ _. same)))
           c.in-Exhausted.is;
       past = λ start done p. past_same D start done old new b _ p same refl refl refl (inl refl);

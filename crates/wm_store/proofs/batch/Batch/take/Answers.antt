@@ -1,7 +1,7 @@
 use Rattle.std.proofs.Common.{◌++◌, ◌∷◌, [], refl, ◌∙◌, ap, arith, vec_len}
 use Rattle.wm_store.specs.declared.batch.Batch.{Batch}
 use Rattle.wm_store.proofs.Batching.{keeps_room}
-use Rattle.wm_store.proofs.Taking.{past_taken, ready_taken, so_far_taken, taken_answered}
+use Rattle.wm_store.proofs.Taking.{past_taken, ready_taken, slot_taken, so_far_taken, taken_answered}
 use Rattle.wm_store.proofs.batch.Batch.take.Goals as goal
 
 pub returns : goal.returns
@@ -25,6 +25,7 @@ returns g c =
       room = keeps_room a b e m.room (record { replies = p.room.replies; group = p.room.group });
       past = λ start done q. past_taken D start done new b mid e command reply (m.past start done q) refl refl refl refl p;
       so_far = λ start done q f. so_far_taken D start done command old a new b mid e reply next t q c.requires.ready m.same.1 refl refl refl p f;
+      slot = λ start done q was. slot_taken D start done command old a new b mid e reply next t q m.same.1 refl refl p was;
       idle = (reply, p.replies ∙ ap (λ v. v.items ++ (reply ∷ [])) m.same.1, t.idle);
       cut = tt;
       asked = tt;

@@ -1,10 +1,6 @@
-use Rattle.std.proofs.Common.{refl, ap, ◌∙◌}
-use Rattle.std.specs.Option.{unwrap_or}
+use Rattle.std.proofs.Common.{◌∙◌}
 use Rattle.wm_store.proofs.Stores.{inside_after}
 use Rattle.wm_store.proofs.store.Store.arm.Goals as goal
-
-pub arm-requires : goal.arm-requires
-arm-requires g c = record { kept = c.self.invariant.0 }
 
 pub invariant_of-self : goal.invariant_of-self
 invariant_of-self g c =
@@ -13,16 +9,3 @@ invariant_of-self g c =
     inside_after g.D.Disk g.met.D.Disk.counts_now i.keeper c.arm.new.self i.before i.closed i.closed c.self.invariant k.kept k.state.0
     (λ down. (k.state.1 ∙ down, λ h. (k.honest h, k.crash h)))
     k.any_moment
-
-pub returns : goal.returns
-returns g c =
-    let k = c.arm.ensures in
-    let i = c.self.inside in
-    rw (← c.self.view_is) (record {
-      registry = (ap (unwrap_or i.before) k.state.0, k.slot.1);
-      up = (k.state.1, refl);
-      plan = k.plan;
-      crash = k.crash;
-      honest = k.honest;
-      count = k.count;
-    })

@@ -31,6 +31,7 @@ returns-then-self g c =
       fresh = λ h. tt;
       number = (tt, refl);
       counted = λ alive h x left. counted_up g.D.Disk i.keeper c.self.invariant.0 alive i.before (c.self.invariant.1 alive) h x left;
+      room = tt;
       registry = refl;
       numbered = λ alive h x left. numbered_more (number_of i.keeper) (number_of i.keeper + 1) x (omega arith) (kept_numbered g.D.Disk watches i.keeper (c.self.invariant.0.kept alive h) x left);
       any_moment = λ alive h. subst (λ (b : Option State). LeavesOnly g.D.Disk.moment g.D.Disk.left_since (disk_of i.keeper) (disk_of i.keeper) (MeansState watches (unwrap_or b (state_of i.keeper)))) (sym (c.self.invariant.1 alive)) (stood g.D.Disk g.met.D.Disk.only_now i.keeper c.self.invariant.0 alive h);
@@ -64,6 +65,7 @@ returns g c =
           (k.fresh h) k.slot;
       counted = λ alive h x left. counted_up D i.keeper c.self.invariant.0 alive i.before (c.self.invariant.1 alive) h x left;
       number = (on_ok_weaker c.checkpoint.result (λ s. s.1) k.slot, on_err_weaker c.checkpoint.result (λ s. s.1) k.stays);
+      room = on_ok_weaker c.checkpoint.result (λ s. s.2) k.slot;
       registry = ap (unwrap_or i.before) k.state;
       numbered = λ alive h x left. k.numbered alive h x left;
       any_moment = λ alive h. subst (λ (b : Option State). LeavesOnly D.moment D.left_since (disk_of i.keeper) (disk_of new) (MeansState watches (unwrap_or b (state_of i.keeper)))) (sym (c.self.invariant.1 alive)) (k.any_moment alive h);

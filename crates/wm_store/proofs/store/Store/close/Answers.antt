@@ -34,6 +34,7 @@ returns-then-self g c =
     let i = c.self.inside in
     rw (← c.self.view_is) (record {
       closed = tt;
+      room = refl;
       registry = (refl, refl);
       means = λ h. tt;
       any_moment = λ alive h. subst (λ (b : Option State). LeavesOnly g.D.Disk.moment g.D.Disk.left_since (disk_of i.keeper) (disk_of i.keeper) (MeansState watches (unwrap_or b (state_of i.keeper)))) (sym (c.self.invariant.1 alive)) (stood g.D.Disk g.met.D.Disk.only_now i.keeper c.self.invariant.0 alive h);
@@ -54,6 +55,7 @@ returns-in-Ok g c =
     let new = c.sync.new.self in
     rw (← c.self.view_is) (record {
       closed = (refl, k.ok);
+      room = k.slot.2;
       registry = (ap (unwrap_or i.before) k.state, k.slot.1);
       means = λ h x left. subst (λ (b : Option State). MeansState watches (unwrap_or b (state_of new)) x) (sym ((invariant_of-self g c).1 k.ok)) (k.means h x left);
       any_moment = λ alive h. subst (λ (b : Option State). LeavesOnly D.moment D.left_since (disk_of i.keeper) (disk_of new) (MeansState watches (unwrap_or b (state_of i.keeper)))) (sym (c.self.invariant.1 alive)) (k.any_moment alive h);
@@ -74,6 +76,7 @@ returns-in-Err g c =
     let new = c.sync.new.self in
     rw (← c.self.view_is) (record {
       closed = tt;
+      room = k.slot.2;
       registry = (ap (unwrap_or i.before) k.state, k.slot.1);
       means = λ h. tt;
       any_moment = λ alive h. subst (λ (b : Option State). LeavesOnly D.moment D.left_since (disk_of i.keeper) (disk_of new) (MeansState watches (unwrap_or b (state_of i.keeper)))) (sym (c.self.invariant.1 alive)) (k.any_moment alive h);

@@ -1,17 +1,22 @@
-use Rattle.std.proofs.Common.{◌≡◌, ◌⊎◌, ⊎_elim, inl, inr, refl, sym, ◌∙◌, subst, arith, ℕ, ◌+◌, length, List, [], true, false, vec_len}
+use Rattle.std.proofs.Common.{◌≡◌, ◌⊎◌, ⊎_elim, inl, inr, refl, sym, ◌∙◌, ap, subst, arith, ℕ, ◌+◌, length, take, List, [], true, false, vec_len}
 use Rattle.std.specs.Prelude.{Option, None}
 use Rattle.std.specs.Option.{unwrap_or}
 use Rattle.wm_registry.specs.Roots.{State}
 use Rattle.wm_registry.specs.MachineLaws.{watches}
 use Rattle.wm_checkpoint.specs.Meanings.{MeansBeginning, MeansState}
 use Rattle.wm_checkpoint.specs.Kept.{disk_of, state_of, has_failed, number_of}
+use Rattle.std.proofs.lemmas.List.{take_all}
+use Rattle.wm_journal.specs.Records.{taken}
+use Rattle.wm_registry.specs.Commands.{command_spelling}
+use Rattle.wm_registry.specs.declared.command.Command.{Command}
+use Rattle.wm_checkpoint.specs.Machines.{replay_on}
 use Rattle.wm_checkpoint.proofs.Numbering.{kept_numbered, numbered_more}
 use Rattle.wm_store.specs.Batches.{accepted_of}
-use Rattle.wm_store.specs.UnderWay.{IsNew}
+use Rattle.wm_store.specs.UnderWay.{AreIdle, AreMet, IsNew}
 use Rattle.wm_store.proofs.Replying.{short_replies}
 use Rattle.wm_store.proofs.Runs.{stood, unbegun}
 use Rattle.wm_store.proofs.Stores.{IsInside, fallen, left_now, means_up, up}
-use Rattle.wm_store.proofs.Endings.{cut_batch, cut_registry, done_batch, done_idle, done_registry, none_met}
+use Rattle.wm_store.proofs.Endings.{cut_batch, cut_registry, done_batch, done_idle, done_registry, done_slot, none_met, registry_is, still_met}
 use Rattle.wm_store.proofs.store.Store.commit_batch.Goals as goal
 use Rattle.wm_store.proofs.store.Store.commit_batch.Goals.{then-self-via-then-self, then-self-via-else-self+then-has_failed}
 
@@ -21,11 +26,17 @@ run-requires g c =
     let k = c.self.inside.keeper in
     let alive : has_failed k ≡ false = sym c.if-has_failed.ensures in
     let commands = c.args.commands in
-    let new : IsNew (state_of k) (vec_len commands) c.in-Ok.batch = subst (λ (n : ℕ). IsNew (state_of k) n c.in-Ok.batch) c.len.ensures (subst (λ (s : State). IsNew s c.len.result c.in-Ok.batch) c.state.ensures c.in-Ok.ensures) in
+    let replies = c.in-Ok.replies in
+    let batch = c.in-Ok-new.batch in
+    let idle : AreIdle (state_of k) commands.items replies =
+    subst (λ (s : State). AreIdle s commands.items replies) c.state-registry.ensures (subst (λ (l : List Command). AreIdle c.state-registry.result.now l replies) c.deref.ensures.value c.in-Ok.ensures) in
+    let new : IsNew (state_of k) replies (vec_len commands) batch =
+    subst (λ (n : ℕ). IsNew (state_of k) replies n batch) c.len-3.ensures (subst (λ (s : State). IsNew s replies c.len-3.result batch) c.state-registry.ensures c.in-Ok-new.ensures) in
     record {
       kept = c.self.invariant.0;
       whole = alive;
-      new = subst (λ (n : ℕ). IsNew (state_of k) n c.in-Ok.batch) commands.ok.0 new;
+      idle = subst (λ v. AreIdle (state_of k) commands.items v) (sym new.replies) idle;
+      new = subst (λ v. IsNew (state_of k) v (length commands.items) batch) (sym new.replies) (subst (λ (n : ℕ). IsNew (state_of k) replies n batch) commands.ok.0 new);
       standing = λ h. unbegun D (disk_of k) (disk_of k) (state_of k) [] (stood D g.met.D.Disk.only_now k c.self.invariant.0 alive h);
     }
 
@@ -63,6 +74,7 @@ returns-then-self g c =
       registry = tt;
       means = λ h. tt;
       idle = tt;
+      slot = tt;
       cut = λ alive. (short_replies commands, none_met D i.keeper i.before i.closed (c.self.invariant.1 alive) g.met.D.Disk.only_now c.self.invariant.0 alive commands, λ e. absurd cc);
       unchanged = refl;
       memory = λ e. absurd cc;
@@ -88,6 +100,7 @@ returns-in_default g c =
       registry = tt;
       means = λ h. tt;
       idle = tt;
+      slot = tt;
       cut = λ _. (short_replies commands, none_met D i.keeper i.before i.closed (c.self.invariant.1 alive) g.met.D.Disk.only_now c.self.invariant.0 alive commands, λ e. absurd cc);
       unchanged = refl;
       memory = λ e. refl;
@@ -100,6 +113,67 @@ returns-in_default g c =
       whole = tt;
       failed = λ e. absurd cc;
       kinds = inr (inl refl);
+    })
+
+pub returns-in_default-new : goal.returns-in_default-new
+returns-in_default-new g c =
+    let D = g.D.Disk in
+    let i = c.self.inside in
+    let commands = c.args.commands.items in
+    let alive : has_failed i.keeper ≡ false = sym c.if-has_failed.ensures in
+    rw (← c.self.view_is) (record {
+      answered = tt;
+      registry = tt;
+      means = λ h. tt;
+      idle = tt;
+      slot = tt;
+      cut = λ _. (short_replies commands, none_met D i.keeper i.before i.closed (c.self.invariant.1 alive) g.met.D.Disk.only_now c.self.invariant.0 alive commands, λ e. absurd cc);
+      unchanged = refl;
+      memory = λ e. refl;
+      down = λ e. absurd cc;
+      stays_down = λ e. ⊎_elim (λ down. let clash : true ≡ false = sym down ∙ alive in absurd cc) (λ shut. let clash : true ≡ false = sym shut ∙ c.if-self.false in absurd cc) e;
+      number = (omega arith, omega arith);
+      numbered = λ alive h x left. numbered_more (number_of i.keeper) (number_of i.keeper + length commands) x (omega arith) (kept_numbered D watches i.keeper (c.self.invariant.0.kept alive h) x left);
+      honest = λ h. h;
+      later = omega arith;
+      whole = tt;
+      failed = λ e. absurd cc;
+      kinds = inr (inl refl);
+    })
+
+pub returns-then-len : goal.returns-then-len
+returns-then-len g c =
+    let D = g.D.Disk in
+    let i = c.self.inside in
+    let k = i.keeper in
+    let commands = c.args.commands in
+    let all = commands.items in
+    let replies = c.in-Ok.replies in
+    let alive : has_failed k ≡ false = sym c.if-has_failed.ensures in
+    let none : i.before ≡ None = c.self.invariant.1 alive in
+    let idle : AreIdle (state_of k) all replies =
+    subst (λ (s : State). AreIdle s all replies) c.state-registry.ensures (subst (λ (l : List Command). AreIdle c.state-registry.result.now l replies) c.deref.ensures.value c.in-Ok.ensures) in
+    let each : take (vec_len replies) all ≡ all = take_all (vec_len replies) all (omega (arith, c.if-len.true, c.len.ensures, c.len-2.ensures, commands.ok.0)) in
+    let met : AreMet (state_of k) all replies.items = subst (λ (cs : List Command). AreMet (state_of k) cs replies.items) each idle.met in
+    let accepted : accepted_of all replies.items ≡ [] = subst (λ (cs : List Command). accepted_of cs replies.items ≡ []) each idle.none in
+    rw (← c.self.view_is) (record {
+      answered = still_met D k i.before i.closed none g.met.D.Disk.only_now c.self.invariant.0 alive all replies.items (subst (λ (s : State). AreMet s all replies.items) (sym (registry_is D k i.before i.closed none)) met);
+      registry = ap (λ (l : List Command). replay_on watches (unwrap_or i.before (state_of k)) l) (sym accepted);
+      means = λ h x left. c.self.invariant.2.means alive h x left;
+      idle = λ e. inl refl;
+      slot = inr (λ fits. (refl, omega (arith, ap (λ (l : List Command). taken command_spelling l) accepted)));
+      cut = tt;
+      unchanged = tt;
+      memory = λ e. absurd cc;
+      down = λ e. absurd cc;
+      stays_down = λ e. ⊎_elim (λ down. let clash : true ≡ false = sym down ∙ alive in absurd cc) (λ shut. let clash : true ≡ false = sym shut ∙ c.if-self.false in absurd cc) e;
+      number = (omega arith, omega arith);
+      numbered = λ _ h x left. numbered_more (number_of k) (number_of k + length all) x (omega arith) (kept_numbered D watches k (c.self.invariant.0.kept alive h) x left);
+      honest = λ h. h;
+      later = omega arith;
+      whole = (refl, alive, c.if-self.false);
+      failed = λ e. absurd cc;
+      kinds = tt;
     })
 
 pub returns-in-Ok-run : goal.returns-in-Ok-run
@@ -118,6 +192,7 @@ returns-in-Ok-run g c =
       registry = done_registry D old i.before i.closed none new commands replies m.done;
       means = λ h x left. subst (λ (b : Option State). MeansState watches (unwrap_or b (state_of new)) x) (sym none) (means_up D new m.whole.kept m.whole.up h x left);
       idle = λ e. done_idle D old i.before i.closed none new commands replies m.done e;
+      slot = done_slot D old i.before i.closed none new commands replies m.done;
       cut = tt;
       unchanged = tt;
       memory = λ e. absurd cc;
@@ -148,6 +223,7 @@ returns-in-Err g c =
       registry = tt;
       means = λ h. tt;
       idle = tt;
+      slot = tt;
       cut = λ _. (m.cut.0, cut_batch D old i.before i.closed none new commands m.cut.0 was m.cut.2 m.cut.1, λ _ e. m.cut.3 e);
       unchanged = cut_registry D old i.before i.closed none new commands m.cut.0 was m.cut.2;
       memory = λ e. absurd cc;

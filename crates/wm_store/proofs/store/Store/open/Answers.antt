@@ -1,20 +1,20 @@
-use Rattle.std.proofs.Common.{◌≡◌, ◌≤◌, ◌+◌, ◌⊎◌, inl, inr, sym, ◌∙◌, subst, arith, ℕ, List, [], ◌∷◌}
+use Rattle.std.proofs.Common.{◌≡◌, ◌≤◌, ◌<◌, ◌+◌, ◌⊎◌, inl, inr, sym, ◌∙◌, ap, subst, arith, ℕ, List, [], ◌∷◌}
 use Rattle.std.proofs.lemmas.Result.{IfOk-weaker, IfErr-weaker}
 use Rattle.wm_disk.specs.Contents.{Rose}
 use Rattle.wm_disk.specs.declared.refusal.Refusal.{Refusal}
-use Rattle.wm_disk.specs.declared.refusal.Refusal.TheVariants.{Exhausted, DeviceFailed}
+use Rattle.wm_disk.specs.declared.refusal.Refusal.TheVariants.{Exhausted, DeviceFailed, NoMemory}
 use Rattle.wm_registry.specs.declared.command.Command.TheVariants.{Begin}
 use Rattle.wm_registry.specs.Registry.{after, reply_to}
 use Rattle.wm_registry.specs.declared.reply.Reply.TheVariants.{Changed, Refused}
 use Rattle.wm_registry.specs.MachineLaws.{watches}
 use Rattle.wm_checkpoint.specs.Meanings.{MeansBeginning, MeansState}
-use Rattle.wm_checkpoint.specs.Kept.{disk_of, state_of, number_of}
+use Rattle.wm_checkpoint.specs.Kept.{disk_of, state_of, number_of, room_left}
 use Rattle.wm_checkpoint.specs.Numbers.{IsNumberedTo}
 use Rattle.wm_checkpoint.proofs.Numbering.{numbered_more}
 use Rattle.wm_store.proofs.Stores.{left_now}
 use Rattle.wm_store.specs.Stored.{Stored}
 use Rattle.wm_store.proofs.Runs.{Leaves}
-use Rattle.wm_store.proofs.Opened.{found, is_begun, means_seen, number_of_found, spent, stays_found, if_ok_both, if_err_both, kinds_found, kinds_begun, not_exhausted, not_damaged, not_retired}
+use Rattle.wm_store.proofs.Opened.{found, is_begun, is_exhausted, journal_is, means_seen, number_of_found, spent, stays_found, if_ok_both, if_err_both, kinds_found, kinds_begun, not_exhausted, not_damaged, not_retired}
 use Rattle.wm_store.proofs.store.Store.open.Goals as goal
 
 pub begin-requires : goal.begin-requires
@@ -29,12 +29,19 @@ returns-in-Ok g c =
     let b = c.begin.ensures in
     let r = c.begin.result in
     let kept = λ (h : D.honest (disk_of keeper)). k.kept.0.kept k.kept.1 h in
+    let all = λ (h : D.honest (disk_of keeper)). journal_is D keeper k.kept.0 (kept h) in
+    let Stays = λ (s : Stored g.row.D.Denot). 2 ≤ room_left keeper → (s.number ≡ number_of keeper) × (s.room + 2 ≡ room_left keeper) in
+    let Moves = λ (s : Stored g.row.D.Denot). room_left keeper < 2 → (s.number ≡ number_of keeper + 1) × (s.room + 2 ≡ 262143) in
+    let IsPlaced = λ (s : Stored g.row.D.Denot). (s.number ≤ number_of keeper + 1) × Stays s × Moves s in
+    let HasBegun = λ (s : Stored g.row.D.Denot). (reply_to (state_of keeper) Begin ≡ Changed) × (s.registry ≡ after (state_of keeper) Begin) × IsPlaced s in
     record {
       begun = if_ok_both r
-          (λ (s : Stored g.row.D.Denot) (is : (reply_to (state_of keeper) Begin ≡ Changed) × (s.registry ≡ after (state_of keeper) Begin) × (s.number ≤ number_of keeper + 1)) (both : (D.honest s.disk → D.honest (disk_of keeper)) × (D.honest s.disk → Leaves D (disk_of keeper) s.disk (MeansBeginning watches (state_of keeper) (Begin ∷ [])))).
-          λ h. let there = both.0 h in is_begun D old keeper (kept there) (k.seen.0 there) (k.any_moment.0 there) s (both.1 h) is.0 is.1 is.2)
-          (if_ok_both r (λ (s : Stored g.row.D.Denot) (p : reply_to (state_of keeper) Begin ≡ Changed) (q : (s.registry ≡ after (state_of keeper) Begin) × (s.number ≤ number_of keeper + 1)). (p, q.0, q.1)) b.changed
-          (if_ok_both r (λ (s : Stored g.row.D.Denot) (p : s.registry ≡ after (state_of keeper) Begin) (q : s.number ≤ number_of keeper + 1). (p, q)) b.begun b.number))
+          (λ (s : Stored g.row.D.Denot) (is : HasBegun s) (both : (D.honest s.disk → D.honest (disk_of keeper)) × (D.honest s.disk → Leaves D (disk_of keeper) s.disk (MeansBeginning watches (state_of keeper) (Begin ∷ [])))).
+          λ h. let there = both.0 h in is_begun D old keeper (kept there) (k.seen.0 there) (k.any_moment.0 there) s (both.1 h) is.0 is.1 is.2.0 (all there) is.2.1 is.2.2)
+          (if_ok_both r (λ (s : Stored g.row.D.Denot) (p : reply_to (state_of keeper) Begin ≡ Changed) (q : (s.registry ≡ after (state_of keeper) Begin) × IsPlaced s). (p, q.0, q.1)) b.changed
+          (if_ok_both r (λ (s : Stored g.row.D.Denot) (p : s.registry ≡ after (state_of keeper) Begin) (q : IsPlaced s). (p, q)) b.begun
+          (if_ok_both r (λ (s : Stored g.row.D.Denot) (p : s.number ≤ number_of keeper + 1) (q : Stays s × Moves s). (p, q.0, q.1)) b.number
+          (if_ok_both r (λ (s : Stored g.row.D.Denot) (p : Stays s) (q : Moves s). (p, q)) b.stays b.moves))))
           (if_ok_both r (λ (s : Stored g.row.D.Denot) (p : D.honest s.disk → D.honest (disk_of keeper)) (q : D.honest s.disk → Leaves D (disk_of keeper) s.disk (MeansBeginning watches (state_of keeper) (Begin ∷ []))). (p, q)) b.honest.0 b.any_moment);
       means = b.means;
       up = b.up;
@@ -57,9 +64,17 @@ returns-in-Ok g c =
           λ h is. (state_of keeper, means_seen D old keeper (kept (there h)) (k.seen.0 (there h)), ub h (λ d. let clash : Exhausted ≡ DeviceFailed = sym is ∙ d in absurd cc)))
           b.honest.1 b.unbegun;
       still = if_err_both r
-          (λ (e : Refusal × g.row.D.Denot) (there : D.honest e.1 → D.honest (disk_of keeper)) (run : D.honest e.1 → e.0 ≡ Exhausted → Leaves D (disk_of keeper) e.1 (MeansState watches (state_of keeper))).
-          λ h is. stays_found D old keeper (kept (there h)) (k.seen.0 (there h)) (k.any_moment.0 (there h)) e.1 (run h is))
+          (λ (e : Refusal × g.row.D.Denot) (there : D.honest e.1 → D.honest (disk_of keeper)) (run : D.honest e.1 → (e.0 ≡ DeviceFailed → ⊥) → Leaves D (disk_of keeper) e.1 (MeansState watches (state_of keeper))).
+          λ h is. stays_found D old keeper (kept (there h)) (k.seen.0 (there h)) (k.any_moment.0 (there h)) e.1 (run h (λ d. let clash : Exhausted ≡ DeviceFailed = sym is ∙ d in absurd cc)))
           b.honest.1 b.still;
+      short = if_err_both r
+          (λ (e : Refusal × g.row.D.Denot) (there : D.honest e.1 → D.honest (disk_of keeper)) (run : D.honest e.1 → (e.0 ≡ DeviceFailed → ⊥) → Leaves D (disk_of keeper) e.1 (MeansState watches (state_of keeper))).
+          λ h is. inr (stays_found D old keeper (kept (there h)) (k.seen.0 (there h)) (k.any_moment.0 (there h)) e.1 (run h (λ d. let clash : NoMemory ≡ DeviceFailed = sym is ∙ d in absurd cc))))
+          b.honest.1 b.still;
+      seen = if_err_both r
+          (λ (e : Refusal × g.row.D.Denot) (kind : (e.0 ≡ DeviceFailed) ⊎ (e.0 ≡ NoMemory) ⊎ (e.0 ≡ Exhausted)) (same : e.0 ≡ Exhausted → e.1 ≡ disk_of keeper).
+          λ h up room. let there = same (is_exhausted e.0 kind up room) in ap (λ d. D.seen d) there ∙ k.seen.0 (subst (λ d. D.honest d) there h))
+          b.kinds b.same;
       numbered = (
         b.numbered.0,
         if_err_both r
@@ -93,6 +108,8 @@ returns-in-Err g c =
       exhausted = λ h is. absurd (not_exhausted c.in-Err.refusal k.kinds is);
       refused = λ h is. absurd (not_exhausted c.in-Err.refusal k.kinds is);
       still = λ h is. absurd (not_exhausted c.in-Err.refusal k.kinds is);
+      short = λ h is. inl (k.any_moment.1 h);
+      seen = λ h up room. k.seen.1 h;
       numbered = (tt, λ h n all x left. numbered_more n (n + 1) x (omega arith) (all x (left_now g.D.Disk g.met.D.Disk.counts_now c.args.disk c.in-Err.disk (g.D.Disk.may_leave c.args.disk) h (k.any_moment.1 h) x left)));
       honest = (tt, k.honest.1);
       later = (tt, k.later.1);
