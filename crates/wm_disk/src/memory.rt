@@ -58,9 +58,13 @@ pub struct MemDisk {
     ghost grown: { vec_len durable ≤ vec_len bytes },
     ghost room: { vec_len bytes ≤ vec_capacity durable },
     ghost first_room: { vec_len bytes ≤ vec_capacity first },
+    ghost counted: { length calls.items ≤ made.writes + made.syncs },
 }
 
-fn count(calls: &mut u64) {
+fn count(calls: &mut u64)
+    ensures later { calls.old ≤ calls.new }
+    ensures counted { calls.old < 18446744073709551615 → calls.old < calls.new }
+{
     *calls = calls.saturating_add(1);
 }
 
@@ -196,7 +200,9 @@ impl MemDisk {
     /// How many writes, syncs and other calls of [`Disk`] the disk had since `new`, those that failed
     /// among them. A crash and a stop keep the numbers.
     pub fn calls(&self) -> (u64, u64, u64)
-        ensures { result ≡ memory_calls self.now }
+        ensures value { result ≡ memory_calls self.now }
+        // Each call since the last crash that had an effect is counted.
+        ensures counted { ⟦<MemDisk as Disk>⟧.moment self.now ≤ result.0 + result.1 }
     {
         (self.made.writes, self.made.syncs, self.made.others)
     }
@@ -204,6 +210,7 @@ impl MemDisk {
     // Room for this many bytes in the copies that a crash fills.
     fn make_room(&mut self, len: usize) -> Result<(), AllocError>
         ensures same { (self.new.bytes.items ≡ self.old.bytes.items) × (self.new.first.items ≡ self.old.first.items) × (self.new.calls.items ≡ self.old.calls.items) × (self.new.failures ≡ self.old.failures) }
+        ensures made { self.new.made ≡ self.old.made }
         ensures lens { vec_len self.new.bytes ≡ vec_len self.old.bytes }
         ensures durable { OnOk result (len ≤ vec_capacity self.new.durable) }
         ensures first { OnOk result (len ≤ vec_capacity self.new.first) }
@@ -222,7 +229,8 @@ impl MemDisk {
     }
 
     fn write(&mut self, at: usize, part: &[u8]) -> Result<(), AllocError>
-        requires { at ≤ vec_len self.old.bytes }
+        requires inside { at ≤ vec_len self.old.bytes }
+        requires counted { length self.old.calls.items < self.old.made.writes + self.old.made.syncs }
         ensures ok { OnOk result ((v : _) × (v.items ≡ part.now) × (self.new.calls.items ≡ self.old.calls.items ++ Wrote at v ∷ [])) }
         ensures written { OnOk result (self.new.bytes.items ≡ overwritten self.old.bytes.items at part.now) }
         ensures err { OnErr result ((self.new.calls.items ≡ self.old.calls.items) × (self.new.bytes.items ≡ self.old.bytes.items)) }
@@ -247,6 +255,7 @@ impl MemDisk {
     }
 
     fn settle(&mut self) -> Result<(), AllocError>
+        requires counted { length self.old.calls.items < self.old.made.writes + self.old.made.syncs }
         ensures ok { OnOk result (self.new.calls.items ≡ self.old.calls.items ++ Synced ∷ []) }
         ensures err { OnErr result (self.new.calls.items ≡ self.old.calls.items) }
         ensures same { (self.new.bytes.items ≡ self.old.bytes.items) × (self.new.first.items ≡ self.old.first.items) × (self.new.failures ≡ self.old.failures) }

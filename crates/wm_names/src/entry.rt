@@ -17,7 +17,8 @@ pub enum Kind {
 }
 
 /// What is known of a file besides its path. Size in bytes; the last change in milliseconds since
-/// 1970, and 0 where it was before.
+/// 1970, and 0 where it was before. Any two numbers of 64 bits make one: that both are at most 2^63 - 1 is
+/// kept by lines, and has to be by whoever else makes one, or an answer tells a number that no line takes.
 #[derive(Clone, Copy, Debug, PartialEq, Eq)]
 pub struct Meta {
     pub kind: Kind,
