@@ -5,6 +5,7 @@ use std::io::BufReader;
 use std::process::ExitCode;
 use std::{env, io};
 use wm_server::programs::watchmand;
+use wm_server::system::Host;
 
 fn main(rt: HostRuntime) -> io::Result<ExitCode> {
     let alloc = rt.alloc();
@@ -18,6 +19,7 @@ fn main(rt: HostRuntime) -> io::Result<ExitCode> {
     let mut writer = io::writer(&rt);
     let errors = rt.stderr();
     let mut faults = io::writer(&errors);
-    let status = watchmand(alloc, &rt, &words, &mut reader, &mut writer, &mut faults);
+    let mut system = Host::new(&rt);
+    let status = watchmand(alloc, &mut system, &words, &mut reader, &mut writer, &mut faults);
     Ok(ExitCode::from(status))
 }

@@ -27,6 +27,7 @@ mod reply;
 mod request;
 pub mod run;
 mod session;
+pub mod system;
 mod triggers;
 mod watched;
 pub mod words;

@@ -6,6 +6,7 @@ use std::fs;
 use std::fs::{File, Files};
 use std::test::Fail;
 use wm_server::programs::watchmand;
+use wm_server::system::Host;
 
 const DEVICE_FAILED: &str = "watchmand: 13 DeviceFailed\n";
 
@@ -52,7 +53,8 @@ fn called(
     let mut reader = input.as_bytes();
     let mut output = Vec::new(alloc);
     let mut faults = Vec::new(alloc);
-    let status = watchmand(alloc, files, words, &mut reader, &mut output, &mut faults);
+    let mut system = Host::new(files);
+    let status = watchmand(alloc, &mut system, words, &mut reader, &mut output, &mut faults);
     Ok((
         status,
         String::from_utf8(output)?,

@@ -5,6 +5,7 @@ use std::fs::{File, Files};
 use std::test::Fail;
 use wm_server::file::{FileDisk, Unknown};
 use wm_server::programs::watchmand;
+use wm_server::system::Host;
 
 fn opens(files: &impl Files<File = File>, path: &str) -> bool {
     FileDisk::<Unknown>::open(files, path).is_ok()
@@ -19,9 +20,10 @@ fn served(
     let mut output = Vec::new(alloc);
     let mut faults = Vec::new(alloc);
     let words = ["lines", path];
+    let mut system = Host::new(files);
     let status = watchmand(
         alloc,
-        files,
+        &mut system,
         &words,
         &mut b"".as_slice(),
         &mut output,
