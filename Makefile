@@ -9,7 +9,7 @@ VIEW_BENCH := crates/view_bench/out/view_bench
 FILES ?= 100000
 SOURCES := crates.txt $(shell find crates -name out -prune -o -type f \( -name '*.rt' -o -name '*.antt' \) -print)
 
-.PHONY: test build run install bench bench-journal bench-store bench-view bench-match session examples kill state-file
+.PHONY: test build run install bench bench-journal bench-store bench-view bench-match session examples kill state-file file-calls
 
 test:
 	rt ci
@@ -45,6 +45,10 @@ kill: $(PROGRAM)
 # The built program over a state file that another has open, and where `format` fails or is killed.
 state-file: $(PROGRAM)
 	tools/state_file.sh $(PROGRAM)
+
+# Which calls the built program makes of its state file, by strace where it is installed.
+file-calls: $(PROGRAM)
+	tools/file_calls.sh $(PROGRAM)
 
 bench: $(PROGRAM)
 	bench/watch_list.sh $(PROGRAM)

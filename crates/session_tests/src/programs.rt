@@ -3,4 +3,5 @@ mod calls;
 mod files;
 mod owners;
 mod read_only;
+mod second_reader;
 mod words;

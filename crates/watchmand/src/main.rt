@@ -20,6 +20,13 @@ fn main(rt: HostRuntime) -> io::Result<ExitCode> {
     let errors = rt.stderr();
     let mut faults = io::writer(&errors);
     let mut system = Host::new(&rt);
-    let status = watchmand(alloc, &mut system, &words, &mut reader, &mut writer, &mut faults);
+    let status = watchmand(
+        alloc,
+        &mut system,
+        &words,
+        &mut reader,
+        &mut writer,
+        &mut faults,
+    );
     Ok(ExitCode::from(status))
 }

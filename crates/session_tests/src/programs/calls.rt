@@ -54,7 +54,14 @@ fn called(
     let mut output = Vec::new(alloc);
     let mut faults = Vec::new(alloc);
     let mut system = Host::new(files);
-    let status = watchmand(alloc, &mut system, words, &mut reader, &mut output, &mut faults);
+    let status = watchmand(
+        alloc,
+        &mut system,
+        words,
+        &mut reader,
+        &mut output,
+        &mut faults,
+    );
     Ok((
         status,
         String::from_utf8(output)?,

@@ -1,0 +1,45 @@
+#!/bin/sh
+# Shows by strace which calls the built program really makes of its state file in a session with one command: the
+# open file is neither made nor cut, it is locked and synced before it is read, and each write is synced before the
+# next and before the reply.
+# usage: tools/file_calls.sh PROGRAM
+set -eu
+program=$(realpath "$1")
+command -v strace > /dev/null || { echo "strace isn't installed: nothing was looked at"; exit 0; }
+folder=$(mktemp -d)
+trap 'rm -rf "$folder"' EXIT
+cd "$folder"
+"$program" format state > /dev/null
+echo '["watch","/r"]' | strace -o calls "$program" lines state > /dev/null
+
+# from the call that opens the file on: the names, with the place and the count of bytes of a write
+awk '/^openat\(AT_FDCWD, "state",/ { here = 1 } !here { next }
+  /^(exit_group|\+\+\+|mmap|munmap|mremap|madvise|brk)/ { next }
+  /^pwrite64/ { n = split($0, part, ", "); split(part[n], place, ")"); print "pwrite64", part[n - 1], place[1]; next }
+  /^openat/ { n = split($0, part, ", "); split(part[n], flags, ")"); print "openat", flags[1]; next }
+  { split($0, part, "("); print part[1] }' calls > made
+
+cat > wanted <<'CALLS'
+openat O_RDWR|O_NOCTTY|O_CLOEXEC
+statx
+flock
+fsync
+statx
+fsync
+pread64
+pwrite64 2 1052673
+fsync
+pwrite64 1 1052672
+fsync
+read
+pwrite64 8 1052675
+fsync
+pwrite64 1 1052674
+fsync
+write
+read
+fsync
+close
+CALLS
+diff -u wanted made
+echo "a session opens, locks and syncs its file first, and each write is synced before the next and before the reply"
