@@ -6,6 +6,7 @@ use std::process::Abort;
 use std::test::Fail;
 use wm_disk::{MemDisk, OneFault};
 use wm_server::lines::lines_on;
+use wm_server::{Input, Output};
 
 /// A line and its reply.
 pub(crate) type Row<'a> = (&'a str, &'a str);
@@ -36,7 +37,10 @@ pub(crate) fn end_of<R: BufRead>(
 ) -> Result<End, Fail> {
     let mut output = Vec::new(alloc);
     let mut faults = Vec::new(alloc);
-    let (status, disk) = lines_on(alloc, disk, reader, &mut output, &mut faults);
+    let mut reader = Input::new(reader);
+    let mut writer = Output::new(&mut output);
+    let mut told = Output::new(&mut faults);
+    let (status, disk) = lines_on(alloc, disk, &mut reader, &mut writer, &mut told);
     end_with(alloc, status, output, faults, disk)
 }
 
@@ -48,7 +52,10 @@ pub(crate) fn end_of_one_fault<R: BufRead>(
 ) -> Result<End, Fail> {
     let mut output = Vec::new(alloc);
     let mut faults = Vec::new(alloc);
-    let (status, disk) = lines_on(alloc, disk, reader, &mut output, &mut faults);
+    let mut reader = Input::new(reader);
+    let mut writer = Output::new(&mut output);
+    let mut told = Output::new(&mut faults);
+    let (status, disk) = lines_on(alloc, disk, &mut reader, &mut writer, &mut told);
     end_with(alloc, status, output, faults, disk.disk)
 }
 

@@ -6,6 +6,7 @@ use std::process::ExitCode;
 use std::{env, io};
 use wm_server::programs::watchmand;
 use wm_server::system::Host;
+use wm_server::{Input, Output};
 
 fn main(rt: HostRuntime) -> io::Result<ExitCode> {
     let alloc = rt.alloc();
@@ -15,10 +16,10 @@ fn main(rt: HostRuntime) -> io::Result<ExitCode> {
     };
     let args: Vec<String> = args.skip(1).collect(alloc)?;
     let words: Vec<&str> = args.iter().map(|word| word.as_str()).collect(alloc)?;
-    let mut reader = BufReader::new(alloc, rt.reader())?;
-    let mut writer = io::writer(&rt);
+    let mut reader = Input::new(BufReader::new(alloc, rt.reader())?);
+    let mut writer = Output::new(io::writer(&rt));
     let errors = rt.stderr();
-    let mut faults = io::writer(&errors);
+    let mut faults = Output::new(io::writer(&errors));
     let mut system = Host::new(&rt);
     let status = watchmand(
         alloc,

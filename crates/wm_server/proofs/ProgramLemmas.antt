@@ -33,9 +33,12 @@ use Rattle.wm_server.specs.declared.request.Request.TheVariants.{Version, Watch,
 use Rattle.wm_server.specs.Inputs.{lines_of}
 use Rattle.wm_server.specs.Lines.{request_of_line}
 use Rattle.wm_server.specs.Asked.{AreAskedOf, ArePartOf, asked_in}
-use Rattle.wm_server.specs.Endings.{CutsLines, LeavesAnytime, LinesRefused, Passes}
+use Rattle.wm_server.specs.Endings.{CutsLines, EndsBy, LeavesAnytime, LinesRefused, Passes}
 use Rattle.wm_server.specs.LocalLaws.{CountsNow, left_now, more_before, more_behind, part_in_front, rose_later, weaker}
 use Rattle.wm_server.proofs.RunLemmas.{asked_behind}
+use Rattle.wm_server.specs.declared.input.Input.{Input}
+use Rattle.wm_server.specs.declared.output.Output.{Output}
+use Rattle.wm_server.specs.declared.lines.Ending.TheVariants.{Refused}
 use Rattle.wm_server.specs.Locals.{CloseRefused}
 use Rattle.wm_server.specs.declared.local.LocalFront.{LocalFront}
 use Rattle.wm_server.specs.Sessions.{State, question_met, line_met, met_or_refused, operated, operation_met, answered, cursor_moved, inquiry_met, triggers_met, view_of}
@@ -128,6 +131,18 @@ quiet_run old moment k (line ∷ lines) (way ∷ ways) bytes new e r = (
 
 same_state : (s : State) (was : registry.State) → s.registry ≡ after was Begin → s.has_failed ≡ false → s.views ≡ first_views s.registry → s ≡ first_state was
 same_state s was e works views = λ i. record { registry = e i; has_failed = works i; views = (views ∙ ap first_views e) i }
+
+-- ---- why it ended
+
+pub untouched : {R W : Type 0} (e : Refusal) (input : Input R) (output : Output W) → EndsBy (Refused e) input input output output
+untouched refusals.StoreFailed input output = tt
+untouched refusals.DeviceFailed input output = tt
+untouched e input output = (refl, refl)
+
+pub by_close : {D R W : Type 0} {g : Ghosts D} (disk : Ghosts D) (e : Refusal) (left : LocalFront D g) (new : D) (old : Input R) (now : Input R) (held holds : Output W) → CloseRefused disk e left new → EndsBy (Refused e) old now held holds
+by_close disk refusals.StoreFailed left new old now held holds why = tt
+by_close disk refusals.DeviceFailed left new old now held holds why = tt
+by_close disk e left new old now held holds why = absurd why
 
 -- what a whole input asks for has in it what a beginning of its lines asks for
 in_all : (input : List ℕ) (met more : List (List ℕ)) (asked some : List Command) → lines_of input ≡ met ++ more → asked ≡ asked_in met → ArePartOf some asked → ArePartOf some (asked_in (lines_of input))

@@ -12,9 +12,12 @@ use Rattle.wm_disk.specs.declared.refusal.Refusal.{Refusal}
 use Rattle.wm_disk.specs.declared.refusal.Refusal.TheVariants as refusals
 use Rattle.wm_server.specs.Asked.{AreAskedOf, ArePartOf}
 use Rattle.wm_server.specs.Stores.{StartCut, StartRefused, WritesNothing}
-use Rattle.wm_server.specs.Programs.{CutShort, Kept, LinesBroken, LinesCut}
+use Rattle.wm_server.specs.Programs.{CutShort, IsTold, Kept, LinesBroken, LinesCut}
+use Rattle.wm_server.specs.Streams.{IsCutOff, StandAsBefore}
+use Rattle.wm_server.specs.declared.input.Input.{Input}
+use Rattle.wm_server.specs.declared.output.Output.{Output}
 use Rattle.wm_server.specs.declared.lines.Ending.{Ending}
-use Rattle.wm_server.specs.declared.lines.Ending.TheVariants.{Served, Refused, Broken}
+use Rattle.wm_server.specs.declared.lines.Ending.TheVariants.{Served, Refused, Broken, Unread}
 
 -- what was accepted is kept in a file that is closed
 abbrev pub KeepsAll : {D : Type 0} → Ghosts D → D → D → Type 0
@@ -40,11 +43,30 @@ abbrev pub Ends : {D : Type 0} → Ghosts D → Ending → Option (List ℕ) →
 Ends disk Served holds old new = KeepsAll disk old new
 Ends disk (Refused refusal) holds old new = LinesRefused disk refusal holds old new
 Ends disk Broken holds old new = KeepsAll disk old new × KeepsBeginning disk holds old new
+Ends disk Unread holds old new = KeepsAll disk old new × KeepsBeginning disk holds old new
 
 abbrev pub status_of : Ending → ℕ
 status_of Served = 0
 status_of (Refused refusal) = 1
 status_of Broken = 1
+status_of Unread = 1
+
+-- Why it ended so: where the start was refused but for a failure of the device, nothing was read or written; where the session was broken
+-- off, the reader or the writer failed; and else neither did.
+abbrev pub EndsBy : {R W : Type 0} → Ending → Input R → Input R → Output W → Output W → Type 0
+EndsBy Served old new held holds = StandAsBefore old new held holds
+EndsBy (Refused refusals.StoreFailed) old new held holds = Unit {0}
+EndsBy (Refused refusals.DeviceFailed) old new held holds = Unit {0}
+EndsBy (Refused refusal) old new held holds = (new ≡ old) × (holds ≡ held)
+EndsBy Broken old new held holds = IsCutOff new holds
+EndsBy Unread old new held holds = IsCutOff new holds
+
+-- what is told of it
+abbrev pub Tells : {E : Type 0} → (E → Option (List ℕ)) → Ending → Output E → Output E → Type 0
+Tells contents Served old new = new ≡ old
+Tells contents (Refused refusal) old new = IsTold contents refusal old new
+Tells contents Broken old new = IsTold contents refusals.DeviceFailed old new
+Tells contents Unread old new = new ≡ old
 
 -- ---- moments
 

@@ -27,6 +27,7 @@ pub mod Replies
 pub mod Runs
 pub mod Sessions
 pub mod Stores
+pub mod Streams
 pub mod Systems
 pub mod TriggerLines
 pub mod ViewChanges

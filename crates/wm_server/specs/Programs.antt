@@ -1,5 +1,5 @@
 -- `lines`: what is written for an input, and what the file is left to mean.
-use Rattle.std.specs.Prelude.{◌≡◌, ℕ, ◌+◌, ◌≤◌, List, ◌++◌, false, Option, codes}
+use Rattle.std.specs.Prelude.{◌≡◌, ◌⊎◌, ℕ, ◌+◌, ◌≤◌, List, ◌++◌, true, false, Option, codes}
 use Rattle.std.specs.List.{AllByRecursion}
 use Rattle.std.specs.Io.KnownBytes.{Appends}
 use Rattle.wm_disk.specs.Refusals.{text_of}
@@ -19,6 +19,8 @@ use Rattle.wm_server.specs.Inputs.{lines_of}
 use Rattle.wm_server.specs.Sessions.{State}
 use Rattle.wm_server.specs.Faults.{Standing, Way, Defined, Device, Memory, Spent}
 use Rattle.wm_server.specs.Runs.{Run}
+use Rattle.wm_server.specs.Streams.{writer_failed, writer_of}
+use Rattle.wm_server.specs.declared.output.Output.{Output}
 use Rattle.wm_server.specs.Watched.{first_views}
 
 -- line k, counted from 1, has the moment k
@@ -104,6 +106,10 @@ pub record LinesCut {D : Type 0} (disk : Ghosts D) (old : D) (input : List ℕ) 
 -- what a program that is refused tells: its name, and the number and name of the refusal
 abbrev pub message_of : Refusal → List ℕ
 message_of refusal = (codes "watchmand: " ++ text_of refusal) ++ codes "\n"
+
+-- it was told, unless the writer failed
+abbrev pub IsTold : {E : Type 0} → (E → Option (List ℕ)) → Refusal → Output E → Output E → Type 0
+IsTold contents refusal old new = (writer_failed new ≡ true) ⊎ Appends (contents (writer_of old)) (contents (writer_of new)) (message_of refusal)
 
 -- Lines were answered with these bytes from some start on, at which the store works and each root has a view that has just begun. This
 -- asks nothing of the disk.

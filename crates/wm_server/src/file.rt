@@ -22,7 +22,7 @@ pub trait Start: Drop {
     ghost content: { List ℕ };
 }
 
-/// For `main` to name. At this type itself a clause on values says nothing of a file that held bytes.
+/// For the real system to name. At this type itself a clause on values says nothing of a file that held bytes.
 #[derive(Drop)]
 pub struct Unknown;
 

@@ -1,11 +1,45 @@
 //! Lines off a reader, each in bounded memory.
-ghost use Rattle.std.specs.Prelude.{◌≡◌, ◌≤◌, ℕ, List, Some, length, vec_len, IfOk};
+ghost use Rattle.std.specs.Prelude.{◌≡◌, ◌≤◌, ◌<◌, ◌+◌, ◌-◌, ◌^◌, ℕ, List, Some, true, false, length, vec_len, IfOk, OnOk, OnErr};
 ghost use Rattle.wm_server.specs.Inputs.{KeepsPart, SplitsAt, max_kept};
 ghost use Rattle.wm_server.specs.Reading.{ReadsLine, TakesPart};
+ghost use Rattle.wm_server.specs.Streams.{lines_read, reader_failed, reader_of};
 
 use crate::request::MAX_LINE;
 use std::io;
 use std::io::{BufRead, ErrorKind};
+
+/// A reader, with the number of lines that a session has read off it, and a note of whether a call of it
+/// has failed.
+#[derive(Drop)]
+pub struct Input<R> {
+    reader: R,
+    lines: u64,
+    has_failed: bool,
+}
+
+impl<R: BufRead> Input<R> {
+    /// A reader that hasn't failed yet, before its first line.
+    pub fn new(reader: R) -> Input<R>
+        ensures reader { reader_of result ≡ reader }
+        ensures first { lines_read result ≡ 0 }
+        ensures whole { reader_failed result ≡ false }
+    {
+        Input {
+            reader,
+            lines: 0,
+            has_failed: false,
+        }
+    }
+
+    /// Counts the lines from here on.
+    pub(crate) fn count_anew(&mut self)
+        ensures reader { reader_of self.new ≡ reader_of self.old }
+        ensures first { lines_read self.new ≡ 0 }
+        ensures whole { reader_failed self.new ≡ reader_failed self.old }
+    {
+        self.lines = 0;
+    }
+}
 
 /// What was read of a line.
 #[derive(Clone, Copy, Debug, PartialEq, Eq)]
@@ -60,7 +94,7 @@ fn keep(line: &mut Vec<u8>, part: &[u8], is_lost: &mut bool)
     }
 }
 
-/// Takes off the reader what it holds of a line, and keeps it.
+/// Takes off a reader what it holds of a line, and keeps it. An `Err` is a call of the reader that failed.
 fn take_part<R: BufRead>(reader: &mut R, line: &mut Vec<u8>, is_lost: &mut bool) -> io::Result<Part>
     requires { vec_len line.old ≤ max_kept }
     ensures bound { vec_len line.new ≤ max_kept }
@@ -82,8 +116,9 @@ fn take_part<R: BufRead>(reader: &mut R, line: &mut Vec<u8>, is_lost: &mut bool)
 }
 
 /// Reads the next line into `line`, with its newline if it has one. Of a line that is longer than a
-/// line may be the front is kept, and the rest is skipped.
-pub(crate) fn read_line<R: BufRead>(reader: &mut R, line: &mut Vec<u8>) -> io::Result<LineRead>
+/// line may be the front is kept, and the rest is skipped. An `Err` is a call of the reader that failed, or
+/// comes of a reader that was interrupted for ever.
+fn line_off<R: BufRead>(reader: &mut R, line: &mut Vec<u8>) -> io::Result<LineRead>
     ensures { IfOk result (λ read. (rest : List ℕ) → R.remaining reader.old ≡ Some rest → ReadsLine rest read line.new.items (R.remaining reader.new)) }
 {
     line.clear();
@@ -100,4 +135,25 @@ pub(crate) fn read_line<R: BufRead>(reader: &mut R, line: &mut Vec<u8>) -> io::R
         }
     }
     Err(io::Error::from(ErrorKind::Other))
+}
+
+/// Reads the next line off an input, as far as it may be kept.
+pub(crate) fn read_line<R: BufRead>(
+    input: &mut Input<R>,
+    line: &mut Vec<u8>,
+) -> io::Result<LineRead>
+    requires { lines_read input.old < 2 ^ 64 - 1 }
+    ensures read { IfOk result (λ read. (rest : List ℕ) → R.remaining (reader_of input.old) ≡ Some rest → ReadsLine rest read line.new.items (R.remaining (reader_of input.new))) }
+    ensures counted { lines_read input.new ≡ lines_read input.old + 1 }
+    ensures failed { OnErr result (reader_failed input.new ≡ true) }
+    ensures whole { OnOk result (reader_failed input.new ≡ reader_failed input.old) }
+{
+    input.lines += 1;
+    match line_off(&mut input.reader, line) {
+        Ok(read) => Ok(read),
+        Err(e) => {
+            input.has_failed = true;
+            Err(e)
+        }
+    }
 }

@@ -19,6 +19,7 @@ pub mod lines;
 mod listing;
 mod local;
 mod metadata;
+mod output;
 mod pairs;
 pub mod programs;
 mod query;
@@ -34,8 +35,10 @@ pub mod words;
 
 pub use expression::Expression;
 pub use front::Front;
+pub use input::Input;
 pub use laws::{every_line, every_restart};
 pub use local::LocalFront;
+pub use output::Output;
 pub use query::Inquiry;
 pub use reply::REFUSAL_ROOM;
 pub use request::{MAX_LINE, Request};

@@ -1,16 +1,19 @@
 //! The `lines` command: the lines of a reader over a state file.
-ghost use Rattle.std.specs.Prelude.{◌≡◌, ℕ, List, Some, OnOk};
+ghost use Rattle.std.specs.Prelude.{◌≡◌, ℕ, List, Some, true, OnOk, OnErr};
 ghost use Rattle.std.specs.Io.KnownBytes.{Appends};
 ghost use Rattle.wm_server.specs.Stores.{Later};
-ghost use Rattle.wm_server.specs.Endings.{Ends, LeavesAnytime, status_of};
-ghost use Rattle.wm_server.specs.Programs.{LinesAnswered, LinesServed, message_of};
+ghost use Rattle.wm_server.specs.Endings.{Ends, EndsBy, LeavesAnytime, Tells, status_of};
+ghost use Rattle.wm_server.specs.Programs.{IsTold, LinesAnswered, LinesServed, message_of};
+ghost use Rattle.wm_server.specs.Streams.{reader_of, writer_failed, writer_of};
 
+use crate::input::Input;
 use crate::local::LocalFront;
+use crate::output::Output;
 use crate::run::{LineNumbers, run};
 use crate::session::Session;
 use std::alloc::Global;
 use std::io;
-use std::io::{BufRead, Write};
+use std::io::{BufRead, ErrorKind, Write};
 use wm_disk::{Disk, Refusal};
 
 /// How a session over a file ended.
@@ -22,6 +25,8 @@ pub enum Ending {
     Refused(Refusal),
     /// The reader or the writer failed; the file was closed.
     Broken,
+    /// The writer failed since nobody reads what it writes; the file was closed.
+    Unread,
 }
 
 /// Answers the lines of a reader to a writer over the state file on a disk, and closes the file at the
@@ -29,14 +34,15 @@ pub enum Ending {
 pub fn serve_lines<D: Disk + Drop, R: BufRead, W: Write>(
     alloc: Global,
     disk: D,
-    reader: &mut R,
-    writer: &mut W,
+    reader: &mut Input<R>,
+    writer: &mut Output<W>,
 ) -> (Ending, D)
-    ensures served { result.0 ≡ Ending.Served → D.honest result.1 → (input : List ℕ) → R.remaining reader.old ≡ Some input →
-        LinesServed D.Disk disk input (W.contents writer.old) (W.contents writer.new) result.1 }
-    ensures answered { result.0 ≡ Ending.Served → (input : List ℕ) → R.remaining reader.old ≡ Some input → LinesAnswered input (W.contents writer.old) (W.contents writer.new) }
-    ensures refused { Ends D.Disk result.0 (R.remaining reader.old) disk result.1 }
-    ensures any_moment { LeavesAnytime D.Disk (R.remaining reader.old) disk result.1 }
+    ensures served { result.0 ≡ Ending.Served → D.honest result.1 → (input : List ℕ) → R.remaining (reader_of reader.old) ≡ Some input →
+        LinesServed D.Disk disk input (W.contents (writer_of writer.old)) (W.contents (writer_of writer.new)) result.1 }
+    ensures answered { result.0 ≡ Ending.Served → (input : List ℕ) → R.remaining (reader_of reader.old) ≡ Some input → LinesAnswered input (W.contents (writer_of writer.old)) (W.contents (writer_of writer.new)) }
+    ensures refused { Ends D.Disk result.0 (R.remaining (reader_of reader.old)) disk result.1 }
+    ensures any_moment { LeavesAnytime D.Disk (R.remaining (reader_of reader.old)) disk result.1 }
+    ensures cause { EndsBy result.0 reader.old reader.new writer.old writer.new }
     ensures later { Later D.Disk disk result.1 }
 {
     let front = match LocalFront::open(alloc, disk) {
@@ -48,24 +54,27 @@ pub fn serve_lines<D: Disk + Drop, R: BufRead, W: Write>(
     let (closed, disk) = session.front.close();
     match (closed, ran) {
         (Err(refusal), _) => (Ending::Refused(refusal), disk),
+        (Ok(()), Err(e)) if e.kind() == ErrorKind::BrokenPipe => (Ending::Unread, disk),
         (Ok(()), Err(_)) => (Ending::Broken, disk),
         (Ok(()), Ok(_)) => (Ending::Served, disk),
     }
 }
 
 /// Tells on `faults` why a program was refused: its name, and the refusal's number and name.
-pub fn tell<E: Write>(refusal: Refusal, faults: &mut E) -> io::Result<()>
-    ensures { OnOk result (Appends (E.contents faults.old) (E.contents faults.new) (message_of refusal)) }
+pub fn tell<E: Write>(refusal: Refusal, faults: &mut Output<E>) -> io::Result<()>
+    ensures told { OnOk result (Appends (E.contents (writer_of faults.old)) (E.contents (writer_of faults.new)) (message_of refusal)) }
+    ensures failed { OnErr result (writer_failed faults.new ≡ true) }
 {
-    faults.write_all(b"watchmand: ")?;
-    faults.write_all(refusal.text().as_bytes())?;
-    faults.write_all(b"\n")?;
+    faults.put(b"watchmand: ")?;
+    faults.put(refusal.text().as_bytes())?;
+    faults.put(b"\n")?;
     Ok(())
 }
 
 /// The status of a program that was refused, which it tells on `faults`.
-pub(crate) fn refuse<E: Write>(refusal: Refusal, faults: &mut E) -> u8
-    ensures { result ≡ 1 }
+pub(crate) fn refuse<E: Write>(refusal: Refusal, faults: &mut Output<E>) -> u8
+    ensures status { result ≡ 1 }
+    ensures told { IsTold E.contents refusal faults.old faults.new }
 {
     // Where even this can't be told, the status still tells that it was refused.
     let _told = tell(refusal, faults);
@@ -73,20 +82,22 @@ pub(crate) fn refuse<E: Write>(refusal: Refusal, faults: &mut E) -> u8
 }
 
 /// All of `watchmand lines` on a disk, with its status: 0, or 1 with the reason told on `faults`. A
-/// reader or writer that failed is told as `DeviceFailed`.
+/// reader or writer that failed is told as `DeviceFailed`, but of a writer that nobody reads any more, as
+/// a closed pipe, nothing is told.
 pub fn lines_on<D: Disk + Drop, R: BufRead, W: Write, E: Write>(
     alloc: Global,
     disk: D,
-    reader: &mut R,
-    writer: &mut W,
-    faults: &mut E,
+    reader: &mut Input<R>,
+    writer: &mut Output<W>,
+    faults: &mut Output<E>,
 ) -> (u8, D)
-    ensures served { result.0 ≡ 0 → D.honest result.1 → (input : List ℕ) → R.remaining reader.old ≡ Some input →
-        LinesServed D.Disk disk input (W.contents writer.old) (W.contents writer.new) result.1 }
-    ensures answered { result.0 ≡ 0 → (input : List ℕ) → R.remaining reader.old ≡ Some input → LinesAnswered input (W.contents writer.old) (W.contents writer.new) }
+    ensures served { result.0 ≡ 0 → D.honest result.1 → (input : List ℕ) → R.remaining (reader_of reader.old) ≡ Some input →
+        LinesServed D.Disk disk input (W.contents (writer_of writer.old)) (W.contents (writer_of writer.new)) result.1 }
+    ensures answered { result.0 ≡ 0 → (input : List ℕ) → R.remaining (reader_of reader.old) ≡ Some input → LinesAnswered input (W.contents (writer_of writer.old)) (W.contents (writer_of writer.new)) }
     ensures quiet { result.0 ≡ 0 → faults.new ≡ faults.old }
-    ensures refused { (ending : Ending) × (result.0 ≡ status_of ending) × Ends D.Disk ending (R.remaining reader.old) disk result.1 }
-    ensures any_moment { LeavesAnytime D.Disk (R.remaining reader.old) disk result.1 }
+    ensures refused { (ending : Ending) × (result.0 ≡ status_of ending) × Ends D.Disk ending (R.remaining (reader_of reader.old)) disk result.1
+        × EndsBy ending reader.old reader.new writer.old writer.new × Tells E.contents ending faults.old faults.new }
+    ensures any_moment { LeavesAnytime D.Disk (R.remaining (reader_of reader.old)) disk result.1 }
     ensures later { Later D.Disk disk result.1 }
 {
     let (ending, disk) = serve_lines(alloc, disk, reader, writer);
@@ -94,5 +105,6 @@ pub fn lines_on<D: Disk + Drop, R: BufRead, W: Write, E: Write>(
         Ending::Served => (0, disk),
         Ending::Refused(refusal) => (refuse(refusal, faults), disk),
         Ending::Broken => (refuse(Refusal::DeviceFailed, faults), disk),
+        Ending::Unread => (1, disk),
     }
 }

@@ -1,14 +1,16 @@
-ghost use Rattle.std.specs.Prelude.{◌≡◌, ◌+◌, ◌-◌, ◌^◌, ◌<◌, ◌≤◌, ℕ, List, Some, Err, IfOk, OnErr};
+ghost use Rattle.std.specs.Prelude.{◌≡◌, ◌+◌, ◌-◌, ◌^◌, ◌<◌, ◌≤◌, ℕ, List, Some, Err, true, IfOk, OnOk, OnErr};
 ghost use Rattle.std.specs.Io.KnownBytes.{Appends};
 ghost use Rattle.wm_registry.specs.declared.command.Command.{Command};
 ghost use Rattle.wm_server.specs.Asked.{asked_by};
 ghost use Rattle.wm_server.specs.Lines.{request_of_line};
 ghost use Rattle.wm_server.specs.Reading.{Stands};
 ghost use Rattle.wm_server.specs.Replies.{reply_bytes};
+ghost use Rattle.wm_server.specs.Streams.{IsCutOff, StandAsBefore, reader_of, writer_failed, writer_of};
 ghost use Rattle.wm_server.specs.Runs.{MeetsFront, Served, ServedCleanly, Serves, Untold};
 
 use crate::front::Front;
-use crate::input::{LineRead, read_line};
+use crate::input::{Input, LineRead, read_line};
+use crate::output::Output;
 use crate::session::Session;
 use std::alloc::Global;
 use std::io;
@@ -68,10 +70,12 @@ impl LineNumbers {
 const NO_MEMORY: &str = "{\"error\":\"16 NoMemory\",\"version\":\"w1\"}\n";
 
 /// Answers a line by want of memory, which is one fault.
-fn answer_no_memory<W: Write>(writer: &mut W) -> io::Result<u64>
-    ensures { IfOk result (λ n. (n ≡ 1) × Appends (W.contents writer.old) (W.contents writer.new) (reply_bytes (Err Refusal.NoMemory))) }
+fn answer_no_memory<W: Write>(writer: &mut Output<W>) -> io::Result<u64>
+    ensures told { IfOk result (λ n. (n ≡ 1) × Appends (W.contents (writer_of writer.old)) (W.contents (writer_of writer.new)) (reply_bytes (Err Refusal.NoMemory))) }
+    ensures failed { OnErr result (writer_failed writer.new ≡ true) }
+    ensures whole { OnOk result (writer_failed writer.new ≡ writer_failed writer.old) }
 {
-    writer.write_all(NO_MEMORY.as_bytes())?;
+    writer.put(NO_MEMORY.as_bytes())?;
     Ok(1)
 }
 
@@ -81,17 +85,19 @@ fn answer_kept<F: Front, W: Write>(
     session: &mut Session<F>,
     moment: u64,
     line: &[u8],
-    writer: &mut W,
+    writer: &mut Output<W>,
 ) -> io::Result<u64>
-    ensures served { IfOk result (λ n. Serves (F.standing session.old.front) moment line.now n (W.contents writer.old) (W.contents writer.new) (F.standing session.new.front)) }
+    ensures failed { OnErr result (writer_failed writer.new ≡ true) }
+    ensures whole { OnOk result (writer_failed writer.new ≡ writer_failed writer.old) }
+    ensures served { IfOk result (λ n. Serves (F.standing session.old.front) moment line.now n (W.contents (writer_of writer.old)) (W.contents (writer_of writer.new)) (F.standing session.new.front)) }
     ensures few { IfOk result (λ n. n ≤ 1) }
     ensures untold { OnErr result (Untold (F.standing session.old.front) moment line.now (F.standing session.new.front)) }
     ensures later { F.leads_to session.old.front (asked_by (request_of_line line.now)) session.new.front }
 {
     let mut reply = Vec::new(alloc);
-    match session.answer(alloc, moment, line, &mut reply) {
+    match session.line(alloc, moment, line, &mut reply) {
         Ok(faults) => {
-            writer.write_all(&reply)?;
+            writer.put(&reply)?;
             Ok(faults)
         }
         Err(NoMemory) => answer_no_memory(writer),
@@ -105,10 +111,12 @@ fn serve_line<F: Front, W: Write>(
     moment: u64,
     read: LineRead,
     line: &[u8],
-    writer: &mut W,
+    writer: &mut Output<W>,
 ) -> io::Result<u64>
+    ensures failed { OnErr result (writer_failed writer.new ≡ true) }
+    ensures whole { OnOk result (writer_failed writer.new ≡ writer_failed writer.old) }
     ensures served { IfOk result (λ n. (whole : List ℕ) → Stands read line.now whole →
-        Serves (F.standing session.old.front) moment whole n (W.contents writer.old) (W.contents writer.new) (F.standing session.new.front)) }
+        Serves (F.standing session.old.front) moment whole n (W.contents (writer_of writer.old)) (W.contents (writer_of writer.new)) (F.standing session.new.front)) }
     ensures few { IfOk result (λ n. n ≤ 1) }
     ensures untold { OnErr result ((whole : List ℕ) → Stands read line.now whole → Untold (F.standing session.old.front) moment whole (F.standing session.new.front)) }
     ensures later { (asked : List Command) × F.leads_to session.old.front asked session.new.front }
@@ -123,34 +131,40 @@ fn serve_line<F: Front, W: Write>(
 
 /// Answers the lines of a reader to a writer, each before the next is read, until the reader ends. It
 /// tells how many faults were met: lines that were answered `DeviceFailed` or `NoMemory`. It holds one
-/// line and one reply. An `Err` is one of the reader or the writer.
+/// line and one reply. An `Err` is that of the call of the reader or of the writer that failed, or comes
+/// after 2^64 - 1 lines.
 pub fn run<F: Front, M: Moments, R: BufRead, W: Write>(
     alloc: Global,
     session: &mut Session<F>,
     moments: &mut M,
-    reader: &mut R,
-    writer: &mut W,
+    reader: &mut Input<R>,
+    writer: &mut Output<W>,
 ) -> io::Result<u64>
-    requires { M.place moments.old ≡ 0 }
+    requires moments { M.place moments.old ≡ 0 }
+
+    // It breaks off only where a call of the reader or of the writer failed in it.
+    ensures failed { OnErr result (IsCutOff reader.new writer.new) }
+    ensures whole { OnOk result (StandAsBefore reader.old reader.new writer.old writer.new) }
 
     // Each line is answered as it is defined, or by a fault.
-    ensures served { IfOk result (λ faults. (input : List ℕ) → R.remaining reader.old ≡ Some input →
+    ensures served { IfOk result (λ faults. (input : List ℕ) → R.remaining (reader_of reader.old) ≡ Some input →
         Served (F.standing session.old.front) (M.moment moments.old) 0 input faults
-        (W.contents writer.old) (W.contents writer.new) (F.standing session.new.front)) }
+        (W.contents (writer_of writer.old)) (W.contents (writer_of writer.new)) (F.standing session.new.front)) }
 
     // Without a fault, and where the slot's number isn't spent, the bytes and the state are the defined ones.
-    ensures clean { IfOk result (λ faults. faults ≡ 0 → (F.standing session.new.front).number < 9223372036854775807 → (input : List ℕ) → R.remaining reader.old ≡ Some input →
+    ensures clean { IfOk result (λ faults. faults ≡ 0 → (F.standing session.new.front).number < 9223372036854775807 → (input : List ℕ) → R.remaining (reader_of reader.old) ≡ Some input →
         ServedCleanly (F.standing session.old.front).state (M.moment moments.old) 0 input
-        (W.contents writer.old) (W.contents writer.new) (F.standing session.new.front).state) }
+        (W.contents (writer_of writer.old)) (W.contents (writer_of writer.new)) (F.standing session.new.front).state) }
 
     // A beginning of the lines was met, also where the reader or the writer fails.
-    ensures met { (input : List ℕ) → R.remaining reader.old ≡ Some input → (asked : List Command)
+    ensures met { (input : List ℕ) → R.remaining (reader_of reader.old) ≡ Some input → (asked : List Command)
         × MeetsFront (F.standing session.old.front) (M.moment moments.old) input asked (F.standing session.new.front)
         × F.leads_to session.old.front asked session.new.front }
     ensures later { (asked : List Command) × F.leads_to session.old.front asked session.new.front }
 {
     let mut faults = 0u64;
     let mut line = Vec::new(alloc);
+    reader.count_anew();
     for _ in 0..u64::MAX {
         let read = read_line(reader, &mut line)?;
         if read == LineRead::End {

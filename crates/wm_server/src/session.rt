@@ -230,8 +230,10 @@ impl<F: Front> Session<F> {
         self.meet(alloc, moment, request, out)
     }
 
-    /// Answers a line, and tells how many faults were met: none or one.
-    pub(crate) fn answer(
+    /// Answers a line, which comes with its newline: appends the reply and a newline, and tells how many
+    /// faults were met: none or one. The room of a refusal is made before anything changes: an `Err` is
+    /// want of memory for it, comes only where `out` has no such room yet, and changes nothing.
+    pub fn line(
         &mut self,
         alloc: Global,
         moment: u64,
@@ -252,25 +254,5 @@ impl<F: Front> Session<F> {
                 Ok(if is_fault(refusal) { 1 } else { 0 })
             }
         }
-    }
-
-    /// Answers a line, which comes with its newline: appends the reply and a newline. The room of a
-    /// refusal is made before anything changes: an `Err` is want of memory for it, comes only where `out`
-    /// has no such room yet, and changes nothing.
-    pub fn line(
-        &mut self,
-        alloc: Global,
-        moment: u64,
-        line: &[u8],
-        out: &mut Vec<u8>,
-    ) -> Result<(), NoMemory>
-        ensures ok { OnOk result ((way : Way) × (bytes : List ℕ) × (out.new.items ≡ out.old.items ++ bytes)
-            × Answers way (F.standing self.old.front) moment line.now bytes (F.standing self.new.front)) }
-        ensures err { OnErr result ((out.new.items ≡ out.old.items) × (self.new ≡ self.old)) }
-        ensures full { OnErr result (vec_capacity out.old < vec_len out.old + REFUSAL_ROOM) }
-        ensures later { F.leads_to self.old.front (asked_by (request_of_line line.now)) self.new.front }
-    {
-        self.answer(alloc, moment, line, out)?;
-        Ok(())
     }
 }

@@ -1,10 +1,8 @@
 //! What the program asks of the system that it runs on.
-ghost use Rattle.std.specs.Prelude.{◌≡◌, ⊤, ℕ, List, Option, Some, None, IfSome, MatchResult};
-ghost use Rattle.std.specs.Io.KnownBytes.{Appends};
+ghost use Rattle.std.specs.Prelude.{⊤, ℕ, List, Option, Some, None, IfSome, MatchResult};
 
 use crate::file::{FileDisk, Unknown};
 use std::fs::{File, Files};
-use std::io::Write;
 use wm_disk::{DeviceFailed, Disk};
 
 /// A system with state files. What its calls did is a relation between the moments before and after each,
@@ -40,27 +38,6 @@ pub trait System {
     /// Takes a file away. Where that can't be done, it stays.
     fn remove(&mut self, path: &str)
         ensures { removes self.old path.now self.new };
-}
-
-/// A stream on which the program shows texts.
-pub trait Stream: Write {
-    /// A text couldn't be shown, or only a part of it.
-    ghost breaks: { Self → Self → Type 0 };
-
-    /// Writes a whole text.
-    fn show(&mut self, text: &[u8]) -> Result<(), DeviceFailed>
-        ensures { MatchResult result (λ _. Appends (Self.contents self.old) (Self.contents self.new) text.now) (λ _. breaks self.old self.new) };
-}
-
-impl<W: Write> Stream for W {
-    ghost breaks = { λ _ _. ⊤ };
-
-    fn show(&mut self, text: &[u8]) -> Result<(), DeviceFailed> {
-        match self.write_all(text) {
-            Ok(()) => Ok(()),
-            Err(_) => Err(DeviceFailed),
-        }
-    }
 }
 
 /// The system of a process, by its files.

@@ -8,6 +8,7 @@ use std::process::Abort;
 use std::test::Fail;
 use wm_disk::{Crashed, MemDisk, OneFault};
 use wm_server::lines::lines_on;
+use wm_server::{Input, Output};
 
 /// Starts over a file, which must be refused and left as it was.
 fn assert_refused(
@@ -172,19 +173,25 @@ fn tells_a_device_that_failed_once(rt: HostRuntime) -> Result<(), Fail> {
     assert_outcomes(&rt, rt.alloc(), Failing::Once)
 }
 
-/// A reader and writer whose calls fail.
+/// A reader and writer whose calls fail in this way.
 #[derive(Drop)]
-struct Broken;
+struct Broken {
+    kind: ErrorKind,
+}
+
+fn broken(kind: ErrorKind) -> Broken {
+    Broken { kind }
+}
 
 impl Read for Broken {
     fn read(&mut self, _bytes: &mut [u8]) -> io::Result<usize> {
-        Err(io::Error::from(ErrorKind::Other))
+        Err(io::Error::from(self.kind))
     }
 }
 
 impl Write for Broken {
     fn write(&mut self, _bytes: &[u8]) -> io::Result<usize> {
-        Err(io::Error::from(ErrorKind::Other))
+        Err(io::Error::from(self.kind))
     }
 
     fn flush(&mut self) -> io::Result<()> {
@@ -199,7 +206,7 @@ const WATCHES_A: &[u8] = b"\xa5\x00\xa5\x01\x00\x00\x00\x02/a\x00";
 fn tells_a_broken_reader(rt: HostRuntime) -> Result<(), Fail> {
     let alloc = rt.alloc();
     let input = b"[\"watch\",\"/a\"]\n[\"watch\",\"/b\"".as_slice();
-    let mut reader = BufReader::new(alloc, input.chain(Broken))?;
+    let mut reader = BufReader::new(alloc, input.chain(broken(ErrorKind::Other)))?;
     let end = end_of(alloc, new_file(alloc)?, &mut reader)?;
     let output = "{\"version\":\"w1\",\"watch\":\"/a\"}\n";
     let wanted = (1, output, DEVICE_FAILED, WATCHES_A);
@@ -207,27 +214,34 @@ fn tells_a_broken_reader(rt: HostRuntime) -> Result<(), Fail> {
     Ok(())
 }
 
-/// The first command is accepted, and then its reply can't be written.
-fn tells_a_broken_writer(alloc: Global) -> Result<bool, Fail> {
+/// The first command is accepted, and then its reply can't be written. Whether this is told so, and what was
+/// accepted stands.
+fn ends_with(alloc: Global, kind: ErrorKind, told: &str) -> Result<bool, Fail> {
     let disk = new_file(alloc)?;
     let mut faults = Vec::new(alloc);
-    let mut reader = LINES.as_bytes();
-    let (status, disk) = lines_on(alloc, disk, &mut reader, &mut Broken, &mut faults);
-    let is_told = status == 1 && faults.as_slice() == DEVICE_FAILED.as_bytes();
+    let mut reader = Input::new(LINES.as_bytes());
+    let mut writer = Output::new(broken(kind));
+    let mut telling = Output::new(&mut faults);
+    let (status, disk) = lines_on(alloc, disk, &mut reader, &mut writer, &mut telling);
+    let is_told = status == 1 && faults.as_slice() == told.as_bytes();
     let content = content_of(alloc, disk)?;
     Ok(is_told && journal(&content, WATCHES_A.len()) == WATCHES_A)
 }
 
 /// The status of a session over a disk where nothing can be told.
 fn status_untold(alloc: Global, disk: MemDisk) -> u8 {
-    let mut reader = LINES.as_bytes();
-    lines_on(alloc, disk, &mut reader, &mut Broken, &mut Broken).0
+    let mut reader = Input::new(LINES.as_bytes());
+    let mut writer = Output::new(broken(ErrorKind::Other));
+    let mut telling = Output::new(broken(ErrorKind::Other));
+    lines_on(alloc, disk, &mut reader, &mut writer, &mut telling).0
 }
 
 #[test]
 fn tells_broken_writers(rt: HostRuntime) -> Result<(), Fail> {
     let alloc = rt.alloc();
-    assert!(rt; tells_a_broken_writer(alloc)?);
+    assert!(rt; ends_with(alloc, ErrorKind::Other, DEVICE_FAILED)?);
+    // nobody reads the replies any more
+    assert!(rt; ends_with(alloc, ErrorKind::BrokenPipe, "")?);
     let damaged = disk_of(alloc, b"\x05")?;
     assert!(rt; status_untold(alloc, damaged) == 1);
     Ok(())

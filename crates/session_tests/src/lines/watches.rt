@@ -7,7 +7,7 @@ use std::io::BufReader;
 use std::test::Fail;
 use wm_disk::MemDisk;
 use wm_server::run::{LineNumbers, run};
-use wm_server::{LocalFront, Session};
+use wm_server::{Input, LocalFront, Output, Session};
 
 /// The lines of earlier sessions, those of a session over the same file, their replies, and how the journal
 /// begins then: a gate and a command for each start and each accepted line, and a closed gate.
@@ -84,9 +84,10 @@ fn answers_a_line(alloc: Global, session: &mut MemSession) -> Result<bool, Fail>
 
 fn answers_a_reader(alloc: Global, session: &mut MemSession) -> Result<bool, Fail> {
     let mut output = Vec::new(alloc);
-    let mut reader = b"[\"watch-list\"]\n[\"watch-list\"]x\n".as_slice();
+    let mut reader = Input::new(b"[\"watch-list\"]\n[\"watch-list\"]x\n".as_slice());
     let mut moments = LineNumbers::new();
-    let faults = run(alloc, session, &mut moments, &mut reader, &mut output)?;
+    let mut writer = Output::new(&mut output);
+    let faults = run(alloc, session, &mut moments, &mut reader, &mut writer)?;
     let wanted =
         b"{\"roots\":[\"/r\"],\"version\":\"w1\"}\n{\"error\":\"1 BadLine\",\"version\":\"w1\"}\n";
     Ok(faults == 0 && output.as_slice() == wanted.as_slice())

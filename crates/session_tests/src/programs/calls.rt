@@ -7,6 +7,7 @@ use std::fs::{File, Files};
 use std::test::Fail;
 use wm_server::programs::watchmand;
 use wm_server::system::Host;
+use wm_server::{Input, Output};
 
 const DEVICE_FAILED: &str = "watchmand: 13 DeviceFailed\n";
 
@@ -50,17 +51,19 @@ fn called(
     words: &[&str],
     input: &str,
 ) -> Result<(u8, String, String), Fail> {
-    let mut reader = input.as_bytes();
     let mut output = Vec::new(alloc);
     let mut faults = Vec::new(alloc);
+    let mut reader = Input::new(input.as_bytes());
+    let mut writer = Output::new(&mut output);
+    let mut told = Output::new(&mut faults);
     let mut system = Host::new(files);
     let status = watchmand(
         alloc,
         &mut system,
         words,
         &mut reader,
-        &mut output,
-        &mut faults,
+        &mut writer,
+        &mut told,
     );
     Ok((
         status,

@@ -1,6 +1,6 @@
 use Rattle.std.proofs.Common.{◌≡◌, ◌<◌, rules, length}
 use Rattle.wm_server.proofs.InputLemmas.{went_on, closed_kept, closed_lost, ended_kept, ended_lost, ended_none, empty, not_empty}
-use Rattle.wm_server.proofs.input.read_line.Goals as goal
+use Rattle.wm_server.proofs.input.line_off.Goals as goal
 
 pub returns-in-Closed : goal.returns-in-Closed
 returns-in-Closed g c = λ input e.

@@ -1,7 +1,7 @@
 use Rattle.std.proofs.Common.{◌++◌, List, ℕ, sym, ap, ◌∙◌}
 use Rattle.wm_server.specs.Replies.{line_text, refusal_reply}
 use Rattle.wm_server.proofs.PlainLemmas.{fault_told}
-use Rattle.wm_server.proofs.session.Session.answer.Goals as goal
+use Rattle.wm_server.proofs.session.Session.line.Goals as goal
 
 pub returns-then-is_fault-clause-ok : goal.returns-then-is_fault-clause-ok
 returns-then-is_fault-clause-ok g c =
