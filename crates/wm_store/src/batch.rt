@@ -330,8 +330,8 @@ fn refuse_from(replies: &mut Vec<Reply>, first: usize)
     }
 }
 
-/// Meets the commands of a batch that aren't answered yet, and gives the replies to all; or the registry before the batch, where one of
-/// its groups had been committed when the device failed.
+/// Meets the commands of a batch that aren't answered yet, and gives the replies to all; or the registry
+/// before the batch, where one of its groups had been committed when the device failed.
 pub(crate) fn run<D: Disk + Drop>(
     alloc: Global,
     keeper: &mut Keeper<D, Registry>,

@@ -123,8 +123,9 @@ impl<D: Disk + Drop> Store<D> {
     /// behind one for which a checkpoint was, and to all of a group whose commit was; `15 Exhausted` to
     /// all commands from the first on that needs a checkpoint where the slot's number stands at 2^63 - 1.
     /// The commands are written in groups, each as large as the journal's room; where the next one
-    /// doesn't fit, the state goes into the other slot first. A batch of which none is accepted makes no
-    /// call of the disk, unless a checkpoint came before a command without memory.
+    /// doesn't fit, the state goes into the other slot first. The registry is copied once a command is to
+    /// be accepted, and not before. A batch of which none is accepted makes no call of the disk, unless a
+    /// checkpoint came before a command without memory.
     ///
     /// `12 StoreFailed` where a call before was answered `13` or the store is closed, and `16 NoMemory`
     /// where there is no room for the replies or for a copy of the registry: no call of the disk, and

@@ -1,14 +1,14 @@
 use Rattle.std.proofs.Common.{◌≡◌, ◌⊎◌, ⊎_elim, inl, inr, refl, sym, ◌∙◌, ap, subst, arith, ℕ, ◌+◌, length, take, List, [], true, false, vec_len}
 use Rattle.std.specs.Prelude.{Option, None}
 use Rattle.std.specs.Option.{unwrap_or}
-use Rattle.wm_registry.specs.Roots.{State}
-use Rattle.wm_registry.specs.MachineLaws.{watches}
-use Rattle.wm_checkpoint.specs.Meanings.{MeansBeginning, MeansState}
-use Rattle.wm_checkpoint.specs.Kept.{disk_of, state_of, has_failed, number_of}
 use Rattle.std.proofs.lemmas.List.{take_all}
 use Rattle.wm_journal.specs.Records.{taken}
+use Rattle.wm_registry.specs.Roots.{State}
+use Rattle.wm_registry.specs.MachineLaws.{watches}
 use Rattle.wm_registry.specs.Commands.{command_spelling}
 use Rattle.wm_registry.specs.declared.command.Command.{Command}
+use Rattle.wm_checkpoint.specs.Meanings.{MeansBeginning, MeansState}
+use Rattle.wm_checkpoint.specs.Kept.{disk_of, state_of, has_failed, number_of}
 use Rattle.wm_checkpoint.specs.Machines.{replay_on}
 use Rattle.wm_checkpoint.proofs.Numbering.{kept_numbered, numbered_more}
 use Rattle.wm_store.specs.Batches.{accepted_of}
