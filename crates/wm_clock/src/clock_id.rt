@@ -1,3 +1,5 @@
+//! One moment of one root, and its one text.
+//! Definitions: specs/Clocks.antt. Tests: leaf_tests/src/clocks/clock_ids.rt.
 ghost use Rattle.std.specs.Prelude.{◌≡◌, ◌++◌, ◌+◌, ◌≤◌, vec_len, vec_capacity, string_bytes, IfOk};
 ghost use Rattle.wm_clock.specs.Clocks.{clock_text};
 

@@ -1,3 +1,5 @@
+//! What a client may ask from: its text names a clock or a cursor.
+//! Definitions: specs/Clocks.antt. Tests: leaf_tests/src/clocks/clock_specs.rt.
 ghost use Rattle.std.specs.Prelude.{◌≡◌, ◌≢◌, ◌↔◌, ◌∷◌, true, Some, None, IfOk, IfErr, IsErrOf};
 ghost use Rattle.wm_clock.specs.Clocks.{ClockRead, Reads, is_cursor, spec_of};
 

@@ -1,3 +1,5 @@
+//! The name under which a client keeps a cursor.
+//! Definitions: specs/Cursors.antt. Tests: leaf_tests/src/clocks/cursor_names.rt.
 ghost use Rattle.std.specs.Prelude.{◌≡◌, ◌≢◌, ◌↔◌, ℕ, List, true, false, string_bytes, IfOk, IfErr, IsErrOf, IsUtf8};
 ghost use Rattle.std.proofs.Common.{rules};
 ghost use Rattle.std.specs.Cmp.{partial_equiv_from_equiv};

@@ -1,3 +1,5 @@
+//! What holds of all clock texts: a function that does nothing, there for its contract alone.
+//! Definitions: specs/Laws.antt.
 ghost use Rattle.wm_clock.specs.Laws.{OneText, IsReadBack, Agree};
 
 /// The laws of clock texts: no text is that of two clocks, a clock in range is read back from its text,

@@ -2,6 +2,8 @@
 //!
 //! A [`ClockId`] has one text, `c:I:R:T`. A [`ClockSpec`] is what a client's text names: such a moment,
 //! the clock of another instance, or a cursor, `n:` and a [`CursorName`].
+//!
+//! Tests: leaf_tests/src/clocks.
 #![tactic(auto)]
 
 mod clock_id;

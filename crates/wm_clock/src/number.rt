@@ -1,3 +1,6 @@
+//! The decimal numbers in a clock's text: each number has one text, without leading zeros.
+//! Definitions: specs/Clocks.antt.
+//! Tests: leaf_tests/src/clocks/clock_ids.rt, leaf_tests/src/clocks/clock_specs.rt.
 ghost use Rattle.std.specs.Prelude.{◌≡◌, ◌++◌, ◌+◌, ◌≤◌, vec_len, vec_capacity, decimal};
 ghost use Rattle.wm_clock.specs.Clocks.{NumberRead};
 

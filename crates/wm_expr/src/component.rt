@@ -1,3 +1,6 @@
+//! Whether one component of a pattern, between two slashes, fits one of a path.
+//! Definitions: specs/Patterns.antt, specs/Globs.antt.
+//! Tests: view_tests/src/expressions/patterns.rt.
 ghost use Rattle.std.specs.Prelude.{◌≡◌};
 ghost use Rattle.wm_expr.specs.Patterns.{behind_a_run, fits_byte as fits_byte_lem, fits_component as fits_component_lem};
 ghost use Rattle.wm_expr.specs.Globs.{front, front_of};

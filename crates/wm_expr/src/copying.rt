@@ -1,3 +1,5 @@
+//! Copies of expressions. A copy stands for the same term.
+//! Definitions: specs/Views.antt. Tests: view_tests/src/expressions/meanings.rt.
 ghost use Rattle.std.specs.Prelude.{◌≡◌, IfOk, map, string_bytes};
 ghost use Rattle.wm_expr.specs.Views.{term, terms};
 

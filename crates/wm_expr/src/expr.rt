@@ -1,3 +1,5 @@
+//! An expression as a tree of terms; what it means is said in meaning.rt.
+//! Definitions: specs/Terms.antt, specs/Views.antt. Tests: view_tests/src/expressions.
 use wm_names::Kind;
 
 /// Which part of a path a term looks at.

@@ -1,3 +1,6 @@
+//! What holds of every expression, and of worked examples: functions there for their contracts.
+//! Definitions: specs/Meanings.antt, specs/Rows.antt.
+//! Tests: view_tests/src/expressions/meanings.rt.
 ghost use Rattle.std.specs.Prelude.{◌≡◌, true};
 ghost use Rattle.wm_expr.specs.Meanings.{ReadsPathAlone, is_path_only};
 ghost use Rattle.wm_expr.specs.Rows.{DeepestRead, ExpressionsRead, OthersRefused, PathOnlyRows, PatternRows, SuffixRows, TermRows};

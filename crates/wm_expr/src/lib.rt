@@ -2,6 +2,8 @@
 //!
 //! [`Expr::read`] takes just the JSON values that are expressions (specs/Readings.antt), and
 //! [`Expr::holds`] answers as they are meant (specs/Meanings.antt).
+//!
+//! Tests: view_tests/src/expressions.
 #![tactic(auto)]
 
 mod component;

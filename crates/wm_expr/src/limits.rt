@@ -1,3 +1,5 @@
+//! How deep an expression may be, and how many terms it may have.
+//! Definitions: specs/Limits.antt. Tests: view_tests/src/expressions/readings.rt.
 ghost use Rattle.std.specs.Prelude.{◌≡◌, nat_le};
 ghost use Rattle.wm_expr.specs.Limits.{count, count_all, taken_from};
 ghost use Rattle.wm_expr.specs.Views.{term, terms};

@@ -1,3 +1,5 @@
+//! Of which files an expression holds, and whether their paths alone decide.
+//! Definitions: specs/Meanings.antt. Tests: view_tests/src/expressions/meanings.rt.
 ghost use Rattle.std.specs.Prelude.{◌≡◌, string_bytes};
 ghost use Rattle.std.specs.List.{list_any};
 ghost use Rattle.std.specs.Str.{bytes_eq};

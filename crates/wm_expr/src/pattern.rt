@@ -1,3 +1,6 @@
+//! Whether a pattern of `match` fits a path: `**` here, each other component in component.rt.
+//! Definitions: specs/Patterns.antt, specs/Globs.antt.
+//! Tests: view_tests/src/expressions/patterns.rt.
 ghost use Rattle.std.specs.Prelude.{◌≡◌, ◌∷◌, not, ◌&&◌, ◌||◌, ◌==◌, option_map};
 ghost use Rattle.std.specs.List.{list_all, position};
 ghost use Rattle.wm_names.specs.Paths.{components};

@@ -1,3 +1,6 @@
+//! Reads an expression from JSON, down to 32 levels and no further.
+//! Definitions: specs/Readings.antt, specs/Within.antt.
+//! Tests: view_tests/src/expressions/readings.rt.
 ghost use Rattle.std.specs.Prelude.{◌≡◌, ◌≢◌, Some, None, IfOk, IfErr, map};
 ghost use Rattle.serde_json.specs.View.{items_view, view};
 ghost use Rattle.wm_expr.specs.Readings.{each, expression_of};

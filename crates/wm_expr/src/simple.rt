@@ -1,3 +1,5 @@
+//! Reads the terms that hold no other term, such as `name`, `size` and `match`.
+//! Definitions: specs/Readings.antt. Tests: view_tests/src/expressions/readings.rt.
 ghost use Rattle.std.specs.Prelude.{◌≡◌, ◌≢◌, ◌∷◌, [], Some, None, IfOk, IfErr, map, string_bytes, option_and_then, option_map};
 ghost use Rattle.serde_json.specs.Find.{as_str};
 ghost use Rattle.serde_json.specs.View.{items_view, view};

@@ -1,3 +1,5 @@
+//! What the words and letters inside an expression stand for.
+//! Definitions: specs/Readings.antt. Tests: view_tests/src/expressions/readings.rt.
 ghost use Rattle.std.specs.Prelude.{◌≡◌, IfSome, option_map};
 ghost use Rattle.wm_expr.specs.Limits.{depth};
 ghost use Rattle.wm_expr.specs.Readings.{comparison_of, kind_of, plain_of, scope_named as scope_named_lem};

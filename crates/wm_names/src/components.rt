@@ -1,3 +1,6 @@
+//! What may stand between the slashes of a path.
+//! Definitions: specs/Paths.antt.
+//! Tests: leaf_tests/src/names/root_paths.rt, leaf_tests/src/names/rel_paths.rt.
 ghost use Rattle.std.specs.Prelude.{◌≡◌, ◌==◌, not};
 ghost use Rattle.std.specs.List.{list_all};
 ghost use Rattle.wm_names.specs.Paths.{components, is_component as is_component_lem, is_dots as is_dots_lem};

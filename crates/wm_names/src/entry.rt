@@ -1,3 +1,5 @@
+//! What is known of a file besides its path, and when two such are the same.
+//! Definitions: specs/Entries.antt. Tests: leaf_tests/src/names/entries.rt.
 ghost use Rattle.std.specs.Prelude.{◌≡◌};
 ghost use Rattle.wm_names.specs.Entries.{same_kind as same_kind_lem, same_meta as same_meta_lem};
 

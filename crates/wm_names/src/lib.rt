@@ -2,6 +2,8 @@
 //!
 //! A [`RootPath`] or [`RelPath`] is made by its `read` alone, so whoever holds one need not test it
 //! again.
+//!
+//! Tests: leaf_tests/src/names.
 #![tactic(auto)]
 
 mod components;

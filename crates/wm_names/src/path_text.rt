@@ -1,3 +1,5 @@
+//! The text of a root path; a short one takes no memory of its own.
+//! Definitions: specs/PathTexts.antt. Tests: leaf_tests/src/names/root_paths.rt.
 ghost use Rattle.std.specs.Prelude.{◌≡◌, IfOk};
 ghost use Rattle.wm_names.specs.PathTexts.{text_bytes};
 

@@ -1,3 +1,5 @@
+//! The path of a file below a root: its rules, its order, and what is below what.
+//! Definitions: specs/Paths.antt. Tests: leaf_tests/src/names/rel_paths.rt.
 ghost use Rattle.std.specs.Prelude.{◌≡◌, ◌≢◌, ◌↔◌, ℕ, List, true, false, nat_eq, refl, string_bytes, IfOk, IfErr, IsErrOf, IsUtf8};
 ghost use Rattle.std.specs.Arc.{arc_str_bytes};
 ghost use Rattle.std.specs.Ordering.{nat_cmp, as_partial_cmp};

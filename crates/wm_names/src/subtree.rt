@@ -1,3 +1,5 @@
+//! The part of a root that a listing is about: all of it, or what is below one folder.
+//! Definitions: specs/Entries.antt. Tests: leaf_tests/src/names/subtrees.rt.
 ghost use Rattle.std.specs.Prelude.{◌≡◌};
 ghost use Rattle.wm_names.specs.Entries.{covers, is_whole};
 

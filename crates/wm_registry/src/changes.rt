@@ -1,3 +1,5 @@
+//! Makes the change that a command asks for, where replies.rt would accept it.
+//! Definitions: specs/Registry.antt. Tests: registry_tests/src/registries.rt.
 ghost use Rattle.std.specs.Prelude.{◌≡◌, ◌≢◌, ◌≤◌, ◌+◌, length, true, OnOk, OnErr};
 ghost use Rattle.wm_registry.specs.Roots.{without_first};
 ghost use Rattle.wm_registry.specs.Spelling.{IsState, state_spelling};

@@ -1,3 +1,6 @@
+//! The commands that change a registry, and their bytes in the state file.
+//! Definitions: specs/Commands.antt.
+//! Tests: registry_tests/src/commands.rt, registry_tests/src/other_bytes.rt.
 ghost use Rattle.std.specs.Prelude.{◌≡◌, ◌++◌, ◌∷◌, take, length, OnOk, OnErr};
 ghost use Rattle.wm_wire.specs.Spelling.{text};
 ghost use Rattle.wm_registry.specs.Commands.{IsCommand, command_spelling};

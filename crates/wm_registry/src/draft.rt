@@ -1,3 +1,5 @@
+//! A copy of a registry on which the commands of a batch are tried, one after another.
+//! Definitions: specs/Registry.antt, specs/Roots.antt. Tests: registry_tests/src/drafts.rt.
 ghost use Rattle.std.specs.Prelude.{◌≡◌, ◌≢◌, ◌≤◌, ◌+◌, true, length, IfOk};
 ghost use Rattle.std.specs.Bool.{OnTrue, OnFalse};
 ghost use Rattle.wm_registry.specs.declared.command.Command.TheVariants as commands;

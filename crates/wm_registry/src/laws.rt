@@ -1,3 +1,5 @@
+//! What holds of every registry: a function that does nothing, there for its contract alone.
+//! Definitions: specs/Laws.antt.
 ghost use Rattle.wm_registry.specs.Laws.{AcceptedChanges, NumbersInOrder, NumbersRise, OthersLeave, SameIsEqual};
 
 /// What holds of every registry, whatever the commands are.

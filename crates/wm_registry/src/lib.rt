@@ -3,6 +3,8 @@
 //! A [`Registry`] changes by [`Registry::apply`] alone. A command that changes it is *accepted*: the
 //! spellings of the accepted commands are what a state file keeps, and their replay is the registry
 //! again.
+//!
+//! Tests: registry_tests/src.
 #![tactic(auto)]
 
 mod changes;

@@ -1,3 +1,5 @@
+//! The registry as the state that a keeper keeps: wm_checkpoint applies and copies it by this.
+//! Definitions: specs/MachineLaws.antt. Tests: registry_tests/src/registries.rt.
 ghost use Rattle.wm_registry.specs.Registry.{after as after_lem, changes as changes_lem, reply_to};
 ghost use Rattle.wm_registry.specs.MachineLaws.{alive_registry, idle_registry, small_registry};
 

@@ -1,3 +1,6 @@
+//! The bytes of a root's path, by themselves and as a value that can be spelled.
+//! Definitions: specs/PathSpelling.antt.
+//! Tests: registry_tests/src/commands.rt, registry_tests/src/other_bytes.rt.
 ghost use Rattle.std.specs.Prelude.{◌≡◌, ◌++◌, length, IfOk, OnOk, OnErr};
 ghost use Rattle.wm_wire.specs.Spelling.{text, Takes};
 ghost use Rattle.wm_registry.specs.PathSpelling.{IsPath, alone_path, short_path};

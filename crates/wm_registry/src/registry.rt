@@ -1,3 +1,5 @@
+//! The watched roots with the counters beside them, and the one call that changes them.
+//! Definitions: specs/Registry.antt, specs/Roots.antt. Tests: registry_tests/src/registries.rt.
 ghost use Rattle.std.specs.Prelude.{◌≡◌, ◌≢◌, true, IfOk};
 
 use crate::command::Command;

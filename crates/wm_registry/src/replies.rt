@@ -1,3 +1,6 @@
+//! How a command would be met, which changes nothing; the limits of a registry are kept here.
+//! Definitions: specs/Registry.antt.
+//! Tests: registry_tests/src/room.rt, registry_tests/src/registries.rt.
 ghost use Rattle.std.specs.Prelude.{◌≡◌, ◌+◌, ◌-◌, ◌^◌, ◌<◌, ◌≤◌, if◌then◌else◌, false, length, nat_lt, Some};
 ghost use Rattle.wm_registry.specs.declared.command.Command.TheVariants as commands;
 ghost use Rattle.wm_registry.specs.Registry.{reply_to as reply_to_lem, reply_to_trigger as reply_to_trigger_lem};

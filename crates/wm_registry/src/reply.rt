@@ -1,3 +1,5 @@
+//! How a command was met, and whether that is a change.
+//! Definitions: specs/Registry.antt. Tests: registry_tests/src/registries.rt.
 ghost use Rattle.std.specs.Prelude.{◌≡◌};
 ghost use Rattle.wm_registry.specs.Registry.{is_change as is_change_lem};
 

@@ -1,4 +1,5 @@
 //! One look-up for a root that is to be new.
+//! Tests: registry_tests/src/registries.rt.
 ghost use Rattle.std.specs.Prelude.{◌≡◌, ◌++◌, ◌∷◌, [], true, false, None, is_some, IfOk, OnErr};
 ghost use Rattle.std.specs.Map.{lookup};
 ghost use Rattle.std.specs.Str.{bytes_eq};

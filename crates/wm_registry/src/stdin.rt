@@ -1,3 +1,5 @@
+//! What the program of a trigger reads.
+//! Definitions: specs/Triggers.antt, specs/Spelling.antt. Tests: registry_tests/src/triggers.rt.
 ghost use Rattle.std.specs.Prelude.{◌≡◌};
 ghost use Rattle.wm_wire.specs.Spelling.{Every};
 ghost use Rattle.wm_registry.specs.Spelling.{stdin_spelling};

@@ -1,3 +1,5 @@
+//! The name of a trigger, once among those of its root.
+//! Definitions: specs/Triggers.antt, specs/Spelling.antt. Tests: registry_tests/src/names.rt.
 ghost use Rattle.std.specs.Prelude.{◌≡◌, ◌≢◌, ◌↔◌, ◌<◌, ◌≤◌, List, ℕ, false, length, IfOk, IfErr, IsErrOf};
 ghost use Rattle.wm_wire.specs.Spelling.{text};
 ghost use Rattle.wm_registry.specs.Spelling.{IsName};

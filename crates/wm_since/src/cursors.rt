@@ -1,3 +1,5 @@
+//! The named cursors of a root: for each name the clock up to which its client was told.
+//! Definitions: specs/Cursors.antt. Tests: view_tests/src/answers/cursors.rt.
 ghost use Rattle.std.specs.Prelude.{◌≡◌, ◌≤◌, [], true, length, IfOk};
 ghost use Rattle.std.specs.List.{IsDistinct};
 ghost use Rattle.std.specs.Map.{keys_of};

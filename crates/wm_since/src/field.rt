@@ -1,3 +1,5 @@
+//! What may be told of a file, and the name of each such field.
+//! Definitions: specs/Fields.antt. Tests: view_tests/src/answers/rendering.rt.
 ghost use Rattle.std.specs.Prelude.{◌≡◌};
 ghost use Rattle.wm_since.specs.Fields.{field_of, name_of};
 

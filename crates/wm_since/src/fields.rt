@@ -1,3 +1,5 @@
+//! The fields that one question asks for.
+//! Definitions: specs/Fields.antt. Tests: view_tests/src/answers/rendering.rt.
 ghost use Rattle.std.specs.Prelude.{◌≡◌, ◌≢◌, ◌↔◌, ◌<◌, true, None, Some, length, map, is_some, IfOk, IfErr, IsErrOf};
 ghost use Rattle.std.specs.List.{filter, list_all, list_any};
 ghost use Rattle.std.specs.Str.{bytes_eq};

@@ -1,3 +1,5 @@
+//! What holds of every answer, client and cursor: functions there for their contracts alone.
+//! Definitions: specs/Answers.antt, specs/Matching.antt, specs/Cursors.antt.
 ghost use Rattle.std.specs.Prelude.{◌≡◌, Bool, Option, false};
 ghost use Rattle.wm_names.specs.declared.entry.Entry.{Entry};
 ghost use Rattle.wm_clock.specs.declared.clock_id.ClockId.{ClockId};

@@ -9,6 +9,8 @@
 //! [`render`] writes an answer's files as JSON, with the [`Fields`] that were asked for (specs/Fields.antt,
 //! specs/Rendered.antt). [`Cursors`] keeps for a name the clock up to which its client was told
 //! (specs/Cursors.antt).
+//!
+//! Tests: view_tests/src/answers.
 #![tactic(auto)]
 
 mod answering;

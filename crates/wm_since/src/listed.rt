@@ -1,3 +1,5 @@
+//! A file as an answer tells it, and the list of them.
+//! Definitions: specs/Answers.antt. Tests: view_tests/src/answers/since.rt.
 ghost use Rattle.std.specs.Prelude.{◌≡◌};
 
 use std::marker::Model;

@@ -1,3 +1,5 @@
+//! A question about a root, and the answer to it.
+//! Definitions: specs/Answers.antt. Tests: view_tests/src/answers/since.rt.
 use crate::listed::ListedFiles;
 use wm_clock::ClockId;
 

@@ -1,3 +1,5 @@
+//! Writes an answer's files as JSON, one file at a time.
+//! Definitions: specs/Rendered.antt, specs/Texts.antt. Tests: view_tests/src/answers/rendering.rt.
 ghost use Rattle.std.specs.Prelude.{◌≡◌, ◌++◌, ◌≤◌, vec_capacity, IfOk, OnOk, OnErr};
 ghost use Rattle.serde_json.specs.Data.{boolean, number, string, unsigned};
 ghost use Rattle.serde_json.specs.Written.{compact_text};

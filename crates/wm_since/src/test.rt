@@ -1,3 +1,6 @@
+//! What a question asks of a file: a condition that each entry passes or fails.
+//! Definitions: specs/Tests.antt.
+//! Tests: view_tests/src/answers/since.rt, view_tests/src/answers/expressions.rt.
 ghost use Rattle.std.specs.Prelude.{◌≡◌, Bool, true, refl, IfOk};
 ghost use Rattle.wm_names.specs.declared.entry.Entry.{Entry};
 ghost use Rattle.wm_expr.specs.Meanings.{holds as holds_lem, is_path_only as is_path_only_lem};

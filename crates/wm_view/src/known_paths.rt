@@ -1,3 +1,6 @@
+//! What is known of each path, in three trees: by path, by the tick of the last change, and of
+//! what is gone. Its parts are the files of known_paths/.
+//! Definitions: specs/KnownPaths.antt. Tests: view_tests/src/views.
 ghost use Rattle.std.specs.Prelude.{◌≡◌, [], ◌≤◌, ◌<◌, OnOk, OnErr, IfOk, is_some, true, false, Some, None, ◌≢◌, IfSome, ℕ, nat_lt, filter, not, ◌&&◌, fold};
 ghost use Rattle.std.specs.BTreeMap.{get};
 ghost use Rattle.std.specs.FinMap.{find, put};

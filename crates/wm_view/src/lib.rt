@@ -5,6 +5,8 @@
 //! of maps, one a tick. A contract sees a [`View`] as its history's summary (specs/Summaries.antt), and
 //! says of each operation what every history with this summary makes of it, and the same as a function
 //! of the summary (specs/Steps.antt). [`every_operation`] ties the two.
+//!
+//! Tests: view_tests/src/views.
 #![tactic(auto)]
 
 mod changes;

@@ -1,3 +1,6 @@
+//! What each operation of a view does: its refusals in their order, the next tick and the floor.
+//! What is known of the paths is left to known_paths.rt.
+//! Definitions: specs/ViewStates.antt, specs/Steps.antt. Tests: view_tests/src/views.
 ghost use Rattle.std.specs.Prelude.{◌≡◌, ℕ, ◌+◌, ◌<◌, suc, true, None, OnOk, OnErr, IfOk, fold, max, ◌&&◌, ◌==◌};
 ghost use Rattle.wm_names.specs.Entries.{is_whole};
 ghost use Rattle.std.specs.BTreeMap.{IsOrdered};

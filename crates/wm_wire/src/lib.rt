@@ -4,6 +4,8 @@
 //! follow each other are told apart with no mark between them. Numbers are big-endian; a text is its
 //! number of bytes in 32 bits and then the bytes, a list its number of items in 32 bits and then the items,
 //! a pair its parts in order, and a value that may be missing a byte and then the value.
+//!
+//! Tests: leaf_tests/src/spellings.
 #![tactic(auto)]
 
 mod list;

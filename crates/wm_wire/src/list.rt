@@ -1,3 +1,6 @@
+//! Lists with a limit on their length, whose spelling is always shorter than 2^32 bytes.
+//! Definitions: specs/Spelling.antt, specs/NotPushed.antt.
+//! Tests: leaf_tests/src/spellings/lists.rt.
 ghost use Rattle.std.specs.Prelude.{◌≡◌, ◌<◌, ◌≤◌, ◌^◌, ◌++◌, ◌∷◌, [], length, slice_index_or, slice_set, IfErr, OnOk, OnErr};
 ghost use Rattle.std.specs.List.{remove};
 ghost use Rattle.wm_wire.specs.Spelling.{IsList, list_spelling};

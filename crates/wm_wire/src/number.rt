@@ -1,3 +1,5 @@
+//! Numbers of 32 and 64 bits, spelled with the most significant byte first.
+//! Tests: leaf_tests/src/spellings/values.rt.
 ghost use Rattle.std.specs.Prelude.{◌<◌, ◌^◌};
 ghost use Rattle.wm_wire.specs.Laws.{alone_u32, alone_u64, short_u32, short_u64};
 ghost use Rattle.byteorder.specs.Endian.{big_bytes};

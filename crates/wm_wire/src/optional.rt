@@ -1,3 +1,5 @@
+//! Values that may be missing: a byte tells whether the value follows it.
+//! Definitions: specs/Spelling.antt. Tests: leaf_tests/src/spellings/optionals.rt.
 ghost use Rattle.std.specs.Prelude.{◌≡◌, ◌≤◌, ◌^◌, Option, Some, None, length, IfOk, IfErr, OnOk, OnErr};
 ghost use Rattle.std.specs.Option.{option_copied};
 ghost use Rattle.wm_wire.specs.Spelling.{IsOptional, optional_spelling};

@@ -1,3 +1,5 @@
+//! Two values, spelled one after the other with no mark between them.
+//! Definitions: specs/Spelling.antt. Tests: leaf_tests/src/spellings/pairs.rt.
 ghost use Rattle.std.specs.Prelude.{◌≡◌, ◌≤◌, ◌^◌, length, IfOk, IfErr, OnOk, OnErr};
 ghost use Rattle.wm_wire.specs.Spelling.{IsPair, pair_spelling};
 ghost use Rattle.wm_wire.specs.PairLaws.{alone_pair, short_pair};

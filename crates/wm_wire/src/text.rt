@@ -1,3 +1,5 @@
+//! Texts with a limit on their length: by themselves, and as a type that keeps the limit.
+//! Definitions: specs/Spelling.antt. Tests: leaf_tests/src/spellings/texts.rt.
 ghost use Rattle.std.specs.Prelude.{◌≡◌, ◌≤◌, ◌<◌, ◌^◌, ◌++◌, ℕ, List, length, string_bytes, option_map, IfOk, OnOk, OnErr};
 ghost use Rattle.std.specs.Cmp.{partial_equiv_from_equiv};
 ghost use Rattle.std.specs.Cmp.Lexicographic.{nat_list_eq_equiv};

@@ -1,3 +1,5 @@
+//! Truth values, spelled as one byte.
+//! Definitions: specs/Spelling.antt. Tests: leaf_tests/src/spellings/values.rt.
 ghost use Rattle.std.specs.Prelude.{Bool};
 ghost use Rattle.wm_wire.specs.Spelling.{truth, Every};
 ghost use Rattle.wm_wire.specs.Laws.{alone_truth, short_truth};

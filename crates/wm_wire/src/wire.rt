@@ -1,3 +1,5 @@
+//! What each type that is spelled promises: one spelling a value, and none begins another.
+//! Definitions: specs/Spelling.antt. Tests: leaf_tests/src/spellings.
 ghost use Rattle.std.specs.Prelude.{◌≡◌, ◌++◌, ◌<◌, ◌^◌, ℕ, List, length, IfOk, OnOk, OnErr};
 ghost use Rattle.wm_wire.specs.Spelling.{Takes};
 

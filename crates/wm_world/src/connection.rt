@@ -1,3 +1,5 @@
+//! A client as the world has it: what it holds, and the one answer on its way to it.
+//! Definitions: specs/Steps.antt, specs/Worlds.antt. Tests: session_tests/src/world/clients.rt.
 ghost use Rattle.std.specs.Prelude.{◌≡◌, OnOk, is_some, map};
 ghost use Rattle.wm_world.specs.Worlds.{connected, without_answer};
 ghost use Rattle.wm_world.specs.Steps.{receiving};

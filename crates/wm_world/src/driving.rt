@@ -1,3 +1,5 @@
+//! Drives a world through a list of events; the promise of the whole server is its contract.
+//! Definitions: specs/Headline.antt. Tests: session_tests/src/world.
 ghost use Rattle.std.specs.Prelude.{◌≡◌, IfErr, IfOk};
 ghost use Rattle.wm_disk.specs.declared.refusal.Refusal.TheVariants.{NoMemory as no_memory};
 ghost use Rattle.wm_world.specs.Headline.{IsDriven, IsFormatted};

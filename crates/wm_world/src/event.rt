@@ -1,3 +1,5 @@
+//! What may happen to a server and its clients, as values.
+//! Definitions: specs/Steps.antt. Tests: session_tests/src/world/sweep.rt.
 use wm_expr::Expr;
 use wm_names::RootPath;
 use wm_registry::Command;

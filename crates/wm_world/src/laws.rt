@@ -1,3 +1,5 @@
+//! What holds of every run of a world: a function there for its contract alone.
+//! Definitions: specs/Laws.antt.
 ghost use Rattle.wm_world.specs.Laws.{AcknowledgedStays, ClientsHold, InRange, KeptStays, NothingInvented, OneMoment, OneMomentOfAnswers, PendingIsOwn, RestartFinds, SlotBound};
 
 use wm_registry::every_registry;

@@ -1,3 +1,6 @@
+//! Which replies and refusals of a store end a drive or take the server down, and first views.
+//! Definitions: specs/Standings.antt, specs/Worlds.antt.
+//! Tests: session_tests/src/world/restarts.rt, session_tests/src/world/sweep.rt.
 ghost use Rattle.std.specs.Prelude.{◌≡◌, ◌≢◌, ◌++◌, ◌-◌, true, false, map, IfOk, OnOk};
 ghost use Rattle.std.specs.List.{list_any, range_with_len};
 ghost use Rattle.wm_disk.specs.declared.refusal.Refusal.TheVariants.{Exhausted as exhausted, NoMemory as no_memory};

@@ -1,3 +1,5 @@
+//! Finds the view of a root among those of the world, and does an operation to it.
+//! Definitions: specs/Standings.antt, specs/Worlds.antt. Tests: session_tests/src/world/sweep.rt.
 ghost use Rattle.std.specs.Prelude.{◌≡◌, ◌≢◌, IfErr, OnOk, position, find, option_map};
 ghost use Rattle.wm_view.specs.Steps.{step};
 ghost use Rattle.wm_world.specs.Worlds.{at_first};

@@ -1,3 +1,5 @@
+//! The world itself: one call for each kind of event, and each call is one row of `Step`.
+//! Definitions: specs/Steps.antt, specs/Standings.antt. Tests: session_tests/src/world.
 ghost use Rattle.std.specs.Prelude.{◌≡◌, ◌++◌, ◌∷◌, [], cond, map, option_map, IfOk, OnOk};
 ghost use Rattle.wm_expr.specs.Meanings.{is_path_only};
 ghost use Rattle.wm_expr.specs.Views.{term};

@@ -1,3 +1,5 @@
+//! Builds the trees from a first listing, all at once.
+//! Definitions: specs/KnownPaths.antt, specs/Changes.antt. Tests: view_tests/src/views/many.rt.
 ghost use Rattle.std.specs.Prelude.{◌≡◌, IfOk};
 ghost use Rattle.std.specs.BTreeMap as map;
 ghost use Rattle.std.specs.BTreeSet as set;

@@ -1,3 +1,5 @@
+//! Forgets the paths that have been gone for long enough.
+//! Definitions: specs/KnownPaths.antt, specs/Steps.antt. Tests: view_tests/src/views/ageing.rt.
 ghost use Rattle.std.specs.Prelude.{◌≡◌, [], ◌≤◌, ◌<◌, OnOk, OnErr, IfOk, is_some, true, false, Some, None, ◌≢◌, IfSome, ℕ, nat_lt, filter, not, ◌&&◌, fold};
 ghost use Rattle.std.specs.BTreeMap.{get};
 ghost use Rattle.std.specs.FinMap.{find, put};

@@ -1,3 +1,5 @@
+//! Lists what changed after a tick, and what exists, the latest change first.
+//! Definitions: specs/Summaries.antt. Tests: view_tests/src/views.
 ghost use Rattle.std.specs.Prelude.{◌≡◌, [], ◌≤◌, ◌<◌, OnOk, OnErr, IfOk, is_some, true, false, Some, None, ◌≢◌, IfSome, ℕ, nat_lt, filter, not, ◌&&◌, fold};
 ghost use Rattle.std.specs.BTreeMap.{get};
 ghost use Rattle.std.specs.FinMap.{find, put};

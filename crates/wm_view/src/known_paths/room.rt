@@ -1,3 +1,6 @@
+//! Makes room for all changes of an operation before the first is written, so that writing them
+//! (settling.rt) takes no memory and can't fail.
+//! Definitions: specs/KnownPaths.antt. Tests: view_tests/src/views.
 ghost use Rattle.std.specs.Prelude.{◌≡◌, [], ◌≤◌, ◌<◌, OnOk, OnErr, IfOk, is_some, true, false, Some, None, ◌≢◌, IfSome, ℕ, nat_lt, filter, not, ◌&&◌, fold};
 ghost use Rattle.std.specs.BTreeMap.{get};
 ghost use Rattle.std.specs.FinMap.{find, put};

@@ -1,3 +1,6 @@
+//! What a listing says of the paths that it leaves out: those below its folder are gone.
+//! Definitions: specs/Changes.antt, specs/KnownPaths.antt.
+//! Tests: view_tests/src/views/recrawling.rt.
 ghost use Rattle.std.specs.Prelude.{◌≡◌, ◌++◌, ◌∷◌, [], OnOk, IfOk, IfSome, option_and_then, Some};
 ghost use Rattle.std.specs.BTreeMap.{IsOrdered};
 ghost use Rattle.std.specs.BTreeMap.Range.{IsLeBy, IsLtBy, entries_between};
