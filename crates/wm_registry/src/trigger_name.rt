@@ -1,4 +1,4 @@
-//! The name of a trigger, once among those of its root.
+//! The name of a trigger, with its limit and its bytes.
 //! Definitions: specs/Triggers.antt, specs/Spelling.antt. Tests: registry_tests/src/names.rt.
 ghost use Rattle.std.specs.Prelude.{◌≡◌, ◌≢◌, ◌↔◌, ◌<◌, ◌≤◌, List, ℕ, false, length, IfOk, IfErr, IsErrOf};
 ghost use Rattle.wm_wire.specs.Spelling.{text};

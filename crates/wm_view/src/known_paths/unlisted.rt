@@ -1,4 +1,4 @@
-//! What a listing says of the paths that it leaves out: those below its folder are gone.
+//! The paths below a listing's folder that it leaves out: gone, unless they changed since it began.
 //! Definitions: specs/Changes.antt, specs/KnownPaths.antt.
 //! Tests: view_tests/src/views/recrawling.rt.
 ghost use Rattle.std.specs.Prelude.{◌≡◌, ◌++◌, ◌∷◌, [], OnOk, IfOk, IfSome, option_and_then, Some};
