@@ -179,7 +179,7 @@ struct Broken {
     kind: ErrorKind,
 }
 
-fn broken(kind: ErrorKind) -> Broken {
+fn failing_by(kind: ErrorKind) -> Broken {
     Broken { kind }
 }
 
@@ -206,7 +206,7 @@ const WATCHES_A: &[u8] = b"\xa5\x00\xa5\x01\x00\x00\x00\x02/a\x00";
 fn tells_a_broken_reader(rt: HostRuntime) -> Result<(), Fail> {
     let alloc = rt.alloc();
     let input = b"[\"watch\",\"/a\"]\n[\"watch\",\"/b\"".as_slice();
-    let mut reader = BufReader::new(alloc, input.chain(broken(ErrorKind::Other)))?;
+    let mut reader = BufReader::new(alloc, input.chain(failing_by(ErrorKind::Other)))?;
     let end = end_of(alloc, new_file(alloc)?, &mut reader)?;
     let output = "{\"version\":\"w1\",\"watch\":\"/a\"}\n";
     let wanted = (1, output, DEVICE_FAILED, WATCHES_A);
@@ -220,7 +220,7 @@ fn ends_with(alloc: Global, kind: ErrorKind, told: &str) -> Result<bool, Fail> {
     let disk = new_file(alloc)?;
     let mut faults = Vec::new(alloc);
     let mut reader = Input::new(LINES.as_bytes());
-    let mut writer = Output::new(broken(kind));
+    let mut writer = Output::new(failing_by(kind));
     let mut telling = Output::new(&mut faults);
     let (status, disk) = lines_on(alloc, disk, &mut reader, &mut writer, &mut telling);
     let is_told = status == 1 && faults.as_slice() == told.as_bytes();
@@ -231,8 +231,8 @@ fn ends_with(alloc: Global, kind: ErrorKind, told: &str) -> Result<bool, Fail> {
 /// The status of a session over a disk where nothing can be told.
 fn status_untold(alloc: Global, disk: MemDisk) -> u8 {
     let mut reader = Input::new(LINES.as_bytes());
-    let mut writer = Output::new(broken(ErrorKind::Other));
-    let mut telling = Output::new(broken(ErrorKind::Other));
+    let mut writer = Output::new(failing_by(ErrorKind::Other));
+    let mut telling = Output::new(failing_by(ErrorKind::Other));
     lines_on(alloc, disk, &mut reader, &mut writer, &mut telling).0
 }
 
