@@ -1,7 +1,8 @@
 #!/usr/bin/env bash
 # Batches of 1, 8 and 64 commands through a store on a real file, the same writes and syncs by hand on a second
-# file, and single inserts by SQLite beside them, in one run. It shows the commands a second of each, and what
-# the store's next start finds.
+# file, and single inserts by SQLite beside them, in one run. It shows the commands a second of each, what single
+# commands cost the processor over one root and over 25 with 64 triggers each (on disks in memory, so that no device
+# is waited for), and what the store's next start finds.
 # Usage: bench/store.sh PROGRAM [ROUNDS]
 set -eu
 program=$(realpath "${1:-crates/store_bench/out/store_bench}")

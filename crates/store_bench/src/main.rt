@@ -4,22 +4,35 @@
 mod batches;
 mod by_hand;
 mod measured;
+mod processor;
 mod rounds;
 #[cfg(test)]
 mod tests;
 mod words;
 
 use crate::batches::SIZES;
+use crate::processor::{REGISTRIES, measured_costs};
 use crate::rounds::Sides;
 use crate::words::{USAGE, Words};
 use anyhow::{Context, Result, ensure};
 use std::env;
 use std::process::ExitCode;
+use wm_disk::MemDisk;
 use wm_server::file::{FileDisk, Unknown};
 
 /// A new file. An error where one is there already, or the device failed.
 fn made(rt: &HostRuntime, file: &str) -> Result<FileDisk<Unknown>> {
     FileDisk::<Unknown>::create(rt, file).context(format_args!("making {file}"))
+}
+
+/// Tells on standard error what single commands cost the processor, on disks in memory.
+fn bench_processor(rt: &HostRuntime, rounds: u32) -> Result<()> {
+    let alloc = rt.alloc();
+    for registry in REGISTRIES {
+        let sides = Sides::made(alloc, MemDisk::new(alloc, 0), MemDisk::new(alloc, 0))?;
+        rt.eprintln(&measured_costs(alloc, rt, sides, registry, rounds)?)?;
+    }
+    Ok(())
 }
 
 /// Measures on two new files, tells the speeds on standard error, and what a start finds on standard output.
@@ -68,5 +81,6 @@ fn main(rt: HostRuntime) -> Result<ExitCode> {
         return Ok(ExitCode::from(2));
     };
     bench(&rt, &words)?;
+    bench_processor(&rt, words.rounds)?;
     Ok(ExitCode::from(0))
 }

@@ -59,7 +59,7 @@ impl Measured {
 }
 
 /// The middle of these times, the greater of two; 0 where there is none.
-fn median(times: &mut Vec<u128>) -> u128 {
+pub fn median(times: &mut Vec<u128>) -> u128 {
     times.sort_unstable();
     match times.get(times.len() / 2) {
         Some(time) => *time,

@@ -7,7 +7,7 @@ use anyhow::{Result, ensure};
 use std::alloc::Global;
 use std::time::{Clock, Duration, Instant};
 use wm_disk::{Disk, Refusal};
-use wm_registry::Command;
+use wm_registry::{Command, Reply};
 use wm_store::{MAX_BATCH, Store};
 
 /// What a start finds.
@@ -79,6 +79,30 @@ impl<D: Disk + Drop> Sides<D> {
         Ok(measured.medians())
     }
 
+    /// A batch of one command, which has to be accepted. An error where it wasn't, or for want of memory.
+    pub fn accepts(&mut self, alloc: Global, command: Command) -> Result<()> {
+        let commands = vec![in alloc; command]?;
+        let replies = self.store.commit_batch(alloc, commands)?;
+        ensure!(all_change(&replies), "a command that wasn't accepted");
+        Ok(())
+    }
+
+    /// The time of a batch of one command, which has to change nothing. An error where it does, where the
+    /// clock failed, or for want of memory.
+    pub fn changes_nothing(
+        &mut self,
+        alloc: Global,
+        clock: &impl Clock,
+        command: Command,
+    ) -> Result<Duration> {
+        let commands = vec![in alloc; command]?;
+        let start = Instant::now(clock)?;
+        let replies = self.store.commit_batch(alloc, commands)?;
+        let time = start.elapsed(clock)?;
+        ensure!(!all_change(&replies), "a command that was accepted");
+        Ok(time)
+    }
+
     /// Closes the store, and starts it again over its disk. The refusals are the store's.
     pub fn start_again(self, alloc: Global) -> Result<Found, Refusal> {
         let mut store = self.store;
@@ -104,6 +128,11 @@ fn opened<D: Disk + Drop>(alloc: Global, disk: D) -> Result<Store<D>, Refusal> {
         Ok(store) => Ok(store),
         Err((refusal, _)) => Err(refusal),
     }
+}
+
+/// Whether all replies are to accepted commands.
+fn all_change(replies: &[Reply]) -> bool {
+    replies.iter().all(|reply| reply.is_change())
 }
 
 /// How long the store takes for a batch. An error where one of its commands wasn't accepted.
