@@ -6,6 +6,7 @@ use std::test::Fail;
 use wm_server::file::{FileDisk, Unknown};
 use wm_server::programs::watchmand;
 use wm_server::system::Host;
+use wm_server::{Input, Output};
 
 fn opens(files: &impl Files<File = File>, path: &str) -> bool {
     FileDisk::<Unknown>::open(files, path).is_ok()
@@ -20,14 +21,17 @@ fn served(
     let mut output = Vec::new(alloc);
     let mut faults = Vec::new(alloc);
     let words = ["lines", path];
+    let mut reader = Input::new(b"".as_slice());
+    let mut writer = Output::new(&mut output);
+    let mut told = Output::new(&mut faults);
     let mut system = Host::new(files);
     let status = watchmand(
         alloc,
         &mut system,
         &words,
-        &mut b"".as_slice(),
-        &mut output,
-        &mut faults,
+        &mut reader,
+        &mut writer,
+        &mut told,
     );
     Ok((status, String::from_utf8(faults)?))
 }

@@ -14,6 +14,16 @@ fn holds<R: Files<File = File> + AllocGlobal>(
     Ok(fs::read_to_string(rt, path)?.as_str() == text)
 }
 
+/// Whether the disk reads just these bytes.
+fn reads(disk: &mut FileDisk<Unknown>, bytes: [u8; 4]) -> Result<bool, Fail> {
+    if disk.len()? != 4 {
+        return Ok(false);
+    }
+    let mut back = [0; 4];
+    disk.read_at(0, &mut back)?;
+    Ok(back == bytes)
+}
+
 #[test]
 fn another_reads_what_each_call_did(rt: HostRuntime) -> Result<(), Fail> {
     const PATH: &str = "wm_server_file_second";
@@ -43,9 +53,7 @@ fn opening_changes_nothing(rt: HostRuntime) -> Result<(), Fail> {
     assert!(rt; holds(&rt, PATH, "abc")?);
     // What another descriptor writes is read.
     fs::write(&rt, PATH, b"wxyz".as_slice())?;
-    let mut back = [0; 4];
-    disk.read_at(0, &mut back)?;
-    assert!(rt; back == *b"wxyz" && disk.len()? == 4);
+    assert!(rt; reads(&mut disk, *b"wxyz")?);
     fs::remove_file(&rt, PATH)?;
     Ok(())
 }
