@@ -9,7 +9,19 @@ VIEW_BENCH := crates/view_bench/out/view_bench
 FILES ?= 100000
 SOURCES := crates.txt $(shell find crates -name out -prune -o -type f \( -name '*.rt' -o -name '*.antt' \) -print)
 
-.PHONY: test build run install bench bench-journal bench-store bench-view bench-match session examples kill state-file file-calls
+.PHONY: help clean uninstall test build run install bench bench-journal bench-store bench-view bench-match session examples kill state-file file-calls
+
+help:
+	@echo "make test          the whole gate: each proof from nothing, edits that must be refused, tests, programs (rt; an hour on two cores)"
+	@echo "make build         builds watchmand (rt; some 20 minutes the first time, since it proves it)"
+	@echo "make run           answers request lines from standard input over STATE=$(STATE), which it makes where it isn't there"
+	@echo "make install       puts watchmand into PREFIX/bin (PREFIX=$(PREFIX)); make uninstall takes it away"
+	@echo "make session       a first session by the built program; make examples: those of README.md and docs/QUERIES.md"
+	@echo "make state-file    a file with two owners, a format that fails, a killed one; make file-calls: its calls (strace)"
+	@echo "make kill          kills the built program again and again, and looks for what it answered (python3)"
+	@echo "make bench         a million lines beside Python's json (python3, GNU time)"
+	@echo "make bench-journal, bench-store (beside sqlite3 where it is installed), bench-view, bench-match"
+	@echo "make clean         removes what was built and proved"
 
 test:
 	rt ci
@@ -29,6 +41,12 @@ run: $(PROGRAM)
 install: $(PROGRAM)
 	install -d $(DESTDIR)$(PREFIX)/bin
 	install -m 755 $(PROGRAM) $(DESTDIR)$(PREFIX)/bin/watchmand
+
+uninstall:
+	rm -f $(DESTDIR)$(PREFIX)/bin/watchmand
+
+clean:
+	rm -rf $(wildcard crates/*/out)
 
 # A session from the first watch of a root to a deleted file that comes back, by the built program.
 session: $(PROGRAM)
