@@ -1,5 +1,5 @@
 -- How `lines` ends.
-use Rattle.std.specs.Prelude.{◌≡◌, ◌⊎◌, ℕ, List, ◌∷◌, Option, Some}
+use Rattle.std.specs.Prelude.{◌≡◌, ◌⊎◌, true, false, ℕ, List, ◌∷◌, Option, Some}
 use Rattle.wm_registry.specs.Roots as registry
 use Rattle.wm_registry.specs.declared.command.Command.{Command}
 use Rattle.wm_registry.specs.declared.command.Command.TheVariants.{Begin}
@@ -13,7 +13,7 @@ use Rattle.wm_disk.specs.declared.refusal.Refusal.TheVariants as refusals
 use Rattle.wm_server.specs.Asked.{AreAskedOf, ArePartOf}
 use Rattle.wm_server.specs.Stores.{StartCut, StartRefused, WritesNothing}
 use Rattle.wm_server.specs.Programs.{CutShort, IsTold, Kept, LinesBroken, LinesCut}
-use Rattle.wm_server.specs.Streams.{IsCutOff, StandAsBefore}
+use Rattle.wm_server.specs.Streams.{IsCutOff, StandAsBefore, writer_closed}
 use Rattle.wm_server.specs.declared.input.Input.{Input}
 use Rattle.wm_server.specs.declared.output.Output.{Output}
 use Rattle.wm_server.specs.declared.lines.Ending.{Ending}
@@ -52,14 +52,14 @@ status_of Broken = 1
 status_of Unread = 1
 
 -- Why it ended so: where the start was refused but for a failure of the device, nothing was read or written; where the session was broken
--- off, the reader or the writer failed; and else neither did.
+-- off, the reader or the writer failed, and it is unread exactly where nobody reads what is written any more; and else neither did.
 abbrev pub EndsBy : {R W : Type 0} → Ending → Input R → Input R → Output W → Output W → Type 0
 EndsBy Served old new held holds = StandAsBefore old new held holds
 EndsBy (Refused refusals.StoreFailed) old new held holds = Unit {0}
 EndsBy (Refused refusals.DeviceFailed) old new held holds = Unit {0}
 EndsBy (Refused refusal) old new held holds = (new ≡ old) × (holds ≡ held)
-EndsBy Broken old new held holds = IsCutOff new holds
-EndsBy Unread old new held holds = IsCutOff new holds
+EndsBy Broken old new held holds = IsCutOff new holds × (writer_closed holds ≡ false)
+EndsBy Unread old new held holds = IsCutOff new holds × (writer_closed holds ≡ true)
 
 -- what is told of it
 abbrev pub Tells : {E : Type 0} → (E → Option (List ℕ)) → Ending → Output E → Output E → Type 0

@@ -21,6 +21,10 @@ module _ {W : Type 0} where
   abbrev pub writer_failed : Output W → Bool
   writer_failed output = output.has_failed
 
+  -- nobody reads it any more
+  abbrev pub writer_closed : Output W → Bool
+  writer_closed output = output.is_closed
+
 -- the reader or the writer has failed, or no more lines can be counted
 abbrev pub IsCutOff : {R W : Type 0} → Input R → Output W → Type 0
 IsCutOff input output = (reader_failed input ≡ true) ⊎ (writer_failed output ≡ true) ⊎ (lines_read input ≡ 18446744073709551615)

@@ -13,7 +13,7 @@ use crate::run::{LineNumbers, run};
 use crate::session::Session;
 use std::alloc::Global;
 use std::io;
-use std::io::{BufRead, ErrorKind, Write};
+use std::io::{BufRead, Write};
 use wm_disk::{Disk, Refusal};
 
 /// How a session over a file ended.
@@ -54,7 +54,7 @@ pub fn serve_lines<D: Disk + Drop, R: BufRead, W: Write>(
     let (closed, disk) = session.front.close();
     match (closed, ran) {
         (Err(refusal), _) => (Ending::Refused(refusal), disk),
-        (Ok(()), Err(e)) if e.kind() == ErrorKind::BrokenPipe => (Ending::Unread, disk),
+        (Ok(()), Err(_)) if writer.is_closed() => (Ending::Unread, disk),
         (Ok(()), Err(_)) => (Ending::Broken, disk),
         (Ok(()), Ok(_)) => (Ending::Served, disk),
     }

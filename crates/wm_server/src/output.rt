@@ -1,16 +1,18 @@
 //! A writer that notes whether a call of it has failed.
 ghost use Rattle.std.specs.Prelude.{◌≡◌, true, false, OnOk, OnErr};
 ghost use Rattle.std.specs.Io.KnownBytes.{Appends};
-ghost use Rattle.wm_server.specs.Streams.{writer_failed, writer_of};
+ghost use Rattle.wm_server.specs.Streams.{writer_closed, writer_failed, writer_of};
 
 use std::io;
-use std::io::Write;
+use std::io::{ErrorKind, Write};
 
-/// A writer, with a note of whether a call of it has failed.
+/// A writer, with notes of whether a call of it has failed, and whether one did since nobody reads it any
+/// more, as a closed pipe.
 #[derive(Drop)]
 pub struct Output<W> {
     writer: W,
     has_failed: bool,
+    is_closed: bool,
 }
 
 impl<W: Write> Output<W> {
@@ -18,11 +20,20 @@ impl<W: Write> Output<W> {
     pub fn new(writer: W) -> Output<W>
         ensures writer { writer_of result ≡ writer }
         ensures whole { writer_failed result ≡ false }
+        ensures open { writer_closed result ≡ false }
     {
         Output {
             writer,
             has_failed: false,
+            is_closed: false,
         }
+    }
+
+    /// Whether a call of it has failed since nobody reads it any more.
+    pub(crate) fn is_closed(&self) -> bool
+        ensures { result ≡ writer_closed self.now }
+    {
+        self.is_closed
     }
 
     /// Writes all the bytes.
@@ -35,6 +46,9 @@ impl<W: Write> Output<W> {
             Ok(()) => Ok(()),
             Err(e) => {
                 self.has_failed = true;
+                if e.kind() == ErrorKind::BrokenPipe {
+                    self.is_closed = true;
+                }
                 Err(e)
             }
         }
