@@ -3,10 +3,10 @@
 # the same file, in one run. It shows the microseconds of each a group, and that both left the same bytes.
 # Usage: bench/journal.sh PROGRAM [ROUNDS]
 set -eu
-program=$(realpath "${1:-crates/journal_bench/out/journal_bench}")
+program=$(realpath "${1:-crates/bench/out/bench}")
 rounds=${2:-200}
 folder=$(mktemp -d)
 trap 'rm -rf "$folder"' EXIT
 cd "$folder"
 
-"$program" journal.bench "$rounds"
+"$program" journal journal.bench "$rounds"

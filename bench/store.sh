@@ -5,13 +5,13 @@
 # is waited for), and what the store's next start finds.
 # Usage: bench/store.sh PROGRAM [ROUNDS]
 set -eu
-program=$(realpath "${1:-crates/store_bench/out/store_bench}")
+program=$(realpath "${1:-crates/bench/out/bench}")
 rounds=${2:-200}
 folder=$(mktemp -d)
 trap 'rm -rf "$folder"' EXIT
 cd "$folder"
 
-"$program" store.bench "$rounds"
+"$program" store store.bench "$rounds"
 
 if ! command -v sqlite3 >/dev/null; then
     echo "sqlite3 isn't installed, so it isn't measured." >&2

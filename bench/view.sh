@@ -3,7 +3,7 @@
 # own. It shows tables of microseconds and megabytes, and of bytes a file of a view and of a second one beside it.
 # Usage: bench/view.sh PROGRAM [FILES]
 set -eu
-program=${1:-crates/view_bench/out/view_bench}
+program=${1:-crates/bench/out/bench}
 files=${2:-100000}
 
 for count in $((files / 10)) "$files"; do

@@ -15,6 +15,6 @@ for page in README.md docs/QUERIES.md; do
   "$program" format "$folder/state" > /dev/null
   "$program" lines "$folder/state" < "$folder/requests" > "$folder/told"
   diff -u "$folder/replies" "$folder/told"
-  [ "$page" != README.md ] || cmp "$folder/requests" "$top/bench/first.lines"
+  [ "$page" != README.md ] || cmp "$folder/requests" "$top/tools/first.lines"
   echo "$(wc -l < "$folder/requests") examples are answered as $page says"
 done

@@ -7,8 +7,8 @@ mod openings;
 use std::alloc::Global;
 use wm_disk::{MemDisk, Refusal};
 use wm_names::RootPath;
-use wm_registry::{Command, Reply};
-use wm_store::{MAX_BATCH, Store, format};
+use wm_registry::{Command, MAX_BATCH, Reply};
+use wm_store::{Store, format};
 
 /// A store on a disk in memory.
 type Kept = Store<MemDisk>;

@@ -37,7 +37,7 @@ pub(crate) fn takes<W: Wire + Drop>(alloc: Global, bytes: &[u8]) -> Result<bool,
     Ok(W::take(alloc, bytes)?.is_some())
 }
 
-// How many bytes the shortest front has that begins with a spelling, where a cut of the bytes does, or
+// How many bytes the shortest prefix has that begins with a spelling, where a cut of the bytes does, or
 // else how many there are.
 fn shortest<W: Wire + Drop>(alloc: Global, bytes: &[u8]) -> Result<usize, NoMemory> {
     for len in 0..bytes.len() {

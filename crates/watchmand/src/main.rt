@@ -4,7 +4,7 @@
 use std::io::BufReader;
 use std::process::ExitCode;
 use std::{env, io};
-use wm_server::programs::watchmand;
+use wm_server::program::watchmand;
 use wm_server::system::Host;
 use wm_server::{Input, Output};
 

@@ -1,22 +1,25 @@
 -- A content has one meaning, and where the readers find none it has none.
-use Rattle.std.proofs.Common.{◌≡◌, ◌≢◌, ℕ, ◌+◌, ◌<◌, ◌≤◌, ◌^◌, List, ◌∷◌, ◌++◌, length, take, drop, get_or, refl, sym, ◌∙◌, ap, subst, arith, length-append}
-use Rattle.std.specs.Prelude.{Result, Ok, Err, IfOk, IsErrOf}
+use Rattle.std.proofs.Common.{◌≡◌, ◌≢◌, ◌⊎◌, inl, inr, ℕ, ◌+◌, ◌<◌, ◌≤◌, ◌^◌, List, ◌∷◌, ◌++◌, length, take, drop, refl, sym, ◌∙◌, ap, subst, arith, length-append}
+use Rattle.std.specs.Prelude.{Result, Ok, Err, IfOk, IfErr, IsErrOf}
 use Rattle.std.proofs.lemmas.List.{take-take, drop-take, length-take-le, length-take}
+use Rattle.wm_disk.specs.Calls.{Calls}
+use Rattle.wm_disk.specs.declared.disk.Disk as disks
+use Rattle.wm_disk.specs.declared.refusal.Refusal.{Refusal}
+use Rattle.wm_disk.specs.declared.refusal.Refusal.TheVariants.{DeviceFailed, NoMemory, Damaged, Retired}
 use Rattle.wm_journal.specs.Areas.{area}
-use Rattle.wm_journal.specs.Records.{Holds, taken, gated, opened}
-use Rattle.wm_journal.proofs.Laying.{length-opened}
-use Rattle.wm_journal.proofs.Reading.{one_list}
+use Rattle.wm_journal.specs.Records.{HoldsRecords, taken, gated, with_open_gates}
+use Rattle.wm_journal.specs.laws.Records.{length-opened}
+use Rattle.wm_journal.specs.laws.OneList.{one_list}
 use Rattle.wm_checkpoint.specs.Machines.{Meaning, Accepts, replay_on}
 use Rattle.wm_checkpoint.specs.Layout.{slot_place, journal_place, other_slot, journal_len}
 use Rattle.wm_checkpoint.specs.Meanings.{Means, MeansState, IsDamaged, IsHeader, IsHeaderWith, IsRetired, IsNumbered, IsOutranked, IsOpenSlot}
-use Rattle.wm_checkpoint.specs.Found.{IsFound, IsChosen}
+use Rattle.wm_checkpoint.specs.Found.{IsFound, IsChosen, ReadsDurably}
 use Rattle.wm_checkpoint.specs.declared.layout.Slot.{Slot}
 use Rattle.wm_checkpoint.specs.declared.layout.Slot.TheVariants.{A, B}
-use Rattle.wm_checkpoint.proofs.Reading.{outranked_below, one_state}
-use Rattle.wm_checkpoint.proofs.Switching.{slot_bounds, number_of_slot}
-
-pub one_header : (b : List ℕ) (m n : ℕ) → IsHeaderWith m b → IsHeaderWith n b → m ≡ n
-one_header b m n h k = sym (ap (λ (l : List ℕ). get_or l 12 0) h.1) ∙ ap (λ (l : List ℕ). get_or l 12 0) k.1
+use Rattle.wm_checkpoint.proofs.Reading.{one_state}
+use Rattle.wm_checkpoint.specs.laws.Numbering.{outranked_below, number_of_slot}
+use Rattle.wm_checkpoint.proofs.Switching.{slot_bounds}
+use Rattle.wm_checkpoint.specs.laws.Headers.{one_header}
 
 clash : (a b : List ℕ) (m n : ℕ) → m < 2 ^ 64 → n < 2 ^ 64 → IsNumbered m a → IsOutranked m b → IsNumbered n b → IsOutranked n a → ⊥
 clash a b m n lm ln h low k high =
@@ -54,23 +57,23 @@ module _ {S C : Type 0} (m : Meaning S C) (c : List ℕ) where
   pub open_there : (slot : Slot) (n : ℕ) → IsChosen c slot n → (s : S) (k : MeansState m s c) → IsOpenSlot m.state k.number k.base (area (slot_place slot) 1048576 c)
   open_there slot n h s k = subst (λ (t : Slot). IsOpenSlot m.state k.number k.base (area (slot_place t) 1048576 c)) (in_slot slot n h s k) k.means.chosen
 
-  pub journal_there : (slot : Slot) (n : ℕ) → IsChosen c slot n → (s : S) (k : MeansState m s c) → Holds m.command k.commands (area (journal_place slot) journal_len c)
-  journal_there slot n h s k = subst (λ (t : Slot). Holds m.command k.commands (area (journal_place t) journal_len c)) (in_slot slot n h s k) k.means.journal
+  pub journal_there : (slot : Slot) (n : ℕ) → IsChosen c slot n → (s : S) (k : MeansState m s c) → HoldsRecords m.command k.commands (area (journal_place slot) journal_len c)
+  journal_there slot n h s k = subst (λ (t : Slot). HoldsRecords m.command k.commands (area (journal_place t) journal_len c)) (in_slot slot n h s k) k.means.journal
 
   pub no_state : (slot : Slot) (n : ℕ) → IsChosen c slot n → ((number : ℕ) (s : S) → IsOpenSlot m.state number s (area (slot_place slot) 1048576 c) → ⊥) → (s : S) → MeansState m s c → ⊥
   no_state slot n h none s k = none k.number k.base (open_there slot n h s k)
 
-  pub no_journal : (slot : Slot) (n : ℕ) → IsChosen c slot n → ((cs : List C) → Holds m.command cs (area (journal_place slot) journal_len c) → ⊥) → (s : S) → MeansState m s c → ⊥
+  pub no_journal : (slot : Slot) (n : ℕ) → IsChosen c slot n → ((cs : List C) → HoldsRecords m.command cs (area (journal_place slot) journal_len c) → ⊥) → (s : S) → MeansState m s c → ⊥
   no_journal slot n h none s k = none k.commands (journal_there slot n h s k)
 
   module _ (law : IsLawful m) where
     pub base_there : (slot : Slot) (n : ℕ) → IsChosen c slot n → (base : S) → IsOpenSlot m.state n base (area (slot_place slot) 1048576 c) → (s : S) (k : MeansState m s c) → k.base ≡ base
     base_there slot n h base o s k = one_state m.state law.state_alone _ k.number n k.base base (open_there slot n h s k) o
 
-    pub commands_there : (slot : Slot) (n : ℕ) → IsChosen c slot n → (cs : List C) → Holds m.command cs (area (journal_place slot) journal_len c) → (s : S) (k : MeansState m s c) → k.commands ≡ cs
+    pub commands_there : (slot : Slot) (n : ℕ) → IsChosen c slot n → (cs : List C) → HoldsRecords m.command cs (area (journal_place slot) journal_len c) → (s : S) (k : MeansState m s c) → k.commands ≡ cs
     commands_there slot n h cs o s k = one_list m.command law.command_alone k.commands cs _ (journal_there slot n h s k) o
 
-    pub no_replay : (slot : Slot) (n : ℕ) → IsChosen c slot n → (base : S) → IsOpenSlot m.state n base (area (slot_place slot) 1048576 c) → (cs : List C) → Holds m.command cs (area (journal_place slot) journal_len c) → (Accepts m base cs → ⊥) → (s : S) → MeansState m s c → ⊥
+    pub no_replay : (slot : Slot) (n : ℕ) → IsChosen c slot n → (base : S) → IsOpenSlot m.state n base (area (slot_place slot) 1048576 c) → (cs : List C) → HoldsRecords m.command cs (area (journal_place slot) journal_len c) → (Accepts m base cs → ⊥) → (s : S) → MeansState m s c → ⊥
     no_replay slot n h base o cs j none s k = none (subst (λ (b : S). Accepts m b cs) (base_there slot n h base o s k) (subst (λ (l : List C). Accepts m k.base l) (commands_there slot n h cs j s k) k.means.accepted))
 
     -- the meaning
@@ -93,7 +96,7 @@ module _ {S C : Type 0} (m : Meaning S C) where
     header = subst (λ (l : List ℕ). IsHeader l) (sym (same 0 4096 (omega arith))) means.header;
     chosen = subst (λ (l : List ℕ). IsOpenSlot m.state n base l) (sym (same (slot_place slot) 1048576 (omega (arith, (slot_bounds slot).0)))) means.chosen;
     outranked = subst (λ (l : List ℕ). IsOutranked n l) (sym (same (slot_place (other_slot slot)) 1048576 (omega (arith, (slot_bounds (other_slot slot)).0)))) means.outranked;
-    journal = subst (λ (l : List ℕ). Holds m.command cs l) (sym (same (journal_place slot) journal_len (omega (arith, (slot_bounds slot).1)))) means.journal;
+    journal = subst (λ (l : List ℕ). HoldsRecords m.command cs l) (sym (same (journal_place slot) journal_len (omega (arith, (slot_bounds slot).1)))) means.journal;
     accepted = means.accepted;
   }
 
@@ -119,7 +122,7 @@ module _ {S C : Type 0} (m : Meaning S C) where
 pub retired_whole : (c : List ℕ) → 2625536 ≤ length c → IsRetired (take 2625536 c) → IsRetired c
 retired_whole c le r = (le, subst (λ (l : List ℕ). IsHeaderWith 165 l) (area_front 0 4096 c (omega arith)) r.1)
 
-pub found_here : {S C : Type 0} (m : Meaning S C) (c : List ℕ) (slot : Slot) (n : ℕ) (base state : S) (cs : List C) (end : ℕ) → length c ≡ 2625536 → IsHeader (area 0 4096 c) → IsChosen c slot n → IsOpenSlot m.state n base (area (slot_place slot) 1048576 c) → Holds m.command cs (area (journal_place slot) journal_len c) → Accepts m base cs → state ≡ replay_on m base cs → end ≡ taken m.command.spelling cs → IsFound m c slot n state end
+pub found_here : {S C : Type 0} (m : Meaning S C) (c : List ℕ) (slot : Slot) (n : ℕ) (base state : S) (cs : List C) (end : ℕ) → length c ≡ 2625536 → IsHeader (area 0 4096 c) → IsChosen c slot n → IsOpenSlot m.state n base (area (slot_place slot) 1048576 c) → HoldsRecords m.command cs (area (journal_place slot) journal_len c) → Accepts m base cs → state ≡ replay_on m base cs → end ≡ taken m.command.spelling cs → IsFound m c slot n state end
 found_here m c slot n base state cs end size header chosen o j all is ends = record {
   base = base;
   commands = cs;
@@ -142,5 +145,38 @@ same_err e x h = let k : e ≡ x = cc in ap (λ y. Err y) k
 pub found_within : {S C : Type 0} (m : Meaning S C) (c : List ℕ) (slot : Slot) (n : ℕ) (s : S) (end : ℕ) → IsFound m c slot n s end → end < 262144
 found_within m c slot n s end f =
     let h = f.means.journal in
-    let text = gated m.command.spelling (opened f.commands) in
+    let text = gated m.command.spelling (with_open_gates f.commands) in
     omega (arith, f.ends, ap length h.parts, length-append text (h.gate ∷ h.behind), length-opened m.command.spelling f.commands, length-take 262144 (drop (journal_place slot) c))
+
+-- what was read is decoded without a call of the disk
+not_device : (e : Refusal) → (e ≡ NoMemory) ⊎ ((e ≡ Damaged) ⊎ (e ≡ Retired)) → e ≢ DeviceFailed
+not_device e (inl a) is = let x : NoMemory ≡ DeviceFailed = sym a ∙ is in absurd cc
+not_device e (inr (inl a)) is = let x : Damaged ≡ DeviceFailed = sym a ∙ is in absurd cc
+not_device e (inr (inr a)) is = let x : Retired ≡ DeviceFailed = sym a ∙ is in absurd cc
+
+err_is : {T : Type 0} (e f : Refusal) → IsErrOf {T = T} (Err e) f → e ≡ f
+err_is e f is = cc
+
+module _ {D U : Type 0} (disk : disks.Ghosts D) (old new : D) (x : U) where
+  abbrev read : Result U Refusal
+  read = Ok x
+
+  pub decoded_calls : {T : Type 0} (r : Result T Refusal) → Calls disk old new read → IfErr r (λ e. (e ≡ NoMemory) ⊎ ((e ≡ Damaged) ⊎ (e ≡ Retired))) → Calls disk old new r
+  decoded_calls (Ok y) calls kinds = record {
+    honest = calls.honest;
+    failures_grow = calls.failures_grow;
+    no_failure = calls.no_failure;
+    failed = λ is. absurd cc;
+    failures_kept = tt;
+  }
+  decoded_calls (Err e) calls kinds = record {
+    honest = calls.honest;
+    failures_grow = calls.failures_grow;
+    no_failure = tt;
+    failed = λ is. absurd (not_device e kinds (err_is e DeviceFailed is));
+    failures_kept = λ _. calls.no_failure;
+  }
+
+  pub decoded_reads : {T : Type 0} (r : Result T Refusal) → ReadsDurably disk old new read → ReadsDurably disk old new r
+  decoded_reads (Ok y) reads = record { durable = reads.durable; seen = reads.seen; any_moment = reads.any_moment }
+  decoded_reads (Err e) reads = record { durable = tt; seen = reads.seen; any_moment = reads.any_moment }

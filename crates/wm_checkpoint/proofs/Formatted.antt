@@ -5,12 +5,13 @@ use Rattle.std.proofs.lemmas.Bool.{cases_lt}
 use Rattle.wm_disk.specs.Contents.{overwritten}
 use Rattle.wm_disk.specs.PointLaws.{length-overwritten}
 use Rattle.wm_journal.specs.Areas.{area, SameOutside}
-use Rattle.wm_journal.proofs.Contents.{same_itself, written_behind}
+use Rattle.wm_journal.specs.laws.Areas.{same_itself, written_behind}
 use Rattle.wm_checkpoint.specs.FirstFile.{IsFirstFile}
 use Rattle.wm_checkpoint.specs.Formatting.{IsZeroTo, laid_out}
-use Rattle.wm_checkpoint.specs.Halves.{IsSwitched, half_len}
+use Rattle.wm_checkpoint.specs.Halves.{IsSwitched}
+use Rattle.wm_checkpoint.specs.Layout.{half_len}
 use Rattle.wm_checkpoint.specs.Machines.{Meaning}
-use Rattle.wm_checkpoint.specs.Meanings.{Means, IsHeader, IsSlotText}
+use Rattle.wm_checkpoint.specs.Meanings.{Means, IsHeader, IsSlotBytes}
 use Rattle.wm_checkpoint.specs.declared.layout.Slot.TheVariants.{A}
 use Rattle.wm_checkpoint.proofs.Outside.{area_before, area_behind}
 use Rattle.wm_checkpoint.proofs.Halves.{first_byte, done_in, byte_behind, byte_before, byte_written}
@@ -125,7 +126,7 @@ module _ (bytes c0 : List ℕ) (zeros : IsZeroTo 2625536 c0) (short : length byt
           ∙ byte_behind 1 11 k c1 c2 s2 (omega (arith, le)) (omega (arith, zeros.long, s1.size, lt)) ∙ byte_behind 4097 (length bytes) k c0 c1 s5 le (omega (arith, zeros.long, lt)) ∙ zeros.zero k lt
 
   module _ {S C : Type 0} (m : Meaning S C) where
-    pub formatted : (first : S) → IsSlotText m 1 first bytes → Means m (laid_out bytes c0) A 1 first []
+    pub formatted : (first : S) → IsSlotBytes m 1 first bytes → Means m (laid_out bytes c0) A 1 first []
     formatted first s = record {
       long = omega (arith, zeros.long, size);
       bounded = omega arith;

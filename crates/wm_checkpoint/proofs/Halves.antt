@@ -6,10 +6,10 @@ use Rattle.std.proofs.lemmas.Bool.{cases_eq}
 use Rattle.wm_disk.specs.Contents.{Torn, Follows, overwritten}
 use Rattle.wm_disk.specs.PointLaws.{torn_done}
 use Rattle.wm_journal.specs.Areas.{area, SameOutside}
-use Rattle.wm_journal.proofs.Contents.{same_itself, same_twice, torn_outside, written_behind}
-use Rattle.wm_journal.proofs.Opening.{overwritten_one}
+use Rattle.wm_journal.specs.laws.Areas.{same_itself, same_twice, torn_outside, written_behind, overwritten_one}
 use Rattle.wm_checkpoint.proofs.Outside.{area_before, area_behind}
-use Rattle.wm_checkpoint.specs.Halves.{IsShutting, IsShut, IsFilled, IsSwitched, IsSwitching, half_len}
+use Rattle.wm_checkpoint.specs.Halves.{IsShutting, IsShut, IsFilled, IsSwitched, IsSwitching}
+use Rattle.wm_checkpoint.specs.Layout.{half_len}
 
 -- a write inside an area
 pub torn_in : (offset len at n : ℕ) (before old c : List ℕ) → offset ≤ at → at + n ≤ offset + len → offset + len ≤ length before → SameOutside offset len before old → Torn at n old c → SameOutside offset len before c

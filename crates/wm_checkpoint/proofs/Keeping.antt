@@ -1,48 +1,42 @@
 -- What a crash leaves while a keeper commits, makes a checkpoint, or has a call of its disk that writes nothing.
-use Rattle.std.proofs.Common.{◌≡◌, ℕ, ◌+◌, ◌<◌, List, [], ◌++◌, take, sym, ◌∙◌, ap, subst, arith}
-use Rattle.wm_disk.specs.Moments.{Elapses, LeavesOnly, started, goes_on}
+use Rattle.std.proofs.Common.{◌≡◌, ℕ, ◌+◌, ◌<◌, false, List, [], ◌++◌, take, sym, ◌∙◌, ap, subst, arith}
+use Rattle.wm_disk.specs.Moments.{Elapses, LeavesOnly, goes_on}
 use Rattle.wm_disk.specs.declared.disk.Disk as disks
+use Rattle.wm_disk.specs.Counters.{max_counter}
 use Rattle.wm_journal.specs.Areas as areas
 use Rattle.wm_disk.specs.Contents.{Only, NoMore}
-use Rattle.wm_journal.specs.Records.{Holds, taken}
-use Rattle.wm_journal.specs.Regions.{IsAt, InSamePlace, SameOutside, IsAtRest, HoldsBeginning}
+use Rattle.wm_journal.specs.Records.{HoldsRecords, taken}
+use Rattle.wm_journal.specs.Regions.{IsAt, InSamePlace, SameOutside, IsAtRest, HoldsPrefix}
 use Rattle.wm_journal.specs.declared.region.Region.{Region}
-use Rattle.wm_journal.proofs.Opening.{weaker}
+use Rattle.wm_disk.specs.laws.Runs.{weaker}
 use Rattle.wm_checkpoint.specs.Machines.{Meaning, Accepts, replay_on}
 use Rattle.wm_checkpoint.specs.Layout.{slot_place, journal_place, other_slot, journal_len}
-use Rattle.wm_checkpoint.specs.Meanings.{Means, MeansState, MeansBeginning, IsSlotText}
+use Rattle.wm_checkpoint.specs.Meanings.{Means, MeansState, MeansPrefix, IsSlotBytes}
 use Rattle.wm_checkpoint.specs.Halves.{IsSwitching, IsSwitched}
 use Rattle.wm_checkpoint.specs.Kept.{IsKept}
+use Rattle.wm_checkpoint.specs.KeeperCalls.{IsOpened}
 use Rattle.wm_checkpoint.specs.declared.keeper.Keeper.{Keeper}
 use Rattle.wm_checkpoint.specs.declared.layout.Slot.{Slot}
-use Rattle.wm_checkpoint.proofs.Outside.{moved, moved_journal, means_beginning, means_on, replayed_append, all_append}
+use Rattle.wm_checkpoint.proofs.Outside.{moved, moved_journal, means_beginning, means_on}
+use Rattle.wm_checkpoint.specs.laws.Replays.{replayed_append, all_append}
 use Rattle.wm_checkpoint.proofs.Switching.{slot_bounds, means_switched, means_switching}
+use Rattle.wm_checkpoint.specs.laws.Uncalled.{kept_means, untouched}
 
 module _ {D M S C R : Type 0} (disk : disks.Ghosts D) (m : Meaning S C) (keeper : Keeper D M S C R disk) (k : IsKept m keeper) where
   abbrev content : List ℕ
   content = disk.seen keeper.region.disk
 
-  -- what a crash may leave now means the state
-  pub kept_means : (c : List ℕ) → disk.may_leave keeper.region.disk c → MeansState m keeper.state c
-  kept_means c left =
-      let now : MeansState m keeper.state content = record { slot = keeper.slot; number = keeper.number; base = k.base; commands = k.commands; means = k.means; is = k.is } in
-      subst (MeansState m keeper.state) (sym (k.at_rest.durable c left)) now
-
-  -- the disk has had no call yet
-  pub untouched : ((c : List ℕ) → disk.left_since keeper.region.disk (disk.moment keeper.region.disk) c → disk.may_leave keeper.region.disk c) → LeavesOnly disk.moment disk.left_since keeper.region.disk keeper.region.disk (MeansState m keeper.state)
-  untouched only_now = started disk.moment disk.left_since keeper.region.disk (MeansState m keeper.state) (λ c left. kept_means c (only_now c left))
-
   -- ---- a group of commands
 
   module _ (place : IsAt keeper.region (journal_place keeper.slot) journal_len) (added : List C) (accepted : Accepts m keeper.state added) where
-    group_begun : (x : List ℕ) → HoldsBeginning m.command keeper.region k.commands added x → MeansBeginning m keeper.state added x
+    group_begun : (x : List ℕ) → HoldsPrefix m.command keeper.region k.commands added x → MeansPrefix m keeper.state added x
     group_begun x b =
         means_beginning m keeper.slot content x keeper.number k.base keeper.state k.commands added b.count k.means k.is accepted b.within
         (moved keeper.slot keeper.region.offset keeper.region.len content x place.offset_is place.len_is b.outside)
         (moved_journal m.command keeper.slot keeper.region.offset keeper.region.len (k.commands ++ take b.count added) x place.offset_is place.len_is b.holds)
 
-    pub group_leaves : (new : D) → LeavesOnly disk.moment disk.left_since keeper.region.disk new (HoldsBeginning m.command keeper.region k.commands added) → LeavesOnly disk.moment disk.left_since keeper.region.disk new (MeansBeginning m keeper.state added)
-    group_leaves new run = weaker disk.moment disk.left_since keeper.region.disk new (HoldsBeginning m.command keeper.region k.commands added) (MeansBeginning m keeper.state added) run group_begun
+    pub group_leaves : (new : D) → LeavesOnly disk.moment disk.left_since keeper.region.disk new (HoldsPrefix m.command keeper.region k.commands added) → LeavesOnly disk.moment disk.left_since keeper.region.disk new (MeansPrefix m keeper.state added)
+    group_leaves new run = weaker disk.moment disk.left_since keeper.region.disk new (HoldsPrefix m.command keeper.region k.commands added) (MeansPrefix m keeper.state added) run group_begun
 
     all_accepted : Accepts m k.base (k.commands ++ added)
     all_accepted = all_append m.after m.changes k.base k.commands added k.means.accepted (subst (λ (s : S). Accepts m s added) (sym k.is) accepted)
@@ -59,7 +53,7 @@ module _ {D M S C R : Type 0} (disk : disks.Ghosts D) (m : Meaning S C) (keeper 
 
   -- ---- a checkpoint
 
-  module _ (place : ℕ) (bytes : List ℕ) (at : place ≡ slot_place (other_slot keeper.slot)) (less : keeper.number < 9223372036854775807) (spelled : IsSlotText m (keeper.number + 1) keeper.state bytes) where
+  module _ (place : ℕ) (bytes : List ℕ) (at : place ≡ slot_place (other_slot keeper.slot)) (less : keeper.number < max_counter) (spelled : IsSlotBytes m (keeper.number + 1) keeper.state bytes) where
     pub switch_leaves : (new : D) → LeavesOnly disk.moment disk.left_since keeper.region.disk new (IsSwitching place bytes content) → LeavesOnly disk.moment disk.left_since keeper.region.disk new (MeansState m keeper.state)
     switch_leaves new run =
         weaker disk.moment disk.left_since keeper.region.disk new (IsSwitching place bytes content) (MeansState m keeper.state) run
@@ -75,7 +69,7 @@ journal_at_rest disk m region slot number base commands place end none means dur
     ap (λ (n : ℕ). areas.area n region.len (disk.seen region.disk)) place.offset_is ∙ ap (λ (n : ℕ). areas.area (journal_place slot) n (disk.seen region.disk)) place.len_is in
     record {
       lies = omega (arith, (slot_bounds slot).1, means.long, place.offset_is, place.len_is);
-      read = record { holds = subst (λ (l : List ℕ). Holds m.command commands l) (sym at) means.journal; end = end; none_staged = none };
+      read = record { holds = subst (λ (l : List ℕ). HoldsRecords m.command commands l) (sym at) means.journal; end = end; none_staged = none };
       durable = durable;
     }
 
@@ -96,3 +90,15 @@ module _ {D M S C R : Type 0} (disk : disks.Ghosts D) (m : Meaning S C) (keeper 
   still_at_rest region place end gates seen no_more =
       journal_at_rest disk m region keeper.slot keeper.number k.base k.commands place (end ∙ k.at_rest.read.end) (gates ∙ k.at_rest.read.none_staged) (still_means region.disk seen)
       (λ c left. k.at_rest.durable c (no_more c left) ∙ sym seen)
+
+-- ---- a keeper that was found
+
+module _ {D M S C R : Type 0} (disk : disks.Ghosts D) (m : Meaning S C) (found_on : D) (keeper : Keeper D M S C R disk) where
+  pub opened_on : IsAt keeper.region (journal_place keeper.slot) journal_len → (disk.honest keeper.region.disk → IsKept m keeper) → keeper.failed ≡ false
+      → ((state : S) → disk.honest keeper.region.disk → MeansState m state (disk.seen found_on) → keeper.state ≡ state) → IsOpened m found_on keeper
+  opened_on place kept up found = record {
+    kept = record { place = place; kept = λ alive h. kept h };
+    up = up;
+    means = λ h c left. kept_means disk m keeper (kept h) c left;
+    found = found;
+  }

@@ -1,17 +1,18 @@
 -- What the bytes of a slot, a header and a journal say.
-use Rattle.std.proofs.Common.{◌≡◌, ◌≢◌, inl, inr, ℕ, zero, suc, ◌+◌, ◌<◌, ◌≤◌, ◌^◌, Bool, true, false, List, [], ◌∷◌, ◌++◌, length, take, drop, get_or, refl, sym, ◌∙◌, ap, subst, arith, take-append-drop, length-drop}
+use Rattle.std.proofs.Common.{◌≡◌, ◌≢◌, ℕ, zero, suc, ◌+◌, ◌<◌, ◌≤◌, ◌^◌, Bool, true, false, List, [], ◌∷◌, ◌++◌, length, take, drop, get_or, refl, sym, ◌∙◌, ap, subst, arith, take-append-drop, length-drop}
 use Rattle.std.proofs.lemmas.List.{drop_more, drop-drop, length-take-le, take_at, take_more, append-nil}
-use Rattle.std.proofs.lemmas.Nat.{from_be_bytes-to_be_bytes_4, from_be_bytes-to_be_bytes_8}
+use Rattle.std.proofs.lemmas.Nat.{from_be_bytes-to_be_bytes_4}
 use Rattle.std.specs.Int.{to_be_bytes, from_be_bytes, w32, w64}
-use Rattle.wm_wire.specs.Spelling.{Begins, NoneBegins}
+use Rattle.wm_wire.specs.Spelling.{BeginsWith, NoneBegins}
 use Rattle.wm_wire.specs.declared.wire.Wire.{Ghosts}
 use Rattle.wm_journal.specs.Areas.{area}
 use Rattle.wm_checkpoint.specs.Machines.{replayed, AllChange}
 use Rattle.wm_checkpoint.specs.Meanings.{IsHeaderWith, IsNumbered, IsClosed, IsOutranked, IsOpenSlot}
-use Rattle.wm_checkpoint.specs.Layout.{slot_place, other_slot}
+use Rattle.wm_checkpoint.specs.Layout.{slot_place, other_slot, max_state_bytes}
 use Rattle.wm_checkpoint.specs.declared.layout.Slot.{Slot}
 use Rattle.wm_checkpoint.specs.declared.layout.Slot.TheVariants.{A, B}
-use Rattle.wm_checkpoint.proofs.Outside.{replayed_append, all_append}
+use Rattle.wm_checkpoint.specs.laws.Replays.{replayed_append, all_append}
+use Rattle.wm_checkpoint.specs.laws.Numbering.{one_number, not_both, outranked_below}
 
 pub header_yes : (b : List ℕ) → 13 ≤ length b → b ≡ 165 ∷ 87 ∷ 77 ∷ 83 ∷ 84 ∷ 65 ∷ 84 ∷ 69 ∷ 0 ∷ 0 ∷ 0 ∷ 1 ∷ drop 12 b → IsHeaderWith (get_or b 12 0) b
 header_yes b le is = (drop 13 b, is ∙ ap (λ (l : List ℕ). 165 ∷ 87 ∷ 77 ∷ 83 ∷ 84 ∷ 65 ∷ 84 ∷ 69 ∷ 0 ∷ 0 ∷ 0 ∷ 1 ∷ l) (drop_more b 12 0 (omega arith)))
@@ -24,24 +25,8 @@ pub numbered : (b : List ℕ) (n : ℕ) → 9 ≤ length b → get_or b 0 0 ≡ 
 numbered b n le gate is =
     (drop 8 (drop 1 b), first_of b (omega arith) ∙ ap (λ (x : ℕ). x ∷ drop 1 b) gate ∙ ap (λ (l : List ℕ). 165 ∷ l) (sym (take-append-drop 8 (drop 1 b)) ∙ ap (λ (l : List ℕ). l ++ drop 8 (drop 1 b)) (sym is)))
 
--- one slot has one number
-pub one_number : (b : List ℕ) (m n : ℕ) → m < 2 ^ 64 → n < 2 ^ 64 → IsNumbered m b → IsNumbered n b → m ≡ n
-one_number b m n lm ln h k =
-    let x : to_be_bytes w64 m ≡ area 1 8 b = ap (λ (l : List ℕ). area 1 8 l) (sym h.1) in
-    let y : to_be_bytes w64 n ≡ area 1 8 b = ap (λ (l : List ℕ). area 1 8 l) (sym k.1) in
-    sym (from_be_bytes-to_be_bytes_8 m lm) ∙ ap (λ (l : List ℕ). from_be_bytes w64 l) (x ∙ sym y) ∙ from_be_bytes-to_be_bytes_8 n ln
-
--- no slot is closed and open
-pub not_both : (b : List ℕ) (n : ℕ) → IsClosed b → IsNumbered n b → ⊥
-not_both b n h k = let e : h.0 ∷ h.1 ≡ 165 ∷ to_be_bytes w64 n ++ k.0 = sym h.3 ∙ k.1 in h.2 (cc)
-
--- a slot that is outranked
-pub outranked_below : (b : List ℕ) (m n : ℕ) → m < 2 ^ 64 → n < 2 ^ 64 → IsNumbered m b → IsOutranked n b → m < n
-outranked_below b m n lm ln h (inl closed) = absurd (not_both b m closed h)
-outranked_below b m n lm ln h (inr low) = let e : m ≡ low.0 = one_number b m low.0 lm (omega (arith, low.1)) h low.2 in omega (arith, low.1)
-
 module _ {S : Type 0} (wire : Ghosts S) where
-  pub body_some : (b : List ℕ) (number len : ℕ) (s : S) → length b ≡ 1048576 → to_be_bytes w32 len ≡ area 9 4 b → len ≤ 1048563 → wire.fits s → area 13 len b ≡ wire.spelling s → IsNumbered number b → IsOpenSlot wire number s b
+  pub body_some : (b : List ℕ) (number len : ℕ) (s : S) → length b ≡ 1048576 → to_be_bytes w32 len ≡ area 9 4 b → len ≤ max_state_bytes → wire.fits s → area 13 len b ≡ wire.spelling s → IsNumbered number b → IsOpenSlot wire number s b
   body_some b number len s size is le fit spelled h =
       let body = wire.spelling s in
       let rest = drop len (drop 13 b) in
@@ -67,7 +52,7 @@ module _ {S : Type 0} (wire : Ghosts S) where
 
   module _ (alone : (v w : S) (x y : List ℕ) → wire.fits v → wire.fits w → wire.spelling v ++ x ≡ wire.spelling w ++ y → v ≡ w) where
     -- a spelling begins the body and doesn't end with it
-    pub body_longer : (b : List ℕ) (number len used : ℕ) (s t : S) → to_be_bytes w32 len ≡ area 9 4 b → len < 2 ^ 32 → Begins wire.fits wire.spelling (area 13 len b) t used → used ≢ len → IsOpenSlot wire number s b → ⊥
+    pub body_longer : (b : List ℕ) (number len used : ℕ) (s t : S) → to_be_bytes w32 len ≡ area 9 4 b → len < 2 ^ 32 → BeginsWith wire.fits wire.spelling (area 13 len b) t used → used ≢ len → IsOpenSlot wire number s b → ⊥
     body_longer b number len used s t is fits begins ne o =
         let k = body_is b number len s is fits o in
         let same : t ≡ s = alone t s (drop used (area 13 len b)) [] begins.known o.fit (sym begins.parts ∙ k.1 ∙ sym (append-nil (wire.spelling s))) in

@@ -1,18 +1,19 @@
 -- What a file means while its other half is given the state.
-use Rattle.std.proofs.Common.{◌≡◌, ◌≢◌, inl, inr, ℕ, ◌+◌, ◌<◌, ◌≤◌, List, [], ◌∷◌, ◌++◌, length, drop, get_or, refl, sym, ◌∙◌, ap, subst, arith, append_assoc}
+use Rattle.std.proofs.Common.{◌≡◌, ◌≢◌, inl, inr, ℕ, ◌+◌, ◌<◌, ◌≤◌, List, [], ◌∷◌, ◌++◌, length, drop, get_or, refl, sym, ◌∙◌, ap, subst, arith}
 use Rattle.std.proofs.lemmas.Bool.{cases_eq}
 use Rattle.std.specs.Int.{to_be_bytes, w32, w64}
+use Rattle.wm_disk.specs.Counters.{max_counter}
 use Rattle.wm_journal.specs.Areas.{area, SameOutside}
-use Rattle.wm_journal.specs.Records.{Holds}
+use Rattle.wm_journal.specs.Records.{HoldsRecords}
 use Rattle.wm_checkpoint.specs.Machines.{Meaning, replayed}
-use Rattle.wm_checkpoint.specs.Layout.{slot_place, journal_place, other_slot, journal_len}
-use Rattle.wm_checkpoint.specs.Halves.{IsShutting, IsShut, IsSwitched, IsSwitching, half_len}
-use Rattle.wm_checkpoint.specs.Meanings.{Means, MeansState, IsHeader, IsOpenSlot, IsOutranked, IsNumbered, IsSlotText}
-use Rattle.wm_wire.specs.declared.wire.Wire.{Ghosts}
+use Rattle.wm_checkpoint.specs.Layout.{slot_place, journal_place, other_slot, journal_len, half_len}
+use Rattle.wm_checkpoint.specs.Halves.{IsShutting, IsShut, IsSwitched, IsSwitching}
+use Rattle.wm_checkpoint.specs.Meanings.{Means, MeansState, IsHeader, IsOpenSlot, IsOutranked, IsSlotBytes}
 use Rattle.wm_checkpoint.specs.declared.layout.Slot.{Slot}
 use Rattle.wm_checkpoint.specs.declared.layout.Slot.TheVariants.{A, B}
 use Rattle.wm_checkpoint.proofs.Outside.{area_before, area_behind}
 use Rattle.wm_checkpoint.proofs.Halves.{first_byte, wider}
+use Rattle.wm_checkpoint.specs.laws.Numbering.{number_of_slot}
 
 pub slot_bounds : (slot : Slot) → (slot_place slot + 1310720 ≤ 2625536) × (journal_place slot + 262144 ≤ 2625536)
 slot_bounds A = (omega arith, omega arith)
@@ -61,14 +62,6 @@ shutting_outranked number place old c lt (inr low) s = elim (cases_eq (get_or c 
   | inr shut ↦ closed_slot number place c (omega (arith, s.outside.size)) shut
 ]
 
--- an open slot has its number
-pub number_of_slot : {S : Type 0} (wire : Ghosts S) (number : ℕ) (state : S) (bytes : List ℕ) → IsOpenSlot wire number state bytes → IsNumbered number bytes
-number_of_slot wire number state bytes o =
-    let a = to_be_bytes w64 number in
-    let b = to_be_bytes w32 (length (wire.spelling state)) in
-    let body = wire.spelling state in
-    (b ++ body ++ o.rest, o.parts ∙ ap (λ (l : List ℕ). 165 ∷ l) (ap (λ (l : List ℕ). l ++ o.rest) (append_assoc a b body) ∙ append_assoc a (b ++ body) o.rest))
-
 module _ {S C : Type 0} (m : Meaning S C) where
   -- the other half counts for nothing as long as its slot is outranked
   pub means_aside : (slot : Slot) (old c : List ℕ) (number : ℕ) (base : S) (cs : List C) → Means m old slot number base cs → SameOutside (slot_place (other_slot slot)) half_len old c → IsOutranked number (area (slot_place (other_slot slot)) 1048576 c) → Means m c slot number base cs
@@ -78,7 +71,7 @@ module _ {S C : Type 0} (m : Meaning S C) where
     header = subst (λ (l : List ℕ). IsHeader l) (sym (half_header slot old c same)) means.header;
     chosen = subst (λ (l : List ℕ). IsOpenSlot m.state number base l) (sym (half_slot slot old c same)) means.chosen;
     outranked = low;
-    journal = subst (λ (l : List ℕ). Holds m.command cs l) (sym (half_journal slot old c same)) means.journal;
+    journal = subst (λ (l : List ℕ). HoldsRecords m.command cs l) (sym (half_journal slot old c same)) means.journal;
     accepted = means.accepted;
   }
 
@@ -93,7 +86,7 @@ module _ {S C : Type 0} (m : Meaning S C) where
       let place = slot_place (other_slot slot) in
       means_aside slot old c number base cs means s.outside (closed_slot number place c (omega (arith, (slot_bounds (other_slot slot)).0, means.long, s.outside.size)) s.shut)
 
-  pub open_slot : (number place : ℕ) (state : S) (bytes old c : List ℕ) → place + 1310720 ≤ length c → IsSlotText m number state bytes → IsSwitched place bytes old c → IsOpenSlot m.state number state (area place 1048576 c)
+  pub open_slot : (number place : ℕ) (state : S) (bytes old c : List ℕ) → place + 1310720 ≤ length c → IsSlotBytes m number state bytes → IsSwitched place bytes old c → IsOpenSlot m.state number state (area place 1048576 c)
   open_slot number place state bytes old c lies s w =
       let f = w.filled in
       record {
@@ -103,10 +96,10 @@ module _ {S C : Type 0} (m : Meaning S C) where
         parts = gate_and_rest place c (omega arith) ∙ ap (λ (x : ℕ). x ∷ drop 1 (area place 1048576 c)) w.gate ∙ ap (λ (l : List ℕ). 165 ∷ l) (f.behind ∙ ap (λ (l : List ℕ). l ++ f.rest) s.text);
       }
 
-  pub no_records : (place : ℕ) (c : List ℕ) → place < length c → get_or c place 0 ≢ 165 → Holds m.command [] (area place journal_len c)
+  pub no_records : (place : ℕ) (c : List ℕ) → place < length c → get_or c place 0 ≢ 165 → HoldsRecords m.command [] (area place journal_len c)
   no_records place c lt shut = record { fit = tt; gate = get_or c place 0; behind = area (place + 1) 262143 c; closed = shut; parts = first_byte place 262143 c lt }
 
-  pub means_switched : (slot : Slot) (old c : List ℕ) (number : ℕ) (base state : S) (cs : List C) (bytes : List ℕ) → number < 9223372036854775807 → Means m old slot number base cs → IsSlotText m (number + 1) state bytes → IsSwitched (slot_place (other_slot slot)) bytes old c
+  pub means_switched : (slot : Slot) (old c : List ℕ) (number : ℕ) (base state : S) (cs : List C) (bytes : List ℕ) → number < max_counter → Means m old slot number base cs → IsSlotBytes m (number + 1) state bytes → IsSwitched (slot_place (other_slot slot)) bytes old c
       → Means m c (other_slot slot) (number + 1) state []
   means_switched slot old c number base state cs bytes lt means s w =
       let o = other_slot slot in
@@ -120,12 +113,12 @@ module _ {S C : Type 0} (m : Meaning S C) where
         header = subst (λ (l : List ℕ). IsHeader l) (sym (half_header slot old c f.outside)) means.header;
         chosen = open_slot (number + 1) (slot_place o) state bytes old c (omega (arith, bounds.0)) s w;
         outranked = subst (λ (t : Slot). IsOutranked (number + 1) (area (slot_place t) 1048576 c)) (sym (other_twice slot)) (inr (number, omega arith, number_of_slot m.state number base _ mine));
-        journal = subst (λ (n : ℕ). Holds m.command [] (area n journal_len c)) (sym (journal_is o)) (no_records (slot_place o + 1048576) c (omega (arith, bounds.0)) f.journal);
+        journal = subst (λ (n : ℕ). HoldsRecords m.command [] (area n journal_len c)) (sym (journal_is o)) (no_records (slot_place o + 1048576) c (omega (arith, bounds.0)) f.journal);
         accepted = tt;
       }
 
   -- whatever a crash leaves while the other half is given the state
-  pub means_switching : (slot : Slot) (old c : List ℕ) (number : ℕ) (base state : S) (cs : List C) (bytes : List ℕ) → number < 9223372036854775807 → Means m old slot number base cs → replayed m.after base cs ≡ state → IsSlotText m (number + 1) state bytes
+  pub means_switching : (slot : Slot) (old c : List ℕ) (number : ℕ) (base state : S) (cs : List C) (bytes : List ℕ) → number < max_counter → Means m old slot number base cs → replayed m.after base cs ≡ state → IsSlotBytes m (number + 1) state bytes
       → IsSwitching (slot_place (other_slot slot)) bytes old c → MeansState m state c
   means_switching slot old c number base state cs bytes lt means is s (inl h) = record { slot = slot; number = number; base = base; commands = cs; means = means_shutting slot old c number base cs means h; is = is }
   means_switching slot old c number base state cs bytes lt means is s (inr (inl h)) = record { slot = slot; number = number; base = base; commands = cs; means = means_shut slot old c number base cs means h; is = is }

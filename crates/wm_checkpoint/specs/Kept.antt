@@ -18,8 +18,8 @@ module _ {D M S C R : Type 0} {disk : disks.Ghosts D} where
   abbrev pub slot_of : Keeper D M S C R disk → Slot
   slot_of keeper = keeper.slot
 
-  abbrev pub number_of : Keeper D M S C R disk → ℕ
-  number_of keeper = keeper.number
+  abbrev pub slot_number_of : Keeper D M S C R disk → ℕ
+  slot_number_of keeper = keeper.number
 
   abbrev pub has_failed : Keeper D M S C R disk → Bool
   has_failed keeper = keeper.failed

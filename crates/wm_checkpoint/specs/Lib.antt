@@ -7,3 +7,5 @@ pub mod FirstFile
 pub mod Formatting
 pub mod Halves
 pub mod Kept
+pub mod KeeperCalls
+pub mod laws

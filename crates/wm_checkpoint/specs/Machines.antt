@@ -31,3 +31,8 @@ Accepts m state commands = AllChange m.after m.changes state commands
 -- the state after a list of commands
 abbrev pub replay_on : {S C : Type 0} → Meaning S C → S → List C → S
 replay_on m state commands = replayed m.after state commands
+
+-- The commands are accepted on the state, one after another, and lead to the next.
+pub record CommandsLeadTo {S C : Type 0} (m : Meaning S C) (state : S) (commands : List C) (next : S) : Type 0 where
+  pub accepted : Accepts m state commands
+  pub is : next ≡ replay_on m state commands

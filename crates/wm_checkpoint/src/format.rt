@@ -1,13 +1,18 @@
 //! Makes a file that means a first state.
-ghost use Rattle.std.specs.Prelude.{◌≡◌, ◌≤◌, ◌<◌, ◌+◌, ◌^◌, ◌↔◌, ◌⊎◌, [], ◌∷◌, List, ℕ, length, slice_index, IfOk, IfErr, OnOk, IsErrOf};
-ghost use Rattle.wm_disk.specs.Contents.{Only, Rose, Counts, overwritten};
-ghost use Rattle.wm_checkpoint.specs.Formatting.{IsZeroTo, laid_out};
+//! Definitions: specs/FirstFile.antt, specs/Formatting.antt.
+//! Tests: file_tests/src/checkpoint/cuts.rt, file_tests/src/checkpoint/files.rt.
+ghost use Rattle.std.specs.Prelude.{◌≡◌, ◌≤◌, ◌<◌, ◌+◌, ◌^◌, ◌↔◌, ◌⊎◌, [], ◌∷◌, List, ℕ, length, slice_index, IfOk, IfErr, OnOk};
+ghost use Rattle.wm_disk.specs.Calls.{Calls, CallsDevice};
+ghost use Rattle.wm_disk.specs.Contents.{Only, overwritten};
+ghost use Rattle.wm_checkpoint.specs.Layout.{file_len, max_slot_text};
+ghost use Rattle.wm_checkpoint.specs.Formatting.{IsZeroTo, laid_out, chunk_len, rest_len};
 ghost use Rattle.wm_disk.specs.declared.refusal.Refusal.TheVariants.{DeviceFailed as device_failed, NoMemory as no_memory};
 
-use crate::layout::OPEN;
+use crate::layout::SLOT_A;
 use crate::write::put_durably;
 use std::alloc::Global;
 use wm_disk::{DeviceFailed, Disk, NoMemory, Refusal};
+use wm_journal::OPEN;
 
 const CHUNK: u64 = 65_536;
 
@@ -25,11 +30,10 @@ fn zeros(alloc: Global, len: usize) -> Result<Vec<u8>, NoMemory>
 
 // Zeros over the whole file: 40 writes of a chunk and one of the rest.
 fn write_zeros<D: Disk>(disk: &mut D, chunk: &[u8], rest: &[u8]) -> Result<(), DeviceFailed>
-    requires chunk { (length chunk.now ≡ 65536) × ((k : ℕ) → slice_index chunk.now k ≡ 0) }
-    requires rest { (length rest.now ≡ 4096) × ((k : ℕ) → slice_index rest.now k ≡ 0) }
-    ensures zero { D.honest disk.new → OnOk result (IsZeroTo 2625536 (D.seen disk.new)) }
-    ensures honest { D.honest disk.new → D.honest disk.old }
-    ensures count { Counts (D.failures disk.old) (D.failures disk.new) result }
+    requires chunk { (length chunk.now ≡ chunk_len) × ((k : ℕ) → slice_index chunk.now k ≡ 0) }
+    requires rest { (length rest.now ≡ rest_len) × ((k : ℕ) → slice_index rest.now k ≡ 0) }
+    ensures zero { D.honest disk.new → OnOk result (IsZeroTo file_len (D.seen disk.new)) }
+    ensures device { CallsDevice D.Disk disk.old disk.new result }
 {
     for i in 0..40u64 {
         disk.write_at(i * CHUNK, chunk)?;
@@ -39,30 +43,25 @@ fn write_zeros<D: Disk>(disk: &mut D, chunk: &[u8], rest: &[u8]) -> Result<(), D
 
 // The slot behind its gate and the header behind its own; then the slot's gate, and the header's.
 fn lay_out<D: Disk>(disk: &mut D, bytes: &[u8]) -> Result<(), DeviceFailed>
-    requires short { length bytes.now ≤ 1048575 }
-    requires long { D.honest disk.old → 2625536 ≤ length (D.seen disk.old) }
+    requires short { length bytes.now ≤ max_slot_text }
+    requires long { D.honest disk.old → file_len ≤ length (D.seen disk.old) }
     ensures laid { D.honest disk.new → OnOk result (D.seen disk.new ≡ laid_out bytes.now (D.seen disk.old)) }
     ensures durable { D.honest disk.new → OnOk result (Only (D.seen disk.new) (D.may_leave disk.new)) }
-    ensures honest { D.honest disk.new → D.honest disk.old }
-    ensures count { Counts (D.failures disk.old) (D.failures disk.new) result }
+    ensures device { CallsDevice D.Disk disk.old disk.new result }
 {
-    disk.write_at(4097, bytes)?;
+    disk.write_at(SLOT_A + 1, bytes)?;
     put_durably(disk, 1, &NAMED)?;
-    put_durably(disk, 4096, &[OPEN])?;
+    put_durably(disk, SLOT_A, &[OPEN])?;
     put_durably(disk, 0, &[OPEN])
 }
 
 /// Makes a file with these bytes in slot A.
 pub(crate) fn format_with<D: Disk>(alloc: Global, disk: &mut D, bytes: &[u8]) -> Result<(), Refusal>
-    requires short { length bytes.now ≤ 1048575 }
-    ensures laid { D.honest disk.new → OnOk result ((c : List ℕ) × IsZeroTo 2625536 c × (D.seen disk.new ≡ laid_out bytes.now c)) }
+    requires short { length bytes.now ≤ max_slot_text }
+    ensures laid { D.honest disk.new → OnOk result ((c : List ℕ) × IsZeroTo file_len c × (D.seen disk.new ≡ laid_out bytes.now c)) }
     ensures durable { D.honest disk.new → OnOk result (Only (D.seen disk.new) (D.may_leave disk.new)) }
-    ensures memory { IsErrOf result no_memory → disk.new ≡ disk.old }
-    ensures honest { D.honest disk.new → D.honest disk.old }
-    ensures later { D.failures disk.old ≤ D.failures disk.new }
-    ensures whole { OnOk result (D.failures disk.new ≡ D.failures disk.old) }
-    ensures failed { IsErrOf result device_failed → Rose (D.failures disk.old) (D.failures disk.new) }
-    ensures kinds { IfErr result (λ e. (e ≡ device_failed) ⊎ (e ≡ no_memory)) }
+    ensures device { Calls D.Disk disk.old disk.new result }
+    ensures refused { IfErr result (λ e. (e ≡ device_failed) ⊎ ((e ≡ no_memory) × (disk.new ≡ disk.old))) }
 {
     let chunk = zeros(alloc, CHUNK as usize)?;
     let rest = zeros(alloc, 4_096)?;

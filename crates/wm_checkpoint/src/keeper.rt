@@ -1,23 +1,23 @@
 //! A machine's state on a disk.
-ghost use Rattle.std.specs.Prelude.{true, false, Some, ◌≡◌, ◌≢◌, ◌≤◌, ◌<◌, ◌+◌, ◌⊎◌, [], List, ℕ, length, IfOk, IfErr, OnOk, OnErr, IsErrOf};
-ghost use Rattle.wm_disk.specs.Contents.{NoMore, Only, Rose};
-ghost use Rattle.wm_disk.specs.Moments.{Elapses, LeavesOnly};
+//! Definitions: specs/Kept.antt, specs/Meanings.antt, specs/Machines.antt.
+//! Tests: file_tests/src/checkpoint.
+ghost use Rattle.std.specs.Prelude.{false, Some, ◌≡◌, ◌≤◌, ◌<◌, ◌+◌, ◌⊎◌, [], List, ℕ, length, IfOk, IfErr, OnOk};
+ghost use Rattle.wm_disk.specs.Calls.{Calls, CallsWith, LeavesAtAnyMoment, OnlyReads};
+ghost use Rattle.wm_disk.specs.Contents.{Only};
+ghost use Rattle.wm_disk.specs.Moments.{LeavesOnly};
 ghost use Rattle.wm_journal.specs.Records.{taken};
-ghost use Rattle.wm_checkpoint.specs.Machines.{meaning, Accepts, replay_on};
+ghost use Rattle.wm_checkpoint.specs.Machines.{meaning, CommandsLeadTo};
 
 use crate::commit::commit_group;
 use crate::format::format_with;
 use crate::layout::{JOURNAL_LEN, Slot};
 use crate::machine::Machine;
 use crate::read::find;
-use crate::slot_text::slot_text;
+use crate::slot_bytes::slot_bytes;
 use crate::write::switch_half;
 use std::alloc::Global;
-use wm_disk::{Crashed, Disk, Refusal};
+use wm_disk::{Crashed, Disk, MAX_COUNTER, Refusal};
 use wm_journal::Region;
-
-/// The last number that a checkpoint gives to a slot.
-const LAST: u64 = 9_223_372_036_854_775_807;
 
 /// A machine's state, and the disk that means it.
 #[derive(Drop)]
@@ -31,13 +31,12 @@ pub struct Keeper<D: Disk + Drop, M: Machine> {
 }
 
 impl<D: Disk + Drop, M: Machine> Keeper<D, M> {
-    ghost use Rattle.wm_checkpoint.specs.Layout.{other_slot};
     ghost use Rattle.wm_checkpoint.specs.declared.layout.Slot.TheVariants.{A};
     ghost use Rattle.wm_checkpoint.specs.FirstFile.{IsFirstFile};
-    ghost use Rattle.wm_checkpoint.specs.Meanings.{Means, MeansState, MeansBeginning, IsRetired, IsDamaged, slot_text as slot_text_of};
-    ghost use Rattle.wm_checkpoint.specs.Kept.{disk_of, state_of, slot_of, number_of, has_failed, room_left, Keeps};
-    ghost use Rattle.wm_checkpoint.specs.Numbers.{IsNumberedTo};
-    ghost use Rattle.wm_disk.specs.declared.refusal.Refusal.TheVariants.{DeviceFailed as device_failed, NoMemory as no_memory, Exhausted as exhausted, Damaged as damaged, Retired as retired, StoreFailed as store_failed};
+    ghost use Rattle.wm_checkpoint.specs.Meanings.{Means, MeansState, MeansPrefix, IsRetired, IsDamaged, slot_bytes as slot_bytes_of};
+    ghost use Rattle.wm_checkpoint.specs.Kept.{disk_of, state_of, slot_of, slot_number_of, has_failed, room_left, Keeps};
+    ghost use Rattle.wm_checkpoint.specs.KeeperCalls.{LeavesState, StandsAsBefore, KeeperRefuses, CrashLeaves, HasCommitted, HasSwitched, SpentAt, IsOpened};
+    ghost use Rattle.wm_disk.specs.declared.refusal.Refusal.TheVariants.{DeviceFailed as device_failed, NoMemory as no_memory, Exhausted as exhausted, Damaged as damaged, Retired as retired};
 
     /// Makes a file that means the first state, in slot A with number 1, over whatever the disk holds. A
     /// crash inside it acknowledges nothing, and it is run again. `13 DeviceFailed` where a write or a sync
@@ -46,39 +45,28 @@ impl<D: Disk + Drop, M: Machine> Keeper<D, M> {
     pub fn format(alloc: Global, disk: &mut D, first: &M::State) -> Result<(), Refusal>
         ensures formatted { D.honest disk.new → OnOk result (Means (meaning M.Machine M.State.Wire M.Command.Wire) (D.seen disk.new) A 1 first.now []) }
         // Slot B and the rest of the header are zeros.
-        ensures first { D.honest disk.new → OnOk result (IsFirstFile (slot_text_of M.State.Wire 1 first.now) (D.seen disk.new)) }
+        ensures first { D.honest disk.new → OnOk result (IsFirstFile (slot_bytes_of M.State.Wire 1 first.now) (D.seen disk.new)) }
         ensures durable { D.honest disk.new → OnOk result (Only (D.seen disk.new) (D.may_leave disk.new)) }
-        ensures memory { IsErrOf result no_memory → disk.new ≡ disk.old }
-        ensures honest { D.honest disk.new → D.honest disk.old }
-        ensures later { D.failures disk.old ≤ D.failures disk.new }
-        ensures whole { OnOk result (D.failures disk.new ≡ D.failures disk.old) }
-        ensures failed { IsErrOf result device_failed → Rose (D.failures disk.old) (D.failures disk.new) }
-        ensures kinds { IfErr result (λ e. (e ≡ device_failed) ⊎ (e ≡ no_memory)) }
+        ensures device { Calls D.Disk disk.old disk.new result }
+        ensures refused { IfErr result (λ e. (e ≡ device_failed) ⊎ ((e ≡ no_memory) × (disk.new ≡ disk.old))) }
     {
-        let bytes = slot_text::<M>(alloc, 1, first)?;
+        let bytes = slot_bytes::<M>(alloc, 1, first)?;
         format_with(alloc, disk, &bytes)?;
         Ok(())
     }
 
     /// Finds the state that the disk means: length, sync and a reading of the whole file; nothing is
     /// written. A refusal hands the disk back: `14 Damaged` where it means no state, `20 Retired` where its
-    /// retired gate is open, `13 DeviceFailed` where the device failed, `16 NoMemory` for want of memory.
+    /// retired gate is open, `13 DeviceFailed` where the device failed, `16 NoMemory` when out of memory.
     /// The disk then reads as before, and a crash leaves nothing that it might not have left before.
     pub fn open(alloc: Global, disk: D) -> Result<Keeper<D, M>, (Refusal, D)>
-        ensures kept { IfOk result (λ k. Keeps (meaning M.Machine M.State.Wire M.Command.Wire) k × (has_failed k ≡ false)) }
-        ensures means { IfOk result (λ k. D.honest (disk_of k) → (c : List ℕ) → D.may_leave (disk_of k) c → MeansState (meaning M.Machine M.State.Wire M.Command.Wire) (state_of k) c) }
-        // What the disk means is found.
-        ensures found { IfOk result (λ k. (state : M.State) → D.honest (disk_of k) → MeansState (meaning M.Machine M.State.Wire M.Command.Wire) state (D.seen disk) → state_of k ≡ state) }
+        ensures opened { IfOk result (IsOpened (meaning M.Machine M.State.Wire M.Command.Wire) disk) }
         ensures damaged { IfErr result (λ e. D.honest e.1 → e.0 ≡ damaged → IsDamaged (meaning M.Machine M.State.Wire M.Command.Wire) (D.seen disk)) }
         ensures retired { IfErr result (λ e. D.honest e.1 → e.0 ≡ retired → IsRetired (D.seen disk)) }
         ensures seen { IfOk result (λ k. D.honest (disk_of k) → D.seen (disk_of k) ≡ D.seen disk) × IfErr result (λ e. D.honest e.1 → D.seen e.1 ≡ D.seen disk) }
         // A crash at any moment of the call leaves what one before it might have left.
         ensures any_moment { IfOk result (λ k. D.honest (disk_of k) → LeavesOnly D.moment D.left_since disk (disk_of k) (D.may_leave disk)) × IfErr result (λ e. D.honest e.1 → LeavesOnly D.moment D.left_since disk e.1 (D.may_leave disk)) }
-        ensures honest { IfOk result (λ k. D.honest (disk_of k) → D.honest disk) × IfErr result (λ e. D.honest e.1 → D.honest disk) }
-        ensures later { IfOk result (λ k. D.failures disk ≤ D.failures (disk_of k)) × IfErr result (λ e. D.failures disk ≤ D.failures e.1) }
-        ensures whole { IfOk result (λ k. D.failures (disk_of k) ≡ D.failures disk) }
-        ensures failed { IfErr result (λ e. e.0 ≡ device_failed → Rose (D.failures disk) (D.failures e.1)) }
-        ensures stood { IfErr result (λ e. e.0 ≢ device_failed → D.failures e.1 ≡ D.failures disk) }
+        ensures device { CallsWith D.Disk (λ k. disk_of k) disk result }
         ensures kinds { IfErr result (λ e. (e.0 ≡ device_failed) ⊎ (e.0 ≡ no_memory) ⊎ (e.0 ≡ damaged) ⊎ (e.0 ≡ retired)) }
     {
         let mut disk = disk;
@@ -129,8 +117,8 @@ impl<D: Disk + Drop, M: Machine> Keeper<D, M> {
 
     /// Commits a group of commands, which lead to the next state. After an `Ok` they are durable.
     /// `12 StoreFailed` where a call before it was answered `13`, with no call of the disk; `13
-    /// DeviceFailed` where the device failed, and then the disk means the state after a beginning of the
-    /// group; `16 NoMemory` for want of memory, with no call of the disk.
+    /// DeviceFailed` where the device failed, and then the disk means the state after a prefix of the
+    /// group; `16 NoMemory` when out of memory, with no call of the disk.
     pub fn commit(
         &mut self,
         alloc: Global,
@@ -139,27 +127,13 @@ impl<D: Disk + Drop, M: Machine> Keeper<D, M> {
     ) -> Result<(), Refusal>
         requires kept { Keeps (meaning M.Machine M.State.Wire M.Command.Wire) self.old }
         requires fits { taken M.Command.spelling commands.now ≤ room_left self.old }
-        requires next { next ≡ replay_on (meaning M.Machine M.State.Wire M.Command.Wire) (state_of self.old) commands.now }
-        requires accepted { Accepts (meaning M.Machine M.State.Wire M.Command.Wire) (state_of self.old) commands.now }
+        requires leads { CommandsLeadTo (meaning M.Machine M.State.Wire M.Command.Wire) (state_of self.old) commands.now next }
         ensures kept { Keeps (meaning M.Machine M.State.Wire M.Command.Wire) self.new }
-        ensures state { OnOk result ((state_of self.new ≡ next) × (has_failed self.new ≡ false)) }
-        // Every content that a crash may leave then means the new state.
-        ensures means { D.honest (disk_of self.new) → OnOk result ((c : List ℕ) → D.may_leave (disk_of self.new) c → MeansState (meaning M.Machine M.State.Wire M.Command.Wire) (state_of self.new) c) }
-        ensures slot { (slot_of self.new ≡ slot_of self.old) × (number_of self.new ≡ number_of self.old) }
-        ensures room { OnOk result (room_left self.new + taken M.Command.spelling commands.now ≡ room_left self.old) }
-        ensures unchanged { OnErr result (state_of self.new ≡ state_of self.old) }
-        // A crash at any moment of the call leaves the state after a beginning of the commands.
-        ensures any_moment { has_failed self.old ≡ false → D.honest (disk_of self.new) → LeavesOnly D.moment D.left_since (disk_of self.old) (disk_of self.new) (MeansBeginning (meaning M.Machine M.State.Wire M.Command.Wire) (state_of self.old) commands.now) }
-        // And each slot that stands open in it has a number of at most the keeper's.
-        ensures numbered { has_failed self.old ≡ false → D.honest (disk_of self.new) → (c : List ℕ) → D.may_leave (disk_of self.new) c → IsNumberedTo (number_of self.old) c }
-        ensures memory { IsErrOf result no_memory → self.new ≡ self.old }
-        ensures down { IsErrOf result store_failed → (has_failed self.old ≡ true) × (self.new ≡ self.old) }
-        ensures stays_down { has_failed self.old ≡ true → IsErrOf result store_failed }
-        ensures honest { D.honest (disk_of self.new) → D.honest (disk_of self.old) }
-        ensures later { D.failures (disk_of self.old) ≤ D.failures (disk_of self.new) }
-        ensures whole { OnOk result (D.failures (disk_of self.new) ≡ D.failures (disk_of self.old)) }
-        ensures failed { IsErrOf result device_failed → Rose (D.failures (disk_of self.old)) (D.failures (disk_of self.new)) × (has_failed self.new ≡ true) }
-        ensures kinds { IfErr result (λ e. (e ≡ device_failed) ⊎ (e ≡ no_memory) ⊎ (e ≡ store_failed)) }
+        ensures committed { OnOk result (HasCommitted (meaning M.Machine M.State.Wire M.Command.Wire) commands.now next self.old self.new) }
+        // A crash at any moment of the call leaves the state after a prefix of the commands.
+        ensures crash { has_failed self.old ≡ false → D.honest (disk_of self.new) → CrashLeaves self.old self.new (MeansPrefix (meaning M.Machine M.State.Wire M.Command.Wire) (state_of self.old) commands.now) (slot_number_of self.old) }
+        ensures device { Calls D.Disk (disk_of self.old) (disk_of self.new) result }
+        ensures refusals { KeeperRefuses (λ e. e ≡ no_memory) self.old self.new result }
     {
         if self.failed {
             return Err(Refusal::StoreFailed);
@@ -187,36 +161,23 @@ impl<D: Disk + Drop, M: Machine> Keeper<D, M> {
     pub fn checkpoint(&mut self, alloc: Global) -> Result<(), Refusal>
         requires kept { Keeps (meaning M.Machine M.State.Wire M.Command.Wire) self.old }
         ensures kept { Keeps (meaning M.Machine M.State.Wire M.Command.Wire) self.new }
-        // Every content that a crash may leave then means the state.
-        ensures means { D.honest (disk_of self.new) → OnOk result ((c : List ℕ) → D.may_leave (disk_of self.new) c → MeansState (meaning M.Machine M.State.Wire M.Command.Wire) (state_of self.new) c) }
-        ensures fresh { D.honest (disk_of self.new) → OnOk result (Means (meaning M.Machine M.State.Wire M.Command.Wire) (D.seen (disk_of self.new)) (slot_of self.new) (number_of self.new) (state_of self.old) []) }
-        ensures slot { OnOk result ((slot_of self.new ≡ other_slot (slot_of self.old)) × (number_of self.new ≡ number_of self.old + 1) × (room_left self.new ≡ 262143) × (has_failed self.new ≡ false)) }
-        ensures stays { OnErr result ((slot_of self.new ≡ slot_of self.old) × (number_of self.new ≡ number_of self.old)) }
-        ensures state { state_of self.new ≡ state_of self.old }
+        ensures switched { OnOk result (HasSwitched (meaning M.Machine M.State.Wire M.Command.Wire) self.old self.new) }
+        ensures in_new_slot { D.honest (disk_of self.new) → OnOk result (Means (meaning M.Machine M.State.Wire M.Command.Wire) (D.seen (disk_of self.new)) (slot_of self.new) (slot_number_of self.new) (state_of self.old) []) }
         // A crash at any moment of the call leaves the state.
-        ensures any_moment { has_failed self.old ≡ false → D.honest (disk_of self.new) → LeavesOnly D.moment D.left_since (disk_of self.old) (disk_of self.new) (MeansState (meaning M.Machine M.State.Wire M.Command.Wire) (state_of self.old)) }
-        // And each slot that stands open in it has a number of at most the next.
-        ensures numbered { has_failed self.old ≡ false → D.honest (disk_of self.new) → (c : List ℕ) → D.may_leave (disk_of self.new) c → IsNumberedTo (number_of self.old + 1) c }
-        ensures exhausted { IsErrOf result exhausted → (9223372036854775807 ≤ number_of self.old) × (self.new ≡ self.old) }
-        ensures spent { has_failed self.old ≡ false → 9223372036854775807 ≤ number_of self.old → IsErrOf result exhausted }
-        ensures memory { IsErrOf result no_memory → self.new ≡ self.old }
-        ensures down { IsErrOf result store_failed → (has_failed self.old ≡ true) × (self.new ≡ self.old) }
-        ensures stays_down { has_failed self.old ≡ true → IsErrOf result store_failed }
-        ensures honest { D.honest (disk_of self.new) → D.honest (disk_of self.old) }
-        ensures later { D.failures (disk_of self.old) ≤ D.failures (disk_of self.new) }
-        ensures whole { OnOk result (D.failures (disk_of self.new) ≡ D.failures (disk_of self.old)) }
-        ensures failed { IsErrOf result device_failed → Rose (D.failures (disk_of self.old)) (D.failures (disk_of self.new)) × (has_failed self.new ≡ true) }
-        ensures kinds { IfErr result (λ e. (e ≡ device_failed) ⊎ (e ≡ no_memory) ⊎ (e ≡ exhausted) ⊎ (e ≡ store_failed)) }
+        ensures crash { has_failed self.old ≡ false → D.honest (disk_of self.new) → CrashLeaves self.old self.new (MeansState (meaning M.Machine M.State.Wire M.Command.Wire) (state_of self.old)) (slot_number_of self.old + 1) }
+        ensures device { Calls D.Disk (disk_of self.old) (disk_of self.new) result }
+        ensures refusals { KeeperRefuses (λ e. (e ≡ no_memory) ⊎ (e ≡ exhausted)) self.old self.new result }
+        ensures exhausted { SpentAt self.old result }
     {
         if self.failed {
             return Err(Refusal::StoreFailed);
         }
-        if self.number >= LAST {
+        if self.number >= MAX_COUNTER {
             return Err(Refusal::Exhausted);
         }
         let number = self.number + 1;
         let slot = self.slot.other();
-        let bytes = slot_text::<M>(alloc, number, &self.state)?;
+        let bytes = slot_bytes::<M>(alloc, number, &self.state)?;
         match switch_half(&mut self.region.disk, slot.place(), &bytes) {
             Ok(()) => {
                 self.slot = slot;
@@ -236,21 +197,13 @@ impl<D: Disk + Drop, M: Machine> Keeper<D, M> {
     pub fn sync(&mut self) -> Result<(), Refusal>
         requires kept { Keeps (meaning M.Machine M.State.Wire M.Command.Wire) self.old }
         ensures kept { Keeps (meaning M.Machine M.State.Wire M.Command.Wire) self.new }
-        // Every content that a crash may leave then means the state.
-        ensures means { D.honest (disk_of self.new) → OnOk result ((c : List ℕ) → D.may_leave (disk_of self.new) c → MeansState (meaning M.Machine M.State.Wire M.Command.Wire) (state_of self.new) c) }
-        ensures ok { OnOk result (has_failed self.new ≡ false) }
-        ensures state { state_of self.new ≡ state_of self.old }
-        ensures slot { (slot_of self.new ≡ slot_of self.old) × (number_of self.new ≡ number_of self.old) × (room_left self.new ≡ room_left self.old) }
+        ensures same { StandsAsBefore self.old self.new × (room_left self.new ≡ room_left self.old) }
+        ensures synced { OnOk result ((has_failed self.new ≡ false) × LeavesState (meaning M.Machine M.State.Wire M.Command.Wire) self.new) }
         ensures seen { D.honest (disk_of self.new) → D.seen (disk_of self.new) ≡ D.seen (disk_of self.old) }
         // A crash at any moment of the call leaves the state.
-        ensures any_moment { has_failed self.old ≡ false → D.honest (disk_of self.new) → LeavesOnly D.moment D.left_since (disk_of self.old) (disk_of self.new) (MeansState (meaning M.Machine M.State.Wire M.Command.Wire) (state_of self.old)) }
-        ensures down { IsErrOf result store_failed → (has_failed self.old ≡ true) × (self.new ≡ self.old) }
-        ensures stays_down { has_failed self.old ≡ true → IsErrOf result store_failed }
-        ensures honest { D.honest (disk_of self.new) → D.honest (disk_of self.old) }
-        ensures later { D.failures (disk_of self.old) ≤ D.failures (disk_of self.new) }
-        ensures whole { OnOk result (D.failures (disk_of self.new) ≡ D.failures (disk_of self.old)) }
-        ensures failed { IsErrOf result device_failed → Rose (D.failures (disk_of self.old)) (D.failures (disk_of self.new)) × (has_failed self.new ≡ true) }
-        ensures kinds { IfErr result (λ e. (e ≡ device_failed) ⊎ (e ≡ store_failed)) }
+        ensures crash { has_failed self.old ≡ false → LeavesAtAnyMoment D.Disk (disk_of self.old) (disk_of self.new) (MeansState (meaning M.Machine M.State.Wire M.Command.Wire) (state_of self.old)) }
+        ensures device { Calls D.Disk (disk_of self.old) (disk_of self.new) result }
+        ensures refusals { KeeperRefuses (λ e. ⊥) self.old self.new result }
     {
         if self.failed {
             return Err(Refusal::StoreFailed);
@@ -267,22 +220,20 @@ impl<D: Disk + Drop, M: Machine> Keeper<D, M> {
 
 impl<D: Crashed + Drop, M: Machine> Keeper<D, M> {
     ghost use Rattle.wm_checkpoint.specs.Meanings.{MeansState};
-    ghost use Rattle.wm_checkpoint.specs.Kept.{disk_of, state_of, slot_of, number_of, has_failed, room_left, Keeps};
+    ghost use Rattle.wm_checkpoint.specs.Kept.{disk_of, state_of, has_failed, room_left, Keeps};
+    ghost use Rattle.wm_checkpoint.specs.KeeperCalls.{StandsAsBefore};
 
     /// For tests: so many calls of the disk pass, and then each call fails and has no effect.
     pub fn arm(&mut self, calls: u64)
         requires kept { Keeps (meaning M.Machine M.State.Wire M.Command.Wire) self.old }
         ensures kept { Keeps (meaning M.Machine M.State.Wire M.Command.Wire) self.new }
-        ensures state { (state_of self.new ≡ state_of self.old) × (has_failed self.new ≡ has_failed self.old) }
-        ensures slot { (slot_of self.new ≡ slot_of self.old) × (number_of self.new ≡ number_of self.old) × (room_left self.new ≡ room_left self.old) }
+        ensures same { StandsAsBefore self.old self.new × (room_left self.new ≡ room_left self.old) }
+        ensures flag { has_failed self.new ≡ has_failed self.old }
         ensures plan { D.plan (disk_of self.new) ≡ Some calls }
-        ensures seen { D.honest (disk_of self.new) → D.seen (disk_of self.new) ≡ D.seen (disk_of self.old) }
-        ensures crash { D.honest (disk_of self.new) → NoMore (D.may_leave (disk_of self.old)) (D.may_leave (disk_of self.new)) }
-        ensures time { D.honest (disk_of self.new) → Elapses (D.moment (disk_of self.old)) (D.moment (disk_of self.new)) (D.left_since (disk_of self.old)) (D.left_since (disk_of self.new)) (D.may_leave (disk_of self.new)) }
+        ensures reads { D.honest (disk_of self.new) → OnlyReads D.Disk (disk_of self.old) (disk_of self.new) }
         // A crash at any moment of the call leaves the state.
-        ensures any_moment { has_failed self.old ≡ false → D.honest (disk_of self.new) → LeavesOnly D.moment D.left_since (disk_of self.old) (disk_of self.new) (MeansState (meaning M.Machine M.State.Wire M.Command.Wire) (state_of self.old)) }
-        ensures honest { D.honest (disk_of self.new) → D.honest (disk_of self.old) }
-        ensures count { D.failures (disk_of self.new) ≡ D.failures (disk_of self.old) }
+        ensures crash { has_failed self.old ≡ false → LeavesAtAnyMoment D.Disk (disk_of self.old) (disk_of self.new) (MeansState (meaning M.Machine M.State.Wire M.Command.Wire) (state_of self.old)) }
+        ensures device { (D.honest (disk_of self.new) → D.honest (disk_of self.old)) × (D.failures (disk_of self.new) ≡ D.failures (disk_of self.old)) }
     {
         self.region.disk.arm(calls);
     }

@@ -1,4 +1,5 @@
 //! The law of every content.
+//! Definitions: specs/Meanings.antt, specs/Machines.antt.
 ghost use Rattle.std.specs.Prelude.{◌≡◌, List, ℕ};
 ghost use Rattle.wm_checkpoint.specs.Machines.{meaning};
 ghost use Rattle.wm_checkpoint.specs.Meanings.{MeansState};

@@ -1,8 +1,12 @@
 //! Where the parts of a state file lie, in bytes.
+//! Definitions: specs/Layout.antt. Tests: file_tests/src/checkpoint/files.rt.
 ghost use Rattle.std.specs.Prelude.{◌≡◌};
 
 /// How long a state file is. What stands behind is ignored.
 pub(crate) const FILE_LEN: u64 = 2_625_536;
+
+/// How long the header is.
+pub(crate) const HEADER_LEN: u64 = 4_096;
 
 /// How long a slot is: its gate, a number of 8 bytes, the body's length in 4 bytes, and the body.
 pub(crate) const SLOT_LEN: u64 = 1_048_576;
@@ -10,14 +14,17 @@ pub(crate) const SLOT_LEN: u64 = 1_048_576;
 /// How long a slot's journal is.
 pub(crate) const JOURNAL_LEN: u64 = 262_144;
 
-/// The most bytes of a state's spelling.
-pub(crate) const BODY_LEN: u64 = 1_048_563;
+/// The most bytes of a state's spelling, which is a slot's body.
+pub const MAX_STATE_BYTES: u64 = 1_048_563;
 
-/// An open gate.
-pub(crate) const OPEN: u8 = 0xa5;
+/// Where the slots begin, each with its journal right behind it.
+pub(crate) const SLOT_A: u64 = 4_096;
 
-/// A closed gate, as it is written.
-pub(crate) const CLOSED: u8 = 0;
+pub(crate) const SLOT_B: u64 = 1_314_816;
+
+const JOURNAL_A: u64 = 1_052_672;
+
+const JOURNAL_B: u64 = 2_363_392;
 
 /// One of the two places of a state.
 #[derive(Clone, Copy, Debug, PartialEq, Eq)]
@@ -34,8 +41,8 @@ impl Slot {
         ensures { result ≡ slot_place self }
     {
         match self {
-            Slot::A => 4_096,
-            Slot::B => 1_314_816,
+            Slot::A => SLOT_A,
+            Slot::B => SLOT_B,
         }
     }
 
@@ -44,8 +51,8 @@ impl Slot {
         ensures { result ≡ journal_place self }
     {
         match self {
-            Slot::A => 1_052_672,
-            Slot::B => 2_363_392,
+            Slot::A => JOURNAL_A,
+            Slot::B => JOURNAL_B,
         }
     }
 

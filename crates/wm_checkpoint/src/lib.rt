@@ -3,8 +3,10 @@
 //! The file has two slots, each with a journal behind it. The open slot with the greater number holds a
 //! state, and its journal the commands since then. [`Keeper::commit`] writes a group of commands into the
 //! journal; [`Keeper::checkpoint`] puts the state into the other slot, under the next number, and opens its
-//! gate last. A crash at any moment leaves a content that means the state after a beginning of the commands
+//! gate last. A crash at any moment leaves a content that means the state after a prefix of the commands
 //! in flight, and [`Keeper::open`] finds it.
+//!
+//! Tests: file_tests/src/checkpoint.
 #![tactic(auto)]
 
 mod commit;
@@ -14,10 +16,10 @@ mod laws;
 mod layout;
 mod machine;
 mod read;
-mod slot_text;
+mod slot_bytes;
 mod write;
 
 pub use keeper::Keeper;
 pub use laws::every_content;
-pub use layout::Slot;
+pub use layout::{MAX_STATE_BYTES, Slot};
 pub use machine::Machine;

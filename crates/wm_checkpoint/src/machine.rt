@@ -1,5 +1,8 @@
 //! A machine whose commands are kept in a journal.
+//! Definitions: specs/Machines.antt.
+//! Tests: file_tests/src/checkpoint/register.rt, file_tests/src/checkpoint/switch.rt.
 ghost use Rattle.std.specs.Prelude.{◌≡◌, ◌≢◌, ◌≤◌, Bool, true, false, length, IfOk, OnErr};
+ghost use Rattle.wm_checkpoint.specs.Layout.{max_state_bytes};
 
 use std::alloc::Global;
 use wm_disk::NoMemory;
@@ -22,7 +25,7 @@ pub trait Machine {
     /// The reply to a command.
     ghost reply: { Self.State → Self.Command → Self.Reply };
 
-    /// Applies a command, and tells the reply and whether the state changed. Its error is want of memory,
+    /// Applies a command, and tells the reply and whether the state changed. Its error is running out of memory,
     /// and then the state is as it was.
     fn apply(
         alloc: Global,
@@ -32,7 +35,7 @@ pub trait Machine {
         ensures ok { IfOk result (λ r. (r.0 ≡ reply state.old command.now) × (r.1 ≡ changes state.old command.now) × (state.new ≡ after state.old command.now)) }
         ensures err { OnErr result (state.new ≡ state.old) };
 
-    /// An equal state, or want of memory.
+    /// An equal state, or no memory.
     fn copy(alloc: Global, state: &Self::State) -> Result<Self::State, NoMemory>
         ensures { IfOk result (λ s. s ≡ state.now) };
 
@@ -42,6 +45,6 @@ pub trait Machine {
     /// What changes a state within its limits makes another of it.
     ghost alive: { (s : Self.State) (c : Self.Command) → Self.State.fits s → changes s c ≡ true → after s c ≢ s };
 
-    /// A state's limits bound its spelling: it has at most 1,048,563 bytes, as a slot's body.
-    ghost small: { (s : Self.State) → Self.State.fits s → length (Self.State.spelling s) ≤ 1048563 };
+    /// A state's limits bound its spelling: it has at most `MAX_STATE_BYTES`, as a slot's body.
+    ghost small: { (s : Self.State) → Self.State.fits s → length (Self.State.spelling s) ≤ max_state_bytes };
 }

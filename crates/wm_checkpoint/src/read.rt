@@ -1,21 +1,24 @@
 //! What the bytes of a file mean.
+//! Definitions: specs/Meanings.antt, specs/Found.antt.
+//! Tests: file_tests/src/checkpoint/files.rt, file_tests/src/checkpoint/damage.rt.
 ghost use Rattle.std.specs.Prelude.{true, false, ◌≡◌, ◌≢◌, ◌≤◌, ◌<◌, ◌+◌, ◌-◌, ◌^◌, ◌⊎◌, ◌++◌, [], ◌∷◌, List, ℕ, length, take, drop, slice_index, IfOk, IfErr, OnOk, OnErr, IsErrOf, IfSome, IfNone};
 ghost use Rattle.std.specs.Int.{to_be_bytes, w32, w64};
 ghost use Rattle.wm_journal.specs.Areas.{area};
-ghost use Rattle.wm_checkpoint.specs.Layout.{slot_place, other_slot};
-ghost use Rattle.wm_disk.specs.Contents.{Only, Rose};
-ghost use Rattle.wm_disk.specs.Moments.{LeavesOnly};
-ghost use Rattle.wm_checkpoint.specs.Found.{IsFound, IsChosen};
+ghost use Rattle.wm_checkpoint.specs.Layout.{file_len, header_len, retired_place, front_len, slot_place, slot_len, number_place, size_place, body_place, journal_len, other_slot};
+ghost use Rattle.wm_disk.specs.Calls.{Calls};
+ghost use Rattle.wm_checkpoint.specs.Found.{IsFound, IsChosen, ReadsDurably};
 ghost use Rattle.wm_checkpoint.specs.Machines.{replayed, AllChange, meaning};
 ghost use Rattle.wm_checkpoint.specs.Meanings.{MeansState, IsHeader, IsHeaderWith, IsRetired, IsDamaged, IsNumbered, IsClosed, IsOutranked, IsOpenSlot};
 ghost use Rattle.wm_disk.specs.declared.refusal.Refusal.TheVariants.{DeviceFailed as device_failed, NoMemory as no_memory, Damaged as damaged, Retired as retired};
 ghost use Rattle.wm_checkpoint.specs.declared.layout.Slot.{Slot};
 
-use crate::layout::{BODY_LEN, FILE_LEN, JOURNAL_LEN, OPEN, SLOT_LEN, Slot};
+use crate::layout::{
+    FILE_LEN, HEADER_LEN, JOURNAL_LEN, MAX_STATE_BYTES, SLOT_A, SLOT_B, SLOT_LEN, Slot,
+};
 use crate::machine::Machine;
 use std::alloc::Global;
 use wm_disk::{Disk, NoMemory, Refusal};
-use wm_journal::read_records;
+use wm_journal::{OPEN, read_records};
 use wm_wire::Wire;
 
 fn part(bytes: &[u8], at: usize, len: usize) -> &[u8]
@@ -30,16 +33,16 @@ const HEADER: [u8; 12] = [0xa5, 87, 77, 83, 84, 65, 84, 69, 0, 0, 0, 1];
 
 // The header's fixed bytes: the open gate, the name and the version.
 fn has_header(bytes: &[u8]) -> bool
-    requires { 13 ≤ length bytes.now }
-    ensures yes { result ≡ true → IsHeaderWith (slice_index bytes.now 12) bytes.now }
+    requires { front_len ≤ length bytes.now }
+    ensures yes { result ≡ true → IsHeaderWith (slice_index bytes.now retired_place) bytes.now }
     ensures no { result ≡ false → (retired : ℕ) → IsHeaderWith retired bytes.now → ⊥ }
 {
     bytes.starts_with(&HEADER)
 }
 
 fn slot_number(bytes: &[u8]) -> u64
-    requires { 9 ≤ length bytes.now }
-    ensures { to_be_bytes w64 result ≡ area 1 8 bytes.now }
+    requires { size_place ≤ length bytes.now }
+    ensures { to_be_bytes w64 result ≡ area number_place 8 bytes.now }
 {
     u64::from_be_bytes([
         bytes[1], bytes[2], bytes[3], bytes[4], bytes[5], bytes[6], bytes[7], bytes[8],
@@ -48,7 +51,7 @@ fn slot_number(bytes: &[u8]) -> u64
 
 // The number behind an open gate.
 fn open_number(bytes: &[u8]) -> Option<u64>
-    requires { 9 ≤ length bytes.now }
+    requires { size_place ≤ length bytes.now }
     ensures some { IfSome result (λ n. IsNumbered n bytes.now) }
     ensures fits { IfSome result (λ n. n < 2 ^ 64) }
     ensures none { IfNone result (IsClosed bytes.now) }
@@ -61,13 +64,13 @@ fn open_number(bytes: &[u8]) -> Option<u64>
 
 // The slot that is open with the greater number.
 fn choose(bytes: &[u8]) -> Option<(Slot, u64)>
-    requires { 2625536 ≤ length bytes.now }
+    requires { file_len ≤ length bytes.now }
     ensures fits { IfSome result (λ r. r.1 < 2 ^ 64) }
-    ensures some { IfSome result (λ r. IsNumbered r.1 (area (slot_place r.0) 1048576 bytes.now) × IsOutranked r.1 (area (slot_place (other_slot r.0)) 1048576 bytes.now)) }
-    ensures none { IfNone result ((slot : Slot) (n : ℕ) → n < 2 ^ 64 → IsNumbered n (area (slot_place slot) 1048576 bytes.now) → IsOutranked n (area (slot_place (other_slot slot)) 1048576 bytes.now) → ⊥) }
+    ensures some { IfSome result (λ r. IsNumbered r.1 (area (slot_place r.0) slot_len bytes.now) × IsOutranked r.1 (area (slot_place (other_slot r.0)) slot_len bytes.now)) }
+    ensures none { IfNone result ((slot : Slot) (n : ℕ) → n < 2 ^ 64 → IsNumbered n (area (slot_place slot) slot_len bytes.now) → IsOutranked n (area (slot_place (other_slot slot)) slot_len bytes.now) → ⊥) }
 {
-    let a = open_number(part(bytes, 4_096, SLOT_LEN as usize));
-    let b = open_number(part(bytes, 1_314_816, SLOT_LEN as usize));
+    let a = open_number(part(bytes, SLOT_A as usize, SLOT_LEN as usize));
+    let b = open_number(part(bytes, SLOT_B as usize, SLOT_LEN as usize));
     match a {
         None => match b {
             None => None,
@@ -89,20 +92,20 @@ fn choose(bytes: &[u8]) -> Option<(Slot, u64)>
 }
 
 fn body_len(bytes: &[u8]) -> u32
-    requires { 13 ≤ length bytes.now }
-    ensures { to_be_bytes w32 result ≡ area 9 4 bytes.now }
+    requires { body_place ≤ length bytes.now }
+    ensures { to_be_bytes w32 result ≡ area size_place 4 bytes.now }
 {
     u32::from_be_bytes([bytes[9], bytes[10], bytes[11], bytes[12]])
 }
 
 // The state in an open slot.
 fn read_state<S: Wire + Drop>(alloc: Global, bytes: &[u8]) -> Result<Option<S>, NoMemory>
-    requires { length bytes.now ≡ 1048576 }
+    requires { length bytes.now ≡ slot_len }
     ensures some { IfOk result (λ found. IfSome found (λ s. (number : ℕ) → IsNumbered number bytes.now → IsOpenSlot S.Wire number s bytes.now)) }
     ensures none { IfOk result (λ found. IfNone found ((number : ℕ) (s : S) → IsOpenSlot S.Wire number s bytes.now → ⊥)) }
 {
     let len = body_len(bytes) as usize;
-    if len as u64 > BODY_LEN {
+    if len as u64 > MAX_STATE_BYTES {
         return Ok(None);
     }
     let Some((state, used)) = S::take(alloc, part(bytes, 13, len))? else {
@@ -149,8 +152,8 @@ fn decode_slot<M: Machine>(
     slot: Slot,
     number: u64,
 ) -> Result<Option<(M::State, u64)>, NoMemory>
-    requires size { length bytes.now ≡ 2625536 }
-    requires header { IsHeader (area 0 4096 bytes.now) }
+    requires size { length bytes.now ≡ file_len }
+    requires header { IsHeader (area 0 header_len bytes.now) }
     requires chosen { IsChosen bytes.now slot number }
     ensures some { IfOk result (λ found. IfSome found (λ f. IsFound (meaning M.Machine M.State.Wire M.Command.Wire) bytes.now slot number f.0 f.1)) }
     ensures none { IfOk result (λ found. IfNone found ((state : M.State) → MeansState (meaning M.Machine M.State.Wire M.Command.Wire) state bytes.now → ⊥)) }
@@ -177,13 +180,13 @@ fn decode_slot<M: Machine>(
 
 // What the bytes of a whole file mean.
 fn decode<M: Machine>(alloc: Global, bytes: &[u8]) -> Result<Found<M::State>, Refusal>
-    requires { length bytes.now ≡ 2625536 }
+    requires { length bytes.now ≡ file_len }
     ensures found { IfOk result (λ f. IsFound (meaning M.Machine M.State.Wire M.Command.Wire) bytes.now f.slot f.number f.state f.end) }
     ensures damaged { IsErrOf result damaged → IsDamaged (meaning M.Machine M.State.Wire M.Command.Wire) bytes.now }
     ensures retired { IsErrOf result retired → IsRetired bytes.now }
     ensures kinds { IfErr result (λ e. (e ≡ no_memory) ⊎ (e ≡ damaged) ⊎ (e ≡ retired)) }
 {
-    let header = part(bytes, 0, 4096);
+    let header = part(bytes, 0, HEADER_LEN as usize);
     if !has_header(header) {
         return Err(Refusal::Damaged);
     }
@@ -207,17 +210,11 @@ fn decode<M: Machine>(alloc: Global, bytes: &[u8]) -> Result<Found<M::State>, Re
 
 // The bytes of a whole file, once what a read gives is durable.
 fn read_whole<D: Disk>(alloc: Global, disk: &mut D) -> Result<Vec<u8>, Refusal>
-    ensures size { IfOk result (λ v. length v.items ≡ 2625536) }
-    ensures read { D.honest disk.new → IfOk result (λ v. (v.items ≡ take 2625536 (D.seen disk.old)) × (2625536 ≤ length (D.seen disk.old))) }
-    ensures short { D.honest disk.new → IsErrOf result damaged → length (D.seen disk.old) < 2625536 }
-    ensures durable { D.honest disk.new → OnOk result (Only (D.seen disk.old) (D.may_leave disk.new)) }
-    ensures seen { D.honest disk.new → D.seen disk.new ≡ D.seen disk.old }
-    ensures any_moment { D.honest disk.new → LeavesOnly D.moment D.left_since disk.old disk.new (D.may_leave disk.old) }
-    ensures honest { D.honest disk.new → D.honest disk.old }
-    ensures later { D.failures disk.old ≤ D.failures disk.new }
-    ensures whole { OnOk result (D.failures disk.new ≡ D.failures disk.old) }
-    ensures failed { IsErrOf result device_failed → Rose (D.failures disk.old) (D.failures disk.new) }
-    ensures stood { IfErr result (λ e. e ≢ device_failed → D.failures disk.new ≡ D.failures disk.old) }
+    ensures size { IfOk result (λ v. length v.items ≡ file_len) }
+    ensures read { D.honest disk.new → IfOk result (λ v. (v.items ≡ take file_len (D.seen disk.old)) × (file_len ≤ length (D.seen disk.old))) }
+    ensures short { D.honest disk.new → IsErrOf result damaged → length (D.seen disk.old) < file_len }
+    ensures reads { D.honest disk.new → ReadsDurably D.Disk disk.old disk.new result }
+    ensures device { Calls D.Disk disk.old disk.new result }
     ensures kinds { IfErr result (λ e. (e ≡ device_failed) ⊎ (e ≡ no_memory) ⊎ (e ≡ damaged)) }
 {
     let mut bytes = Vec::new(alloc);
@@ -237,17 +234,11 @@ pub(crate) fn find<D: Disk, M: Machine>(
     disk: &mut D,
 ) -> Result<Found<M::State>, Refusal>
     ensures found { D.honest disk.new → IfOk result (λ f. IsFound (meaning M.Machine M.State.Wire M.Command.Wire) (D.seen disk.old) f.slot f.number f.state f.end) }
-    ensures within { IfOk result (λ f. f.end < 262144) }
+    ensures within { IfOk result (λ f. f.end < journal_len) }
     ensures damaged { D.honest disk.new → IsErrOf result damaged → IsDamaged (meaning M.Machine M.State.Wire M.Command.Wire) (D.seen disk.old) }
     ensures retired { D.honest disk.new → IsErrOf result retired → IsRetired (D.seen disk.old) }
-    ensures durable { D.honest disk.new → OnOk result (Only (D.seen disk.old) (D.may_leave disk.new)) }
-    ensures seen { D.honest disk.new → D.seen disk.new ≡ D.seen disk.old }
-    ensures any_moment { D.honest disk.new → LeavesOnly D.moment D.left_since disk.old disk.new (D.may_leave disk.old) }
-    ensures honest { D.honest disk.new → D.honest disk.old }
-    ensures later { D.failures disk.old ≤ D.failures disk.new }
-    ensures whole { OnOk result (D.failures disk.new ≡ D.failures disk.old) }
-    ensures failed { IsErrOf result device_failed → Rose (D.failures disk.old) (D.failures disk.new) }
-    ensures stood { IfErr result (λ e. e ≢ device_failed → D.failures disk.new ≡ D.failures disk.old) }
+    ensures reads { D.honest disk.new → ReadsDurably D.Disk disk.old disk.new result }
+    ensures device { Calls D.Disk disk.old disk.new result }
     ensures kinds { IfErr result (λ e. (e ≡ device_failed) ⊎ (e ≡ no_memory) ⊎ (e ≡ damaged) ⊎ (e ≡ retired)) }
 {
     match read_whole(alloc, disk) {

@@ -1,13 +1,18 @@
 //! Puts a state into the half of the file that isn't in use, under a gate that is opened last. A half is a slot
 //! and the journal behind it.
+//! Definitions: specs/Halves.antt. Tests: file_tests/src/checkpoint/cuts.rt.
 ghost use Rattle.std.specs.Prelude.{◌≡◌, ◌≢◌, ◌≤◌, ◌<◌, ◌+◌, ◌^◌, ◌↔◌, [], ◌∷◌, List, ℕ, length, OnOk, slice_index};
-ghost use Rattle.wm_disk.specs.Contents.{Only, Counts, overwritten};
+ghost use Rattle.wm_disk.specs.Calls.{CallsDevice, EachLeft};
+ghost use Rattle.wm_disk.specs.Contents.{Only, overwritten};
 ghost use Rattle.wm_disk.specs.Moments.{LeavesOnly};
 ghost use Rattle.wm_journal.specs.Areas.{SameOutside};
+ghost use Rattle.wm_journal.specs.Records.{open_gate};
+ghost use Rattle.wm_checkpoint.specs.Layout.{max_slot_text, half_len, half_rest};
 ghost use Rattle.wm_checkpoint.specs.Halves.{IsShutting, IsFilled, IsSwitched, IsSwitching};
 
-use crate::layout::{CLOSED, OPEN, SLOT_LEN};
+use crate::layout::SLOT_LEN;
 use wm_disk::{DeviceFailed, Disk};
+use wm_journal::{CLOSED, OPEN};
 
 /// Writes and syncs. A crash inside it leaves what stands outside each area around the write.
 pub(crate) fn put_durably<D: Disk>(disk: &mut D, at: u64, bytes: &[u8]) -> Result<(), DeviceFailed>
@@ -15,9 +20,8 @@ pub(crate) fn put_durably<D: Disk>(disk: &mut D, at: u64, bytes: &[u8]) -> Resul
     ensures written { D.honest disk.new → OnOk result (D.seen disk.new ≡ overwritten (D.seen disk.old) at bytes.now) }
     ensures long { D.honest disk.new → OnOk result (length (D.seen disk.new) ≡ length (D.seen disk.old)) }
     ensures durable { D.honest disk.new → OnOk result (Only (D.seen disk.new) (D.may_leave disk.new)) }
-    ensures any_moment { (offset len : ℕ) (before : List ℕ) → D.honest disk.new → offset ≤ at → at + length bytes.now ≤ offset + len → offset + len ≤ length before → ((c : List ℕ) → D.may_leave disk.old c → SameOutside offset len before c) → LeavesOnly D.moment D.left_since disk.old disk.new (SameOutside offset len before) }
-    ensures honest { D.honest disk.new → D.honest disk.old }
-    ensures count { Counts (D.failures disk.old) (D.failures disk.new) result }
+    ensures any_moment { (place len : ℕ) (before : List ℕ) → D.honest disk.new → place ≤ at → at + length bytes.now ≤ place + len → place + len ≤ length before → EachLeft D.Disk disk.old (SameOutside place len before) → LeavesOnly D.moment D.left_since disk.old disk.new (SameOutside place len before) }
+    ensures device { CallsDevice D.Disk disk.old disk.new result }
 {
     disk.write_at(at, bytes)?;
     disk.sync()
@@ -26,11 +30,10 @@ pub(crate) fn put_durably<D: Disk>(disk: &mut D, at: u64, bytes: &[u8]) -> Resul
 /// Closes a gate where it reads open; nothing is written over a closed one.
 pub(crate) fn close_gate<D: Disk>(disk: &mut D, place: u64) -> Result<(), DeviceFailed>
     requires lies { D.honest disk.old → place + 1 ≤ length (D.seen disk.old) }
-    ensures closed { D.honest disk.new → OnOk result (SameOutside place 1 (D.seen disk.old) (D.seen disk.new) × (slice_index (D.seen disk.new) place ≢ 165)) }
+    ensures closed { D.honest disk.new → OnOk result (SameOutside place 1 (D.seen disk.old) (D.seen disk.new) × (slice_index (D.seen disk.new) place ≢ open_gate)) }
     ensures durable { D.honest disk.new → OnOk result (Only (D.seen disk.new) (D.may_leave disk.new)) }
     ensures any_moment { D.honest disk.new → Only (D.seen disk.old) (D.may_leave disk.old) → LeavesOnly D.moment D.left_since disk.old disk.new (IsShutting place (D.seen disk.old)) }
-    ensures honest { D.honest disk.new → D.honest disk.old }
-    ensures count { Counts (D.failures disk.old) (D.failures disk.new) result }
+    ensures device { CallsDevice D.Disk disk.old disk.new result }
 {
     let mut gate = [0];
     disk.read_at(place, &mut gate)?;
@@ -43,14 +46,13 @@ pub(crate) fn close_gate<D: Disk>(disk: &mut D, place: u64) -> Result<(), Device
 /// Closes the first gate of a half's journal and writes behind the half's own gate.
 pub(crate) fn fill_half<D: Disk>(disk: &mut D, place: u64, bytes: &[u8]) -> Result<(), DeviceFailed>
     requires small { place < 2 ^ 62 }
-    requires short { length bytes.now ≤ 1048575 }
-    requires lies { D.honest disk.old → place + 1310720 ≤ length (D.seen disk.old) }
+    requires short { length bytes.now ≤ max_slot_text }
+    requires lies { D.honest disk.old → place + half_len ≤ length (D.seen disk.old) }
     ensures filled { D.honest disk.new → OnOk result (IsFilled place bytes.now (D.seen disk.old) (D.seen disk.new)) }
     ensures durable { D.honest disk.new → OnOk result (Only (D.seen disk.new) (D.may_leave disk.new)) }
-    ensures any_moment { D.honest disk.new → Only (D.seen disk.old) (D.may_leave disk.old) → LeavesOnly D.moment D.left_since disk.old disk.new (SameOutside (place + 1) 1310719 (D.seen disk.old)) }
-    ensures gate { D.honest disk.new → OnOk result (SameOutside (place + 1) 1310719 (D.seen disk.old) (D.seen disk.new)) }
-    ensures honest { D.honest disk.new → D.honest disk.old }
-    ensures count { Counts (D.failures disk.old) (D.failures disk.new) result }
+    ensures any_moment { D.honest disk.new → Only (D.seen disk.old) (D.may_leave disk.old) → LeavesOnly D.moment D.left_since disk.old disk.new (SameOutside (place + 1) half_rest (D.seen disk.old)) }
+    ensures gate { D.honest disk.new → OnOk result (SameOutside (place + 1) half_rest (D.seen disk.old) (D.seen disk.new)) }
+    ensures device { CallsDevice D.Disk disk.old disk.new result }
 {
     disk.write_at(place + SLOT_LEN, &[CLOSED])?;
     put_durably(disk, place + 1, bytes)
@@ -63,13 +65,12 @@ pub(crate) fn switch_half<D: Disk>(
     bytes: &[u8],
 ) -> Result<(), DeviceFailed>
     requires small { place < 2 ^ 62 }
-    requires short { length bytes.now ≤ 1048575 }
-    requires lies { D.honest disk.old → place + 1310720 ≤ length (D.seen disk.old) }
+    requires short { length bytes.now ≤ max_slot_text }
+    requires lies { D.honest disk.old → place + half_len ≤ length (D.seen disk.old) }
     ensures switched { D.honest disk.new → OnOk result (IsSwitched place bytes.now (D.seen disk.old) (D.seen disk.new)) }
     ensures durable { D.honest disk.new → OnOk result (Only (D.seen disk.new) (D.may_leave disk.new)) }
     ensures any_moment { D.honest disk.new → Only (D.seen disk.old) (D.may_leave disk.old) → LeavesOnly D.moment D.left_since disk.old disk.new (IsSwitching place bytes.now (D.seen disk.old)) }
-    ensures honest { D.honest disk.new → D.honest disk.old }
-    ensures count { Counts (D.failures disk.old) (D.failures disk.new) result }
+    ensures device { CallsDevice D.Disk disk.old disk.new result }
 {
     close_gate(disk, place)?;
     fill_half(disk, place, bytes)?;

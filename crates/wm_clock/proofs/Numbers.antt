@@ -1,32 +1,26 @@
 -- Numbers in range, and their digits.
-use Rattle.std.proofs.Common.{◌≡◌, ◌≢◌, ℕ, zero, suc, ◌^◌, ◌<◌, ◌≤◌, Bool, true, false, ◌&&◌, List, length, get_or, decimal, nat_lt, nat_le, ◌==◌, All, None, Some, Result, Ok, MatchBool, IsCharBoundary, refl, sym, ap, ◌∙◌, arith, true≢false, leb-true, ltb-true, lt-ltb, le-leb, ne_eqb}
+use Rattle.std.proofs.Common.{◌≡◌, ◌≢◌, ℕ, zero, suc, ◌^◌, ◌<◌, ◌≤◌, Bool, true, false, List, length, get_or, decimal, nat_lt, nat_le, ◌==◌, All, None, Some, Result, Ok, MatchBool, IsCharBoundary, refl, sym, ap, ◌∙◌, arith, true≢false, leb-true, ltb-true, lt-ltb, le-leb, ne_eqb}
 use Rattle.std.specs.Str.Parse.{AllDigits, digits_value, ParsesUnsigned}
 use Rattle.std.proofs.lemmas.Str.Parse.{IsNumeralModel, numerals_by_value, tells_digits, parse_plain, not_in_digits}
 use Rattle.std.proofs.lemmas.Fmt.{decimal_digit, decimal_is_IsNumeral, decimal-digits_value, digits_decimal, first_decimal, parse-decimal}
 use Rattle.std.specs.Str.Pattern.{FindsCharPrefix}
 use Rattle.std.proofs.lemmas.Str.Pattern.{starts_char}
 use Rattle.std.proofs.lemmas.List.Elements.{All-from_get_or}
-use Rattle.wm_clock.specs.Clocks.{is_number, limit}
+use Rattle.wm_disk.specs.Counters.{max_counter}
+use Rattle.wm_clock.specs.Clocks.{is_number}
+use Rattle.wm_disk.specs.laws.Tests.{both_first, both_second}
 
 own : IsNumeralModel (AllDigits 10) (digits_value 10)
 own = numerals_by_value (AllDigits 10) tells_digits
 
-pub both_first : (a b : Bool) → (a && b) ≡ true → a ≡ true
-both_first true b h = refl
-both_first false b h = h
-
-pub both_second : (a b : Bool) → (a && b) ≡ true → b ≡ true
-both_second true b h = h
-both_second false b h = absurd (true≢false (sym h))
-
 positive : (n : ℕ) → is_number n ≡ true → 0 < n
-positive n h = ltb-true 0 n (both_first (nat_lt 0 n) (nat_le n limit) h)
+positive n h = ltb-true 0 n (both_first (nat_lt 0 n) (nat_le n max_counter) h)
 
-pub bounded : (n : ℕ) → is_number n ≡ true → n ≤ limit
-bounded n h = leb-true n limit (both_second (nat_lt 0 n) (nat_le n limit) h)
+pub bounded : (n : ℕ) → is_number n ≡ true → n ≤ max_counter
+bounded n h = leb-true n max_counter (both_second (nat_lt 0 n) (nat_le n max_counter) h)
 
 small : (n : ℕ) → is_number n ≡ true → n < 2 ^ 64
-small n h = let low : n ≤ limit = bounded n h in omega arith
+small n h = let low : n ≤ max_counter = bounded n h in omega arith
 
 pub value_again : (n : ℕ) → is_number n ≡ true → digits_value 10 (decimal n) ≡ n
 value_again n h = (decimal_is_IsNumeral n (small n h)).1
@@ -46,13 +40,13 @@ positive_from : (n : ℕ) (text : List ℕ) → text ≡ decimal n → get_or te
 positive_from zero text e zero_first = absurd (zero_first (rw (e, decimal_digit 0 (omega arith)) refl))
 positive_from (suc n) text e zero_first = omega arith
 
-pub from_parse : {E : Type 0} (text : List ℕ) (n : ℕ) (r : Result ℕ E) → ParsesUnsigned 64 10 text r → r ≡ Ok n → get_or text 0 0 ≢ 43 → get_or text 0 0 ≢ 48 → n ≤ limit → (text ≡ decimal n) × (is_number n ≡ true)
+pub from_parse : {E : Type 0} (text : List ℕ) (n : ℕ) (r : Result ℕ E) → ParsesUnsigned 64 10 text r → r ≡ Ok n → get_or text 0 0 ≢ 43 → get_or text 0 0 ≢ 48 → n ≤ max_counter → (text ≡ decimal n) × (is_number n ≡ true)
 from_parse {E = E} text n r p is plus zero_first le =
     let q = parse_plain own {E = E} 64 text (Ok n) (rw is at p) plus in
     let same : decimal (digits_value 10 text) ≡ text = decimal-digits_value own text q.0.0 q.0.1 (λ z. absurd (zero_first z)) q.0.2 in
     let text_is : text ≡ decimal n = sym same ∙ ap decimal (sym q.1) in
     let above : 0 < n = positive_from n text text_is zero_first in
-    (text_is, rw (lt-ltb 0 n above, le-leb n limit le) refl)
+    (text_is, rw (lt-ltb 0 n above, le-leb n max_counter le) refl)
 
 -- what `starts_with` says of the first byte
 abbrev Starts : ℕ → List ℕ → Bool → Type 0

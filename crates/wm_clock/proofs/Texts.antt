@@ -11,7 +11,8 @@ use Rattle.wm_clock.specs.declared.clock_spec.ClockSpec.TheVariants.{Clock, Anot
 use Rattle.wm_clock.specs.Clocks.{Names, NumberRead, Reads, clock_text, guess, if_name, if_named, is_clock, is_number, spec_of}
 use Rattle.wm_clock.specs.Cursors.{is_cursor_name}
 use Rattle.wm_clock.specs.Laws.{OneText, IsReadBack, Agree}
-use Rattle.wm_clock.proofs.Numbers.{both_first, both_second, no_colon, no_colon_at, value_again}
+use Rattle.wm_clock.proofs.Numbers.{no_colon, no_colon_at, value_again}
+use Rattle.wm_disk.specs.laws.Tests.{both_first, both_second}
 
 -- the three numbers of a clock in range
 record InRange (c : ClockId) : Type 0 where

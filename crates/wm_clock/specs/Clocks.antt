@@ -1,22 +1,19 @@
 -- Clock ids, their one text, and what a text names.
-use Rattle.std.specs.Prelude.{◌≡◌, ◌≢◌, ℕ, ◌-◌, ◌^◌, Bool, true, false, ◌&&◌, cond, List, [], ◌∷◌, ◌++◌, nat_lt, nat_le, ◌==◌, Option, Some, None, MatchOption, decimal, bytes_eq}
+use Rattle.std.specs.Prelude.{◌≡◌, ◌≢◌, ℕ, Bool, true, false, ◌&&◌, cond, List, [], ◌∷◌, ◌++◌, nat_lt, nat_le, ◌==◌, Option, Some, None, MatchOption, decimal, bytes_eq}
 use Rattle.std.specs.List.{slice_split}
 use Rattle.std.specs.Str.Parse.{digits_value}
+use Rattle.wm_disk.specs.Counters.{max_counter}
 use Rattle.wm_clock.specs.declared.clock_id.ClockId.{ClockId}
 use Rattle.wm_clock.specs.declared.clock_spec.ClockSpec.{ClockSpec}
 use Rattle.wm_clock.specs.declared.clock_spec.ClockSpec.TheVariants.{Clock, Another, Cursor}
 use Rattle.wm_clock.specs.Cursors.{is_cursor_name}
-
--- the greatest value of every counter
-abbrev pub limit : ℕ
-limit = 2 ^ 63 - 1
 
 -- `c:I:R:T`
 abbrev pub clock_text : ClockId → List ℕ
 clock_text c = 99 ∷ 58 ∷ (decimal c.incarnation ++ 58 ∷ (decimal c.root ++ 58 ∷ decimal c.tick))
 
 abbrev pub is_number : ℕ → Bool
-is_number n = nat_lt 0 n && nat_le n limit
+is_number n = nat_lt 0 n && nat_le n max_counter
 
 abbrev pub is_clock : ClockId → Bool
 is_clock c = is_number c.incarnation && is_number c.root && is_number c.tick

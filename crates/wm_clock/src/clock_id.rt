@@ -8,7 +8,7 @@ use std::alloc::Global;
 use wm_disk::NoMemory;
 
 /// The most bytes of a clock's text: two, and three numbers with a colon between them.
-pub const MAX_TEXT: usize = 64;
+pub const MAX_CLOCK_TEXT: usize = 64;
 
 /// A moment of one root in one incarnation.
 #[derive(Clone, Copy, Debug, PartialEq, Eq)]
@@ -24,9 +24,9 @@ pub struct ClockId {
 impl ClockId {
     /// Appends the clock's text, `c:I:R:T`, for which there is room. It takes no memory.
     pub fn put(&self, out: &mut Vec<u8>)
-        requires { vec_len out.old + MAX_TEXT ≤ vec_capacity out.old }
+        requires { vec_len out.old + MAX_CLOCK_TEXT ≤ vec_capacity out.old }
         ensures value { out.new.items ≡ out.old.items ++ clock_text self.now }
-        ensures short { vec_len out.new ≤ vec_len out.old + MAX_TEXT }
+        ensures short { vec_len out.new ≤ vec_len out.old + MAX_CLOCK_TEXT }
         ensures room { vec_capacity out.old ≤ vec_capacity out.new }
     {
         out.extend_from_slice(b"c:").unwrap();

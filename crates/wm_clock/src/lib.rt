@@ -12,8 +12,8 @@ mod cursor_name;
 mod laws;
 mod number;
 
-pub use clock_id::{ClockId, MAX_TEXT};
+pub use clock_id::{ClockId, MAX_CLOCK_TEXT};
 pub use clock_spec::ClockSpec;
 pub use cursor_name::{CursorName, MAX_CURSOR_NAME};
 pub use laws::clock_laws;
-pub use number::LIMIT;
+pub use number::{MAX_DIGITS, put_number};

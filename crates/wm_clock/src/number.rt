@@ -5,15 +5,13 @@ ghost use Rattle.std.specs.Prelude.{◌≡◌, ◌++◌, ◌+◌, ◌≤◌, vec
 ghost use Rattle.wm_clock.specs.Clocks.{NumberRead};
 
 use itoa::Buffer;
+use wm_disk::MAX_COUNTER;
 
-/// The greatest value of every counter.
-pub const LIMIT: u64 = (1 << 63) - 1;
+/// The most digits of a number of 64 bits.
+pub const MAX_DIGITS: usize = 20;
 
-/// The most digits of a number.
-pub(crate) const MAX_DIGITS: usize = 20;
-
-/// Appends the number's digits, for which there is room.
-pub(crate) fn put_number(n: u64, out: &mut Vec<u8>)
+/// Appends the number's digits, for which there is room. It takes no memory.
+pub fn put_number(n: u64, out: &mut Vec<u8>)
     requires { vec_len out.old + MAX_DIGITS ≤ vec_capacity out.old }
     ensures value { out.new.items ≡ out.old.items ++ decimal n }
     ensures short { vec_len out.new ≤ vec_len out.old + MAX_DIGITS }
@@ -23,7 +21,7 @@ pub(crate) fn put_number(n: u64, out: &mut Vec<u8>)
     out.extend_from_slice(digits.format(n).as_bytes()).unwrap();
 }
 
-/// The number from 1 to `LIMIT` whose digits the text is, with no sign and no leading zero.
+/// The number from 1 to `MAX_COUNTER` whose digits the text is, with no sign and no leading zero.
 pub(crate) fn read_number(text: &str) -> Option<u64>
     ensures { NumberRead text.now result }
 {
@@ -31,7 +29,7 @@ pub(crate) fn read_number(text: &str) -> Option<u64>
         return None;
     }
     match text.parse::<u64>() {
-        Ok(n) if n <= LIMIT => Some(n),
+        Ok(n) if n <= MAX_COUNTER => Some(n),
         _ => None,
     }
 }

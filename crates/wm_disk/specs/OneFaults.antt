@@ -7,5 +7,5 @@ module _ {D : Type 0} where
   abbrev pub calls_before : OneFault D → Option ℕ
   calls_before disk = disk.passes
 
-  abbrev pub has_failed : OneFault D → Bool
-  has_failed disk = disk.failed
+  abbrev pub has_failed_once : OneFault D → Bool
+  has_failed_once disk = disk.failed

@@ -1,4 +1,6 @@
 //! A disk of which one call fails.
+//! Definitions: specs/OneFaults.antt.
+//! Tests: session_tests/src/ends.rt, session_tests/src/lines/failures.rt.
 ghost use Rattle.std.specs.Prelude.{◌≡◌, ◌+◌, if◌then◌else◌, false, Some};
 ghost use Rattle.std.specs.Bool.{OnTrue, OnFalse};
 ghost use Rattle.std.proofs.Common.{true};
@@ -37,13 +39,13 @@ fn is_due(passes: &mut Option<u64>, failed: &mut bool) -> bool
 }
 
 impl<D: Disk> OneFault<D> {
-    ghost use Rattle.wm_disk.specs.OneFaults.{calls_before, has_failed};
+    ghost use Rattle.wm_disk.specs.OneFaults.{calls_before, has_failed_once};
 
     /// So many calls pass, the next fails, and every later one passes.
     pub fn new(disk: D, calls: u64) -> Self
         ensures disk { result.disk ≡ disk }
         ensures calls { calls_before result ≡ Some calls }
-        ensures whole { has_failed result ≡ false }
+        ensures whole { has_failed_once result ≡ false }
     {
         OneFault {
             disk,

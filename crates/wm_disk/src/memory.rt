@@ -1,12 +1,13 @@
 //! A disk in memory, which keeps a record of its calls and is honest always.
+//! Definitions: specs/MemDisks.antt, specs/Points.antt. Tests: memory/tests.rt.
 ghost use Rattle.std.specs.Prelude.{◌≡◌, ◌≤◌, ◌<◌, ◌+◌, ◌++◌, [], ◌∷◌, ℕ, ⊤, max, List, length, vec_len, vec_capacity, OnOk, OnErr};
 ghost use Rattle.wm_disk.specs.Contents.{Only, Torn, Rose, overwritten};
-ghost use Rattle.wm_disk.specs.Points.{begun, reached, TornBy, MayLeave, LeftSince};
+ghost use Rattle.wm_disk.specs.Points.{new_point, reached, TornBy, MayLeave, LeftSince};
 ghost use Rattle.wm_disk.specs.PointLaws.{left_now, left_last};
 ghost use Rattle.std.proofs.Common.{inl, refl, subst, sym};
 ghost use Rattle.wm_disk.specs.declared.memory.Call.TheVariants.{Wrote, Synced};
 
-use crate::{Crashed, DeviceFailed, Disk};
+use crate::{Crashed, DeviceFailed, Disk, MAX_COUNTER};
 use std::alloc::{AllocError, Global};
 
 #[cfg(test)]
@@ -52,9 +53,9 @@ pub struct MemDisk {
     passes: Option<u64>,
     failures: u64,
     made: Made,
-    ghost seen_is: { (reached (begun first.items) calls.items).seen ≡ bytes.items },
-    ghost durable_is: { (reached (begun first.items) calls.items).durable ≡ durable.items },
-    ghost writes_is: { (reached (begun first.items) calls.items).writes ≡ writes.items },
+    ghost seen_is: { (reached (new_point first.items) calls.items).seen ≡ bytes.items },
+    ghost durable_is: { (reached (new_point first.items) calls.items).durable ≡ durable.items },
+    ghost writes_is: { (reached (new_point first.items) calls.items).writes ≡ writes.items },
     ghost grown: { vec_len durable ≤ vec_len bytes },
     ghost room: { vec_len bytes ≤ vec_capacity durable },
     ghost first_room: { vec_len bytes ≤ vec_capacity first },
@@ -68,13 +69,11 @@ fn count(calls: &mut u64)
     *calls = calls.saturating_add(1);
 }
 
-const LAST_COUNT: u64 = 9_223_372_036_854_775_807;
-
 fn fault(failures: &mut u64) -> DeviceFailed
     ensures later { failures.old ≤ failures.new }
     ensures rose { Rose failures.old failures.new }
 {
-    if *failures < LAST_COUNT {
+    if *failures < MAX_COUNTER {
         *failures += 1;
     }
     DeviceFailed
@@ -273,19 +272,19 @@ impl Disk for MemDisk {
 
     ghost seen = { λ m. m.bytes.items };
 
-    ghost may_leave = { λ m c. MayLeave (reached (begun m.first.items) m.calls.items) c };
+    ghost may_leave = { λ m c. MayLeave (reached (new_point m.first.items) m.calls.items) c };
 
     ghost moment = { λ m. length m.calls.items };
 
-    ghost left_since = { λ m t c. LeftSince (begun m.first.items) m.calls.items t c };
+    ghost left_since = { λ m t c. LeftSince (new_point m.first.items) m.calls.items t c };
 
     ghost failures = { λ m. m.failures };
 
     ghost reads_stand = { λ m h. inl (sym m.seen_is) };
 
-    ghost counts_now = { λ m t c h le now. left_now (begun m.first.items) m.calls.items t c le now };
+    ghost counts_now = { λ m t c h le now. left_now (new_point m.first.items) m.calls.items t c le now };
 
-    ghost only_now = { λ m c h left. left_last (begun m.first.items) m.calls.items c left };
+    ghost only_now = { λ m c h left. left_last (new_point m.first.items) m.calls.items c left };
 
     fn len(&mut self) -> Result<u64, DeviceFailed> {
         count(&mut self.made.others);

@@ -1,6 +1,7 @@
 //! The refusals of the whole server, and the two causes that come from outside it.
+//! Definitions: specs/Refusals.antt. Tests: session_tests/src/lines/refusals.rt.
 ghost use Rattle.std.specs.Prelude.{◌≡◌};
-ghost use Rattle.wm_disk.specs.Refusals.{name_of, number_of, text_of};
+ghost use Rattle.wm_disk.specs.Refusals.{refusal_name, refusal_number, refusal_text};
 ghost use Rattle.wm_disk.specs.declared.refusal.Refusal.TheVariants as refusals;
 
 use std::alloc::{AllocError, AllocFailed};
@@ -77,7 +78,7 @@ pub enum Refusal {
 impl Refusal {
     /// Its number, from 1.
     pub fn number(self) -> u8
-        ensures { result ≡ number_of self }
+        ensures { result ≡ refusal_number self }
     {
         match self {
             Refusal::BadLine => 1,
@@ -105,7 +106,7 @@ impl Refusal {
 
     /// Its name, in one word.
     pub fn name(self) -> &'static str
-        ensures { result.now ≡ name_of self }
+        ensures { result.now ≡ refusal_name self }
     {
         match self {
             Refusal::BadLine => "BadLine",
@@ -133,7 +134,7 @@ impl Refusal {
 
     /// The number, a space and the name, as replies show it: `6 NotReady`.
     pub fn text(self) -> &'static str
-        ensures { result.now ≡ text_of self }
+        ensures { result.now ≡ refusal_text self }
     {
         match self {
             Refusal::BadLine => "1 BadLine",

@@ -5,7 +5,8 @@ use Rattle.serde_json.specs.Data.{Data}
 use Rattle.serde_json.specs.Find.{as_str}
 use Rattle.serde_json.specs.View.{items_view}
 use Rattle.serde_json.specs.declared.value.Value.{Value}
-use Rattle.wm_expr.specs.Readings.{kind_of, scope_of, size_alone, suffix_term, type_term}
+use Rattle.wm_names.specs.Entries.{kind_of}
+use Rattle.wm_expr.specs.Readings.{scope_of, size_alone, suffix_term, type_term}
 use Rattle.wm_expr.specs.Terms.{OfType}
 
 pub suffix_alone : (d : Data) (rest : List Value) → 1 ≤ length rest → suffix_term d (items_view rest) ≡ None

@@ -6,7 +6,7 @@ use Rattle.std.proofs.lemmas.Bool.{ltb-true, ltb-false}
 use Rattle.std.proofs.lemmas.List.Splits.{slice_split_first, slice_split_none}
 use Rattle.std.proofs.lemmas.List.Sums.{fails_before_first}
 use Rattle.wm_names.specs.Paths.{components}
-use Rattle.wm_expr.specs.Globs.{AtEnd, AtStar, Differs, deep_front, end_front}
+use Rattle.wm_expr.specs.Globs.{AtEnd, AtStar, Differs, deep_takes, at_pattern_end}
 
 module _ (p : ℕ → Bool) (xs : List ℕ) where
   abbrev n : ℕ
@@ -31,30 +31,30 @@ module _ (p : ℕ → Bool) (xs : List ℕ) where
       slice_split_none p xs (λ k d h. fails_before_first p xs k d (omega arith))
 
 -- there is always a component
-pub some_component : (text : List ℕ) (ts : List (List ℕ)) → deep_front (components text) ts ≡ AtStar (components text) ts
+pub some_component : (text : List ℕ) (ts : List (List ℕ)) → deep_takes (components text) ts ≡ AtStar (components text) ts
 some_component [] ts = refl
 some_component (x ∷ xs) ts =
-    elim (x == 47) as (λ v. deep_front (cond v ([] ∷ components xs) (onto_first x (components xs))) ts ≡ AtStar (cond v ([] ∷ components xs) (onto_first x (components xs))) ts)
+    elim (x == 47) as (λ v. deep_takes (cond v ([] ∷ components xs) (onto_first x (components xs))) ts ≡ AtStar (cond v ([] ∷ components xs) (onto_first x (components xs))) ts)
     [ true ↦ refl | false ↦ put_onto x (components xs) ts ]
   where
-    put_onto : (x : ℕ) (parts ts : List (List ℕ)) → deep_front (onto_first x parts) ts ≡ AtStar (onto_first x parts) ts
+    put_onto : (x : ℕ) (parts ts : List (List ℕ)) → deep_takes (onto_first x parts) ts ≡ AtStar (onto_first x parts) ts
     put_onto x [] ts = refl
     put_onto x (part ∷ parts) ts = refl
 
-pub end_of_some : (text : List ℕ) → AtEnd ≡ deep_front [] (components text)
+pub end_of_some : (text : List ℕ) → AtEnd ≡ deep_takes [] (components text)
 end_of_some [] = refl
 end_of_some (x ∷ xs) =
-    elim (x == 47) as (λ v. AtEnd ≡ deep_front [] (cond v ([] ∷ components xs) (onto_first x (components xs)))) [ true ↦ refl | false ↦ put_onto x (components xs) ]
+    elim (x == 47) as (λ v. AtEnd ≡ deep_takes [] (cond v ([] ∷ components xs) (onto_first x (components xs)))) [ true ↦ refl | false ↦ put_onto x (components xs) ]
   where
-    put_onto : (x : ℕ) (parts : List (List ℕ)) → AtEnd ≡ deep_front [] (onto_first x parts)
+    put_onto : (x : ℕ) (parts : List (List ℕ)) → AtEnd ≡ deep_takes [] (onto_first x parts)
     put_onto x [] = refl
     put_onto x (part ∷ parts) = refl
 
-pub differs_at_some : (text : List ℕ) → end_front (components text) ≡ Differs
+pub differs_at_some : (text : List ℕ) → at_pattern_end (components text) ≡ Differs
 differs_at_some [] = refl
 differs_at_some (x ∷ xs) =
-    elim (x == 47) as (λ v. end_front (cond v ([] ∷ components xs) (onto_first x (components xs))) ≡ Differs) [ true ↦ refl | false ↦ put_onto x (components xs) ]
+    elim (x == 47) as (λ v. at_pattern_end (cond v ([] ∷ components xs) (onto_first x (components xs))) ≡ Differs) [ true ↦ refl | false ↦ put_onto x (components xs) ]
   where
-    put_onto : (x : ℕ) (parts : List (List ℕ)) → end_front (onto_first x parts) ≡ Differs
+    put_onto : (x : ℕ) (parts : List (List ℕ)) → at_pattern_end (onto_first x parts) ≡ Differs
     put_onto x [] = refl
     put_onto x (part ∷ parts) = refl

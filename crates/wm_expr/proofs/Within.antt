@@ -6,10 +6,10 @@ use Rattle.std.proofs.lemmas.Bool.{leb-true, le-leb, lt-leb}
 use Rattle.serde_json.specs.Data.{Data, Items, no_items, item}
 use Rattle.serde_json.specs.View.{items_view, view}
 use Rattle.serde_json.specs.declared.value.Value.{Value}
-use Rattle.wm_expr.specs.Limits.{count, deepest, depth, keeps_limits}
+use Rattle.wm_expr.specs.Limits.{count, deepest, depth, keeps_limits, max_depth, max_terms}
 use Rattle.wm_expr.specs.Readings.{each, joined, kept, not_term, term_of, terms_of}
 use Rattle.wm_expr.specs.Terms.{Term, Always, Never, Not, AllOf, AnyOf, Name, Suffix, OfType, Exists, Empty, Size, Match, Terms, no_more, more}
-use Rattle.wm_expr.specs.Views.{in_order}
+use Rattle.wm_expr.specs.Views.{as_terms}
 use Rattle.wm_expr.specs.Within.{not_within, read_within, within}
 use Rattle.wm_expr.proofs.Runs.{and_left, and_right, both_ways}
 
@@ -31,28 +31,28 @@ abbrev all_within : ℕ → Option Terms → Option Terms
 all_within levels o = kept (λ xs. nat_le (deepest xs) levels) o
 
 -- one more part, with v and w for the tests on its depth and on that of the others
-put_first : (x : Term) (xs : Terms) (v w : Bool) (es : Option (List Term)) → cond w (Some xs) None ≡ option_map in_order es
-    → cond (v && w) (Some (more x xs)) None ≡ option_map in_order (option_and_then (λ y. option_map (λ ys. y ∷ ys) es) (cond v (Some x) None))
+put_first : (x : Term) (xs : Terms) (v w : Bool) (es : Option (List Term)) → cond w (Some xs) None ≡ option_map as_terms es
+    → cond (v && w) (Some (more x xs)) None ≡ option_map as_terms (option_and_then (λ y. option_map (λ ys. y ∷ ys) es) (cond v (Some x) None))
 put_first x xs false w es h = refl
 put_first x xs true true None h = cc
-put_first x xs true true (Some es) h = let same : xs ≡ in_order es = cc in ap (λ (ys : Terms). Some (more x ys)) same
+put_first x xs true true (Some es) h = let same : xs ≡ as_terms es = cc in ap (λ (ys : Terms). Some (more x ys)) same
 put_first x xs true false None h = refl
 put_first x xs true false (Some es) h = cc
 
-none_behind : (x : Term) (v : Bool) (es : Option (List Term)) → None ≡ option_map in_order es
-    → None ≡ option_map in_order (option_and_then (λ y. option_map (λ ys. y ∷ ys) es) (cond v (Some x) None))
+none_behind : (x : Term) (v : Bool) (es : Option (List Term)) → None ≡ option_map as_terms es
+    → None ≡ option_map as_terms (option_and_then (λ y. option_map (λ ys. y ∷ ys) es) (cond v (Some x) None))
 none_behind x false es h = refl
 none_behind x true None h = refl
 none_behind x true (Some es) h = cc
 
-joined_within : (levels : ℕ) (o : Option Term) (p : Option Terms) (es : Option (List Term)) → all_within levels p ≡ option_map in_order es
-    → all_within levels (joined o p) ≡ option_map in_order (option_and_then (λ y. option_map (λ ys. y ∷ ys) es) (within levels o))
+joined_within : (levels : ℕ) (o : Option Term) (p : Option Terms) (es : Option (List Term)) → all_within levels p ≡ option_map as_terms es
+    → all_within levels (joined o p) ≡ option_map as_terms (option_and_then (λ y. option_map (λ ys. y ∷ ys) es) (within levels o))
 joined_within levels None p es h = refl
 joined_within levels (Some x) None es h = none_behind x (nat_le (depth x) levels) es h
 joined_within levels (Some x) (Some xs) es h =
     ap (λ (b : Bool). cond b (Some (more x xs)) None) (both_le (depth x) (deepest xs) levels) ∙ put_first x xs (nat_le (depth x) levels) (nat_le (deepest xs) levels) es h
 
-parts_within : (levels : ℕ) (ds : Items) → all_within levels (terms_of ds) ≡ option_map in_order (each (read_within levels) ds)
+parts_within : (levels : ℕ) (ds : Items) → all_within levels (terms_of ds) ≡ option_map as_terms (each (read_within levels) ds)
 parts_within levels no_items = ap (λ (b : Bool). cond b (Some no_more) None) (leb-zero levels)
 parts_within levels (item d ds) = joined_within levels (term_of d) (terms_of ds) (each (read_within levels) ds) (parts_within levels ds)
 
@@ -64,13 +64,13 @@ module _ (f : Terms → Term) (deeper : (xs : Terms) → depth (f xs) ≡ deepes
       ap (λ (b : Bool). cond b (Some (f xs)) None) (ap (λ (n : ℕ). nat_le n (levels + 1)) (deeper xs) ∙ one_more (deepest xs) levels)
       ∙ (elim (nat_le (deepest xs) levels) as (λ b. cond b (Some (f xs)) None ≡ option_map f (cond b (Some xs) None)) [ true ↦ refl | false ↦ refl ])
 
-  round_each : (levels : ℕ) (ds : Items) (r : Option (List Term)) → each (read_within levels) ds ≡ r → within (levels + 1) (option_map f (terms_of ds)) ≡ option_map f (option_map in_order r)
-  round_each levels ds r e = round levels (terms_of ds) ∙ ap (option_map f) (parts_within levels ds ∙ ap (option_map in_order) e)
+  round_each : (levels : ℕ) (ds : Items) (r : Option (List Term)) → each (read_within levels) ds ≡ r → within (levels + 1) (option_map f (terms_of ds)) ≡ option_map f (option_map as_terms r)
+  round_each levels ds r e = round levels (terms_of ds) ∙ ap (option_map f) (parts_within levels ds ∙ ap (option_map as_terms) e)
 
-pub all_of_each : (levels : ℕ) (ds : Items) (r : Option (List Term)) → each (read_within levels) ds ≡ r → within (levels + 1) (option_map AllOf (terms_of ds)) ≡ option_map AllOf (option_map in_order r)
+pub all_of_each : (levels : ℕ) (ds : Items) (r : Option (List Term)) → each (read_within levels) ds ≡ r → within (levels + 1) (option_map AllOf (terms_of ds)) ≡ option_map AllOf (option_map as_terms r)
 all_of_each levels ds r e = round_each AllOf (λ xs. refl) levels ds r e
 
-pub any_of_each : (levels : ℕ) (ds : Items) (r : Option (List Term)) → each (read_within levels) ds ≡ r → within (levels + 1) (option_map AnyOf (terms_of ds)) ≡ option_map AnyOf (option_map in_order r)
+pub any_of_each : (levels : ℕ) (ds : Items) (r : Option (List Term)) → each (read_within levels) ds ≡ r → within (levels + 1) (option_map AnyOf (terms_of ds)) ≡ option_map AnyOf (option_map as_terms r)
 any_of_each levels ds r e = round_each AnyOf (λ xs. refl) levels ds r e
 
 -- ---- `not`
@@ -134,15 +134,15 @@ no_level levels (Some x) h =
 
 -- ---- the limits of an expression
 
-pub too_deep : (o : Option Term) → within 32 o ≡ None → kept keeps_limits o ≡ None
+pub too_deep : (o : Option Term) → within max_depth o ≡ None → kept keeps_limits o ≡ None
 too_deep None h = refl
 too_deep (Some x) h =
-    elim (nat_le (depth x) 32) as (λ v. cond v (Some x) None ≡ None → cond (v && nat_le (count x) 1024) (Some x) None ≡ None) [ true ↦ λ e. cc | false ↦ λ e. refl ] h
+    elim (nat_le (depth x) max_depth) as (λ v. cond v (Some x) None ≡ None → cond (v && nat_le (count x) max_terms) (Some x) None ≡ None) [ true ↦ λ e. cc | false ↦ λ e. refl ] h
 
-pub in_limits : (o : Option Term) (x : Term) → within 32 o ≡ Some x → nat_le (count x) 1024 ≡ true → kept keeps_limits o ≡ Some x
+pub in_limits : (o : Option Term) (x : Term) → within max_depth o ≡ Some x → nat_le (count x) max_terms ≡ true → kept keeps_limits o ≡ Some x
 in_limits None x h few = cc
 in_limits (Some y) x h few =
-    elim (nat_le (depth y) 32) as (λ v. cond v (Some y) None ≡ Some x → cond (v && nat_le (count y) 1024) (Some y) None ≡ Some x) [
-      | true ↦ λ e. (let same : y ≡ x = cc in ap (λ (z : Term). cond (nat_le (count z) 1024) (Some z) None) same ∙ ap (λ (b : Bool). cond b (Some x) None) few)
+    elim (nat_le (depth y) max_depth) as (λ v. cond v (Some y) None ≡ Some x → cond (v && nat_le (count y) max_terms) (Some y) None ≡ Some x) [
+      | true ↦ λ e. (let same : y ≡ x = cc in ap (λ (z : Term). cond (nat_le (count z) max_terms) (Some z) None) same ∙ ap (λ (b : Bool). cond b (Some x) None) few)
       | false ↦ λ e. cc
     ] h

@@ -1,28 +1,27 @@
--- For private clauses: what a pattern and a text come to, front against front: a star, an end of both, or neither.
+-- For private clauses: what a pattern and a text come to, prefix against prefix: a star, an end of both, or neither.
 use Rattle.std.specs.Prelude.{ℕ, cond, List, [], ◌∷◌, ◌==◌, Option, Some, None, option_map}
+use Rattle.std.specs.Borrow.{Bor}
 use Rattle.wm_names.specs.Paths.{components}
 use Rattle.wm_expr.specs.Patterns.{fits_byte, fits_component, is_deep}
-use Rattle.wm_expr.specs.declared.component.Ahead.{Ahead}
-use Rattle.wm_expr.specs.declared.component.Ahead.TheVariants.{Star, End, Apart}
-use Rattle.wm_expr.specs.declared.pattern.Next.{Next}
-use Rattle.wm_expr.specs.declared.pattern.Next.TheVariants.{Deep, Over, Other}
+use Rattle.wm_expr.specs.declared.step.Step.{Step}
+use Rattle.wm_expr.specs.declared.step.Step.TheVariants.{Star, Done, Mismatch}
 
 -- at a star, with the pattern behind it and the text that is left there
-pub data Front (X : Type 0) : Type 0 where
-  AtStar : (pattern text : List X) → Front X
-  AtEnd : Front X
-  Differs : Front X
+pub data UntilStar (X : Type 0) : Type 0 where
+  AtStar : (pattern text : List X) → UntilStar X
+  AtEnd : UntilStar X
+  Differs : UntilStar X
 
-abbrev pub front_of : Ahead → Front ℕ
-front_of (Star p t) = AtStar p.now t.now
-front_of End = AtEnd
-front_of Apart = Differs
+abbrev pub until_star_of : Step (Bor (List ℕ)) → UntilStar ℕ
+until_star_of (Star p t) = AtStar p.now t.now
+until_star_of Done = AtEnd
+until_star_of Mismatch = Differs
 
-abbrev pub front : List ℕ → List ℕ → Front ℕ
-front [] [] = AtEnd
-front [] (b ∷ text) = Differs
-front (c ∷ pattern) [] = cond (c == 42) (AtStar pattern []) Differs
-front (c ∷ pattern) (b ∷ text) = cond (c == 42) (AtStar pattern (b ∷ text)) (cond (fits_byte c b) (front pattern text) Differs)
+abbrev pub until_star : List ℕ → List ℕ → UntilStar ℕ
+until_star [] [] = AtEnd
+until_star [] (b ∷ text) = Differs
+until_star (c ∷ pattern) [] = cond (c == 42) (AtStar pattern []) Differs
+until_star (c ∷ pattern) (b ∷ text) = cond (c == 42) (AtStar pattern (b ∷ text)) (cond (fits_byte c b) (until_star pattern text) Differs)
 
 -- ---- the same of components, at `**`
 
@@ -31,22 +30,22 @@ abbrev pub parts_of : Option (List ℕ) → List (List ℕ)
 parts_of None = []
 parts_of (Some text) = components text
 
-abbrev pub parts_front_of : Next → Front (List ℕ)
-parts_front_of (Deep p t) = AtStar (components p.now) (parts_of (option_map (λ s. s.now) t))
-parts_front_of Over = AtEnd
-parts_front_of Other = Differs
+abbrev pub until_deep_of : Step (Option (Bor (List ℕ))) → UntilStar (List ℕ)
+until_deep_of (Star p t) = AtStar (components p.now) (parts_of (option_map (λ s. s.now) t))
+until_deep_of Done = AtEnd
+until_deep_of Mismatch = Differs
 
-abbrev pub end_front : List (List ℕ) → Front (List ℕ)
-end_front [] = AtEnd
-end_front (t ∷ ts) = Differs
+abbrev pub at_pattern_end : List (List ℕ) → UntilStar (List ℕ)
+at_pattern_end [] = AtEnd
+at_pattern_end (t ∷ ts) = Differs
 
 -- a last `**` takes all that is left, but not nothing
-abbrev pub deep_front : List (List ℕ) → List (List ℕ) → Front (List ℕ)
-deep_front [] [] = Differs
-deep_front [] (t ∷ ts) = AtEnd
-deep_front (q ∷ ps) ts = AtStar (q ∷ ps) ts
+abbrev pub deep_takes : List (List ℕ) → List (List ℕ) → UntilStar (List ℕ)
+deep_takes [] [] = Differs
+deep_takes [] (t ∷ ts) = AtEnd
+deep_takes (q ∷ ps) ts = AtStar (q ∷ ps) ts
 
-abbrev pub parts_front : List (List ℕ) → List (List ℕ) → Front (List ℕ)
-parts_front [] ts = end_front ts
-parts_front (p ∷ ps) [] = cond (is_deep p) (deep_front ps []) Differs
-parts_front (p ∷ ps) (t ∷ ts) = cond (is_deep p) (deep_front ps (t ∷ ts)) (cond (fits_component p t) (parts_front ps ts) Differs)
+abbrev pub until_deep : List (List ℕ) → List (List ℕ) → UntilStar (List ℕ)
+until_deep [] ts = at_pattern_end ts
+until_deep (p ∷ ps) [] = cond (is_deep p) (deep_takes ps []) Differs
+until_deep (p ∷ ps) (t ∷ ts) = cond (is_deep p) (deep_takes ps (t ∷ ts)) (cond (fits_component p t) (until_deep ps ts) Differs)

@@ -2,6 +2,14 @@
 use Rattle.std.specs.Prelude.{ℕ, ◌+◌, ◌-◌, max, Bool, ◌&&◌, nat_le, cond, Option, Some, None}
 use Rattle.wm_expr.specs.Terms.{Term, Not, AllOf, AnyOf, Terms, no_more, more}
 
+-- how deep the terms of an expression may stand in one another
+abbrev pub max_depth : ℕ
+max_depth = 32
+
+-- how many terms an expression may have
+abbrev pub max_terms : ℕ
+max_terms = 1024
+
 -- how deep terms stand in one another
 abbrev mutual
   pub depth : Term → ℕ
@@ -27,7 +35,7 @@ abbrev mutual
   count_all (more x xs) = count x + count_all xs
 
 abbrev pub keeps_limits : Term → Bool
-keeps_limits x = nat_le (depth x) 32 && nat_le (count x) 1024
+keeps_limits x = nat_le (depth x) max_depth && nat_le (count x) max_terms
 
 -- what is left of so many where these are taken
 abbrev pub taken_from : ℕ → ℕ → Option ℕ

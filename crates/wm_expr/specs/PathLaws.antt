@@ -1,4 +1,5 @@
 -- Expressions with no term on type, existence or size read paths alone.
+-- For proofs and the ghost members of impls: a reader of definitions may skip it.
 use Rattle.std.proofs.Common.{◌≡◌, Bool, true, false, refl, sym, ap, ap₂, true≢false}
 use Rattle.std.specs.Prelude.{not, ◌&&◌, ◌||◌}
 use Rattle.wm_names.specs.Paths.{Path, basename}

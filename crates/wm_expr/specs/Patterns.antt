@@ -46,6 +46,10 @@ fits_components (p ∷ q ∷ pattern) parts =
 abbrev pub fits : List ℕ → List ℕ → Bool
 fits pattern text = fits_components (components pattern) (components text)
 
--- at most 1,024 bytes, with no `[` and no backslash
+-- the most bytes of a pattern
+abbrev pub max_pattern : ℕ
+max_pattern = 1024
+
+-- not too long, with no `[` and no backslash
 abbrev pub is_pattern : List ℕ → Bool
-is_pattern text = nat_le (length text) 1024 && list_all (λ b. not ((b == 91) || (b == 92))) text
+is_pattern text = nat_le (length text) max_pattern && list_all (λ b. not ((b == 91) || (b == 92))) text

@@ -1,10 +1,10 @@
 -- Which JSON values are expressions.
-use Rattle.std.specs.Prelude.{ℕ, ◌-◌, ◌^◌, Bool, cond, List, [], ◌∷◌, nat_le, Option, Some, None, codes, option_and_then, option_map}
+use Rattle.std.specs.Prelude.{ℕ, Bool, cond, List, [], ◌∷◌, nat_le, Option, Some, None, codes, option_and_then, option_map}
 use Rattle.std.specs.Str.{bytes_eq}
 use Rattle.serde_json.specs.Data.{Data, string, array, Items, no_items, item}
 use Rattle.serde_json.specs.Find.{as_number, as_str, as_u64}
-use Rattle.wm_names.specs.declared.entry.Kind.{Kind}
-use Rattle.wm_names.specs.declared.entry.Kind.TheVariants.{File, Folder, Link, Other}
+use Rattle.wm_disk.specs.Counters.{max_counter}
+use Rattle.wm_names.specs.Entries.{kind_of}
 use Rattle.wm_expr.specs.declared.expr.Scope.{Scope}
 use Rattle.wm_expr.specs.declared.expr.Scope.TheVariants.{Basename, Wholename}
 use Rattle.wm_expr.specs.declared.expr.Comparison.{Comparison}
@@ -28,9 +28,6 @@ named (e ∷ es) text = cond (bytes_eq text e.0) (Some e.1) (named es text)
 -- a term that is a word alone
 abbrev pub plain_of : List ℕ → Option Term
 plain_of = named ((codes "true", Always) ∷ (codes "false", Never) ∷ (codes "exists", Exists) ∷ (codes "empty", Empty) ∷ [])
-
-abbrev pub kind_of : List ℕ → Option Kind
-kind_of = named ((codes "f", File) ∷ (codes "d", Folder) ∷ (codes "l", Link) ∷ (codes "o", Other) ∷ [])
 
 abbrev pub comparison_of : List ℕ → Option Comparison
 comparison_of = named ((codes "eq", Eq) ∷ (codes "ne", Ne) ∷ (codes "gt", Gt) ∷ (codes "ge", Ge) ∷ (codes "lt", Lt) ∷ (codes "le", Le) ∷ [])
@@ -57,9 +54,9 @@ one_or_many (string s) = Some (s ∷ [])
 one_or_many (array ds) = each as_str ds
 one_or_many _ = None
 
--- a whole number from 0 to 2^63 - 1
+-- a whole number from 0 to the greatest counter
 abbrev pub size_of : Data → Option ℕ
-size_of d = kept (λ n. nat_le n (2 ^ 63 - 1)) (option_and_then as_u64 (as_number d))
+size_of d = kept (λ n. nat_le n max_counter) (option_and_then as_u64 (as_number d))
 
 -- the same, where it is all that follows
 abbrev pub size_alone : Items → Option ℕ

@@ -52,8 +52,8 @@ TermRows =
 
 -- ---- readings
 
-abbrev pub text : List ℕ → Data
-text s = string s
+abbrev pub text_value : List ℕ → Data
+text_value s = string s
 
 abbrev pub word : List ℕ → Items → Data
 word s ds = array (item (string s) ds)
@@ -66,23 +66,23 @@ two d e = item d (one e)
 
 abbrev pub ExpressionsRead : Type 0
 ExpressionsRead =
-    map expression_of (text (codes "true") ∷ word (codes "exists") no_items ∷ word (codes "allof") no_items
-    ∷ word (codes "not") (one (text (codes "empty"))) ∷ word (codes "anyof") (two (text (codes "false")) (text (codes "true")))
-    ∷ word (codes "name") (one (text (codes "a"))) ∷ word (codes "name") (two (array (two (text (codes "a")) (text (codes "b")))) (text (codes "wholename")))
-    ∷ word (codes "name") (two (array no_items) (text (codes "basename"))) ∷ word (codes "suffix") (one (text (codes "php"))) ∷ word (codes "suffix") (one (array no_items))
-    ∷ word (codes "type") (one (text (codes "l"))) ∷ word (codes "size") (two (text (codes "gt")) (number (unsigned 9223372036854775807)))
-    ∷ word (codes "match") (one (text (codes "*.c"))) ∷ word (codes "match") (two (text (codes "**/*.c")) (text (codes "wholename"))) ∷ [])
+    map expression_of (text_value (codes "true") ∷ word (codes "exists") no_items ∷ word (codes "allof") no_items
+    ∷ word (codes "not") (one (text_value (codes "empty"))) ∷ word (codes "anyof") (two (text_value (codes "false")) (text_value (codes "true")))
+    ∷ word (codes "name") (one (text_value (codes "a"))) ∷ word (codes "name") (two (array (two (text_value (codes "a")) (text_value (codes "b")))) (text_value (codes "wholename")))
+    ∷ word (codes "name") (two (array no_items) (text_value (codes "basename"))) ∷ word (codes "suffix") (one (text_value (codes "php"))) ∷ word (codes "suffix") (one (array no_items))
+    ∷ word (codes "type") (one (text_value (codes "l"))) ∷ word (codes "size") (two (text_value (codes "gt")) (number (unsigned 9223372036854775807)))
+    ∷ word (codes "match") (one (text_value (codes "*.c"))) ∷ word (codes "match") (two (text_value (codes "**/*.c")) (text_value (codes "wholename"))) ∷ [])
     ≡ map (λ x. Some x) (Always ∷ Exists ∷ AllOf no_more ∷ Not Empty ∷ AnyOf (more Never (more Always no_more)) ∷ Name (codes "a" ∷ []) Basename ∷ Name (codes "a" ∷ codes "b" ∷ []) Wholename
     ∷ Name [] Basename ∷ Suffix (codes "php" ∷ []) ∷ Suffix [] ∷ OfType Link ∷ Size Gt 9223372036854775807 ∷ Match (codes "*.c") Basename ∷ Match (codes "**/*.c") Wholename ∷ [])
 
 -- each of these is no expression
 abbrev pub OthersRefused : Type 0
 OthersRefused =
-    list_all (λ d. is_none (expression_of d)) (null ∷ boolean true ∷ number (unsigned 1) ∷ object no_members ∷ array no_items ∷ array (one null) ∷ text (codes "True") ∷ text (codes "not")
-    ∷ word (codes "true") (one (text (codes "true"))) ∷ word (codes "not") no_items ∷ word (codes "not") (two (text (codes "true")) (text (codes "true"))) ∷ word (codes "allof") (one null)
-    ∷ word (codes "name") no_items ∷ word (codes "name") (one null) ∷ word (codes "name") (two (text (codes "a")) (text (codes "dirname"))) ∷ word (codes "suffix") (two (text (codes "a")) (text (codes "basename")))
-    ∷ word (codes "type") (one (text (codes "x"))) ∷ word (codes "size") (one (text (codes "gt"))) ∷ word (codes "size") (two (text (codes "gt")) (number (unsigned 9223372036854775808)))
-    ∷ word (codes "match") (one (text (codes "a[b"))) ∷ word (codes "match") (one (text (codes "a\\b"))) ∷ [])
+    list_all (λ d. is_none (expression_of d)) (null ∷ boolean true ∷ number (unsigned 1) ∷ object no_members ∷ array no_items ∷ array (one null) ∷ text_value (codes "True") ∷ text_value (codes "not")
+    ∷ word (codes "true") (one (text_value (codes "true"))) ∷ word (codes "not") no_items ∷ word (codes "not") (two (text_value (codes "true")) (text_value (codes "true"))) ∷ word (codes "allof") (one null)
+    ∷ word (codes "name") no_items ∷ word (codes "name") (one null) ∷ word (codes "name") (two (text_value (codes "a")) (text_value (codes "dirname"))) ∷ word (codes "suffix") (two (text_value (codes "a")) (text_value (codes "basename")))
+    ∷ word (codes "type") (one (text_value (codes "x"))) ∷ word (codes "size") (one (text_value (codes "gt"))) ∷ word (codes "size") (two (text_value (codes "gt")) (number (unsigned 9223372036854775808)))
+    ∷ word (codes "match") (one (text_value (codes "a[b"))) ∷ word (codes "match") (one (text_value (codes "a\\b"))) ∷ [])
     ≡ true
 
 abbrev pub nots : ℕ → Data

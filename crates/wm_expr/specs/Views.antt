@@ -4,17 +4,17 @@ use Rattle.wm_expr.specs.declared.expr.Expr.{Expr, fold-Expr}
 use Rattle.wm_expr.specs.declared.expr.Expr.TheOpen.{Expr-F}
 use Rattle.wm_expr.specs.Terms.{Term, Always, Never, Not, AllOf, AnyOf, Name, Suffix, OfType, Exists, Empty, Size, Match, Terms, no_more, more}
 
-abbrev pub in_order : List Term → Terms
-in_order [] = no_more
-in_order (x ∷ xs) = more x (in_order xs)
+abbrev pub as_terms : List Term → Terms
+as_terms [] = no_more
+as_terms (x ∷ xs) = more x (as_terms xs)
 
 -- one level, with each expression inside already seen as its term
 abbrev pub view_step : Expr-F Term → Term
 view_step Expr-F.True = Always
 view_step Expr-F.False = Never
 view_step (Expr-F.Not x) = Not x.value
-view_step (Expr-F.AllOf xs) = AllOf (in_order xs.items)
-view_step (Expr-F.AnyOf xs) = AnyOf (in_order xs.items)
+view_step (Expr-F.AllOf xs) = AllOf (as_terms xs.items)
+view_step (Expr-F.AnyOf xs) = AnyOf (as_terms xs.items)
 view_step (Expr-F.Name names scope) = Name (map string_bytes names.items) scope
 view_step (Expr-F.Suffix suffixes) = Suffix (map string_bytes suffixes.items)
 view_step (Expr-F.Type kind) = OfType kind
@@ -27,4 +27,4 @@ abbrev pub term : Expr → Term
 term = fold-Expr Term view_step
 
 abbrev pub terms : List Expr → Terms
-terms xs = in_order (map term xs)
+terms xs = as_terms (map term xs)

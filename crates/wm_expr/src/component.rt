@@ -3,17 +3,9 @@
 //! Tests: view_tests/src/expressions/patterns.rt.
 ghost use Rattle.std.specs.Prelude.{◌≡◌};
 ghost use Rattle.wm_expr.specs.Patterns.{behind_a_run, fits_byte as fits_byte_lem, fits_component as fits_component_lem};
-ghost use Rattle.wm_expr.specs.Globs.{front, front_of};
+ghost use Rattle.wm_expr.specs.Globs.{until_star, until_star_of};
 
-/// What a pattern and a text come to, front against front.
-pub(crate) enum Ahead<'a> {
-    /// A star, with the pattern behind it and the text that is left there.
-    Star(&'a [u8], &'a [u8]),
-    /// Both end together.
-    End,
-    /// Something else.
-    Apart,
-}
+use crate::step::Step;
 
 /// Whether a byte of a pattern fits a byte.
 fn fits_byte(c: u8, b: u8) -> bool
@@ -23,21 +15,21 @@ fn fits_byte(c: u8, b: u8) -> bool
 }
 
 /// What the two come to before a star.
-fn up_to_star<'a>(pattern: &'a [u8], text: &'a [u8]) -> Ahead<'a>
-    ensures { front_of result ≡ front pattern.now text.now }
+fn up_to_star<'a>(pattern: &'a [u8], text: &'a [u8]) -> Step<'a, &'a [u8]>
+    ensures { until_star_of result ≡ until_star pattern.now text.now }
 {
     for i in 0..pattern.len() {
         if pattern[i] == b'*' {
-            return Ahead::Star(&pattern[i + 1..], &text[i..]);
+            return Step::Star(&pattern[i + 1..], &text[i..]);
         }
         if i >= text.len() || !fits_byte(pattern[i], text[i]) {
-            return Ahead::Apart;
+            return Step::Mismatch;
         }
     }
     if text.len() == pattern.len() {
-        Ahead::End
+        Step::Done
     } else {
-        Ahead::Apart
+        Step::Mismatch
     }
 }
 
@@ -50,12 +42,12 @@ fn fits_behind_a_run(pattern: &[u8], text: &[u8]) -> bool
     let mut left = text;
     loop {
         match up_to_star(rest, left) {
-            Ahead::Star(behind, stands) => {
+            Step::Star(behind, stands) => {
                 rest = behind;
                 left = stands;
             }
-            Ahead::End => return true,
-            Ahead::Apart => {
+            Step::Done => return true,
+            Step::Mismatch => {
                 if left.is_empty() {
                     return false;
                 }
@@ -72,8 +64,8 @@ pub(crate) fn fits_component(pattern: &[u8], text: &[u8]) -> bool
     ensures { result ≡ fits_component_lem pattern.now text.now }
 {
     match up_to_star(pattern, text) {
-        Ahead::Star(rest, left) => fits_behind_a_run(rest, left),
-        Ahead::End => true,
-        Ahead::Apart => false,
+        Step::Star(rest, left) => fits_behind_a_run(rest, left),
+        Step::Done => true,
+        Step::Mismatch => false,
     }
 }

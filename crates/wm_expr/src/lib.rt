@@ -15,7 +15,12 @@ mod meaning;
 mod pattern;
 mod reading;
 mod simple;
+mod step;
+mod texts;
 mod words;
 
 pub use expr::{Comparison, Expr, Scope};
 pub use laws::{every_expression, worked_rows};
+pub use limits::{MAX_DEPTH, MAX_TERMS};
+pub use pattern::MAX_PATTERN;
+pub use texts::texts_of;

@@ -3,7 +3,6 @@
 ghost use Rattle.std.specs.Prelude.{◌≡◌, string_bytes};
 ghost use Rattle.std.specs.List.{list_any};
 ghost use Rattle.std.specs.Str.{bytes_eq};
-ghost use Rattle.wm_names.specs.Entries.{same_kind as same_kind_lem};
 ghost use Rattle.wm_expr.specs.Meanings.{all_hold as all_hold_lem, are_path_only as are_path_only_lem, compares as compares_lem, has_suffix as has_suffix_lem, holds as holds_lem, is_file_or_folder as is_file_or_folder_lem, is_path_only as is_path_only_lem, one_holds as one_holds_lem, scoped as scoped_lem};
 ghost use Rattle.wm_expr.specs.Patterns.{fits as fits_lem};
 ghost use Rattle.wm_expr.specs.Terms.{Empty};
@@ -48,19 +47,6 @@ fn has_one_of(suffixes: &[String], name: &str) -> bool
     suffixes
         .iter()
         .any(|suffix| has_suffix(name.as_bytes(), suffix.as_bytes()))
-}
-
-/// Whether the two kinds are one.
-fn same_kind(a: Kind, b: Kind) -> bool
-    ensures { result ≡ same_kind_lem a b }
-{
-    match (a, b) {
-        (Kind::File, Kind::File) => true,
-        (Kind::Folder, Kind::Folder) => true,
-        (Kind::Link, Kind::Link) => true,
-        (Kind::Other, Kind::Other) => true,
-        _ => false,
-    }
 }
 
 /// Whether what is of this kind may count as empty.
@@ -171,7 +157,7 @@ impl Expr {
             Expr::AnyOf(parts) => one_holds(parts, entry),
             Expr::Name(names, scope) => is_one_of(names, scoped(*scope, &entry.path)),
             Expr::Suffix(suffixes) => has_one_of(suffixes, entry.path.basename()),
-            Expr::Type(kind) => same_kind(entry.meta.kind, *kind),
+            Expr::Type(kind) => entry.meta.kind.same(*kind),
             Expr::Exists => entry.exists,
             Expr::Empty => is_empty(entry),
             Expr::Size(op, n) => entry.exists && compares(*op, entry.meta.size, *n),

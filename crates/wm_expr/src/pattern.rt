@@ -4,24 +4,14 @@
 ghost use Rattle.std.specs.Prelude.{◌≡◌, ◌∷◌, not, ◌&&◌, ◌||◌, ◌==◌, option_map};
 ghost use Rattle.std.specs.List.{list_all, position};
 ghost use Rattle.wm_names.specs.Paths.{components};
-ghost use Rattle.wm_expr.specs.Globs.{deep_front, parts_front, parts_front_of, parts_of};
+ghost use Rattle.wm_expr.specs.Globs.{deep_takes, until_deep, until_deep_of, parts_of};
 ghost use Rattle.wm_expr.specs.Patterns.{behind_a_run, fits as fits_lem, fits_components, is_deep as is_deep_lem, is_pattern as is_pattern_lem};
 
 use crate::component::fits_component;
+use crate::step::Step;
 
 /// The most bytes of a pattern.
-const MAX_PATTERN: usize = 1024;
-
-/// What the components of a pattern and of a text come to, front against front.
-enum Next<'a> {
-    /// A `**` that isn't the last component, with the pattern behind it and the text that is left
-    /// there.
-    Deep(&'a [u8], Option<&'a [u8]>),
-    /// Both end together.
-    Over,
-    /// Something else.
-    Other,
-}
+pub const MAX_PATTERN: usize = 1024;
 
 /// Whether a text is one that a pattern may be: at most 1,024 bytes, with no `[` and no backslash.
 pub(crate) fn is_pattern(text: &str) -> bool
@@ -63,19 +53,19 @@ fn cut(parts: &[u8]) -> (&[u8], Option<&[u8]>)
 
 /// What a `**` with this behind it comes to. As the last component it takes all that is left, but not
 /// nothing.
-fn at_deep<'a>(rest: Option<&'a [u8]>, text: Option<&'a [u8]>) -> Next<'a>
-    ensures { parts_front_of result ≡ deep_front (parts_of (option_map (λ s. s.now) rest.entry)) (parts_of (option_map (λ s. s.now) text.entry)) }
+fn at_deep<'a>(rest: Option<&'a [u8]>, text: Option<&'a [u8]>) -> Step<'a, Option<&'a [u8]>>
+    ensures { until_deep_of result ≡ deep_takes (parts_of (option_map (λ s. s.now) rest.entry)) (parts_of (option_map (λ s. s.now) text.entry)) }
 {
     match (rest, text) {
-        (Some(rest), _) => Next::Deep(rest, text),
-        (None, Some(_)) => Next::Over,
-        (None, None) => Next::Other,
+        (Some(rest), _) => Step::Star(rest, text),
+        (None, Some(_)) => Step::Done,
+        (None, None) => Step::Mismatch,
     }
 }
 
 /// What the two come to before a `**`.
-fn up_to_deep<'a>(pattern: &'a [u8], text: Option<&'a [u8]>) -> Next<'a>
-    ensures { parts_front_of result ≡ parts_front (components pattern.now) (parts_of (option_map (λ s. s.now) text.entry)) }
+fn up_to_deep<'a>(pattern: &'a [u8], text: Option<&'a [u8]>) -> Step<'a, Option<&'a [u8]>>
+    ensures { until_deep_of result ≡ until_deep (components pattern.now) (parts_of (option_map (λ s. s.now) text.entry)) }
 {
     let mut rest = Some(pattern);
     let mut left = text;
@@ -85,18 +75,18 @@ fn up_to_deep<'a>(pattern: &'a [u8], text: Option<&'a [u8]>) -> Next<'a>
             return at_deep(behind, left);
         }
         let Some(texts) = left else {
-            return Next::Other;
+            return Step::Mismatch;
         };
         let (name, others) = cut(texts);
         if !fits_component(part, name) {
-            return Next::Other;
+            return Step::Mismatch;
         }
         rest = behind;
         left = others;
     }
     match left {
-        None => Next::Over,
-        Some(_) => Next::Other,
+        None => Step::Done,
+        Some(_) => Step::Mismatch,
     }
 }
 
@@ -109,12 +99,12 @@ fn fits_behind_a_run(pattern: &[u8], text: Option<&[u8]>) -> bool
     let mut left = text;
     loop {
         match up_to_deep(rest, left) {
-            Next::Deep(behind, stands) => {
+            Step::Star(behind, stands) => {
                 rest = behind;
                 left = stands;
             }
-            Next::Over => return true,
-            Next::Other => {
+            Step::Done => return true,
+            Step::Mismatch => {
                 let Some(parts) = left else {
                     return false;
                 };
@@ -131,8 +121,8 @@ pub(crate) fn fits(pattern: &[u8], text: &[u8]) -> bool
     ensures { result ≡ fits_lem pattern.now text.now }
 {
     match up_to_deep(pattern, Some(text)) {
-        Next::Deep(behind, stands) => fits_behind_a_run(behind, stands),
-        Next::Over => true,
-        Next::Other => false,
+        Step::Star(behind, stands) => fits_behind_a_run(behind, stands),
+        Step::Done => true,
+        Step::Mismatch => false,
     }
 }

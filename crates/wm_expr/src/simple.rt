@@ -1,48 +1,22 @@
 //! Reads the terms that hold no other term, such as `name`, `size` and `match`.
 //! Definitions: specs/Readings.antt. Tests: view_tests/src/expressions/readings.rt.
-ghost use Rattle.std.specs.Prelude.{◌≡◌, ◌≢◌, ◌∷◌, [], Some, None, IfOk, IfErr, map, string_bytes, option_and_then, option_map};
+ghost use Rattle.std.specs.Prelude.{◌≡◌, ◌≢◌, Some, None, IfOk, IfErr, map, string_bytes, option_and_then, option_map};
 ghost use Rattle.serde_json.specs.Find.{as_str};
 ghost use Rattle.serde_json.specs.View.{items_view, view};
+ghost use Rattle.wm_names.specs.Entries.{kind_of};
 ghost use Rattle.wm_expr.specs.Limits.{depth};
 ghost use Rattle.wm_expr.specs.Patterns.{is_pattern as is_pattern_lem};
-ghost use Rattle.wm_expr.specs.Readings.{comparison_of, each, kept, kind_of, match_term as match_term_lem, name_term as name_term_lem, one_or_many, plain_of, scope_of, simple_term as simple_term_lem, size_alone as size_alone_lem, size_of, size_term as size_term_lem, suffix_term as suffix_term_lem, type_term as type_term_lem};
+ghost use Rattle.wm_expr.specs.Readings.{comparison_of, kept, match_term as match_term_lem, name_term as name_term_lem, one_or_many, plain_of, scope_of, simple_term as simple_term_lem, size_alone as size_alone_lem, size_of, size_term as size_term_lem, suffix_term as suffix_term_lem, type_term as type_term_lem};
 ghost use Rattle.wm_expr.specs.Views.{term};
 
 use crate::expr::{Comparison, Expr, Scope};
 use crate::pattern::is_pattern;
-use crate::words::{comparison_named, kind_named, plain, scope_named};
+use crate::texts::{owned, texts_of};
+use crate::words::{comparison_named, plain, scope_named};
 use serde_json::Value;
 use std::alloc::Global;
-use wm_disk::Refusal;
+use wm_disk::{MAX_COUNTER, Refusal};
 use wm_names::Kind;
-
-/// The greatest size that an expression may name, in bytes.
-const MAX_SIZE: u64 = (1 << 63) - 1;
-
-/// The texts of an array.
-fn texts(alloc: Global, items: &[Value]) -> Result<Vec<String>, Refusal>
-    ensures ok { IfOk result (λ texts. each as_str (items_view items.now) ≡ Some (map string_bytes texts.items)) }
-    ensures refused { IfErr result (λ e. e ≢ Refusal.NoMemory → (e ≡ Refusal.BadExpression) × (each as_str (items_view items.now) ≡ None)) }
-{
-    let mut texts = Vec::new(alloc);
-    for item in items {
-        let Some(text) = item.as_str() else {
-            return Err(Refusal::BadExpression);
-        };
-        texts.push(String::from_str(alloc, text)?)?;
-    }
-    Ok(texts)
-}
-
-/// A list of one text.
-fn one_text(alloc: Global, text: &str) -> Result<Vec<String>, Refusal>
-    ensures ok { IfOk result (λ texts. map string_bytes texts.items ≡ text.now ∷ []) }
-    ensures refused { IfErr result (λ e. e ≡ Refusal.NoMemory) }
-{
-    let mut texts = Vec::new(alloc);
-    texts.push(String::from_str(alloc, text)?)?;
-    Ok(texts)
-}
 
 /// The texts that a text or an array names.
 fn names(alloc: Global, value: &Value) -> Result<Vec<String>, Refusal>
@@ -50,8 +24,11 @@ fn names(alloc: Global, value: &Value) -> Result<Vec<String>, Refusal>
     ensures refused { IfErr result (λ e. e ≢ Refusal.NoMemory → (e ≡ Refusal.BadExpression) × (one_or_many (view value.now) ≡ None)) }
 {
     match value {
-        Value::String(text) => one_text(alloc, text),
-        Value::Array(items) => texts(alloc, items),
+        Value::String(text) => Ok(owned(alloc, &[text])?),
+        Value::Array(items) => {
+            let texts = texts_of(alloc, items, Refusal::BadExpression)?;
+            Ok(owned(alloc, &texts)?)
+        }
         _ => Err(Refusal::BadExpression),
     }
 }
@@ -72,7 +49,7 @@ fn size(value: &Value) -> Option<u64>
     ensures { result ≡ size_of (view value.now) }
 {
     match value.as_u64() {
-        Some(n) if n <= MAX_SIZE => Some(n),
+        Some(n) if n <= MAX_COUNTER => Some(n),
         _ => None,
     }
 }
@@ -92,7 +69,7 @@ fn size_alone(rest: &[Value]) -> Option<u64>
 fn kind(value: &Value) -> Option<Kind>
     ensures { result ≡ option_and_then kind_of (as_str (view value.now)) }
 {
-    value.as_str().and_then(kind_named)
+    value.as_str().and_then(Kind::from_letter)
 }
 
 /// The comparison that a value names.

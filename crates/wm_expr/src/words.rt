@@ -1,12 +1,11 @@
-//! What the words and letters inside an expression stand for.
+//! What the words inside an expression stand for.
 //! Definitions: specs/Readings.antt. Tests: view_tests/src/expressions/readings.rt.
 ghost use Rattle.std.specs.Prelude.{◌≡◌, IfSome, option_map};
 ghost use Rattle.wm_expr.specs.Limits.{depth};
-ghost use Rattle.wm_expr.specs.Readings.{comparison_of, kind_of, plain_of, scope_named as scope_named_lem};
+ghost use Rattle.wm_expr.specs.Readings.{comparison_of, plain_of, scope_named as scope_named_lem};
 ghost use Rattle.wm_expr.specs.Views.{term};
 
 use crate::expr::{Comparison, Expr, Scope};
-use wm_names::Kind;
 
 /// The expression that a word alone is.
 pub(crate) fn plain(word: &str) -> Option<Expr>
@@ -18,19 +17,6 @@ pub(crate) fn plain(word: &str) -> Option<Expr>
         "false" => Some(Expr::False),
         "exists" => Some(Expr::Exists),
         "empty" => Some(Expr::Empty),
-        _ => None,
-    }
-}
-
-/// The kind that a letter names.
-pub(crate) fn kind_named(letter: &str) -> Option<Kind>
-    ensures { result ≡ kind_of letter.now }
-{
-    match letter {
-        "f" => Some(Kind::File),
-        "d" => Some(Kind::Folder),
-        "l" => Some(Kind::Link),
-        "o" => Some(Kind::Other),
         _ => None,
     }
 }

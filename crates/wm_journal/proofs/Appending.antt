@@ -8,33 +8,35 @@ use Rattle.wm_disk.specs.Moments.{Elapses, LeavesOnly, started, goes_on}
 use Rattle.wm_disk.specs.declared.disk.Disk as disks
 use Rattle.wm_wire.specs.declared.wire.Wire.{Ghosts}
 use Rattle.wm_journal.specs.Areas.{area, SameOutside}
-use Rattle.wm_journal.specs.Records.{gated, opened, Holds, Stages, taken, group}
+use Rattle.wm_journal.specs.Records.{gated, with_open_gates, HoldsRecords, Stages, taken, group}
 use Rattle.wm_journal.specs.Regions.{IsAtRest, StillHolds}
 use Rattle.wm_journal.specs.declared.region.Region.{Region}
-use Rattle.wm_journal.proofs.Contents.{torn_outside, torn_front, written_behind, same_itself}
-use Rattle.wm_journal.proofs.Laying.{gated-append, length-opened, under, last_gate, named-under, last_closed, group_laid, AllByRecursion-append}
+use Rattle.wm_journal.proofs.Contents.{torn_front}
+use Rattle.wm_journal.specs.laws.Areas.{torn_outside, written_behind, same_itself}
+use Rattle.wm_journal.proofs.Laying.{under, last_gate, named-under, last_closed, group_laid, AllByRecursion-append}
+use Rattle.wm_journal.specs.laws.Records.{gated-append, length-opened}
 
 module _ {V : Type 0} (wire : Ghosts V) where
   abbrev end_of : List V → ℕ
   end_of vs = taken wire.spelling vs + 1
 
   -- only the bytes up to the closed gate count
-  front_parts : (vs : List V) (a b : List ℕ) (h : Holds wire vs a) → take (end_of vs) b ≡ take (end_of vs) a → b ≡ gated wire.spelling (opened vs) ++ h.gate ∷ drop (end_of vs) b
+  front_parts : (vs : List V) (a b : List ℕ) (h : HoldsRecords wire vs a) → take (end_of vs) b ≡ take (end_of vs) a → b ≡ gated wire.spelling (with_open_gates vs) ++ h.gate ∷ drop (end_of vs) b
   front_parts vs a b h same =
-      let text = gated wire.spelling (opened vs) in
+      let text = gated wire.spelling (with_open_gates vs) in
       let front = text ++ h.gate ∷ [] in
       let n = end_of vs in
       let long : length front ≡ n = omega (arith, length-append text (h.gate ∷ []), length-opened wire.spelling vs) in
       let begins : take n a ≡ front = ap (λ (l : List ℕ). take n l) (h.parts ∙ sym (append_assoc text (h.gate ∷ []) h.behind)) ∙ take_at front h.behind n long in
       sym (take-append-drop n b) ∙ ap (λ (l : List ℕ). l ++ drop n b) (same ∙ begins) ∙ append_assoc text (h.gate ∷ []) (drop n b)
 
-  pub front_counts : (vs : List V) (a b : List ℕ) → Holds wire vs a → take (end_of vs) b ≡ take (end_of vs) a → Holds wire vs b
+  pub front_counts : (vs : List V) (a b : List ℕ) → HoldsRecords wire vs a → take (end_of vs) b ≡ take (end_of vs) a → HoldsRecords wire vs b
   front_counts vs a b h same = record { fit = h.fit; gate = h.gate; behind = drop (end_of vs) b; closed = h.closed; parts = front_parts vs a b h same }
 
   -- a group stands behind the closed gate
-  pub group_staged : (vs ws : List V) (a b rest : List ℕ) → Holds wire vs a → take (end_of vs) b ≡ take (end_of vs) a → drop (end_of vs) b ≡ group wire.spelling ws ++ rest → AllByRecursion wire.fits ws → Stages wire vs ws b
+  pub group_staged : (vs ws : List V) (a b rest : List ℕ) → HoldsRecords wire vs a → take (end_of vs) b ≡ take (end_of vs) a → drop (end_of vs) b ≡ group wire.spelling ws ++ rest → AllByRecursion wire.fits ws → Stages wire vs ws b
   group_staged vs ws a b rest h same behind fit =
-      let text = gated wire.spelling (opened vs) in
+      let text = gated wire.spelling (with_open_gates vs) in
       let laid = under wire.spelling h.gate ws in
       let last = last_gate wire.spelling h.gate ws in
       record {
@@ -47,7 +49,7 @@ module _ {V : Type 0} (wire : Ghosts V) where
         parts = front_parts vs a b h same
             ∙ ap (λ (l : List ℕ). text ++ h.gate ∷ l) behind
             ∙ ap (λ (l : List ℕ). text ++ l) (group_laid wire.spelling h.gate ws rest)
-            ∙ sym (gated-append wire.spelling (opened vs) laid (last ∷ rest));
+            ∙ sym (gated-append wire.spelling (with_open_gates vs) laid (last ∷ rest));
       }
 
 -- a write of so many bytes behind the closed gate of a journal at rest

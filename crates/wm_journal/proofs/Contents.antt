@@ -1,14 +1,8 @@
 -- What a write inside the area does to a content.
-use Rattle.std.proofs.Common.{◌≡◌, ℕ, zero, suc, ◌+◌, ◌-◌, ◌<◌, ◌≤◌, List, [], ◌∷◌, ◌++◌, length, get_or, set, take, drop, refl, sym, ◌∙◌, ap, arith, append_assoc, take-append-drop}
-use Rattle.std.proofs.lemmas.List.{drop_at, take-take, drop-take, drop-drop, drop_more, take-set-le, drop-set-lt, drop-set-add, length-set, length-take-le, set_split}
-use Rattle.wm_disk.specs.Contents.{overwritten, Torn}
+use Rattle.std.proofs.Common.{◌≡◌, ℕ, zero, suc, ◌+◌, ◌<◌, ◌≤◌, List, [], ◌∷◌, ◌++◌, length, get_or, set, take, drop, refl, sym, ◌∙◌, ap, arith, take-append-drop}
+use Rattle.std.proofs.lemmas.List.{take-take, drop-take, drop_more, take-set-le, drop-set-lt, drop-set-add, length-set, set_split}
+use Rattle.wm_disk.specs.Contents.{Torn}
 use Rattle.wm_journal.specs.Areas.{area, SameOutside}
-
-pub same_itself : (offset len : ℕ) (c : List ℕ) → SameOutside offset len c c
-same_itself offset len c = record { before = refl; behind = refl; size = refl }
-
-pub same_twice : (offset len : ℕ) (a b c : List ℕ) → SameOutside offset len a b → SameOutside offset len b c → SameOutside offset len a c
-same_twice offset len a b c h k = record { before = k.before ∙ h.before; behind = k.behind ∙ h.behind; size = k.size ∙ h.size }
 
 -- one byte
 pub torn_byte : (at : ℕ) (old new : List ℕ) → at < length old → Torn at 1 old new → new ≡ set old at (get_or new at 0)
@@ -38,37 +32,7 @@ set_outside offset len place b c lt = record {
 
 -- a write inside the area, torn or not
 module _ (offset len place n : ℕ) (old new : List ℕ) (within : place + n ≤ len) (lies : offset + len ≤ length old) (torn : Torn (offset + place) n old new) where
-  pub torn_outside : SameOutside offset len old new
-  torn_outside = record {
-    before = sym (take-take offset (offset + place) new (omega arith)) ∙ ap (λ (l : List ℕ). take offset l) torn.before ∙ take-take offset (offset + place) old (omega arith);
-    behind =
-        let gap = len - (place + n) in
-        let e : offset + place + n + gap ≡ offset + len = omega arith in
-        ap (λ (k : ℕ). drop k new) (sym e) ∙ sym (drop-drop gap (offset + place + n) new) ∙ ap (λ (l : List ℕ). drop gap l) torn.after ∙ drop-drop gap (offset + place + n) old ∙ ap (λ (k : ℕ). drop k old) e;
-    size = omega (arith, torn.no_shorter, torn.no_longer);
-  }
-
   -- the area begins as it did
   pub torn_front : take place (area offset len new) ≡ take place (area offset len old)
   torn_front =
       take-take place len (drop offset new) (omega arith) ∙ sym (drop-take offset place new) ∙ ap (λ (l : List ℕ). drop offset l) torn.before ∙ drop-take offset place old ∙ sym (take-take place len (drop offset old) (omega arith))
-
--- what stands behind that beginning after the write
-pub written_behind : (offset len place : ℕ) (old bytes : List ℕ) → place + length bytes ≤ len → offset + len ≤ length old
-    → (rest : List ℕ) × (drop place (area offset len (overwritten old (offset + place) bytes)) ≡ bytes ++ rest)
-written_behind offset len place old bytes within lies =
-    let n = length bytes in
-    let c = overwritten old (offset + place) bytes in
-    let tail = drop (offset + place + n) old in
-    let e : place + (len - place) ≡ len = omega arith in
-    let front : length (take (offset + place) old) ≡ offset + place = length-take-le (offset + place) old (omega arith) in
-    let behind : drop (offset + place) c ≡ bytes ++ tail = ap (λ (l : List ℕ). drop (offset + place) l) (append_assoc (take (offset + place) old) bytes tail) ∙ drop_at (take (offset + place) old) (bytes ++ tail) (offset + place) front in
-    let m = len - place in (
-      take (m - n) tail,
-      ap (λ (k : ℕ). drop place (take k (drop offset c))) (sym e) ∙ drop-take place m (drop offset c) ∙ ap (λ (l : List ℕ). take m l) (drop-drop place offset c ∙ behind) ∙ take_past bytes tail m (m - n) (omega (arith, e, within)),
-    )
-  where
-    take_past : (xs ys : List ℕ) (k j : ℕ) → k ≡ length xs + j → take k (xs ++ ys) ≡ xs ++ take j ys
-    take_past [] ys k j is = let same : k ≡ j = omega arith in ap (λ (i : ℕ). take i ys) same
-    take_past (x ∷ xs) ys zero j is = absurd (omega arith)
-    take_past (x ∷ xs) ys (suc k) j is = ap (λ (l : List ℕ). x ∷ l) (take_past xs ys k j (omega arith))

@@ -4,7 +4,8 @@ use Rattle.std.specs.List.{AllByRecursion}
 use Rattle.std.proofs.lemmas.Bool.{cases_eq}
 use Rattle.std.proofs.lemmas.Grind.{flat_map-append}
 use Rattle.std.proofs.lemmas.List.{set-append_right, append-nil}
-use Rattle.wm_journal.specs.Records.{gated, opened, taken, gate_places, group}
+use Rattle.wm_journal.specs.Records.{gated, with_open_gates, taken, gate_places, group}
+use Rattle.wm_journal.specs.laws.Records.{gated-append, length-opened}
 
 pub AllByRecursion-take : {V : Type 0} (P : V → Type 0) (vs ws : List V) (k : ℕ) → AllByRecursion P (vs ++ ws) → AllByRecursion P (vs ++ take k ws)
 AllByRecursion-take P [] [] zero all = all
@@ -30,24 +31,6 @@ named-put_gate zero b (p ∷ ps) = refl
 named-put_gate (suc i) b (p ∷ ps) = ap (λ l. p.1 ∷ l) (named-put_gate i b ps)
 
 module _ {V : Type 0} (spelling : V → List ℕ) where
-  pub gated-append : (ps qs : List (ℕ × V)) (rest : List ℕ) → gated spelling (ps ++ qs) ++ rest ≡ gated spelling ps ++ (gated spelling qs ++ rest)
-  gated-append ps qs rest = ap (λ (l : List ℕ). l ++ rest) (flat_map-append (λ r. r.0 ∷ spelling r.1) ps qs) ∙ append_assoc (gated spelling ps) (gated spelling qs) rest
-
-  pub length-gated : (ps : List (ℕ × V)) → length (gated spelling ps) ≡ taken spelling (map (λ r. r.1) ps)
-  length-gated [] = refl
-  length-gated (p ∷ ps) = omega (arith, length-append (spelling p.1) (gated spelling ps), length-gated ps)
-
-  pub named-opened : (vs : List V) → map (λ r. r.1) (opened vs) ≡ vs
-  named-opened [] = refl
-  named-opened (v ∷ vs) = ap (λ (l : List V). v ∷ l) (named-opened vs)
-
-  pub length-opened : (vs : List V) → length (gated spelling (opened vs)) ≡ taken spelling vs
-  length-opened vs = length-gated (opened vs) ∙ ap (λ (l : List V). taken spelling l) (named-opened vs)
-
-  pub taken-append : (vs ws : List V) → taken spelling (vs ++ ws) ≡ taken spelling vs + taken spelling ws
-  taken-append [] ws = omega arith
-  taken-append (v ∷ vs) ws = omega (arith, taken-append vs ws)
-
   pub taken-take : (vs : List V) (i : ℕ) → i < length vs → taken spelling (take i vs) < taken spelling vs
   taken-take [] i lt = absurd (omega arith)
   taken-take (v ∷ vs) zero lt = omega arith
@@ -126,29 +109,29 @@ module _ {V : Type 0} (spelling : V → List ℕ) where
       ∙ ap (λ (l : List ℕ). front ++ l) (gated_set ps i b rest (omega arith))
       ∙ sym (append_assoc front (gated spelling (put_gate i b ps)) rest)
 
-  pub staged_set : (held : List V) (ps : List (ℕ × V)) (i b : ℕ) (rest : List ℕ) → i < length ps → set (gated spelling (opened held ++ ps) ++ rest) (taken spelling held + taken spelling (take i (map (λ r. r.1) ps))) b ≡ gated spelling (opened held ++ put_gate i b ps) ++ rest
+  pub staged_set : (held : List V) (ps : List (ℕ × V)) (i b : ℕ) (rest : List ℕ) → i < length ps → set (gated spelling (with_open_gates held ++ ps) ++ rest) (taken spelling held + taken spelling (take i (map (λ r. r.1) ps))) b ≡ gated spelling (with_open_gates held ++ put_gate i b ps) ++ rest
   staged_set held ps i b rest lt =
-      let front = gated spelling (opened held) in
+      let front = gated spelling (with_open_gates held) in
       let j = taken spelling (take i (map (λ r. r.1) ps)) in
       let n = taken spelling held in
       let e : n + j - n ≡ j = omega arith in
-      ap (λ (l : List ℕ). set l (n + j) b) (gated-append (opened held) ps rest)
-      ∙ set-append_right front (gated spelling ps ++ rest) n (n + j) b (length-opened held) (omega arith)
+      ap (λ (l : List ℕ). set l (n + j) b) (gated-append spelling (with_open_gates held) ps rest)
+      ∙ set-append_right front (gated spelling ps ++ rest) n (n + j) b (length-opened spelling held) (omega arith)
       ∙ ap (λ (k : ℕ). front ++ set (gated spelling ps ++ rest) k b) e
       ∙ ap (λ (l : List ℕ). front ++ l) (gated_set ps i b rest lt)
-      ∙ sym (gated-append (opened held) (put_gate i b ps) rest)
+      ∙ sym (gated-append spelling (with_open_gates held) (put_gate i b ps) rest)
 
   -- one gate more is open
-  pub opened_one_more : (ps : List (ℕ × V)) (i : ℕ) → i < length ps → take i ps ≡ opened (take i (map (λ r. r.1) ps)) → take (suc i) (put_gate i 165 ps) ≡ opened (take (suc i) (map (λ r. r.1) ps))
+  pub opened_one_more : (ps : List (ℕ × V)) (i : ℕ) → i < length ps → take i ps ≡ with_open_gates (take i (map (λ r. r.1) ps)) → take (suc i) (put_gate i 165 ps) ≡ with_open_gates (take (suc i) (map (λ r. r.1) ps))
   opened_one_more [] i lt so_far = absurd (omega arith)
   opened_one_more (p ∷ ps) zero lt so_far = refl
   opened_one_more (p ∷ ps) (suc i) lt so_far =
-      let k : p ∷ take i ps ≡ (165, p.1) ∷ opened (take i (map (λ r. r.1) ps)) = so_far in
+      let k : p ∷ take i ps ≡ (165, p.1) ∷ with_open_gates (take i (map (λ r. r.1) ps)) = so_far in
       let head : p ≡ (165, p.1) = cc in
-      let tail : take i ps ≡ opened (take i (map (λ r. r.1) ps)) = cc in
+      let tail : take i ps ≡ with_open_gates (take i (map (λ r. r.1) ps)) = cc in
       ap (λ (q : ℕ × V). q ∷ take (suc i) (put_gate i 165 ps)) head ∙ ap (λ (l : List (ℕ × V)). (165, p.1) ∷ l) (opened_one_more ps i (omega arith) tail)
 
-  -- ---- under any gates a beginning of the records counts
+  -- ---- under any gates a prefix of the records counts
 
   pub record Cut (ps : List (ℕ × V)) (bytes : List ℕ) : Type 0 where
     pub count : ℕ
@@ -156,7 +139,7 @@ module _ {V : Type 0} (spelling : V → List ℕ) where
     pub gate : ℕ
     pub behind : List ℕ
     pub closed : gate ≢ 165
-    pub parts : bytes ≡ gated spelling (opened (take count (map (λ r. r.1) ps))) ++ gate ∷ behind
+    pub parts : bytes ≡ gated spelling (with_open_gates (take count (map (λ r. r.1) ps))) ++ gate ∷ behind
 
   pub cut : (ps : List (ℕ × V)) (gate : ℕ) (behind : List ℕ) → gate ≢ 165 → Cut ps (gated spelling ps ++ gate ∷ behind)
   cut [] gate behind shut = record { count = 0; within = omega arith; gate = gate; behind = behind; closed = shut; parts = refl }
@@ -173,7 +156,7 @@ module _ {V : Type 0} (spelling : V → List ℕ) where
           parts = ap (λ (x : ℕ). (front x ++ gated spelling ps) ++ gate ∷ behind) is_open
               ∙ append_assoc (front 165) (gated spelling ps) (gate ∷ behind)
               ∙ ap (λ (l : List ℕ). front 165 ++ l) c.parts
-              ∙ sym (append_assoc (front 165) (gated spelling (opened (take c.count (map (λ r. r.1) ps)))) (c.gate ∷ c.behind));
+              ∙ sym (append_assoc (front 165) (gated spelling (with_open_gates (take c.count (map (λ r. r.1) ps)))) (c.gate ∷ c.behind));
         }
     | inr closed ↦ record {
       count = 0;

@@ -1,30 +1,18 @@
 -- What a crash leaves while the gates of a group are opened.
-use Rattle.std.proofs.Common.{◌≡◌, inl, inr, ⊎_elim, ℕ, suc, ◌+◌, ◌<◌, ◌≤◌, List, [], ◌∷◌, ◌++◌, length, map, get_or, set, take, drop, refl, sym, ◌∙◌, ap, subst, arith, append_assoc}
-use Rattle.std.proofs.lemmas.List.{set_split, take_all, length-map, map-append}
+use Rattle.std.proofs.Common.{◌≡◌, ℕ, suc, ◌+◌, ◌<◌, ◌≤◌, List, [], ◌∷◌, ◌++◌, length, map, get_or, set, take, refl, sym, ◌∙◌, ap, subst, arith}
+use Rattle.std.proofs.lemmas.List.{take_all, length-map, map-append}
 use Rattle.wm_disk.specs.Contents.{overwritten, Torn, Follows}
-use Rattle.wm_disk.specs.Moments.{LeavesOnly}
 use Rattle.wm_disk.specs.declared.disk.Disk as disks
 use Rattle.wm_wire.specs.declared.wire.Wire.{Ghosts}
 use Rattle.wm_journal.specs.Areas.{area, SameOutside}
-use Rattle.wm_journal.specs.Records.{gated, opened, Holds, Stages, taken, gate_places}
+use Rattle.wm_journal.specs.Records.{gated, with_open_gates, HoldsRecords, Stages, taken, gate_places}
 use Rattle.wm_journal.specs.Gates.{IsUnderGates, IsOpenTo}
-use Rattle.wm_journal.specs.Regions.{IsStaged, HoldsBeginning}
+use Rattle.wm_journal.specs.Regions.{IsStaged, HoldsPrefix}
 use Rattle.wm_journal.specs.declared.region.Region.{Region}
-use Rattle.wm_journal.proofs.Contents.{same_itself, same_twice, torn_byte, set_area, set_outside}
-use Rattle.wm_journal.proofs.Laying.{gated-append, length-gate_places, gate_place, put_gate, named-put_gate, staged_set, opened_one_more, cut, AllByRecursion-take}
-
--- a weaker claim on the same run
-pub weaker : {D : Type 0} (moment : D → ℕ) (left_since : D → ℕ → List ℕ → Type 0) (old new : D) (P Q : List ℕ → Type 0) → LeavesOnly moment left_since old new P → ((c : List ℕ) → P c → Q c) → LeavesOnly moment left_since old new Q
-weaker moment left_since old new P Q run weaken = record {
-  later = run.later;
-  each = λ c left. weaken c (run.each c left);
-  before = λ t c le left. ⊎_elim (λ h. inl h) (λ h. inr (weaken c h)) (run.before t c le left);
-}
-
-pub overwritten_one : (at b : ℕ) (c : List ℕ) → at < length c → overwritten c at (b ∷ []) ≡ set c at b
-overwritten_one at b c lt =
-    let e : at + 1 ≡ suc at = omega arith in
-    append_assoc (take at c) (b ∷ []) (drop (at + 1) c) ∙ ap (λ (n : ℕ). take at c ++ b ∷ drop n c) e ∙ sym (set_split c at b lt)
+use Rattle.wm_journal.proofs.Contents.{torn_byte, set_area, set_outside}
+use Rattle.wm_journal.specs.laws.Areas.{same_itself, same_twice, overwritten_one}
+use Rattle.wm_journal.proofs.Laying.{length-gate_places, gate_place, put_gate, named-put_gate, staged_set, opened_one_more, cut, AllByRecursion-take}
+use Rattle.wm_journal.specs.laws.Records.{gated-append}
 
 pub written_outside : (offset len place b : ℕ) (c d : List ℕ) → place < len → offset + len ≤ length c → d ≡ overwritten c (offset + place) (b ∷ []) → SameOutside offset len c d
 written_outside offset len place b c d inside lies eq =
@@ -49,26 +37,26 @@ module _ {V : Type 0} (wire : Ghosts V) (held added : List V) where
         behind = s.behind;
         closed = s.closed;
         parts = ap (λ (l : List ℕ). set l (gate_at i) b) s.parts
-            ∙ ap (λ (k : ℕ). set (gated wire.spelling (opened held ++ s.staged) ++ s.gate ∷ s.behind) k b) place
+            ∙ ap (λ (k : ℕ). set (gated wire.spelling (with_open_gates held ++ s.staged) ++ s.gate ∷ s.behind) k b) place
             ∙ staged_set wire.spelling held s.staged i b (s.gate ∷ s.behind) (omega (arith, lt, length-staged bytes s));
       }
 
   -- all gates are open
-  stages_open : (bytes : List ℕ) (s : Stages wire held added bytes) → s.staged ≡ opened added → Holds wire (held ++ added) bytes
+  stages_open : (bytes : List ℕ) (s : Stages wire held added bytes) → s.staged ≡ with_open_gates added → HoldsRecords wire (held ++ added) bytes
   stages_open bytes s all = record {
     fit = s.fit;
     gate = s.gate;
     behind = s.behind;
     closed = s.closed;
-    parts = s.parts ∙ ap (λ (l : List (ℕ × V)). gated wire.spelling l ++ s.gate ∷ s.behind) (ap (λ (l : List (ℕ × V)). opened held ++ l) all ∙ sym (map-append (λ v. (165, v)) held added));
+    parts = s.parts ∙ ap (λ (l : List (ℕ × V)). gated wire.spelling l ++ s.gate ∷ s.behind) (ap (λ (l : List (ℕ × V)). with_open_gates held ++ l) all ∙ sym (map-append (λ v. (165, v)) held added));
   }
 
-  -- under any gates a beginning of the group counts
-  pub stages_cut : (bytes : List ℕ) → Stages wire held added bytes → (count : ℕ) × (count ≤ length added) × Holds wire (held ++ take count added) bytes
+  -- under any gates a prefix of the group counts
+  pub stages_cut : (bytes : List ℕ) → Stages wire held added bytes → (count : ℕ) × (count ≤ length added) × HoldsRecords wire (held ++ take count added) bytes
   stages_cut bytes s =
       let c = cut wire.spelling s.staged s.gate s.behind s.closed in
-      let front = gated wire.spelling (opened held) in
-      let text = λ (l : List V). gated wire.spelling (opened (take c.count l)) in (
+      let front = gated wire.spelling (with_open_gates held) in
+      let text = λ (l : List V). gated wire.spelling (with_open_gates (take c.count l)) in (
         c.count,
         omega (arith, c.within, length-staged bytes s),
         record {
@@ -77,9 +65,9 @@ module _ {V : Type 0} (wire : Ghosts V) (held added : List V) where
           behind = c.behind;
           closed = c.closed;
           parts = s.parts
-              ∙ gated-append wire.spelling (opened held) s.staged (s.gate ∷ s.behind)
+              ∙ gated-append wire.spelling (with_open_gates held) s.staged (s.gate ∷ s.behind)
               ∙ ap (λ (l : List ℕ). front ++ l) (c.parts ∙ ap (λ (l : List V). text l ++ c.gate ∷ c.behind) s.are_added)
-              ∙ sym (gated-append wire.spelling (opened held) (opened (take c.count added)) (c.gate ∷ c.behind))
+              ∙ sym (gated-append wire.spelling (with_open_gates held) (with_open_gates (take c.count added)) (c.gate ∷ c.behind))
               ∙ ap (λ (l : List (ℕ × V)). gated wire.spelling l ++ c.gate ∷ c.behind) (sym (map-append (λ v. (165, v)) held (take c.count added)));
         },
       )
@@ -137,18 +125,18 @@ module _ {V : Type 0} (wire : Ghosts V) (held added : List V) where
         let staged = o.under.stages.staged in
         let n : i < length staged = omega (arith, length-staged (area offset len c) o.under.stages, p.0) in
         let e : i + 1 ≡ suc i = omega arith in
-        let so_far : take i staged ≡ opened (take i (map (λ r. r.1) staged)) = o.open_to ∙ ap (λ (l : List V). opened (take i l)) (sym o.under.stages.are_added) in
-        let more : take (suc i) (put_gate i 165 staged) ≡ opened (take (suc i) added) = opened_one_more wire.spelling staged i n so_far ∙ ap (λ (l : List V). opened (take (suc i) l)) o.under.stages.are_added in
+        let so_far : take i staged ≡ with_open_gates (take i (map (λ r. r.1) staged)) = o.open_to ∙ ap (λ (l : List V). with_open_gates (take i l)) (sym o.under.stages.are_added) in
+        let more : take (suc i) (put_gate i 165 staged) ≡ with_open_gates (take (suc i) added) = opened_one_more wire.spelling staged i n so_far ∙ ap (λ (l : List V). with_open_gates (take (suc i) l)) o.under.stages.are_added in
         let done : Open (suc i) (set c (offset + gate_at i) 165) = record { under = under_set c i 165 o.under p.0 within; open_to = more } in
         let is_set : d ≡ set c (offset + gate_at i) 165 = eq ∙ ap (λ (k : ℕ). overwritten c (offset + k) (165 ∷ [])) p.1 ∙ overwritten_one (offset + gate_at i) 165 c (omega (arith, lies, within)) in
         subst (λ (k : ℕ). Open k d) (sym e) (subst (λ (l : List ℕ). Open (suc i) l) (sym is_set) done)
 
     -- every gate is open
-    pub opened_all : (c : List ℕ) → Open (length added) c → Holds wire (held ++ added) (area offset len c)
+    pub opened_all : (c : List ℕ) → Open (length added) c → HoldsRecords wire (held ++ added) (area offset len c)
     opened_all c o =
         let staged = o.under.stages.staged in
         let long : length staged ≡ length added = length-staged (area offset len c) o.under.stages in
-        let all : staged ≡ opened added = sym (take_all (length added) staged (omega (arith, long))) ∙ o.open_to ∙ ap (λ (l : List V). opened l) (take_all (length added) added (omega arith)) in
+        let all : staged ≡ with_open_gates added = sym (take_all (length added) staged (omega (arith, long))) ∙ o.open_to ∙ ap (λ (l : List V). with_open_gates l) (take_all (length added) added (omega arith)) in
         stages_open (area offset len c) o.under.stages all
 
 -- a staged journal
@@ -162,5 +150,5 @@ module _ {D V : Type 0} (disk : disks.Ghosts D) (wire : Ghosts V) (region : Regi
   pub staged_crash : (s : IsStaged wire region held added) (c : List ℕ) → disk.may_leave region.disk c → InRegion c
   staged_crash s c left = subst InRegion (sym (s.durable c left)) (staged_under s)
 
-  pub beginning : (c : List ℕ) → InRegion c → HoldsBeginning wire region held added c
+  pub beginning : (c : List ℕ) → InRegion c → HoldsPrefix wire region held added c
   beginning c u = let k = stages_cut wire held added (area region.offset region.len c) u.stages in record { outside = u.outside; count = k.0; within = k.1; holds = k.2 }

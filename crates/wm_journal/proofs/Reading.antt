@@ -1,24 +1,25 @@
 -- What is read is what stands there, and nothing else does.
-use Rattle.std.proofs.Common.{◌≡◌, ◌≢◌, ℕ, ◌+◌, ◌<◌, ◌≤◌, List, [], ◌∷◌, ◌++◌, length, get_or, drop, refl, sym, ◌∙◌, ap, subst, arith, append_assoc}
+use Rattle.std.proofs.Common.{◌≡◌, ◌≢◌, ℕ, ◌+◌, ◌<◌, ◌≤◌, List, [], ◌∷◌, ◌++◌, length, get_or, drop, sym, ◌∙◌, ap, arith, append_assoc}
 use Rattle.std.specs.List.{AllByRecursion}
-use Rattle.std.proofs.lemmas.List.{append-nil, map-append, drop_more, drop_all, drop-drop, append_cancel_left}
-use Rattle.wm_wire.specs.Spelling.{Begins}
+use Rattle.std.proofs.lemmas.List.{append-nil, map-append, drop_more, drop_all, drop-drop}
+use Rattle.wm_wire.specs.Spelling.{BeginsWith}
 use Rattle.wm_wire.specs.declared.wire.Wire.{Ghosts}
-use Rattle.wm_journal.specs.Records.{gated, opened, Holds}
-use Rattle.wm_journal.proofs.Laying.{gated-append}
+use Rattle.wm_journal.specs.Records.{gated, with_open_gates, HoldsRecords}
+use Rattle.wm_journal.specs.laws.Records.{gated-append}
+use Rattle.wm_journal.specs.laws.OneList.{remains}
 
 module _ {V : Type 0} (wire : Ghosts V) where
   abbrev text : List V → List ℕ
-  text vs = gated wire.spelling (opened vs)
+  text vs = gated wire.spelling (with_open_gates vs)
 
   text_push : (vs : List V) (v : V) (rest : List ℕ) → text (vs ++ v ∷ []) ++ rest ≡ text vs ++ (165 ∷ wire.spelling v ++ rest)
   text_push vs v rest =
       ap (λ (l : List (ℕ × V)). gated wire.spelling l ++ rest) (map-append (λ w. (165, w)) vs (v ∷ []))
-      ∙ gated-append wire.spelling (opened vs) ((165, v) ∷ []) rest
+      ∙ gated-append wire.spelling (with_open_gates vs) ((165, v) ∷ []) rest
       ∙ ap (λ (l : List ℕ). text vs ++ (165 ∷ l ++ rest)) (append-nil (wire.spelling v))
 
   -- a closed gate ends the journal
-  pub read_end : (bytes : List ℕ) (at : ℕ) (vs : List V) → at < length bytes → get_or bytes at 0 ≢ 165 → AllByRecursion wire.fits vs → bytes ≡ text vs ++ drop at bytes → Holds wire vs bytes
+  pub read_end : (bytes : List ℕ) (at : ℕ) (vs : List V) → at < length bytes → get_or bytes at 0 ≢ 165 → AllByRecursion wire.fits vs → bytes ≡ text vs ++ drop at bytes → HoldsRecords wire vs bytes
   read_end bytes at vs lt shut fit parts = record {
     fit = fit;
     gate = get_or bytes at 0;
@@ -32,7 +33,7 @@ module _ {V : Type 0} (wire : Ghosts V) where
   open_gate bytes at vs lt is_open parts = parts ∙ ap (λ (l : List ℕ). text vs ++ l) (drop_more bytes at 0 lt ∙ ap (λ (x : ℕ). x ∷ drop (at + 1) bytes) is_open)
 
   -- one record more is read
-  pub read_next : (bytes : List ℕ) (at n : ℕ) (v : V) (vs : List V) → at < length bytes → get_or bytes at 0 ≡ 165 → Begins wire.fits wire.spelling (drop (at + 1) bytes) v n → bytes ≡ text vs ++ drop at bytes
+  pub read_next : (bytes : List ℕ) (at n : ℕ) (v : V) (vs : List V) → at < length bytes → get_or bytes at 0 ≡ 165 → BeginsWith wire.fits wire.spelling (drop (at + 1) bytes) v n → bytes ≡ text vs ++ drop at bytes
       → bytes ≡ text (vs ++ v ∷ []) ++ drop (at + (1 + n)) bytes
   read_next bytes at n v vs lt is_open begins parts =
       let further : drop n (drop (at + 1) bytes) ≡ drop (at + (1 + n)) bytes = drop-drop n (at + 1) bytes ∙ ap (λ (k : ℕ). drop k bytes) (omega arith) in
@@ -41,40 +42,14 @@ module _ {V : Type 0} (wire : Ghosts V) where
       ∙ sym (text_push vs v (drop (at + (1 + n)) bytes))
 
   module _ (alone : (x y : V) (a b : List ℕ) → wire.fits x → wire.fits y → wire.spelling x ++ a ≡ wire.spelling y ++ b → x ≡ y) where
-    -- records in front of a journal are the first of its records
-    pub remains : (vs ws : List V) (rest bytes : List ℕ) → AllByRecursion wire.fits ws → Holds wire vs bytes → bytes ≡ text ws ++ rest → (us : List V) × Holds wire us rest × (vs ≡ ws ++ us)
-    remains vs [] rest bytes fit h e = (vs, subst (λ (l : List ℕ). Holds wire vs l) e h, refl)
-    remains [] (w ∷ ws) rest bytes fit h e =
-        let k : h.gate ∷ h.behind ≡ 165 ∷ (wire.spelling w ++ text ws) ++ rest = sym h.parts ∙ e in
-        absurd (h.closed cc)
-    remains (v ∷ vs) (w ∷ ws) rest bytes fit h e =
-        let tail = text vs ++ h.gate ∷ h.behind in
-        let k : 165 ∷ wire.spelling v ++ tail ≡ 165 ∷ wire.spelling w ++ (text ws ++ rest) =
-        ap (λ (l : List ℕ). 165 ∷ l) (sym (append_assoc (wire.spelling v) (text vs) (h.gate ∷ h.behind))) ∙ sym h.parts ∙ e ∙ ap (λ (l : List ℕ). 165 ∷ l) (append_assoc (wire.spelling w) (text ws) rest) in
-        let t : wire.spelling v ++ tail ≡ wire.spelling w ++ (text ws ++ rest) = cc in
-        let same : v ≡ w = alone v w tail (text ws ++ rest) h.fit.0 fit.0 t in
-        let u : wire.spelling w ++ tail ≡ wire.spelling w ++ (text ws ++ rest) = ap (λ (x : V). wire.spelling x ++ tail) (sym same) ∙ t in
-        let further = remains vs ws rest tail fit.1 (record { fit = h.fit.1; gate = h.gate; behind = h.behind; closed = h.closed; parts = refl }) (append_cancel_left (wire.spelling w) tail (text ws ++ rest) u) in
-        (further.0, further.1, ap (λ (x : V). x ∷ vs) same ∙ ap (λ (l : List V). w ∷ l) further.2)
-
-    -- no two lists of records stand in one journal
-    pub one_list : (vs ws : List V) (bytes : List ℕ) → Holds wire vs bytes → Holds wire ws bytes → vs ≡ ws
-    one_list vs ws bytes h k =
-        let r = remains vs ws (k.gate ∷ k.behind) bytes k.fit h k.parts in
-        r.2 ∙ ap (λ (l : List V). ws ++ l) (none_closed r.0 r.1) ∙ append-nil ws
-      where
-        none_closed : (us : List V) → Holds wire us (k.gate ∷ k.behind) → us ≡ []
-        none_closed [] left = refl
-        none_closed (u ∷ us) left = let e : k.gate ∷ k.behind ≡ 165 ∷ (wire.spelling u ++ text us) ++ left.gate ∷ left.behind = left.parts in absurd (k.closed cc)
-
     -- behind the open gate no record stands
-    pub read_none : (bytes : List ℕ) (at : ℕ) (vs ws : List V) → at < length bytes → get_or bytes at 0 ≡ 165 → AllByRecursion wire.fits ws → bytes ≡ text ws ++ drop at bytes → Holds wire vs bytes
+    pub read_none : (bytes : List ℕ) (at : ℕ) (vs ws : List V) → at < length bytes → get_or bytes at 0 ≡ 165 → AllByRecursion wire.fits ws → bytes ≡ text ws ++ drop at bytes → HoldsRecords wire vs bytes
         → ((v : V) (rest : List ℕ) → wire.fits v → drop (at + 1) bytes ≡ wire.spelling v ++ rest → ⊥) → ⊥
     read_none bytes at vs ws lt is_open fit parts h none =
-        let r = remains vs ws (165 ∷ drop (at + 1) bytes) bytes fit h (open_gate bytes at ws lt is_open parts) in
+        let r = remains wire alone vs ws (165 ∷ drop (at + 1) bytes) bytes fit h (open_gate bytes at ws lt is_open parts) in
         no_record r.0 r.1
       where
-        no_record : (us : List V) → Holds wire us (165 ∷ drop (at + 1) bytes) → ⊥
+        no_record : (us : List V) → HoldsRecords wire us (165 ∷ drop (at + 1) bytes) → ⊥
         no_record [] left = let e : 165 ∷ drop (at + 1) bytes ≡ left.gate ∷ left.behind = left.parts in left.closed cc
         no_record (u ∷ us) left =
             let e : 165 ∷ drop (at + 1) bytes ≡ 165 ∷ (wire.spelling u ++ text us) ++ left.gate ∷ left.behind = left.parts in
@@ -82,11 +57,11 @@ module _ {V : Type 0} (wire : Ghosts V) where
             none u (text us ++ left.gate ∷ left.behind) left.fit.0 (t ∙ append_assoc (wire.spelling u) (text us) (left.gate ∷ left.behind))
 
     -- no gate is closed
-    pub read_past : (bytes : List ℕ) (at : ℕ) (vs ws : List V) → length bytes ≤ at → AllByRecursion wire.fits ws → bytes ≡ text ws ++ drop at bytes → Holds wire vs bytes → ⊥
+    pub read_past : (bytes : List ℕ) (at : ℕ) (vs ws : List V) → length bytes ≤ at → AllByRecursion wire.fits ws → bytes ≡ text ws ++ drop at bytes → HoldsRecords wire vs bytes → ⊥
     read_past bytes at vs ws le fit parts h =
-        let r = remains vs ws [] bytes fit h (parts ∙ ap (λ (l : List ℕ). text ws ++ l) (drop_all at bytes le)) in
+        let r = remains wire alone vs ws [] bytes fit h (parts ∙ ap (λ (l : List ℕ). text ws ++ l) (drop_all at bytes le)) in
         nothing r.0 r.1
       where
-        nothing : (us : List V) → Holds wire us [] → ⊥
+        nothing : (us : List V) → HoldsRecords wire us [] → ⊥
         nothing [] left = let e : [] ≡ left.gate ∷ left.behind = left.parts in cc
         nothing (u ∷ us) left = let e : [] ≡ 165 ∷ (wire.spelling u ++ text us) ++ left.gate ∷ left.behind = left.parts in cc

@@ -2,3 +2,4 @@ pub mod Areas
 pub mod Gates
 pub mod Records
 pub mod Regions
+pub mod laws

@@ -1,9 +1,9 @@
 -- A journal in an area of a disk: what it keeps between calls, and what a crash leaves inside one.
-use Rattle.std.specs.Prelude.{◌≡◌, ℕ, ◌+◌, ◌-◌, ◌≤◌, List, [], ◌++◌, length, take}
+use Rattle.std.specs.Prelude.{◌≡◌, ℕ, ◌+◌, ◌-◌, ◌≤◌, List, [], ◌++◌, length, take, Result, OnOk, OnErr}
 use Rattle.wm_disk.specs.Contents.{Only}
 use Rattle.wm_disk.specs.declared.disk.Disk as disks
 use Rattle.wm_wire.specs.declared.wire.Wire as wires
-use Rattle.wm_journal.specs.Records.{Holds, Stages, taken, gate_places}
+use Rattle.wm_journal.specs.Records.{HoldsRecords, Stages, taken, gate_places}
 use Rattle.wm_journal.specs.Areas as areas
 use Rattle.wm_journal.specs.declared.region.Region.{Region}
 
@@ -46,10 +46,21 @@ module _ {D : Type 0} {disk : disks.Ghosts D} where
   abbrev pub SameOutside : Region D disk → List ℕ → Type 0
   SameOutside region content = areas.SameOutside region.offset region.len (disk.seen region.disk) content
 
+  -- A call of a journal, which stays where it lies.
+  pub record StaysInPlace {T E : Type 0} (old new : Region D disk) (result : Result T E) : Type 0 where
+    pub place : InSamePlace old new
+    -- where the call is refused nothing but the disk differs
+    pub refused : OnErr result (IsOtherwise old new)
+
+  -- A call of a journal that writes nothing outside it.
+  pub record WritesInside {T E : Type 0} (old new : Region D disk) (result : Result T E) : Type 0 where
+    pub place : InSamePlace old new
+    pub outside : disk.honest new.disk → OnOk result (SameOutside old (disk.seen new.disk))
+
   module _ {V : Type 0} (wire : wires.Ghosts V) where
     -- the journal as it reads has these records, and its end is known
     pub record IsRead (region : Region D disk) (records : List V) : Type 0 where
-      pub holds : Holds wire records (area region (disk.seen region.disk))
+      pub holds : HoldsRecords wire records (area region (disk.seen region.disk))
       pub end : region.end ≡ taken wire.spelling records
       pub none_staged : region.gates.items ≡ []
 
@@ -70,11 +81,11 @@ module _ {D : Type 0} {disk : disks.Ghosts D} where
     -- a content with these records in the journal, and outside as the disk reads
     pub record StillHolds (region : Region D disk) (records : List V) (content : List ℕ) : Type 0 where
       pub outside : SameOutside region content
-      pub holds : Holds wire records (area region content)
+      pub holds : HoldsRecords wire records (area region content)
 
-    -- the same with a beginning of the group
-    pub record HoldsBeginning (region : Region D disk) (records added : List V) (content : List ℕ) : Type 0 where
+    -- the same with a prefix of the group
+    pub record HoldsPrefix (region : Region D disk) (records added : List V) (content : List ℕ) : Type 0 where
       pub outside : SameOutside region content
       pub count : ℕ
       pub within : count ≤ length added
-      pub holds : Holds wire (records ++ take count added) (area region content)
+      pub holds : HoldsRecords wire (records ++ take count added) (area region content)

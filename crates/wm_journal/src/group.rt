@@ -1,13 +1,13 @@
 //! Lays a group out.
+//! Definitions: specs/Records.antt. Tests: file_tests/src/journal/bytes.rt.
 ghost use Rattle.std.specs.Prelude.{◌≡◌, ◌≤◌, ◌<◌, ◌+◌, ◌^◌, ℕ, List, length, slice_index, EachIndex, IfOk, OnOk};
 ghost use Rattle.std.specs.List.{AllByRecursion};
 ghost use Rattle.wm_journal.specs.Records.{taken, gate_places, group as group_lem};
 
+use crate::gates::CLOSED;
 use std::alloc::Global;
 use wm_disk::NoMemory;
 use wm_wire::Wire;
-
-const CLOSED: u8 = 0;
 
 /// A group as it is written behind its first gate, and the places of its gates from that gate on.
 #[derive(Drop)]

@@ -1,8 +1,9 @@
 //! A journal in an area of a disk.
-ghost use Rattle.std.specs.Prelude.{◌≡◌, ◌≢◌, ◌≤◌, ◌<◌, ◌+◌, ◌-◌, ◌^◌, ◌⊎◌, ◌++◌, ℕ, List, length, IfOk, IfErr, OnOk, OnErr, IsErrOf, EachIndex, slice_index};
-ghost use Rattle.wm_disk.specs.Contents.{NoMore, Rose, Counts};
-ghost use Rattle.wm_disk.specs.Moments.{Elapses, LeavesOnly};
-ghost use Rattle.wm_journal.specs.Records.{Holds, taken};
+//! Definitions: specs/Regions.antt, specs/Records.antt. Tests: file_tests/src/journal.
+ghost use Rattle.std.specs.Prelude.{◌≡◌, ◌≤◌, ◌<◌, ◌+◌, ◌-◌, ◌^◌, ◌⊎◌, ◌++◌, ℕ, List, length, IfOk, IfErr, OnOk, OnErr, IsErrOf, EachIndex, slice_index};
+ghost use Rattle.wm_disk.specs.Calls.{Calls, CallsDevice, OnlyReads};
+ghost use Rattle.wm_disk.specs.Moments.{LeavesOnly};
+ghost use Rattle.wm_journal.specs.Records.{HoldsRecords, taken};
 
 use crate::gates::open_each;
 use crate::group::laid_out;
@@ -28,7 +29,7 @@ pub struct Region<D: Disk> {
 
 impl<D: Disk> Region<D> {
     ghost use Rattle.wm_disk.specs.declared.refusal.Refusal.TheVariants.{DeviceFailed as device_failed, NoMemory as no_memory, Damaged as damaged};
-    ghost use Rattle.wm_journal.specs.Regions.{len_of, IsAt, EndsAt, InSamePlace, IsOtherwise, LiesOn, room_of, area, SameOutside, IsRead, IsAtRest, IsStaged, StillHolds, HoldsBeginning};
+    ghost use Rattle.wm_journal.specs.Regions.{len_of, IsAt, EndsAt, LiesOn, room_of, area, IsOtherwise, StaysInPlace, WritesInside, IsRead, IsAtRest, IsStaged, StillHolds, HoldsPrefix};
 
     /// The area of `len` bytes from `offset` on. It isn't read yet: begin with [`Region::scan`].
     pub fn new(alloc: Global, disk: D, offset: u64, len: u64) -> Self
@@ -69,23 +70,16 @@ impl<D: Disk> Region<D> {
 
     /// The records before the first closed gate. Nothing is written: one reading of the whole area.
     /// `14 Damaged` where no records stand before a closed gate, `13 DeviceFailed` where the reading
-    /// failed, `16 NoMemory` for want of memory; the region is then as before the call.
+    /// failed, `16 NoMemory` when out of memory; the region is then as before the call.
     pub fn scan<W: Wire + Drop>(&mut self, alloc: Global) -> Result<Vec<W>, Refusal>
         requires lies { LiesOn self.old }
         ensures found { D.honest self.new.disk → IfOk result (λ records. IsRead W.Wire self.new records.items) }
-        ensures only { D.honest self.new.disk → IfOk result (λ records. (held : List W) → Holds W.Wire held (area self.old (D.seen self.old.disk)) → held ≡ records.items) }
-        ensures damaged { D.honest self.new.disk → IsErrOf result damaged → (records : List W) → Holds W.Wire records (area self.old (D.seen self.old.disk)) → ⊥ }
-        ensures seen { D.honest self.new.disk → D.seen self.new.disk ≡ D.seen self.old.disk }
-        ensures crash { D.honest self.new.disk → NoMore (D.may_leave self.old.disk) (D.may_leave self.new.disk) }
-        ensures time { D.honest self.new.disk → Elapses (D.moment self.old.disk) (D.moment self.new.disk) (D.left_since self.old.disk) (D.left_since self.new.disk) (D.may_leave self.new.disk) }
-        ensures honest { D.honest self.new.disk → D.honest self.old.disk }
-        ensures later { D.failures self.old.disk ≤ D.failures self.new.disk }
-        ensures whole { OnOk result (D.failures self.new.disk ≡ D.failures self.old.disk) }
-        ensures failed { IsErrOf result device_failed → Rose (D.failures self.old.disk) (D.failures self.new.disk) }
-        ensures stood { IfErr result (λ e. e ≢ device_failed → D.failures self.new.disk ≡ D.failures self.old.disk) }
+        ensures only { D.honest self.new.disk → IfOk result (λ records. (held : List W) → HoldsRecords W.Wire held (area self.old (D.seen self.old.disk)) → held ≡ records.items) }
+        ensures damaged { D.honest self.new.disk → IsErrOf result damaged → (records : List W) → HoldsRecords W.Wire records (area self.old (D.seen self.old.disk)) → ⊥ }
+        ensures reads { D.honest self.new.disk → OnlyReads D.Disk self.old.disk self.new.disk }
+        ensures device { Calls D.Disk self.old.disk self.new.disk result }
         ensures kinds { IfErr result (λ e. (e ≡ device_failed) ⊎ (e ≡ no_memory) ⊎ (e ≡ damaged)) }
-        ensures place { InSamePlace self.old self.new }
-        ensures refused { OnErr result (IsOtherwise self.old self.new) }
+        ensures place { StaysInPlace self.old self.new result }
     {
         let mut bytes = Vec::new(alloc);
         bytes.resize(self.len as usize, 0)?;
@@ -104,23 +98,17 @@ impl<D: Disk> Region<D> {
     /// durable: one write and one sync. It doesn't count before [`Region::open_gates`]; a group that was
     /// staged before and whose gates weren't opened is given up. `13 DeviceFailed` where the write or the
     /// sync failed: the records still stand, and the region is to be scanned again, after a sync;
-    /// `16 NoMemory` for want of memory, with no call of the disk and nothing changed.
+    /// `16 NoMemory` when out of memory, with no call of the disk and nothing changed.
     pub fn append_closed<W: Wire>(&mut self, alloc: Global, records: &[W]) -> Result<(), Refusal>
         requires lies { LiesOn self.old }
         requires fits { taken W.spelling records.now ≤ room_of self.old }
         ensures staged { (held : List W) → D.honest self.new.disk → IsAtRest W.Wire self.old held → OnOk result (IsStaged W.Wire self.new held records.now) }
-        ensures outside { D.honest self.new.disk → OnOk result (SameOutside self.old (D.seen self.new.disk)) }
         ensures room { OnOk result (room_of self.new + taken W.spelling records.now ≡ room_of self.old) }
         // A crash at any moment of the call leaves the records as they were.
         ensures any_moment { (held : List W) → D.honest self.new.disk → IsAtRest W.Wire self.old held → LeavesOnly D.moment D.left_since self.old.disk self.new.disk (StillHolds W.Wire self.old held) }
-        ensures memory { IsErrOf result no_memory → self.new ≡ self.old }
-        ensures honest { D.honest self.new.disk → D.honest self.old.disk }
-        ensures later { D.failures self.old.disk ≤ D.failures self.new.disk }
-        ensures whole { OnOk result (D.failures self.new.disk ≡ D.failures self.old.disk) }
-        ensures failed { IsErrOf result device_failed → Rose (D.failures self.old.disk) (D.failures self.new.disk) }
-        ensures kinds { IfErr result (λ e. (e ≡ device_failed) ⊎ (e ≡ no_memory)) }
-        ensures place { InSamePlace self.old self.new }
-        ensures refused { OnErr result (IsOtherwise self.old self.new) }
+        ensures device { Calls D.Disk self.old.disk self.new.disk result }
+        ensures refused { IfErr result (λ e. ((e ≡ device_failed) × IsOtherwise self.old self.new) ⊎ ((e ≡ no_memory) × (self.new ≡ self.old))) }
+        ensures place { WritesInside self.old self.new result }
     {
         let group = laid_out(alloc, self.end, records)?;
         let behind = self.end + 1;
@@ -132,18 +120,16 @@ impl<D: Disk> Region<D> {
     }
 
     /// Opens the gates of the group, first to last, a write each, and makes them durable by a sync. After
-    /// it the group counts. It takes no memory. On an error a beginning of the group counts, and the
+    /// it the group counts. It takes no memory. On an error a prefix of the group counts, and the
     /// region is to be scanned again, after a sync.
     pub fn open_gates<W: Wire>(&mut self) -> Result<(), DeviceFailed>
         requires lies { LiesOn self.old }
         ensures opened { (held added : List W) → D.honest self.new.disk → IsStaged W.Wire self.old held added → OnOk result (IsAtRest W.Wire self.new (held ++ added)) }
-        ensures outside { D.honest self.new.disk → OnOk result (SameOutside self.old (D.seen self.new.disk)) }
         ensures room { room_of self.new ≡ room_of self.old }
-        // A crash at any moment of the call leaves the records with a beginning of the group.
-        ensures any_moment { (held added : List W) → D.honest self.new.disk → IsStaged W.Wire self.old held added → LeavesOnly D.moment D.left_since self.old.disk self.new.disk (HoldsBeginning W.Wire self.old held added) }
-        ensures honest { D.honest self.new.disk → D.honest self.old.disk }
-        ensures count { Counts (D.failures self.old.disk) (D.failures self.new.disk) result }
-        ensures place { InSamePlace self.old self.new }
+        // A crash at any moment of the call leaves the records with a prefix of the group.
+        ensures any_moment { (held added : List W) → D.honest self.new.disk → IsStaged W.Wire self.old held added → LeavesOnly D.moment D.left_since self.old.disk self.new.disk (HoldsPrefix W.Wire self.old held added) }
+        ensures device { CallsDevice D.Disk self.old.disk self.new.disk result }
+        ensures place { WritesInside self.old self.new result }
         ensures refused { OnErr result (IsOtherwise self.old self.new) }
     {
         open_each::<D, W>(&mut self.disk, self.offset, self.len, &self.gates)?;

@@ -1,11 +1,23 @@
 -- What is known of the file at a path, and parts of a root.
-use Rattle.std.specs.Prelude.{Bool, true, false, ◌&&◌, ◌==◌, Option, Some, None}
+use Rattle.std.specs.Prelude.{ℕ, Bool, true, false, ◌&&◌, ◌==◌, List, [], ◌∷◌, codes, Option, Some, None}
+use Rattle.std.specs.List.{find}
+use Rattle.std.specs.Str.{bytes_eq}
 use Rattle.wm_names.specs.declared.entry.Kind.{Kind}
 use Rattle.wm_names.specs.declared.entry.Kind.TheVariants.{File, Folder, Link, Other}
 use Rattle.wm_names.specs.declared.entry.Meta.{Meta}
 use Rattle.wm_names.specs.declared.subtree.Subtree.{Subtree}
 use Rattle.wm_names.specs.declared.subtree.Subtree.TheVariants.{Whole, Below}
 use Rattle.wm_names.specs.Paths.{Path, is_under}
+
+abbrev pub letter_of : Kind → List ℕ
+letter_of File = codes "f"
+letter_of Folder = codes "d"
+letter_of Link = codes "l"
+letter_of Other = codes "o"
+
+-- the kind with that letter
+abbrev pub kind_of : List ℕ → Option Kind
+kind_of letter = find (λ kind. bytes_eq letter (letter_of kind)) (File ∷ Folder ∷ Link ∷ Other ∷ [])
 
 abbrev pub same_kind : Kind → Kind → Bool
 same_kind File File = true

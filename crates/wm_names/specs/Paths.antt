@@ -21,14 +21,22 @@ is_component part = not (is_dots part) && list_all (λ b. not (b == 0)) part
 abbrev pub components : List ℕ → List (List ℕ)
 components text = slice_split (λ b. b == 47) text
 
--- at most 1,024 bytes: a slash, and components with slashes between them
+-- the most bytes of a root's path
+abbrev pub max_root_path : ℕ
+max_root_path = 1024
+
+-- the most bytes of a path below a root
+abbrev pub max_rel_path : ℕ
+max_rel_path = 1024
+
+-- not too long: a slash, and components with slashes between them
 abbrev pub is_root_path : List ℕ → Bool
 is_root_path [] = false
-is_root_path (x ∷ rest) = (x == 47) && (nat_le (length (x ∷ rest)) 1024 && list_all is_component (components rest))
+is_root_path (x ∷ rest) = (x == 47) && (nat_le (length (x ∷ rest)) max_root_path && list_all is_component (components rest))
 
--- at most 1,024 bytes: components with slashes between them
+-- not too long: components with slashes between them
 abbrev pub is_rel_path : List ℕ → Bool
-is_rel_path text = nat_le (length text) 1024 && list_all is_component (components text)
+is_rel_path text = nat_le (length text) max_rel_path && list_all is_component (components text)
 
 -- paths stand in the order of their bytes
 abbrev pub path_cmp : Path → Path → Ordering

@@ -1,7 +1,7 @@
 //! What is known of a file besides its path, and when two such are the same.
 //! Definitions: specs/Entries.antt. Tests: leaf_tests/src/names/entries.rt.
 ghost use Rattle.std.specs.Prelude.{◌≡◌};
-ghost use Rattle.wm_names.specs.Entries.{same_kind as same_kind_lem, same_meta as same_meta_lem};
+ghost use Rattle.wm_names.specs.Entries.{kind_of, letter_of, same_kind, same_meta as same_meta_lem};
 
 use crate::rel_path::RelPath;
 
@@ -38,15 +38,43 @@ pub struct Entry {
     pub meta: Meta,
 }
 
-fn same_kind(a: Kind, b: Kind) -> bool
-    ensures { result ≡ same_kind_lem a b }
-{
-    match (a, b) {
-        (Kind::File, Kind::File) => true,
-        (Kind::Folder, Kind::Folder) => true,
-        (Kind::Link, Kind::Link) => true,
-        (Kind::Other, Kind::Other) => true,
-        _ => false,
+impl Kind {
+    /// Its letter: `f` for a file, `d` for a folder, `l` for a link, `o` for anything else.
+    pub fn letter(self) -> &'static str
+        ensures { result.now ≡ letter_of self }
+    {
+        match self {
+            Kind::File => "f",
+            Kind::Folder => "d",
+            Kind::Link => "l",
+            Kind::Other => "o",
+        }
+    }
+
+    /// The kind with this letter.
+    pub fn from_letter(letter: &str) -> Option<Kind>
+        ensures { result ≡ kind_of letter.now }
+    {
+        match letter {
+            "f" => Some(Kind::File),
+            "d" => Some(Kind::Folder),
+            "l" => Some(Kind::Link),
+            "o" => Some(Kind::Other),
+            _ => None,
+        }
+    }
+
+    /// Whether the two are one kind.
+    pub fn same(self, other: Kind) -> bool
+        ensures { result ≡ same_kind self other }
+    {
+        match (self, other) {
+            (Kind::File, Kind::File) => true,
+            (Kind::Folder, Kind::Folder) => true,
+            (Kind::Link, Kind::Link) => true,
+            (Kind::Other, Kind::Other) => true,
+            _ => false,
+        }
     }
 }
 
@@ -55,8 +83,6 @@ impl Meta {
     pub fn same(&self, other: &Meta) -> bool
         ensures { result ≡ same_meta_lem self.now other.now }
     {
-        same_kind(self.kind, other.kind)
-            && self.size == other.size
-            && self.mtime_ms == other.mtime_ms
+        self.kind.same(other.kind) && self.size == other.size && self.mtime_ms == other.mtime_ms
     }
 }

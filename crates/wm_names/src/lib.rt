@@ -14,6 +14,6 @@ mod root_path;
 mod subtree;
 
 pub use entry::{Entry, Kind, Meta};
-pub use rel_path::RelPath;
-pub use root_path::RootPath;
+pub use rel_path::{MAX_REL_PATH, RelPath};
+pub use root_path::{MAX_ROOT_PATH, RootPath};
 pub use subtree::Subtree;

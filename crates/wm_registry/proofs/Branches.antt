@@ -5,7 +5,9 @@ use Rattle.std.proofs.lemmas.List.Folds.{length-flat_map-take}
 use Rattle.std.proofs.lemmas.List.Quantifiers.{position-Some}
 use Rattle.std.specs.List.{list_any}
 use Rattle.wm_disk.specs.declared.refusal.Refusal.TheVariants.{Full, TooMany}
-use Rattle.wm_registry.specs.Registry.{last, unless_full, watched, reply_to, reply_to_trigger}
+use Rattle.wm_disk.specs.Counters.{max_counter}
+use Rattle.wm_registry.specs.Limits.{max_roots, max_triggers}
+use Rattle.wm_registry.specs.Registry.{unless_full, watched, reply_to, reply_to_trigger}
 use Rattle.wm_registry.specs.Roots.{State, root_at, is_watched, with_triggers}
 use Rattle.wm_registry.specs.Spelling.{state_spelling, trigger_spelling}
 use Rattle.wm_registry.specs.Triggers.{Definition, defined, has_trigger, is_named, same_definition}
@@ -14,6 +16,7 @@ use Rattle.wm_registry.specs.declared.reply.Reply.{Reply}
 use Rattle.wm_registry.specs.declared.reply.Reply.TheVariants.{Changed, Replaced, Refused}
 use Rattle.wm_registry.specs.declared.root.Root.{Root}
 use Rattle.wm_registry.proofs.Sizes.{length-defined-new, length-defined-old, length-with_triggers, triggers-le-state, none_passes}
+use Rattle.wm_checkpoint.specs.Layout.{max_state_bytes}
 
 -- what a list says of its items, an equal one says too
 pub same_any : {X : Type 0} (p : X → Bool) (xs ys : List X) (b : Bool) → xs ≡ ys → b ≡ list_any p xs → list_any p ys ≡ b
@@ -25,13 +28,13 @@ same_place name other ts us place named same is =
     sym (is ∙ path)
 
 -- a test of the new spelling's size
-pub by_size : (new : State) (reply result : Reply) (size : ℕ) → length (state_spelling new) ≡ size → result ≡ (if nat_lt 1048563 size then Refused Full else reply) → result ≡ unless_full new reply
-by_size new reply result size e h = h ∙ ap (λ n. if nat_lt 1048563 n then Refused Full else reply) (sym e)
+pub by_size : (new : State) (reply result : Reply) (size : ℕ) → length (state_spelling new) ≡ size → result ≡ (if nat_lt max_state_bytes size then Refused Full else reply) → result ≡ unless_full new reply
+by_size new reply result size e h = h ∙ ap (λ n. if nat_lt max_state_bytes n then Refused Full else reply) (sym e)
 
-pub watch_new : (s : State) (path : List ℕ) (result : Reply) → is_watched path s ≡ false → length s.roots < 256 → s.next < last → result ≡ unless_full (watched s path) Changed → result ≡ reply_to s (Watch path)
+pub watch_new : (s : State) (path : List ℕ) (result : Reply) → is_watched path s ≡ false → length s.roots < max_roots → s.next < max_counter → result ≡ unless_full (watched s path) Changed → result ≡ reply_to s (Watch path)
 watch_new s path result new few left is =
-    let room = lt-ltb (length s.roots) 256 few in
-    let number = lt-ltb s.next last left in
+    let room = lt-ltb (length s.roots) max_roots few in
+    let number = lt-ltb s.next max_counter left in
     rw (new, room, number) is
 
 module _ (s : State) (path : List ℕ) (t : Definition) (root : Root) where
@@ -39,12 +42,12 @@ module _ (s : State) (path : List ℕ) (t : Definition) (root : Root) where
       → result ≡ unless_full (with_triggers s path root (defined t root.triggers)) Replaced → result ≡ reply_to_trigger s path t root
   trigger_replaced result other named is = rw (other, named) is
 
-  pub trigger_added : (result : Reply) → list_any (same_definition t) root.triggers ≡ false → has_trigger t.name root.triggers ≡ false → length root.triggers < 64
+  pub trigger_added : (result : Reply) → list_any (same_definition t) root.triggers ≡ false → has_trigger t.name root.triggers ≡ false → length root.triggers < max_triggers
       → result ≡ unless_full (with_triggers s path root (defined t root.triggers)) Changed → result ≡ reply_to_trigger s path t root
-  trigger_added result other new few is = let room = lt-ltb (length root.triggers) 64 few in rw (other, new, room) is
+  trigger_added result other new few is = let room = lt-ltb (length root.triggers) max_triggers few in rw (other, new, room) is
 
-  pub trigger_refused : list_any (same_definition t) root.triggers ≡ false → has_trigger t.name root.triggers ≡ false → 64 ≤ length root.triggers → Refused TooMany ≡ reply_to_trigger s path t root
-  trigger_refused other new many = let full = le-ltb (length root.triggers) 64 many in rw (other, new, full) refl
+  pub trigger_refused : list_any (same_definition t) root.triggers ≡ false → has_trigger t.name root.triggers ≡ false → max_triggers ≤ length root.triggers → Refused TooMany ≡ reply_to_trigger s path t root
+  trigger_refused other new many = let full = le-ltb (length root.triggers) max_triggers many in rw (other, new, full) refl
 
   -- how many bytes the state has with the trigger in the place of one
   pub size_replaced : (i : ℕ) (d : Definition) → root_at path s ≡ Some root → position (is_named t.name) root.triggers ≡ Some i

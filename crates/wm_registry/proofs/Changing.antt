@@ -10,44 +10,47 @@ use Rattle.std.specs.Option.{option_map_or}
 use Rattle.std.specs.Map.{keys_of, set_value, remove_entry}
 use Rattle.std.specs.Str.{bytes_eq}
 use Rattle.wm_disk.specs.declared.refusal.Refusal.TheVariants.{NotWatched, Full, Exhausted, TooMany}
+use Rattle.wm_disk.specs.Counters.{max_counter}
 use Rattle.wm_wire.specs.Spelling.{text, IsList, list_spelling}
+use Rattle.wm_registry.specs.Limits.{max_roots, max_triggers}
 use Rattle.wm_registry.specs.PathSpelling.{IsPath}
 use Rattle.wm_registry.specs.declared.command.Command.TheVariants.{Watch, Trigger}
 use Rattle.wm_registry.specs.declared.reply.Reply.{Reply}
 use Rattle.wm_registry.specs.declared.reply.Reply.TheVariants.{Changed, Replaced, Unchanged, Refused}
 use Rattle.wm_registry.specs.declared.root.Root.{Root}
-use Rattle.wm_registry.specs.Registry.{is_change, last, reply_to, reply_to_trigger, unless_full, watched}
+use Rattle.wm_registry.specs.Registry.{is_change, reply_to, reply_to_trigger, unless_full, watched}
 use Rattle.wm_registry.specs.Roots.{State, root_at, is_watched, with_triggers, without_root}
 use Rattle.wm_registry.specs.Spelling.{IsTrigger, IsRoot, IsState, names_of, numbers_of, trigger_spelling, root_spelling, state_spelling}
 use Rattle.wm_registry.specs.Triggers.{Definition, has_trigger, same_definition, defined, without}
 use Rattle.wm_registry.proofs.Entries.{AllByRecursion-each, AllByRecursion-map, AllByRecursion-push, AllByRecursion-remove_entry, AllByRecursion-set_value, Found, IsDistinct-push, IsDistinct-remove_entry, found, length-remove_entry, map-set_value}
 use Rattle.wm_registry.proofs.Lengths.{length-watched, length-with_triggers, length-without_root, length-triggers}
 use Rattle.wm_registry.proofs.Names.{apart-defined, apart-without, bytes_eq-flip, length-defined, length-defined-there, length-without}
+use Rattle.wm_checkpoint.specs.Layout.{max_state_bytes}
 
 -- ---- what an acceptance says
 
-full_not : (new : State) (reply : Reply) → is_change (unless_full new reply) ≡ true → length (state_spelling new) ≤ 1048563
-full_not new reply h = by (nat_lt 1048563 (length (state_spelling new))) refl h
+full_not : (new : State) (reply : Reply) → is_change (unless_full new reply) ≡ true → length (state_spelling new) ≤ max_state_bytes
+full_not new reply h = by (nat_lt max_state_bytes (length (state_spelling new))) refl h
   where
-    by : (b : Bool) → nat_lt 1048563 (length (state_spelling new)) ≡ b → is_change (cond b (Refused Full) reply) ≡ true → length (state_spelling new) ≤ 1048563
+    by : (b : Bool) → nat_lt max_state_bytes (length (state_spelling new)) ≡ b → is_change (cond b (Refused Full) reply) ≡ true → length (state_spelling new) ≤ max_state_bytes
     by true t q = absurd (true≢false (sym q))
     by false t q = ltb-false _ _ t
 
 -- what is known of a path that may be watched
 pub record MayWatch (s : State) (path : List ℕ) : Type 0 where
   pub none : root_at path s ≡ None
-  pub room : length s.roots < 256
-  pub number : s.next < last
-  pub short : length (state_spelling (watched s path)) ≤ 1048563
+  pub room : length s.roots < max_roots
+  pub number : s.next < max_counter
+  pub short : length (state_spelling (watched s path)) ≤ max_state_bytes
 
 is_none : {V : Type 0} (o : Option V) → is_some o ≡ false → o ≡ None
 is_none None h = refl
 is_none (Some x) h = absurd (true≢false h)
 
 pub may_watch : (s : State) (path : List ℕ) → is_change (reply_to s (Watch path)) ≡ true → MayWatch s path
-may_watch s path h = by (is_watched path s) refl (nat_lt (length s.roots) 256) refl (nat_lt s.next last) refl h
+may_watch s path h = by (is_watched path s) refl (nat_lt (length s.roots) max_roots) refl (nat_lt s.next max_counter) refl h
   where
-    by : (a : Bool) → is_watched path s ≡ a → (b : Bool) → nat_lt (length s.roots) 256 ≡ b → (d : Bool) → nat_lt s.next last ≡ d
+    by : (a : Bool) → is_watched path s ≡ a → (b : Bool) → nat_lt (length s.roots) max_roots ≡ b → (d : Bool) → nat_lt s.next max_counter ≡ d
         → is_change (cond a Unchanged (cond b (cond d (unless_full (watched s path) Changed) (Refused Exhausted)) (Refused TooMany))) ≡ true → MayWatch s path
     by true ta b tb d td q = absurd (true≢false (sym q))
     by false ta false tb d td q = absurd (true≢false (sym q))
@@ -61,16 +64,16 @@ may_watch s path h = by (is_watched path s) refl (nat_lt (length s.roots) 256) r
 
 -- and of a trigger that may be defined for a root
 pub record MayDefine (s : State) (path : List ℕ) (trigger : Definition) (root : Root) : Type 0 where
-  pub count : length root.triggers ≤ 64 → length (defined trigger root.triggers) ≤ 64
-  pub short : length (state_spelling (with_triggers s path root (defined trigger root.triggers))) ≤ 1048563
+  pub count : length root.triggers ≤ max_triggers → length (defined trigger root.triggers) ≤ max_triggers
+  pub short : length (state_spelling (with_triggers s path root (defined trigger root.triggers))) ≤ max_state_bytes
 
 may_define_for : (s : State) (path : List ℕ) (trigger : Definition) (root : Root) → is_change (reply_to_trigger s path trigger root) ≡ true → MayDefine s path trigger root
-may_define_for s path trigger root h = by (list_any (same_definition trigger) root.triggers) (has_trigger trigger.name root.triggers) refl (nat_lt (length root.triggers) 64) refl h
+may_define_for s path trigger root h = by (list_any (same_definition trigger) root.triggers) (has_trigger trigger.name root.triggers) refl (nat_lt (length root.triggers) max_triggers) refl h
   where
     new : State
     new = with_triggers s path root (defined trigger root.triggers)
 
-    by : (a b : Bool) → has_trigger trigger.name root.triggers ≡ b → (d : Bool) → nat_lt (length root.triggers) 64 ≡ d
+    by : (a b : Bool) → has_trigger trigger.name root.triggers ≡ b → (d : Bool) → nat_lt (length root.triggers) max_triggers ≡ d
         → is_change (cond a Unchanged (cond b (unless_full new Replaced) (cond d (unless_full new Changed) (Refused TooMany)))) ≡ true → MayDefine s path trigger root
     by true b tb d td q = absurd (true≢false (sym q))
     by false true tb d td q = record {
@@ -114,7 +117,7 @@ IsState-watched s path h p accepted =
     let may = may_watch s path accepted in
     let root : Root = record { number = s.next; triggers = [] } in
     let row = s.roots ++ (path, root) ∷ [] in
-    let count : length row ≤ 256 = omega (arith, may.room, length-append s.roots ((path, root) ∷ [])) in
+    let count : length row ≤ max_roots = omega (arith, may.room, length-append s.roots ((path, root) ∷ [])) in
     record {
       incarnation = h.incarnation;
       some = omega arith;
@@ -170,8 +173,8 @@ unwatched s path root roots whole size h is at own e =
 pub root_known : (s : State) (path : List ℕ) (root : Root) → root_at path s ≡ Some root → IsState s → Found (bytes_eq path) IsRoot root
 root_known s path root at h = found (bytes_eq path) IsRoot s.roots root at h.roots.each
 
-pub IsState-with_triggers : (s : State) (path : List ℕ) (root : Root) (triggers : List Definition) → root_at path s ≡ Some root → IsState s → IsList 64 IsTrigger trigger_spelling triggers → IsDistinct bytes_eq (names_of triggers)
-    → length (state_spelling (with_triggers s path root triggers)) ≤ 1048563 → IsState (with_triggers s path root triggers)
+pub IsState-with_triggers : (s : State) (path : List ℕ) (root : Root) (triggers : List Definition) → root_at path s ≡ Some root → IsState s → IsList max_triggers IsTrigger trigger_spelling triggers → IsDistinct bytes_eq (names_of triggers)
+    → length (state_spelling (with_triggers s path root triggers)) ≤ max_state_bytes → IsState (with_triggers s path root triggers)
 IsState-with_triggers s path root triggers at h list apart short =
     let new : Root = record root { triggers = triggers } in
     let same = length-set_value (bytes_eq path) s.roots new in
@@ -194,27 +197,27 @@ IsState-with_triggers s path root triggers at h list apart short =
     }
 
 -- without one of them the spelling is no longer
-pub short-without : (s : State) (path : List ℕ) (root : Root) (name : List ℕ) → root_at path s ≡ Some root → IsState s → length (state_spelling (with_triggers s path root (without name root.triggers))) ≤ 1048563
+pub short-without : (s : State) (path : List ℕ) (root : Root) (name : List ℕ) → root_at path s ≡ Some root → IsState s → length (state_spelling (with_triggers s path root (without name root.triggers))) ≤ max_state_bytes
 short-without s path root name at h =
     omega (arith, h.short, length-with_triggers s path root (without name root.triggers) at, length-without trigger_spelling name root.triggers)
 
 pub IsState-defined : (s : State) (path : List ℕ) (trigger : Definition) (root : Root) (triggers : List Definition) → root_at path s ≡ Some root → IsState s → is_change (reply_to s (Trigger path trigger)) ≡ true
-    → triggers ≡ defined trigger root.triggers → IsList 64 IsTrigger trigger_spelling triggers → IsState (with_triggers s path root triggers)
+    → triggers ≡ defined trigger root.triggers → IsList max_triggers IsTrigger trigger_spelling triggers → IsState (with_triggers s path root triggers)
 IsState-defined s path trigger root triggers at h accepted e list =
     IsState-with_triggers s path root triggers at h list
     (subst (λ ts. IsDistinct bytes_eq (names_of ts)) (sym e) (apart-defined trigger root.triggers (root_known s path root at h).known.apart))
-    (subst (λ ts. length (state_spelling (with_triggers s path root ts)) ≤ 1048563) (sym e) (may_define s path trigger root at accepted).short)
+    (subst (λ ts. length (state_spelling (with_triggers s path root ts)) ≤ max_state_bytes) (sym e) (may_define s path trigger root at accepted).short)
 
 pub IsState-forgotten : (s : State) (path name : List ℕ) (root : Root) (triggers : List Definition) → root_at path s ≡ Some root → IsState s
-    → triggers ≡ without name root.triggers → IsList 64 IsTrigger trigger_spelling triggers → IsState (with_triggers s path root triggers)
+    → triggers ≡ without name root.triggers → IsList max_triggers IsTrigger trigger_spelling triggers → IsState (with_triggers s path root triggers)
 IsState-forgotten s path name root triggers at h e list =
     IsState-with_triggers s path root triggers at h list
     (subst (λ ts. IsDistinct bytes_eq (names_of ts)) (sym e) (apart-without name root.triggers (root_known s path root at h).known.apart))
-    (subst (λ ts. length (state_spelling (with_triggers s path root ts)) ≤ 1048563) (sym e) (short-without s path root name at h))
+    (subst (λ ts. length (state_spelling (with_triggers s path root ts)) ≤ max_state_bytes) (sym e) (short-without s path root name at h))
 
 -- a trigger that may be defined leaves the root's triggers within their limits
 pub defined_fits : (s : State) (path : List ℕ) (trigger : Definition) (root : Root) → root_at path s ≡ Some root → IsState s → is_change (reply_to s (Trigger path trigger)) ≡ true
-    → (length (defined trigger root.triggers) ≤ 64) × (length (list_spelling trigger_spelling (defined trigger root.triggers)) < 2 ^ 32)
+    → (length (defined trigger root.triggers) ≤ max_triggers) × (length (list_spelling trigger_spelling (defined trigger root.triggers)) < 2 ^ 32)
 defined_fits s path trigger root at h accepted =
     let may = may_define s path trigger root at accepted in (
       may.count (root_known s path root at h).known.triggers.count,

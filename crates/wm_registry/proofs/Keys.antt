@@ -5,7 +5,7 @@ use Rattle.byteorder.specs.Endian.{big_bytes}
 use Rattle.wm_wire.specs.Laws.{alone_u64}
 use Rattle.wm_wire.specs.ListLaws.{alone_list}
 use Rattle.wm_wire.specs.PairLaws.{alone_pair}
-use Rattle.wm_wire.specs.Spelling.{text, Alone, Begins, NoneBegins, IsList, IsPair, list_spelling, pair_spelling}
+use Rattle.wm_wire.specs.Spelling.{text, Alone, BeginsWith, NoneBegins, IsList, IsPair, list_spelling, pair_spelling}
 use Rattle.wm_registry.specs.PathSpelling.{IsPath, alone_path}
 use Rattle.wm_registry.specs.Spelling.{IsTrigger, IsRoot, trigger_spelling, root_spelling}
 use Rattle.wm_registry.specs.StateLaws.{short_root}
@@ -52,7 +52,7 @@ pub no_parts : (bytes : List ℕ) → NoneBegins PartsFit parts_spelling bytes �
 no_parts bytes none x rest h e = none (parts_of x) rest (parts_fit x h) e
 
 -- where the parts that were read are those of no root, no root begins the bytes
-pub no_root : (bytes : List ℕ) (p : List ℕ × (ℕ × List Definition)) (size : ℕ) → Begins PartsFit parts_spelling bytes p size → (IsRoot (root_of p) → ⊥) → NoneBegins IsRoot root_spelling bytes
+pub no_root : (bytes : List ℕ) (p : List ℕ × (ℕ × List Definition)) (size : ℕ) → BeginsWith PartsFit parts_spelling bytes p size → (IsRoot (root_of p) → ⊥) → NoneBegins IsRoot root_spelling bytes
 no_root bytes p size b wrong x rest h e =
     let same : parts_of x ≡ p = alone_parts (parts_of x) p rest (drop size bytes) (parts_fit x h) b.known (sym e ∙ b.parts) in
     wrong (subst (λ q. IsRoot (root_of q)) same h)

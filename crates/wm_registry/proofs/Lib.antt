@@ -2,7 +2,7 @@ pub mod Branches
 pub mod Changing
 pub mod Definitions
 pub mod Entries
-pub mod Fronts
+pub mod FirstRoots
 pub mod Keys
 pub mod Lengths
 pub mod Named

@@ -5,6 +5,7 @@ use Rattle.std.proofs.lemmas.List.{map-append}
 use Rattle.std.specs.List.{AllByRecursion, IsDistinct}
 use Rattle.std.specs.Option.{option_map_or}
 use Rattle.std.specs.Str.{bytes_eq}
+use Rattle.wm_disk.specs.Counters.{max_counter}
 use Rattle.wm_registry.specs.declared.command.Command.{Command}
 use Rattle.wm_registry.specs.declared.command.Command.TheVariants.{Begin, Watch, WatchDel, Trigger, TriggerDel}
 use Rattle.wm_registry.specs.declared.reply.Reply.TheVariants.{Changed, Refused}
@@ -12,14 +13,14 @@ use Rattle.wm_disk.specs.declared.refusal.Refusal.TheVariants.{Exhausted}
 use Rattle.wm_registry.specs.declared.root.Root.{Root}
 use Rattle.wm_registry.specs.MachineLaws.{watches}
 use Rattle.wm_registry.specs.Numbers.{InOrder, Rises}
-use Rattle.wm_registry.specs.Registry.{after, changed, changes, fresh, is_change, last, watched}
+use Rattle.wm_registry.specs.Registry.{after_command, changed, changes, empty_registry, is_change, watched}
 use Rattle.wm_registry.specs.Roots.{State, root_at, with_triggers, without_root}
 use Rattle.wm_registry.specs.Spelling.{numbers_of}
 use Rattle.wm_registry.specs.Triggers.{Definition, defined, without}
 use Rattle.wm_registry.proofs.Changing.{may_watch}
 use Rattle.wm_registry.proofs.Entries.{AllByRecursion-each, AllByRecursion-push, AllByRecursion-remove_entry, AllByRecursion-set_value, IsDistinct-push, IsDistinct-remove_entry, map-set_value}
 use Rattle.wm_checkpoint.specs.Machines.{replay_on}
-use Rattle.wm_checkpoint.proofs.Outside.{replayed_append}
+use Rattle.wm_checkpoint.specs.laws.Replays.{replayed_append}
 
 -- what a command makes of a registry
 pub record Goes (s t : State) : Type 0 where
@@ -34,16 +35,16 @@ goes_same s = record { rises = rises_same s; order = λ h. h }
 
 -- ---- one command
 
-begin_below : (s : State) → changes s Begin ≡ true → s.incarnation < last
-begin_below s h = by (nat_lt s.incarnation last) refl h
+begin_below : (s : State) → changes s Begin ≡ true → s.incarnation < max_counter
+begin_below s h = by (nat_lt s.incarnation max_counter) refl h
   where
-    by : (b : Bool) → nat_lt s.incarnation last ≡ b → is_change (cond b Changed (Refused Exhausted)) ≡ true → s.incarnation < last
+    by : (b : Bool) → nat_lt s.incarnation max_counter ≡ b → is_change (cond b Changed (Refused Exhausted)) ≡ true → s.incarnation < max_counter
     by true t q = ltb-true _ _ t
     by false t q = absurd (true≢false (sym q))
 
 goes_begin : (s : State) → changes s Begin ≡ true → Goes s (changed s Begin)
 goes_begin s h =
-    let low : s.incarnation < last = begin_below s h in
+    let low : s.incarnation < max_counter = begin_below s h in
     record {
       rises = record { incarnation = omega arith; next = omega arith };
       order = λ o. record { incarnation = omega (arith, low); some = o.some; next = o.next; roots = o.roots; apart = o.apart };
@@ -55,7 +56,7 @@ below_is_other next (r ∷ roots) h = (ne_eqb r.1.number next (λ e. let low : r
 
 goes_watched : (s : State) (path : List ℕ) → changes s (Watch path) ≡ true → Goes s (watched s path)
 goes_watched s path h =
-    let low : s.next < last = (may_watch s path h).number in
+    let low : s.next < max_counter = (may_watch s path h).number in
     let root : Root = record { number = s.next; triggers = [] } in
     record {
       rises = record { incarnation = omega arith; next = omega arith };
@@ -111,7 +112,7 @@ goes_changed s (WatchDel path) h = goes_without_root s path
 goes_changed s (Trigger path trigger) h = goes_at s path (λ root. with_triggers s path root (defined trigger root.triggers)) (λ root at. goes_with_triggers s path root (defined trigger root.triggers) at)
 goes_changed s (TriggerDel path name) h = goes_at s path (λ root. with_triggers s path root (without name root.triggers)) (λ root at. goes_with_triggers s path root (without name root.triggers) at)
 
-goes_after : (s : State) (c : Command) → Goes s (after s c)
+goes_after : (s : State) (c : Command) → Goes s (after_command s c)
 goes_after s c = by (changes s c) refl
   where
     by : (b : Bool) → changes s c ≡ b → Goes s (cond b (changed s c) s)
@@ -128,14 +129,14 @@ goes_then s t u a b = record {
 
 goes_replay : (s : State) (cs : List Command) → Goes s (replay_on watches s cs)
 goes_replay s [] = goes_same s
-goes_replay s (c ∷ cs) = goes_then s (after s c) (replay_on watches (after s c) cs) (goes_after s c) (goes_replay (after s c) cs)
+goes_replay s (c ∷ cs) = goes_then s (after_command s c) (replay_on watches (after_command s c) cs) (goes_after s c) (goes_replay (after_command s c) cs)
 
-pub rises_more : (cs ds : List Command) → Rises (replay_on watches fresh cs) (replay_on watches fresh (cs ++ ds))
-rises_more cs ds = subst (λ t. Rises (replay_on watches fresh cs) t) (sym (replayed_append after fresh cs ds)) (goes_replay (replay_on watches fresh cs) ds).rises
+pub rises_more : (cs ds : List Command) → Rises (replay_on watches empty_registry cs) (replay_on watches empty_registry (cs ++ ds))
+rises_more cs ds = subst (λ t. Rises (replay_on watches empty_registry cs) t) (sym (replayed_append after_command empty_registry cs ds)) (goes_replay (replay_on watches empty_registry cs) ds).rises
 
-fresh_in_order : InOrder fresh
+fresh_in_order : InOrder empty_registry
 unfolding IsDistinct
 fresh_in_order = record { incarnation = omega arith; some = omega arith; next = omega arith; roots = tt; apart = tt }
 
-pub in_order : (cs : List Command) → InOrder (replay_on watches fresh cs)
-in_order cs = (goes_replay fresh cs).order fresh_in_order
+pub in_order : (cs : List Command) → InOrder (replay_on watches empty_registry cs)
+in_order cs = (goes_replay empty_registry cs).order fresh_in_order

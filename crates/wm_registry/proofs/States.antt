@@ -8,14 +8,17 @@ use Rattle.std.specs.List.{list_any, IsDistinct, AllByRecursion}
 use Rattle.std.specs.Map.{keys_of, values_of}
 use Rattle.std.specs.Str.{bytes_eq}
 use Rattle.byteorder.specs.Endian.{big_bytes}
+use Rattle.wm_disk.specs.Counters.{max_counter}
 use Rattle.wm_wire.specs.Laws.{alone_u64}
 use Rattle.wm_wire.specs.ListLaws.{alone_list}
 use Rattle.wm_wire.specs.PairLaws.{alone_pair}
-use Rattle.wm_wire.specs.Spelling.{Alone, Begins, NoneBegins, IsList, IsPair, list_spelling, pair_spelling}
+use Rattle.wm_wire.specs.Spelling.{Alone, BeginsWith, NoneBegins, IsList, IsPair, list_spelling, pair_spelling}
+use Rattle.wm_registry.specs.Limits.{max_roots}
 use Rattle.wm_registry.specs.Roots.{State}
 use Rattle.wm_registry.specs.Spelling.{AreRoots, IsRoot, IsState, numbers_of, root_spelling, state_spelling}
 use Rattle.wm_registry.specs.StateLaws.{alone_root}
 use Rattle.wm_registry.specs.declared.root.Root.{Root}
+use Rattle.wm_checkpoint.specs.Layout.{max_state_bytes}
 
 -- ---- tests of the roots, and of their paths and numbers
 
@@ -104,7 +107,7 @@ next_may_follow next all xs x front lt is h =
 -- ---- an incarnation, and a number with roots, as they are read one after another
 
 abbrev pub EndFits : ℕ × List (List ℕ × Root) → Type 0
-EndFits = IsPair (λ n. n < 2 ^ 64) (big_bytes 8) (IsList 256 IsRoot root_spelling) (list_spelling root_spelling)
+EndFits = IsPair (λ n. n < 2 ^ 64) (big_bytes 8) (IsList max_roots IsRoot root_spelling) (list_spelling root_spelling)
 
 abbrev pub end_spelling : ℕ × List (List ℕ × Root) → List ℕ
 end_spelling = pair_spelling (big_bytes 8) (list_spelling root_spelling)
@@ -124,7 +127,7 @@ parts_of s = (s.incarnation, (s.next, s.roots))
 
 parts_fit : (s : State) → IsState s → PartsFit (parts_of s)
 parts_fit s h =
-    let whole : length (parts_spelling (parts_of s)) ≤ 1048563 = h.short in
+    let whole : length (parts_spelling (parts_of s)) ≤ max_state_bytes = h.short in
     let behind = length-append (big_bytes 8 s.incarnation) (end_spelling (s.next, s.roots)) in
     record {
       first = omega (arith, h.incarnation);
@@ -134,13 +137,13 @@ parts_fit s h =
 
 alone_parts : Alone PartsFit parts_spelling
 alone_parts = alone_pair (λ n. n < 2 ^ 64) (big_bytes 8) EndFits end_spelling alone_u64
-    (alone_pair (λ n. n < 2 ^ 64) (big_bytes 8) (IsList 256 IsRoot root_spelling) (list_spelling root_spelling) alone_u64 (alone_list 256 IsRoot root_spelling alone_root))
+    (alone_pair (λ n. n < 2 ^ 64) (big_bytes 8) (IsList max_roots IsRoot root_spelling) (list_spelling root_spelling) alone_u64 (alone_list max_roots IsRoot root_spelling alone_root))
 
 pub no_parts : (bytes : List ℕ) → NoneBegins PartsFit parts_spelling bytes → NoneBegins IsState state_spelling bytes
 no_parts bytes none s rest h e = none (parts_of s) rest (parts_fit s h) e
 
 -- where the parts that were read are those of no state, no state begins the bytes
-pub no_state : (bytes : List ℕ) (p : ℕ × (ℕ × List (List ℕ × Root))) (size : ℕ) → Begins PartsFit parts_spelling bytes p size → (IsState (state_of p) → ⊥) → NoneBegins IsState state_spelling bytes
+pub no_state : (bytes : List ℕ) (p : ℕ × (ℕ × List (List ℕ × Root))) (size : ℕ) → BeginsWith PartsFit parts_spelling bytes p size → (IsState (state_of p) → ⊥) → NoneBegins IsState state_spelling bytes
 no_state bytes p size b wrong s rest h e =
     let same : parts_of s ≡ p = alone_parts (parts_of s) p rest (drop size bytes) (parts_fit s h) b.known (sym e ∙ b.parts) in
     wrong (subst (λ q. IsState (state_of q)) same h)
@@ -150,15 +153,15 @@ pub record Checked (p : ℕ × (ℕ × List (List ℕ × Root))) (incarnation ne
   pub incarnation_is : incarnation ≡ p.0
   pub next_is : next ≡ p.1.0
   pub roots_are : roots ≡ p.1.1
-  pub last : incarnation < 2 ^ 63
+  pub last : incarnation ≤ max_counter
   pub some : 0 < next
-  pub below : next < 2 ^ 63
-  pub short : size ≤ 1048563
+  pub below : next ≤ max_counter
+  pub short : size ≤ max_state_bytes
   pub apart : AreRoots p.1.0 p.1.1
 
 -- the state of such parts begins the bytes
-pub is_state : (bytes : List ℕ) (p : ℕ × (ℕ × List (List ℕ × Root))) (incarnation next : ℕ) (roots : List (List ℕ × Root)) (size : ℕ) → Begins PartsFit parts_spelling bytes p size → Checked p incarnation next roots size
-    → Begins IsState state_spelling bytes (record { incarnation = incarnation; next = next; roots = roots }) size
+pub is_state : (bytes : List ℕ) (p : ℕ × (ℕ × List (List ℕ × Root))) (incarnation next : ℕ) (roots : List (List ℕ × Root)) (size : ℕ) → BeginsWith PartsFit parts_spelling bytes p size → Checked p incarnation next roots size
+    → BeginsWith IsState state_spelling bytes (record { incarnation = incarnation; next = next; roots = roots }) size
 is_state bytes p incarnation next roots size b h =
     let known : IsState (state_of p) = record {
       incarnation = omega (arith, h.last, h.incarnation_is);
@@ -168,5 +171,5 @@ is_state bytes p incarnation next roots size b h =
       apart = h.apart;
       short = omega (arith, b.whole, h.short);
     } in
-    let whole : Begins IsState state_spelling bytes (state_of p) size = record { known = known; parts = b.parts; whole = b.whole } in
-    subst (λ s. Begins IsState state_spelling bytes s size) (λ i. record { incarnation = sym h.incarnation_is i; next = sym h.next_is i; roots = sym h.roots_are i }) whole
+    let whole : BeginsWith IsState state_spelling bytes (state_of p) size = record { known = known; parts = b.parts; whole = b.whole } in
+    subst (λ s. BeginsWith IsState state_spelling bytes s size) (λ i. record { incarnation = sym h.incarnation_is i; next = sym h.next_is i; roots = sym h.roots_are i }) whole

@@ -1,9 +1,10 @@
 -- What is no trigger or no command, once its parts have been read.
 use Rattle.std.proofs.Common.{◌≡◌, ◌≢◌, ℕ, ◌^◌, ◌<◌, get_or, Bool, true, false, List, ◌∷◌, length, Option, drop, sym, ap, ◌∙◌, arith}
 use Rattle.std.proofs.lemmas.List.{length-append}
-use Rattle.wm_wire.specs.Spelling.{text, truth, Every, Begins, NoneBegins, IsText, IsList, IsOptional, IsPair, list_spelling, optional_spelling, pair_spelling}
+use Rattle.wm_wire.specs.Spelling.{text, truth, Every, BeginsWith, NoneBegins, IsText, IsList, IsOptional, IsPair, list_spelling, optional_spelling, pair_spelling}
 use Rattle.wm_wire.specs.Laws.{alone_text}
 use Rattle.wm_wire.specs.ListLaws.{alone_list}
+use Rattle.wm_registry.specs.Limits.{max_trigger_name, max_words, max_word, max_expression}
 use Rattle.wm_registry.specs.PathSpelling.{IsPath}
 use Rattle.wm_registry.specs.Spelling.{IsName, IsTrigger, stdin_spelling, trigger_spelling}
 use Rattle.wm_registry.specs.TriggerLaws.{alone_name, same_part, short_trigger, small_text, small_trigger}
@@ -11,6 +12,7 @@ use Rattle.wm_registry.specs.Triggers.{Definition, has_program}
 use Rattle.wm_registry.specs.Commands.{IsCommand, command_spelling}
 use Rattle.wm_registry.specs.declared.command.Command.TheVariants.{Begin, Watch, WatchDel, Trigger, TriggerDel}
 use Rattle.wm_registry.specs.declared.stdin.Stdin.{Stdin}
+use Rattle.wm_names.specs.Paths.{max_root_path}
 
 -- a trigger as it is read: pairs within pairs
 abbrev pub Flags : Type 0
@@ -41,10 +43,10 @@ abbrev pub AreFlags : Flags → Type 0
 AreFlags = IsPair Every truth Every stdin_spelling
 
 abbrev pub IsChoice : Choice → Type 0
-IsChoice = IsPair (IsOptional (IsText 4096) text) (optional_spelling text) AreFlags flags_spelling
+IsChoice = IsPair (IsOptional (IsText max_expression) text) (optional_spelling text) AreFlags flags_spelling
 
 abbrev pub IsProgram : Program → Type 0
-IsProgram = IsPair (IsList 16 (IsText 1024) text) (list_spelling text) IsChoice choice_spelling
+IsProgram = IsPair (IsList max_words (IsText max_word) text) (list_spelling text) IsChoice choice_spelling
 
 abbrev pub AreParts : Parts → Type 0
 AreParts = IsPair IsName text IsProgram program_spelling
@@ -81,10 +83,10 @@ pub no_parts : (bytes : List ℕ) → NoneBegins AreParts parts_spelling bytes �
 no_parts bytes none value rest h e = none (parts_of value) rest (are_parts value h) e
 
 -- nor where the command that is read has no program
-pub no_program : (bytes : List ℕ) (found : Parts) (size : ℕ) → Begins AreParts parts_spelling bytes found size → has_program found.1.0 ≡ false → NoneBegins IsTrigger trigger_spelling bytes
+pub no_program : (bytes : List ℕ) (found : Parts) (size : ℕ) → BeginsWith AreParts parts_spelling bytes found size → has_program found.1.0 ≡ false → NoneBegins IsTrigger trigger_spelling bytes
 no_program bytes found size begins broken value rest h e =
     let name = same_part IsName text alone_name found.0 value.name _ _ (drop size bytes) rest begins.known.first h.name (sym begins.parts ∙ e) in
-    let command = same_part (IsList 16 (IsText 1024) text) (list_spelling text) (alone_list 16 (IsText 1024) text (alone_text 1024)) found.1.0 value.command _ _ (drop size bytes) rest begins.known.second.first h.command name.rest in
+    let command = same_part (IsList max_words (IsText max_word) text) (list_spelling text) (alone_list max_words (IsText max_word) text (alone_text max_word)) found.1.0 value.command _ _ (drop size bytes) rest begins.known.second.first h.command name.rest in
     let bad : false ≡ true = sym broken ∙ ap has_program command.value ∙ h.program in absurd cc
 
 -- bytes that begin with one tag are no spelling that begins with another
@@ -97,7 +99,7 @@ no_trigger bytes first none Begin rest h e = other_tag bytes _ 3 0 first (omega 
 no_trigger bytes first none (Watch path) rest h e = other_tag bytes _ 3 1 first (omega arith) e
 no_trigger bytes first none (WatchDel path) rest h e = other_tag bytes _ 3 2 first (omega arith) e
 no_trigger bytes first none (Trigger path trigger) rest h e =
-    let short : length (pair_spelling text trigger_spelling (path, trigger)) < 2 ^ 32 = omega (arith, small_text 1024 path h.0.is_text, small_trigger trigger h.1, length-append (text path) (trigger_spelling trigger)) in
+    let short : length (pair_spelling text trigger_spelling (path, trigger)) < 2 ^ 32 = omega (arith, small_text max_root_path path h.0.is_text, small_trigger trigger h.1, length-append (text path) (trigger_spelling trigger)) in
     none (path, trigger) rest (record { first = h.0; second = h.1; short = short }) (ap (λ (l : List ℕ). drop 1 l) e)
 no_trigger bytes first none (TriggerDel path name) rest h e = other_tag bytes _ 3 4 first (omega arith) e
 
@@ -108,5 +110,5 @@ no_name bytes first none (Watch path) rest h e = other_tag bytes _ 4 1 first (om
 no_name bytes first none (WatchDel path) rest h e = other_tag bytes _ 4 2 first (omega arith) e
 no_name bytes first none (Trigger path trigger) rest h e = other_tag bytes _ 4 3 first (omega arith) e
 no_name bytes first none (TriggerDel path name) rest h e =
-    let short : length (pair_spelling text text (path, name)) < 2 ^ 32 = omega (arith, small_text 1024 path h.0.is_text, small_text 64 name h.1.is_text, length-append (text path) (text name)) in
+    let short : length (pair_spelling text text (path, name)) < 2 ^ 32 = omega (arith, small_text max_root_path path h.0.is_text, small_text max_trigger_name name h.1.is_text, length-append (text path) (text name)) in
     none (path, name) rest (record { first = h.0; second = h.1; short = short }) (ap (λ (l : List ℕ). drop 1 l) e)

@@ -1,4 +1,5 @@
 -- A command that is accepted makes another state of the one that it meets.
+-- For proofs and the ghost members of impls: a reader of definitions may skip it.
 use Rattle.std.proofs.Common.{◌≡◌, ◌≢◌, ℕ, ◌+◌, Bool, true, false, cond, ◌||◌, List, [], ◌∷◌, length, nat_lt, Option, Some, None, is_some, refl, sym, ap, subst, ◌∙◌, arith, true≢false}
 use Rattle.std.proofs.lemmas.Bool.{and_from, or_right}
 use Rattle.std.proofs.lemmas.Slice.Eq.{bytes_eq-Decides}
@@ -8,7 +9,8 @@ use Rattle.std.specs.Map.{lookup, set_value, remove_entry}
 use Rattle.std.specs.Option.{option_eq, option_map_or}
 use Rattle.std.specs.Str.{bytes_eq}
 use Rattle.wm_disk.specs.declared.refusal.Refusal.TheVariants.{NotWatched, TooMany}
-use Rattle.wm_registry.specs.Registry.{after, changed, changes, is_change, reply_to_trigger, unless_full}
+use Rattle.wm_registry.specs.Limits.{max_triggers}
+use Rattle.wm_registry.specs.Registry.{after_command, changed, changes, is_change, reply_to_trigger, unless_full}
 use Rattle.wm_registry.specs.Roots.{State, root_at, is_watched, with_triggers}
 use Rattle.wm_registry.specs.Triggers.{Definition, defined, has_trigger, is_named, same_definition, same_flag, same_stdin, without}
 use Rattle.wm_registry.specs.declared.command.Command.{Command}
@@ -104,7 +106,7 @@ not_there s path t root h = by (list_any (same_definition t) root.triggers) h
     new : State
     new = with_triggers s path root (defined t root.triggers)
 
-    by : (b : Bool) → is_change (cond b Unchanged (cond (has_trigger t.name root.triggers) (unless_full new Replaced) (cond (nat_lt (length root.triggers) 64) (unless_full new Changed) (Refused TooMany)))) ≡ true → b ≡ false
+    by : (b : Bool) → is_change (cond b Unchanged (cond (has_trigger t.name root.triggers) (unless_full new Replaced) (cond (nat_lt (length root.triggers) max_triggers) (unless_full new Changed) (Refused TooMany)))) ≡ true → b ≡ false
     by true q = absurd (true≢false (sym q))
     by false q = refl
 
@@ -138,5 +140,5 @@ changed_is_other s (Trigger path trigger) h e =
 changed_is_other s (TriggerDel path name) h e =
     at_root s path (λ root. cond (has_trigger name root.triggers) Changed Unchanged) (λ root. with_triggers s path root (without name root.triggers)) h (λ root at q. without_is_other s path name root at q) e
 
-pub accepted_changes : (s : State) (c : Command) → changes s c ≡ true → after s c ≢ s
+pub accepted_changes : (s : State) (c : Command) → changes s c ≡ true → after_command s c ≢ s
 accepted_changes s c h e = changed_is_other s c h (sym (ap (λ b. cond b (changed s c) s) h) ∙ e)

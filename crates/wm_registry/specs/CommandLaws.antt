@@ -1,13 +1,16 @@
 -- The laws of `Wire` for commands.
+-- For proofs and the ghost members of impls: a reader of definitions may skip it.
 use Rattle.std.proofs.Common.{◌≡◌, ℕ, ◌^◌, ◌<◌, ◌≤◌, List, ◌++◌, length, refl, ap, ◌∙◌, arith}
 use Rattle.std.proofs.lemmas.List.{length-append}
 use Rattle.wm_wire.specs.Spelling.{text}
+use Rattle.wm_registry.specs.Limits.{max_trigger_name}
 use Rattle.wm_registry.specs.PathSpelling.{IsPath, alone_path}
 use Rattle.wm_registry.specs.Spelling.{trigger_spelling}
 use Rattle.wm_registry.specs.TriggerLaws.{alone_name, alone_trigger, same_part, small_text, small_trigger}
 use Rattle.wm_registry.specs.Commands.{IsCommand, command_spelling}
 use Rattle.wm_registry.specs.declared.command.Command.{Command}
 use Rattle.wm_registry.specs.declared.command.Command.TheVariants.{Begin, Watch, WatchDel, Trigger, TriggerDel}
+use Rattle.wm_names.specs.Paths.{max_root_path}
 
 -- commands of two kinds begin with two bytes
 pub alone_command : (x y : Command) (a b : List ℕ) → IsCommand x → IsCommand y → command_spelling x ++ a ≡ command_spelling y ++ b → x ≡ y
@@ -50,12 +53,12 @@ alone_command (TriggerDel p n) (TriggerDel q m) a b hx hy e =
 -- a command fits an empty journal by far
 pub small_command : (x : Command) → IsCommand x → length (command_spelling x) ≤ 32768
 small_command Begin h = omega arith
-small_command (Watch path) h = omega (arith, small_text 1024 path h.is_text)
-small_command (WatchDel path) h = omega (arith, small_text 1024 path h.is_text)
+small_command (Watch path) h = omega (arith, small_text max_root_path path h.is_text)
+small_command (WatchDel path) h = omega (arith, small_text max_root_path path h.is_text)
 small_command (Trigger path trigger) h =
-    omega (arith, small_text 1024 path h.0.is_text, small_trigger trigger h.1, length-append (text path) (trigger_spelling trigger))
+    omega (arith, small_text max_root_path path h.0.is_text, small_trigger trigger h.1, length-append (text path) (trigger_spelling trigger))
 small_command (TriggerDel path name) h =
-    omega (arith, small_text 1024 path h.0.is_text, small_text 64 name h.1.is_text, length-append (text path) (text name))
+    omega (arith, small_text max_root_path path h.0.is_text, small_text max_trigger_name name h.1.is_text, length-append (text path) (text name))
 
 pub short_command : (x : Command) → IsCommand x → length (command_spelling x) < 2 ^ 32
 short_command x h = omega (arith, small_command x h)

@@ -3,17 +3,17 @@ use Rattle.std.specs.Prelude.{◌≡◌, ◌≢◌, ◌↔◌, true, false, List
 use Rattle.wm_registry.specs.declared.command.Command.{Command}
 use Rattle.wm_registry.specs.MachineLaws.{watches}
 use Rattle.wm_registry.specs.Numbers.{InOrder, Rises}
-use Rattle.wm_registry.specs.Registry.{after, changes, fresh}
+use Rattle.wm_registry.specs.Registry.{after_command, changes, empty_registry}
 use Rattle.wm_registry.specs.Roots.{State}
 use Rattle.wm_registry.specs.Triggers.{Definition, same_definition}
 use Rattle.wm_checkpoint.specs.Machines.{replay_on}
 
 -- whatever comes, the numbers go on, so that none is given again: the next one is above each that a root has had
 abbrev pub NumbersRise : Type 0
-NumbersRise = (cs ds : List Command) → Rises (replay_on watches fresh cs) (replay_on watches fresh (cs ++ ds))
+NumbersRise = (cs ds : List Command) → Rises (replay_on watches empty_registry cs) (replay_on watches empty_registry (cs ++ ds))
 
 abbrev pub NumbersInOrder : Type 0
-NumbersInOrder = (cs : List Command) → InOrder (replay_on watches fresh cs)
+NumbersInOrder = (cs : List Command) → InOrder (replay_on watches empty_registry cs)
 
 -- two triggers are defined in the same way where each part of the one is that of the other
 abbrev pub SameIsEqual : Type 0
@@ -21,8 +21,8 @@ SameIsEqual = (a b : Definition) → (same_definition a b ≡ true) ↔ (a ≡ b
 
 -- a command that is accepted makes another state of the one that it meets
 abbrev pub AcceptedChanges : Type 0
-AcceptedChanges = (s : State) (c : Command) → changes s c ≡ true → after s c ≢ s
+AcceptedChanges = (s : State) (c : Command) → changes s c ≡ true → after_command s c ≢ s
 
 -- one that is refused, or that changes nothing, leaves it
 abbrev pub OthersLeave : Type 0
-OthersLeave = (s : State) (c : Command) → changes s c ≡ false → after s c ≡ s
+OthersLeave = (s : State) (c : Command) → changes s c ≡ false → after_command s c ≡ s

@@ -2,6 +2,7 @@ pub mod ChangeLaws
 pub mod CommandLaws
 pub mod Commands
 pub mod Laws
+pub mod Limits
 pub mod MachineLaws
 pub mod Numbers
 pub mod PathSpelling

@@ -1,30 +1,33 @@
 -- The spellings of triggers, roots and states, and the limits outside which there is none.
-use Rattle.std.specs.Prelude.{◌≡◌, ◌≤◌, ◌<◌, ◌==◌, ℕ, ◌^◌, true, List, [], ◌∷◌, ◌++◌, length, map}
+use Rattle.std.specs.Prelude.{◌≡◌, ◌≤◌, ◌<◌, ◌==◌, ℕ, true, List, [], ◌∷◌, ◌++◌, length, map}
 use Rattle.std.specs.List.{AllByRecursion, IsDistinct}
 use Rattle.std.specs.Map.{keys_of}
 use Rattle.std.specs.Str.{bytes_eq}
 use Rattle.byteorder.specs.Endian.{big_bytes}
+use Rattle.wm_disk.specs.Counters.{max_counter}
 use Rattle.wm_wire.specs.Spelling.{text, truth, IsText, IsList, IsOptional, list_spelling, optional_spelling}
+use Rattle.wm_registry.specs.Limits.{max_trigger_name, max_words, max_word, max_expression, max_triggers, max_roots}
 use Rattle.wm_registry.specs.PathSpelling.{IsPath}
 use Rattle.wm_registry.specs.Roots.{State}
 use Rattle.wm_registry.specs.Triggers.{Definition, has_program}
 use Rattle.wm_registry.specs.declared.stdin.Stdin.{Stdin}
 use Rattle.wm_registry.specs.declared.stdin.Stdin.TheVariants.{DevNull, NamePerLine}
 use Rattle.wm_registry.specs.declared.root.Root.{Root}
+use Rattle.wm_checkpoint.specs.Layout.{max_state_bytes}
 
 -- ---- triggers
 
--- a name of 1 to 64 bytes
+-- a name that is neither empty nor too long
 pub record IsName (name : List ℕ) : Type 0 where
-  pub is_text : IsText 64 name
+  pub is_text : IsText max_trigger_name name
   pub some : 0 < length name
 
--- 1 to 16 words of at most 1,024 bytes, the first of them not empty; an expression of at most 4,096 bytes
+-- words, not too many and none too long, the first of them not empty; an expression that is not too long
 pub record IsTrigger (trigger : Definition) : Type 0 where
   pub name : IsName trigger.name
-  pub command : IsList 16 (IsText 1024) text trigger.command
+  pub command : IsList max_words (IsText max_word) text trigger.command
   pub program : has_program trigger.command ≡ true
-  pub expression : IsOptional (IsText 4096) text trigger.expression
+  pub expression : IsOptional (IsText max_expression) text trigger.expression
 
 abbrev pub stdin_spelling : Stdin → List ℕ
 stdin_spelling DevNull = 0 ∷ []
@@ -42,12 +45,12 @@ names_of triggers = map (λ t. t.name) triggers
 abbrev pub numbers_of : List (List ℕ × Root) → List ℕ
 numbers_of roots = map (λ r. r.1.number) roots
 
--- a path with its root: at most 64 triggers, of which no two have one name
+-- a path with its root: not too many triggers, of which no two have one name
 pub record IsRoot (root : List ℕ × Root) : Type 0 where
   pub path : IsPath root.0
   pub some : 0 < root.1.number
-  pub number : root.1.number < 2 ^ 63
-  pub triggers : IsList 64 IsTrigger trigger_spelling root.1.triggers
+  pub number : root.1.number ≤ max_counter
+  pub triggers : IsList max_triggers IsTrigger trigger_spelling root.1.triggers
   pub apart : IsDistinct bytes_eq (names_of root.1.triggers)
 
 abbrev pub root_spelling : List ℕ × Root → List ℕ
@@ -62,11 +65,11 @@ pub record AreRoots (next : ℕ) (roots : List (List ℕ × Root)) : Type 0 wher
   pub paths : IsDistinct bytes_eq (keys_of roots)
   pub numbers : IsDistinct ◌==◌ (numbers_of roots)
 
--- a state within its limits: at most 256 roots, no two of one path or number, their numbers below the next
+-- a state within its limits: not too many roots, no two of one path or number, their numbers below the next
 pub record IsState (s : State) : Type 0 where
-  pub incarnation : s.incarnation < 2 ^ 63
+  pub incarnation : s.incarnation ≤ max_counter
   pub some : 0 < s.next
-  pub next : s.next < 2 ^ 63
-  pub roots : IsList 256 IsRoot root_spelling s.roots
+  pub next : s.next ≤ max_counter
+  pub roots : IsList max_roots IsRoot root_spelling s.roots
   pub apart : AreRoots s.next s.roots
-  pub short : length (state_spelling s) ≤ 1048563
+  pub short : length (state_spelling s) ≤ max_state_bytes

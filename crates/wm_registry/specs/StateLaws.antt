@@ -1,17 +1,20 @@
 -- The laws of `Wire` for roots and states.
+-- For proofs and the ghost members of impls: a reader of definitions may skip it.
 use Rattle.std.proofs.Common.{◌≡◌, ℕ, ◌*◌, ◌^◌, ◌<◌, ◌≤◌, List, [], ◌∷◌, ◌++◌, length, flat_map, sym, ◌∙◌, append_assoc, arith}
 use Rattle.std.proofs.lemmas.List.{length-append}
 use Rattle.std.specs.List.{AllByRecursion}
 use Rattle.byteorder.specs.Endian.{big_bytes}
 use Rattle.wm_wire.specs.Laws.{alone_u64}
 use Rattle.wm_wire.specs.ListLaws.{alone_list}
-use Rattle.wm_wire.specs.PairLaws.{same_front}
+use Rattle.wm_wire.specs.PairLaws.{same_prefix}
 use Rattle.wm_wire.specs.Spelling.{text, list_spelling}
+use Rattle.wm_registry.specs.Limits.{max_triggers, max_roots}
 use Rattle.wm_registry.specs.PathSpelling.{IsPath, alone_path}
 use Rattle.wm_registry.specs.Roots.{State}
 use Rattle.wm_registry.specs.Spelling.{IsTrigger, IsRoot, IsState, trigger_spelling, root_spelling, state_spelling}
 use Rattle.wm_registry.specs.TriggerLaws.{alone_trigger, small_trigger}
 use Rattle.wm_registry.specs.declared.root.Root.{Root}
+use Rattle.wm_names.specs.Paths.{max_root_path}
 
 -- items of at most `most` bytes each have at most so many times their number together
 pub length-flat_map-at_most : {V : Type 0} (fits : V → Type 0) (spelling : V → List ℕ) (most : ℕ) → ((x : V) → fits x → length (spelling x) ≤ most) → (items : List V) → AllByRecursion fits items → length (flat_map spelling items) ≤ length items * most
@@ -31,18 +34,18 @@ alone_root x y a b hx hy e =
     let triggers = list_spelling trigger_spelling in
     let whole : text x.0 ++ ((big_bytes 8 x.1.number ++ triggers x.1.triggers) ++ a) ≡ text y.0 ++ ((big_bytes 8 y.1.number ++ triggers y.1.triggers) ++ b) =
     sym (append_assoc (text x.0) (big_bytes 8 x.1.number ++ triggers x.1.triggers) a) ∙ e ∙ append_assoc (text y.0) (big_bytes 8 y.1.number ++ triggers y.1.triggers) b in
-    let path = same_front IsPath text alone_path x.0 y.0 _ _ hx.path hy.path whole in
+    let path = same_prefix IsPath text alone_path x.0 y.0 _ _ hx.path hy.path whole in
     let behind : big_bytes 8 x.1.number ++ (triggers x.1.triggers ++ a) ≡ big_bytes 8 y.1.number ++ (triggers y.1.triggers ++ b) =
     sym (append_assoc (big_bytes 8 x.1.number) (triggers x.1.triggers) a) ∙ path.rest ∙ append_assoc (big_bytes 8 y.1.number) (triggers y.1.triggers) b in
-    let number = same_front (λ n. n < 2 ^ 64) (big_bytes 8) alone_u64 x.1.number y.1.number _ _ (omega (arith, hx.number)) (omega (arith, hy.number)) behind in
-    let last = alone_list 64 IsTrigger trigger_spelling alone_trigger x.1.triggers y.1.triggers a b hx.triggers hy.triggers number.rest in
+    let number = same_prefix (λ n. n < 2 ^ 64) (big_bytes 8) alone_u64 x.1.number y.1.number _ _ (omega (arith, hx.number)) (omega (arith, hy.number)) behind in
+    let last = alone_list max_triggers IsTrigger trigger_spelling alone_trigger x.1.triggers y.1.triggers a b hx.triggers hy.triggers number.rest in
     same_root x y path.value number.value last
 
 pub short_root : (x : List ℕ × Root) → IsRoot x → length (root_spelling x) < 2 ^ 32
 short_root x h =
     let triggers = x.1.triggers in
     let each = length-flat_map-at_most IsTrigger trigger_spelling 21000 small_trigger triggers h.triggers.each in
-    let path : length x.0 ≤ 1024 = h.path.is_text.short in
+    let path : length x.0 ≤ max_root_path = h.path.is_text.short in
     omega (arith, each, path, h.triggers.count, length-append (text x.0) (big_bytes 8 x.1.number ++ list_spelling trigger_spelling triggers))
 
 pub alone_state : (x y : State) (a b : List ℕ) → IsState x → IsState y → state_spelling x ++ a ≡ state_spelling y ++ b → x ≡ y
@@ -50,11 +53,11 @@ alone_state x y a b hx hy e =
     let roots = list_spelling root_spelling in
     let whole : big_bytes 8 x.incarnation ++ ((big_bytes 8 x.next ++ roots x.roots) ++ a) ≡ big_bytes 8 y.incarnation ++ ((big_bytes 8 y.next ++ roots y.roots) ++ b) =
     sym (append_assoc (big_bytes 8 x.incarnation) (big_bytes 8 x.next ++ roots x.roots) a) ∙ e ∙ append_assoc (big_bytes 8 y.incarnation) (big_bytes 8 y.next ++ roots y.roots) b in
-    let incarnation = same_front (λ n. n < 2 ^ 64) (big_bytes 8) alone_u64 x.incarnation y.incarnation _ _ (omega (arith, hx.incarnation)) (omega (arith, hy.incarnation)) whole in
+    let incarnation = same_prefix (λ n. n < 2 ^ 64) (big_bytes 8) alone_u64 x.incarnation y.incarnation _ _ (omega (arith, hx.incarnation)) (omega (arith, hy.incarnation)) whole in
     let behind : big_bytes 8 x.next ++ (roots x.roots ++ a) ≡ big_bytes 8 y.next ++ (roots y.roots ++ b) =
     sym (append_assoc (big_bytes 8 x.next) (roots x.roots) a) ∙ incarnation.rest ∙ append_assoc (big_bytes 8 y.next) (roots y.roots) b in
-    let next = same_front (λ n. n < 2 ^ 64) (big_bytes 8) alone_u64 x.next y.next _ _ (omega (arith, hx.next)) (omega (arith, hy.next)) behind in
-    let last = alone_list 256 IsRoot root_spelling alone_root x.roots y.roots a b hx.roots hy.roots next.rest in
+    let next = same_prefix (λ n. n < 2 ^ 64) (big_bytes 8) alone_u64 x.next y.next _ _ (omega (arith, hx.next)) (omega (arith, hy.next)) behind in
+    let last = alone_list max_roots IsRoot root_spelling alone_root x.roots y.roots a b hx.roots hy.roots next.rest in
     same_state x y incarnation.value next.value last
 
 pub short_state : (x : State) → IsState x → length (state_spelling x) < 2 ^ 32

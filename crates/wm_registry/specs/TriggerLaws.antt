@@ -1,4 +1,5 @@
 -- The laws of `Wire` for names and triggers.
+-- For proofs and the ghost members of impls: a reader of definitions may skip it.
 use Rattle.std.proofs.Common.{◌≡◌, ℕ, ◌+◌, ◌*◌, ◌^◌, ◌<◌, ◌≤◌, Bool, true, false, List, [], ◌∷◌, ◌++◌, length, flat_map, Option, Some, None, refl, sym, ap, ◌∙◌, append_assoc, arith}
 use Rattle.std.proofs.lemmas.List.{length-append}
 use Rattle.std.specs.List.{AllByRecursion}
@@ -6,7 +7,8 @@ use Rattle.byteorder.specs.Endian.{big_bytes}
 use Rattle.wm_wire.specs.Spelling.{text, truth, Every, Alone, IsText, IsList, IsOptional, list_spelling, optional_spelling}
 use Rattle.wm_wire.specs.Laws.{alone_text, short_text, alone_truth}
 use Rattle.wm_wire.specs.ListLaws.{alone_list}
-use Rattle.wm_wire.specs.PairLaws.{SameFront, alone_optional, same_front}
+use Rattle.wm_wire.specs.PairLaws.{SamePrefix, alone_optional, same_prefix}
+use Rattle.wm_registry.specs.Limits.{max_trigger_name, max_words, max_word, max_expression}
 use Rattle.wm_registry.specs.Spelling.{IsName, IsTrigger, stdin_spelling, trigger_spelling}
 use Rattle.wm_registry.specs.Triggers.{Definition, definition}
 use Rattle.wm_registry.specs.declared.stdin.Stdin.{Stdin}
@@ -23,21 +25,21 @@ short_stdin DevNull p = omega arith
 short_stdin NamePerLine p = omega arith
 
 pub alone_name : (x y : List ℕ) (a b : List ℕ) → IsName x → IsName y → text x ++ a ≡ text y ++ b → x ≡ y
-alone_name x y a b hx hy e = alone_text 64 x y a b hx.is_text hy.is_text e
+alone_name x y a b hx hy e = alone_text max_trigger_name x y a b hx.is_text hy.is_text e
 
 pub short_name : (x : List ℕ) → IsName x → length (text x) < 2 ^ 32
-short_name x h = short_text 64 x h.is_text
+short_name x h = short_text max_trigger_name x h.is_text
 
 -- of two rows that begin the same bytes, the first parts are the same, and so is what follows them
-pub same_part : {V : Type 0} (fits : V → Type 0) (spelling : V → List ℕ) → Alone fits spelling → (x y : V) (more more' a b : List ℕ) → fits x → fits y → (spelling x ++ more) ++ a ≡ (spelling y ++ more') ++ b → SameFront x y (more ++ a) (more' ++ b)
+pub same_part : {V : Type 0} (fits : V → Type 0) (spelling : V → List ℕ) → Alone fits spelling → (x y : V) (more more' a b : List ℕ) → fits x → fits y → (spelling x ++ more) ++ a ≡ (spelling y ++ more') ++ b → SamePrefix x y (more ++ a) (more' ++ b)
 same_part fits spelling alone x y more more' a b hx hy e =
-    same_front fits spelling alone x y (more ++ a) (more' ++ b) hx hy (sym (append_assoc (spelling x) more a) ∙ e ∙ append_assoc (spelling y) more' b)
+    same_prefix fits spelling alone x y (more ++ a) (more' ++ b) hx hy (sym (append_assoc (spelling x) more a) ∙ e ∙ append_assoc (spelling y) more' b)
 
 pub alone_trigger : (x y : Definition) (a b : List ℕ) → IsTrigger x → IsTrigger y → trigger_spelling x ++ a ≡ trigger_spelling y ++ b → x ≡ y
 alone_trigger x y a b hx hy e =
     let name = same_part IsName text alone_name x.name y.name _ _ a b hx.name hy.name e in
-    let command = same_part (IsList 16 (IsText 1024) text) (list_spelling text) (alone_list 16 (IsText 1024) text (alone_text 1024)) x.command y.command _ _ a b hx.command hy.command name.rest in
-    let expression = same_part (IsOptional (IsText 4096) text) (optional_spelling text) (alone_optional (IsText 4096) text (alone_text 4096)) x.expression y.expression _ _ a b hx.expression hy.expression command.rest in
+    let command = same_part (IsList max_words (IsText max_word) text) (list_spelling text) (alone_list max_words (IsText max_word) text (alone_text max_word)) x.command y.command _ _ a b hx.command hy.command name.rest in
+    let expression = same_part (IsOptional (IsText max_expression) text) (optional_spelling text) (alone_optional (IsText max_expression) text (alone_text max_expression)) x.expression y.expression _ _ a b hx.expression hy.expression command.rest in
     let flag = same_part Every truth alone_truth x.append_files y.append_files _ _ a b tt tt expression.rest in
     let stdin = alone_stdin x.stdin y.stdin a b tt tt flag.rest in
     ap (λ v. definition v x.command x.expression x.append_files x.stdin) name.value
@@ -51,13 +53,13 @@ pub small_text : (max : ℕ) (x : List ℕ) → IsText max x → length (text x)
 small_text max x h = omega (arith, h.short, length-append (big_bytes 4 (length x)) x)
 
 -- words of at most 1,024 bytes take at most 1,028 each
-small_words : (words : List (List ℕ)) → AllByRecursion (IsText 1024) words → length (flat_map text words) ≤ length words * 1028
+small_words : (words : List (List ℕ)) → AllByRecursion (IsText max_word) words → length (flat_map text words) ≤ length words * 1028
 small_words [] h = omega arith
-small_words (word ∷ words) h = omega (arith, small_text 1024 word h.0, small_words words h.1, length-append (text word) (flat_map text words))
+small_words (word ∷ words) h = omega (arith, small_text max_word word h.0, small_words words h.1, length-append (text word) (flat_map text words))
 
-small_expression : (x : Option (List ℕ)) → IsOptional (IsText 4096) text x → length (optional_spelling text x) ≤ 4101
+small_expression : (x : Option (List ℕ)) → IsOptional (IsText max_expression) text x → length (optional_spelling text x) ≤ 4101
 small_expression None h = omega arith
-small_expression (Some x) h = omega (arith, small_text 4096 x h.held)
+small_expression (Some x) h = omega (arith, small_text max_expression x h.held)
 
 small_flags : (flag : Bool) (stdin : Stdin) → length (truth flag ++ stdin_spelling stdin) ≤ 2
 small_flags false DevNull = omega arith
@@ -73,7 +75,7 @@ small_trigger x h =
     let words = flat_map text x.command in
     omega (
       arith,
-      small_text 64 x.name h.name.is_text,
+      small_text max_trigger_name x.name h.name.is_text,
       small_words x.command h.command.each,
       h.command.count,
       small_expression x.expression h.expression,

@@ -4,6 +4,7 @@ use Rattle.std.specs.List.{list_any, list_all}
 use Rattle.std.specs.Str.{bytes_eq}
 use Rattle.std.specs.Option.{option_eq}
 use Rattle.std.specs.Cmp.Lexicographic.{pointwise}
+use Rattle.wm_registry.specs.Limits.{max_trigger_name, max_words, max_word, max_expression}
 use Rattle.wm_registry.specs.declared.stdin.Stdin.{Stdin}
 use Rattle.wm_registry.specs.declared.stdin.Stdin.TheVariants.{DevNull, NamePerLine}
 
@@ -59,19 +60,19 @@ without name (old ∷ rest) = if is_named name old then rest else old ∷ withou
 -- ---- the rules, as tests
 
 abbrev pub is_name : List ℕ → Bool
-is_name text = nat_lt 0 (length text) && nat_le (length text) 64
+is_name text = nat_lt 0 (length text) && nat_le (length text) max_trigger_name
 
--- 1 to 16 words of at most 1,024 bytes, the first of them not empty
+-- words, not too many and none too long, the first of them not empty
 abbrev pub is_command : List (List ℕ) → Bool
-is_command words = has_program words && (nat_le (length words) 16 && list_all (λ word. nat_le (length word) 1024) words)
+is_command words = has_program words && (nat_le (length words) max_words && list_all (λ word. nat_le (length word) max_word) words)
 
--- none, or one of at most 4,096 bytes
-abbrev pub is_expression : Option (List ℕ) → Bool
-is_expression None = true
-is_expression (Some text) = nat_le (length text) 4096
+-- none, or one that is not too long
+abbrev pub is_expression_text : Option (List ℕ) → Bool
+is_expression_text None = true
+is_expression_text (Some text) = nat_le (length text) max_expression
 
 abbrev pub is_trigger : Definition → Bool
-is_trigger t = is_name t.name && (is_command t.command && is_expression t.expression)
+is_trigger t = is_name t.name && (is_command t.command && is_expression_text t.expression)
 
 abbrev pub definition : List ℕ → List (List ℕ) → Option (List ℕ) → Bool → Stdin → Definition
 definition name command expression append_files stdin =

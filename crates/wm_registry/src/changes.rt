@@ -1,10 +1,10 @@
-//! Makes the change that a command asks for, where replies.rt would accept it.
+//! Makes the change that a command asks for, where meeting.rt would accept it.
 //! Definitions: specs/Registry.antt. Tests: registry_tests/src/registries.rt.
 ghost use Rattle.std.specs.Prelude.{◌≡◌, ◌≢◌, ◌≤◌, ◌+◌, length, true, OnOk, OnErr};
 ghost use Rattle.wm_registry.specs.Roots.{without_first};
 ghost use Rattle.wm_registry.specs.Spelling.{IsState, state_spelling};
 ghost use Rattle.wm_registry.specs.declared.command.Command.TheVariants as commands;
-ghost use Rattle.wm_registry.specs.Registry.{after, changed, is_change, reply_to};
+ghost use Rattle.wm_registry.specs.Registry.{after_command, changed, is_change, reply_to};
 
 use crate::path_spelling::path_size;
 use crate::registry::Registry;
@@ -22,7 +22,7 @@ impl Registry {
     /// Begins the next incarnation, where it isn't the last.
     pub(crate) fn begin(&mut self) -> Reply
         ensures reply { result ≡ reply_to self.old commands.Begin }
-        ensures state { self.new ≡ after self.old commands.Begin }
+        ensures state { self.new ≡ after_command self.old commands.Begin }
     {
         let reply = self.reply_to_begin();
         if reply.is_change() {
@@ -34,7 +34,7 @@ impl Registry {
     /// Watches a root, by one look-up where another may come.
     pub(crate) fn watch(&mut self, alloc: Global, path: &RootPath) -> Reply
         ensures reply { result ≢ Reply.Refused Refusal.NoMemory → result ≡ reply_to self.old (commands.Watch path.now) }
-        ensures state { result ≢ Reply.Refused Refusal.NoMemory → self.new ≡ after self.old (commands.Watch path.now) }
+        ensures state { result ≢ Reply.Refused Refusal.NoMemory → self.new ≡ after_command self.old (commands.Watch path.now) }
         ensures memory { result ≡ Reply.Refused Refusal.NoMemory → self.new ≡ self.old }
         ensures asked { result ≡ Reply.Refused Refusal.NoMemory → is_change (reply_to self.old (commands.Watch path.now)) ≡ true }
     {
@@ -60,7 +60,7 @@ impl Registry {
     /// Takes a root out, where it is there.
     pub(crate) fn unwatch(&mut self, path: &RootPath) -> Reply
         ensures reply { result ≡ reply_to self.old (commands.WatchDel path.now) }
-        ensures state { self.new ≡ after self.old (commands.WatchDel path.now) }
+        ensures state { self.new ≡ after_command self.old (commands.WatchDel path.now) }
     {
         match self.roots.shift_remove(path) {
             Some(root) => {
@@ -72,7 +72,7 @@ impl Registry {
     }
 
     /// Takes the first roots out, without which the spelling has so many bytes less.
-    pub(crate) fn cut_front(&mut self, count: usize, less: u64)
+    pub(crate) fn remove_prefix(&mut self, count: usize, less: u64)
         requires within { count ≤ length self.old.roots }
         requires state { IsState (without_first count self.old) }
         requires size { less + length (state_spelling (without_first count self.old)) ≡ length (state_spelling self.old) }

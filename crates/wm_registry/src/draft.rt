@@ -3,7 +3,7 @@
 ghost use Rattle.std.specs.Prelude.{◌≡◌, ◌≢◌, ◌≤◌, ◌+◌, true, length, IfOk};
 ghost use Rattle.std.specs.Bool.{OnTrue, OnFalse};
 ghost use Rattle.wm_registry.specs.declared.command.Command.TheVariants as commands;
-ghost use Rattle.wm_registry.specs.Registry.{after, is_change, reply_to};
+ghost use Rattle.wm_registry.specs.Registry.{after_command, is_change, reply_to};
 ghost use Rattle.wm_registry.specs.Roots.{without_first};
 ghost use Rattle.wm_registry.specs.Spelling.{IsState, state_spelling};
 
@@ -41,7 +41,7 @@ impl Model for Draft {
 }
 
 /// Takes the roots that are gone out of the registry.
-fn settle(registry: &mut Registry, gone: &mut usize, less: &mut u64)
+fn remove_gone(registry: &mut Registry, gone: &mut usize, less: &mut u64)
     requires within { gone.old ≤ length registry.old.roots }
     requires state { IsState (without_first gone.old registry.old) }
     requires size { less.old + length (state_spelling (without_first gone.old registry.old)) ≡ length (state_spelling registry.old) }
@@ -50,7 +50,7 @@ fn settle(registry: &mut Registry, gone: &mut usize, less: &mut u64)
     ensures less { less.new ≡ 0 }
 {
     if *gone > 0 {
-        registry.cut_front(*gone, *less);
+        registry.remove_prefix(*gone, *less);
     }
     *gone = 0;
     *less = 0;
@@ -72,8 +72,8 @@ impl Draft {
     }
 
     /// Takes the first root out, where it is at the path, and tells whether it did.
-    fn unwatches_first(&mut self, path: &RootPath) -> bool
-        ensures did { OnTrue result ((reply_to self.old (commands.WatchDel path.now) ≡ Reply.Changed) × (self.new ≡ after self.old (commands.WatchDel path.now))) }
+    fn removes_first(&mut self, path: &RootPath) -> bool
+        ensures did { OnTrue result ((reply_to self.old (commands.WatchDel path.now) ≡ Reply.Changed) × (self.new ≡ after_command self.old (commands.WatchDel path.now))) }
         ensures not { OnFalse result (self.new ≡ self.old) }
     {
         // the size tells the proof that the registry is within its limits
@@ -92,16 +92,16 @@ impl Draft {
     /// As [`Registry::apply`].
     pub fn apply(&mut self, alloc: Global, command: &Command) -> Reply
         ensures reply { result ≢ Reply.Refused Refusal.NoMemory → result ≡ reply_to self.old command.now }
-        ensures state { result ≢ Reply.Refused Refusal.NoMemory → self.new ≡ after self.old command.now }
+        ensures state { result ≢ Reply.Refused Refusal.NoMemory → self.new ≡ after_command self.old command.now }
         ensures memory { result ≡ Reply.Refused Refusal.NoMemory → self.new ≡ self.old }
         ensures asked { result ≡ Reply.Refused Refusal.NoMemory → is_change (reply_to self.old command.now) ≡ true }
     {
         if let Command::WatchDel(path) = command {
-            if self.unwatches_first(path) {
+            if self.removes_first(path) {
                 return Reply::Changed;
             }
         }
-        settle(&mut self.registry, &mut self.gone, &mut self.less);
+        remove_gone(&mut self.registry, &mut self.gone, &mut self.less);
         let reply = self.registry.apply(alloc, command);
         // the size tells the proof that the new state is within its limits
         let _size = self.registry.size();
@@ -113,7 +113,7 @@ impl Draft {
         ensures reply { result ≡ reply_to self.old command.now }
         ensures same { self.new ≡ self.old }
     {
-        settle(&mut self.registry, &mut self.gone, &mut self.less);
+        remove_gone(&mut self.registry, &mut self.gone, &mut self.less);
         self.registry.reply_to(command)
     }
 
@@ -123,7 +123,7 @@ impl Draft {
     {
         let mut copy = self.registry.copy(alloc)?;
         let (mut gone, mut less) = (self.gone, self.less);
-        settle(&mut copy, &mut gone, &mut less);
+        remove_gone(&mut copy, &mut gone, &mut less);
         Ok(copy)
     }
 
@@ -132,7 +132,7 @@ impl Draft {
         ensures { result ≡ self }
     {
         let mut draft = self;
-        settle(&mut draft.registry, &mut draft.gone, &mut draft.less);
+        remove_gone(&mut draft.registry, &mut draft.gone, &mut draft.less);
         draft.registry
     }
 }

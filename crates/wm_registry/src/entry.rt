@@ -4,12 +4,13 @@ ghost use Rattle.std.specs.Prelude.{◌≡◌, List, ℕ, IfOk};
 ghost use Rattle.wm_registry.specs.Spelling.{IsRoot, root_spelling};
 ghost use Rattle.wm_registry.specs.StateLaws.{alone_root, short_root};
 
+use crate::limits::MAX_TRIGGERS;
 use crate::path_spelling::SpelledPath;
-use crate::root::{Root, are_apart, put_root, root_size};
+use crate::root::{Root, are_distinct, put_root, root_size};
 use crate::trigger::Trigger;
 use std::alloc::Global;
 use std::marker::Model;
-use wm_disk::NoMemory;
+use wm_disk::{MAX_COUNTER, NoMemory};
 use wm_names::RootPath;
 use wm_wire::{List, Pair, Wire};
 
@@ -21,9 +22,10 @@ pub(crate) struct Entry {
 }
 
 impl Model for Entry {
-    ghost use Rattle.std.specs.Prelude.{◌<◌, ◌^◌, List, ℕ};
+    ghost use Rattle.std.specs.Prelude.{◌<◌, ◌≤◌, List, ℕ};
     ghost use Rattle.std.specs.List.{IsDistinct};
     ghost use Rattle.std.specs.Str.{bytes_eq};
+    ghost use Rattle.wm_disk.specs.Counters.{max_counter};
     ghost use Rattle.wm_registry.specs.Spelling.{names_of};
     ghost use Rattle.wm_registry.specs.declared.root.Root.{Root};
 
@@ -31,14 +33,11 @@ impl Model for Entry {
 
     ghost view = { λ e. (e.path, e.root) };
 
-    ghost invariant = { λ e. (0 < e.root.number) × (e.root.number < 2 ^ 63) × IsDistinct bytes_eq (names_of e.root.triggers) };
+    ghost invariant = { λ e. (0 < e.root.number) × (e.root.number ≤ max_counter) × IsDistinct bytes_eq (names_of e.root.triggers) };
 }
 
 /// The parts of an entry, in the order of its spelling.
-type Parts = Pair<SpelledPath, Pair<u64, List<Trigger, 64>>>;
-
-/// The last value of a root number.
-const LAST: u64 = 0x7fff_ffff_ffff_ffff;
+type Parts = Pair<SpelledPath, Pair<u64, List<Trigger, MAX_TRIGGERS>>>;
 
 impl Wire for Entry {
     ghost fits = { IsRoot };
@@ -64,7 +63,7 @@ impl Wire for Entry {
         };
         let (path, parts) = parts.into_parts();
         let (number, triggers) = parts.into_parts();
-        if number == 0 || number > LAST || !are_apart(triggers.as_slice()) {
+        if number == 0 || number > MAX_COUNTER || !are_distinct(triggers.as_slice()) {
             return Ok(None);
         }
         let root = Root { number, triggers };

@@ -12,10 +12,11 @@ mod command;
 mod draft;
 mod entry;
 mod laws;
+mod limits;
 mod machine;
+mod meeting;
 mod path_spelling;
 mod registry;
-mod replies;
 mod reply;
 mod root;
 mod roots;
@@ -27,6 +28,9 @@ mod wire;
 pub use command::Command;
 pub use draft::Draft;
 pub use laws::every_registry;
+pub use limits::{
+    MAX_BATCH, MAX_EXPRESSION, MAX_ROOTS, MAX_TRIGGER_NAME, MAX_TRIGGERS, MAX_WORD, MAX_WORDS,
+};
 pub use registry::Registry;
 pub use reply::Reply;
 pub use root::Root;

@@ -1,6 +1,6 @@
 //! The registry as the state that a keeper keeps: wm_checkpoint applies and copies it by this.
 //! Definitions: specs/MachineLaws.antt. Tests: registry_tests/src/registries.rt.
-ghost use Rattle.wm_registry.specs.Registry.{after as after_lem, changes as changes_lem, reply_to};
+ghost use Rattle.wm_registry.specs.Registry.{after_command, changes as changes_lem, reply_to};
 ghost use Rattle.wm_registry.specs.MachineLaws.{alive_registry, idle_registry, small_registry};
 
 use crate::command::Command;
@@ -17,7 +17,7 @@ impl Machine for Registry {
 
     type Reply = Reply;
 
-    ghost after = { after_lem };
+    ghost after = { after_command };
 
     ghost changes = { changes_lem };
 

@@ -8,7 +8,7 @@ ghost use Rattle.wm_registry.specs.PathSpelling.{IsPath, alone_path, short_path}
 use std::alloc::Global;
 use std::marker::Model;
 use wm_disk::{NoMemory, Refusal};
-use wm_names::RootPath;
+use wm_names::{MAX_ROOT_PATH, RootPath};
 use wm_wire::{Wire, put_text, take_text};
 
 /// Appends the spelling of a path: that of its text.
@@ -32,7 +32,7 @@ pub(crate) fn path_size(path: &RootPath) -> u64
 pub(crate) fn take_path(alloc: Global, bytes: &[u8]) -> Result<Option<(RootPath, usize)>, NoMemory>
     ensures { IfOk result (Takes IsPath text bytes.now) }
 {
-    let Some((text, size)) = take_text(bytes, 1024) else {
+    let Some((text, size)) = take_text(bytes, MAX_ROOT_PATH as u16) else {
         return Ok(None);
     };
     match RootPath::read(alloc, text) {

@@ -3,6 +3,7 @@
 ghost use Rattle.std.specs.Prelude.{◌≡◌, ◌≢◌, true, IfOk};
 
 use crate::command::Command;
+use crate::limits::MAX_BATCH;
 use crate::reply::Reply;
 use crate::root::Root;
 use indexmap::IndexMap;
@@ -10,12 +11,6 @@ use std::alloc::Global;
 use std::marker::Model;
 use wm_disk::{NoMemory, Refusal};
 use wm_names::RootPath;
-
-/// The last value of a counter.
-pub(crate) const LAST: u64 = 0x7fff_ffff_ffff_ffff;
-
-/// The most bytes of a registry's spelling.
-pub(crate) const MAX_SIZE: u64 = 1_048_563;
 
 /// The watched roots in order of watching, each with its triggers, the next root number, and the
 /// incarnation: how often the server has begun. Contracts see it as a `State`.
@@ -48,7 +43,7 @@ fn copied(
     ensures { IfOk result (λ m. m.entries ≡ roots.now.entries) }
 {
     // a batch's new roots fit too
-    let mut copy = IndexMap::with_capacity(alloc, roots.len().saturating_add(64))?;
+    let mut copy = IndexMap::with_capacity(alloc, roots.len().saturating_add(MAX_BATCH))?;
     for (path, root) in roots.iter() {
         let path = path.copy(alloc)?;
         let root = root.copy(alloc)?;
@@ -58,11 +53,11 @@ fn copied(
 }
 
 impl Registry {
-    ghost use Rattle.wm_registry.specs.Registry.{after, fresh, is_change, reply_to};
+    ghost use Rattle.wm_registry.specs.Registry.{after_command, empty_registry, is_change, reply_to};
 
     /// The registry of a new file: no roots, incarnation 0, and 1 as the next root number.
     pub fn new(alloc: Global) -> Registry
-        ensures { result ≡ fresh }
+        ensures { result ≡ empty_registry }
     {
         Registry {
             incarnation: 0,
@@ -107,10 +102,10 @@ impl Registry {
     }
 
     /// Applies a command, and tells how it was met: as [`Registry::reply_to`] tells before, or
-    /// `NoMemory` for want of memory. A refusal changes nothing.
+    /// `NoMemory` when out of memory. A refusal changes nothing.
     pub fn apply(&mut self, alloc: Global, command: &Command) -> Reply
         ensures reply { result ≢ Reply.Refused Refusal.NoMemory → result ≡ reply_to self.old command.now }
-        ensures state { result ≢ Reply.Refused Refusal.NoMemory → self.new ≡ after self.old command.now }
+        ensures state { result ≢ Reply.Refused Refusal.NoMemory → self.new ≡ after_command self.old command.now }
         ensures memory { result ≡ Reply.Refused Refusal.NoMemory → self.new ≡ self.old }
         ensures asked { result ≡ Reply.Refused Refusal.NoMemory → is_change (reply_to self.old command.now) ≡ true }
     {

@@ -6,10 +6,12 @@ ghost use Rattle.std.specs.Bool.{OnTrue, OnFalse};
 ghost use Rattle.std.specs.Str.{bytes_eq};
 ghost use Rattle.std.specs.List.{list_any, IsDistinct};
 ghost use Rattle.wm_wire.specs.Spelling.{IsList, list_spelling};
+ghost use Rattle.wm_registry.specs.Limits.{max_triggers};
 ghost use Rattle.wm_registry.specs.PathSpelling.{IsPath};
 ghost use Rattle.wm_registry.specs.Spelling.{IsTrigger, names_of, root_spelling, trigger_spelling};
 ghost use Rattle.wm_registry.specs.Triggers.{defined, is_named, same_definition, without};
 
+use crate::limits::MAX_TRIGGERS;
 use crate::path_spelling::{path_size, put_path};
 use crate::trigger::Trigger;
 use std::alloc::Global;
@@ -22,7 +24,7 @@ use wm_wire::{List, Wire};
 #[derive(Drop)]
 pub struct Root {
     pub number: u64,
-    pub triggers: List<Trigger, 64>,
+    pub triggers: List<Trigger, MAX_TRIGGERS>,
 }
 
 /// The place of the trigger with the name.
@@ -40,8 +42,11 @@ pub(crate) fn is_defined(triggers: &[Trigger], trigger: &Trigger) -> bool
 }
 
 /// Puts a trigger in the place of that of its name, or last, where there is room for it.
-pub(crate) fn define(triggers: &mut List<Trigger, 64>, trigger: Trigger) -> Result<(), NoMemory>
-    requires count { length (defined trigger triggers.old) ≤ 64 }
+pub(crate) fn define(
+    triggers: &mut List<Trigger, MAX_TRIGGERS>,
+    trigger: Trigger,
+) -> Result<(), NoMemory>
+    requires count { length (defined trigger triggers.old) ≤ max_triggers }
     requires short { length (list_spelling trigger_spelling (defined trigger triggers.old)) < 2 ^ 32 }
     ensures ok { OnOk result (triggers.new ≡ defined trigger triggers.old) }
     ensures err { OnErr result (triggers.new ≡ triggers.old) }
@@ -59,7 +64,7 @@ pub(crate) fn define(triggers: &mut List<Trigger, 64>, trigger: Trigger) -> Resu
 }
 
 /// Takes the trigger with the name out.
-pub(crate) fn forget(triggers: &mut List<Trigger, 64>, name: &str)
+pub(crate) fn forget(triggers: &mut List<Trigger, MAX_TRIGGERS>, name: &str)
     ensures { triggers.new ≡ without name.now triggers.old }
 {
     if let Some(place) = place_of(triggers.as_slice(), name) {
@@ -68,7 +73,10 @@ pub(crate) fn forget(triggers: &mut List<Trigger, 64>, name: &str)
 }
 
 /// The same triggers again.
-fn copied(alloc: Global, triggers: &List<Trigger, 64>) -> Result<List<Trigger, 64>, NoMemory>
+fn copied(
+    alloc: Global,
+    triggers: &List<Trigger, MAX_TRIGGERS>,
+) -> Result<List<Trigger, MAX_TRIGGERS>, NoMemory>
     ensures { IfOk result (λ l. l ≡ triggers.now) }
 {
     let mut list = List::new(alloc);
@@ -98,7 +106,7 @@ impl Root {
 pub(crate) fn root_size(path: &RootPath, root: &Root) -> u64
     ensures exact { result ≡ length (root_spelling (path.now, root.now)) }
     ensures fits { IsPath path.now }
-    ensures triggers { IsList 64 IsTrigger trigger_spelling root.now.triggers }
+    ensures triggers { IsList max_triggers IsTrigger trigger_spelling root.now.triggers }
     ensures short { result < 2 ^ 33 }
 {
     path_size(path) + 8 + root.triggers.size()
@@ -115,12 +123,12 @@ pub(crate) fn put_root(path: &RootPath, root: &Root, out: &mut Vec<u8>) -> Resul
 }
 
 /// Whether no two triggers have one name.
-pub(crate) fn are_apart(triggers: &[Trigger]) -> bool
+pub(crate) fn are_distinct(triggers: &[Trigger]) -> bool
     ensures apart { OnTrue result (IsDistinct bytes_eq (names_of triggers.now)) }
     ensures not_apart { OnFalse result (IsDistinct bytes_eq (names_of triggers.now) → ⊥) }
 {
     match triggers {
-        [trigger, rest @ ..] => { place_of(rest, trigger.name()).is_none() && are_apart(rest) }
+        [trigger, rest @ ..] => { place_of(rest, trigger.name()).is_none() && are_distinct(rest) }
         [] => true,
     }
 }

@@ -4,10 +4,12 @@
 ghost use Rattle.std.specs.Prelude.{◌≡◌, ◌≢◌, ◌↔◌, ◌++◌, ℕ, List, true, false, take, length, map, nat_le, OnOk, OnErr, IfOk, IfErr, IsErrOf};
 ghost use Rattle.std.specs.List.{list_all};
 ghost use Rattle.std.specs.Option.{option_map};
+ghost use Rattle.wm_registry.specs.Limits.{max_word};
 ghost use Rattle.wm_registry.specs.Spelling.{IsTrigger, trigger_spelling};
 ghost use Rattle.wm_registry.specs.TriggerLaws.{alone_trigger, short_trigger};
-ghost use Rattle.wm_registry.specs.Triggers.{has_program as has_program_lem, is_command as is_command_lem, is_expression as is_expression_lem, is_trigger, same_definition};
+ghost use Rattle.wm_registry.specs.Triggers.{has_program as has_program_lem, is_command as is_command_lem, is_expression_text, is_trigger, same_definition};
 
+use crate::limits::{MAX_EXPRESSION, MAX_WORD, MAX_WORDS};
 use crate::stdin::Stdin;
 use crate::trigger_name::{TriggerName, is_name};
 use std::alloc::Global;
@@ -17,13 +19,13 @@ use wm_disk::{NoMemory, Refusal};
 use wm_wire::{List, Optional, Pair, Text, Wire};
 
 /// A word of a command.
-pub type Word = Text<1024>;
+pub type Word = Text<MAX_WORD>;
 
 /// The words of a command.
-type Words = List<Word, 16>;
+type Words = List<Word, MAX_WORDS>;
 
 /// The text of an expression, which may be missing.
-type Expression = Optional<Text<4096>>;
+type Expression = Optional<Text<MAX_EXPRESSION>>;
 
 /// A program that is to be started where files of a root change: 1 to 16 words of at most 1,024 bytes,
 /// the first of them not empty, and perhaps an expression of at most 4,096 bytes, which chooses the
@@ -241,17 +243,17 @@ fn is_command(words: &[&str]) -> bool
 
 /// Whether none of the words has more than 1,024 bytes.
 fn are_short(words: &[&str]) -> bool
-    ensures { result ≡ list_all (λ w. nat_le (length w.now) 1024) words.now }
+    ensures { result ≡ list_all (λ w. nat_le (length w.now) max_word) words.now }
 {
-    words.iter().all(|word| word.len() <= 1024)
+    words.iter().all(|word| word.len() <= MAX_WORD as usize)
 }
 
 /// Whether there is no expression, or one of at most 4,096 bytes.
 fn is_expression(text: Option<&str>) -> bool
-    ensures { result ≡ is_expression_lem (option_map (λ t. t.now) text.entry) }
+    ensures { result ≡ is_expression_text (option_map (λ t. t.now) text.entry) }
 {
     match text {
-        Some(text) => text.len() <= 4096,
+        Some(text) => text.len() <= MAX_EXPRESSION as usize,
         None => true,
     }
 }
@@ -273,7 +275,7 @@ fn read_words(alloc: Global, words: &[&str]) -> Result<Words, NoMemory>
 
 /// The expression with this text, which is within the limits.
 fn read_expression(alloc: Global, text: Option<&str>) -> Result<Expression, NoMemory>
-    requires { is_expression_lem (option_map (λ t. t.now) text) ≡ true }
+    requires { is_expression_text (option_map (λ t. t.now) text) ≡ true }
     ensures { IfOk result (λ e. e ≡ option_map (λ t. t.now) text.entry) }
 {
     let Some(text) = text else {

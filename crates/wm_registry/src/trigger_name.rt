@@ -6,6 +6,7 @@ ghost use Rattle.wm_registry.specs.Spelling.{IsName};
 ghost use Rattle.wm_registry.specs.TriggerLaws.{alone_name, short_name};
 ghost use Rattle.wm_registry.specs.Triggers.{is_name as is_name_lem};
 
+use crate::limits::MAX_TRIGGER_NAME;
 use std::alloc::Global;
 use std::marker::Model;
 use wm_disk::{NoMemory, Refusal};
@@ -14,7 +15,7 @@ use wm_wire::{Text, Wire};
 /// The name of a trigger: a text of 1 to 64 bytes. Contracts see its bytes.
 #[derive(Drop)]
 pub struct TriggerName {
-    text: Text<64>,
+    text: Text<MAX_TRIGGER_NAME>,
 }
 
 impl Model for TriggerName {
@@ -31,7 +32,7 @@ impl Model for TriggerName {
 pub(crate) fn is_name(text: &str) -> bool
     ensures { result ≡ is_name_lem text.now }
 {
-    !text.is_empty() && text.len() <= 64
+    !text.is_empty() && text.len() <= MAX_TRIGGER_NAME as usize
 }
 
 impl TriggerName {

@@ -7,22 +7,24 @@ ghost use Rattle.wm_registry.specs.Spelling.{AreRoots, IsState, state_spelling, 
 ghost use Rattle.wm_registry.specs.StateLaws.{alone_state, short_state};
 
 use crate::entry::Entry;
-use crate::registry::{LAST, MAX_SIZE, Registry};
+use crate::limits::MAX_ROOTS;
+use crate::registry::Registry;
 use crate::root::{Root, put_root};
 use indexmap::IndexMap;
 use std::alloc::Global;
-use wm_disk::NoMemory;
+use wm_checkpoint::MAX_STATE_BYTES;
+use wm_disk::{MAX_COUNTER, NoMemory};
 use wm_names::RootPath;
 use wm_wire::{List, Pair, Wire};
 
 /// The parts of a registry, in the order of its spelling.
-type Parts = Pair<u64, Pair<u64, List<Entry, 256>>>;
+type Parts = Pair<u64, Pair<u64, List<Entry, MAX_ROOTS>>>;
 
 /// The roots by their paths, where no path and no number is there twice and each number is below the
 /// next.
 fn gathered(
     alloc: Global,
-    entries: List<Entry, 256>,
+    entries: List<Entry, MAX_ROOTS>,
     next: u64,
 ) -> Result<Option<IndexMap<RootPath, Root>>, NoMemory>
     ensures some { IfOk result (λ r. IfSome r (λ m. (m.entries ≡ entries) × AreRoots next entries)) }
@@ -94,7 +96,11 @@ impl Wire for Registry {
         };
         let (incarnation, rest) = parts.into_parts();
         let (next, entries) = rest.into_parts();
-        if incarnation > LAST || next == 0 || next > LAST || size as u64 > MAX_SIZE {
+        if incarnation > MAX_COUNTER
+            || next == 0
+            || next > MAX_COUNTER
+            || size as u64 > MAX_STATE_BYTES
+        {
             return Ok(None);
         }
         let Some(roots) = gathered(alloc, entries, next)? else {

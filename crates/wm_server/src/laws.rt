@@ -1,15 +1,16 @@
+//! What holds of every line and of every restart: laws of specs/session and specs/program, without code.
 ghost use Rattle.std.specs.Prelude.{◌≡◌, ℕ, List, true, false, Some, Ok, Err};
 ghost use Rattle.wm_disk.specs.declared.refusal.Refusal.TheVariants.{NotReady, TooMany};
 ghost use Rattle.wm_view.specs.declared.op.Op.{Op};
-ghost use Rattle.wm_view.specs.Histories.{History, IsMade, after, is_ready, refusal};
+ghost use Rattle.wm_view.specs.Histories.{History, IsMade, after_operation, is_ready, refusal};
 ghost use Rattle.wm_since.specs.Answers.{answer_to};
 ghost use Rattle.wm_since.specs.Cursors.{CursorList};
 ghost use Rattle.wm_expr.specs.Meanings.{holds};
-ghost use Rattle.wm_server.specs.declared.query.Inquiry.{Inquiry};
-ghost use Rattle.wm_server.specs.Inquiries.{has_place, inquired, question_in};
-ghost use Rattle.wm_server.specs.Watched.{AreOfHistories, first_views, of_history, unless, view_after};
-ghost use Rattle.wm_server.specs.Programs.{Kept};
-ghost use Rattle.wm_server.specs.Sessions.{State, line_met};
+ghost use Rattle.wm_lines.specs.declared.query.Inquiry.{Inquiry};
+ghost use Rattle.wm_server.specs.session.Inquiries.{has_place, inquired, question_in};
+ghost use Rattle.wm_server.specs.session.Watched.{AreOfHistories, first_views, of_history, unless, view_after};
+ghost use Rattle.wm_server.specs.program.Programs.{KeepsAccepted};
+ghost use Rattle.wm_server.specs.session.Sessions.{SessionState, line_met};
 ghost use Rattle.wm_registry.specs.Roots as registry;
 ghost use Rattle.wm_registry.specs.declared.command.Command.{Command};
 
@@ -22,12 +23,12 @@ use wm_view::every_operation;
 /// What lines do to a root's view and answer of it is what the root's history says, for every history
 /// that operations made. At a start each view is of such a history, and after each line again.
 pub fn every_line()
-    ensures operated { (h : History) (cursors : CursorList) (op : Op) → IsMade h → view_after (Some (of_history h cursors)) op ≡ unless (refusal h op) (of_history (after h op) cursors) }
+    ensures operated { (h : History) (cursors : CursorList) (op : Op) → IsMade h → view_after (Some (of_history h cursors)) op ≡ unless (refusal h op) (of_history (after_operation h op) cursors) }
     ensures answered { (h : History) (cursors : CursorList) (q : Inquiry) → IsMade h → is_ready h ≡ true → has_place q.since cursors ≡ true → inquired (Some (of_history h cursors)) q ≡ Ok (answer_to (holds q.expression) h (question_in q cursors)) }
     ensures unready { (h : History) (cursors : CursorList) (q : Inquiry) → IsMade h → is_ready h ≡ false → inquired (Some (of_history h cursors)) q ≡ Err NotReady }
     ensures no_place { (h : History) (cursors : CursorList) (q : Inquiry) → IsMade h → is_ready h ≡ true → has_place q.since cursors ≡ false → inquired (Some (of_history h cursors)) q ≡ Err TooMany }
     ensures begun { (r : registry.State) → AreOfHistories (first_views r) }
-    ensures stays { (s : State) (moment : ℕ) (line : List ℕ) → AreOfHistories s.views → AreOfHistories (line_met s moment line).state.views }
+    ensures stays { (s : SessionState) (moment : ℕ) (line : List ℕ) → AreOfHistories s.views → AreOfHistories (line_met s moment line).state.views }
 {
     every_operation();
     every_answer();
@@ -36,7 +37,7 @@ pub fn every_line()
 /// What holds of two sessions over one honest disk, one after the other: the second begins on what the first
 /// left, which is the replay of all that it accepted, and so with one more `Begin`.
 pub fn every_restart<D: Disk>()
-    ensures { (old middle new : D) (was left found last : registry.State) (asked again : List Command) → D.honest middle → Kept D.Disk old was left asked middle → Kept D.Disk middle found last again new → found ≡ left }
+    ensures { (old middle new : D) (was left found last : registry.State) (asked again : List Command) → D.honest middle → KeepsAccepted D.Disk old was left asked middle → KeepsAccepted D.Disk middle found last again new → found ≡ left }
 {
     every_content::<Registry>();
 }

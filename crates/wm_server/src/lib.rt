@@ -2,45 +2,24 @@
 //!
 //! A line is read as a [`Request`], the request is met on a [`Front`], and its reply is written:
 //! [`Session::line`] does so for one line, and [`run`](run::run) for the lines of a reader. What a line is
-//! answered, and the state after it, is `line_met` of specs/Sessions.antt.
+//! answered, and the state after it, is `line_met` of specs/session/Sessions.antt.
+//!
+//! The rooms, each with a folder in src, specs and proofs: `session` answers lines on a front, `local` is
+//! the front of one thread over a disk, `program` is all of `watchmand`. What serves sockets is to be a
+//! room `serve` beside them, above `session` and below `program`.
+//!
+//! Tests: session_tests/src (lines, requests, programs, ends.rt).
 #![tactic(auto)]
 
-mod age_out;
-mod arguments;
-mod clock;
-mod expression;
-pub mod file;
-mod front;
-mod input;
-mod kept_expression;
-mod keys;
 mod laws;
-pub mod lines;
-mod listing;
 mod local;
-mod metadata;
-mod output;
-mod pairs;
-pub mod programs;
-mod query;
-mod record;
-mod reply;
-mod request;
-pub mod run;
+pub mod program;
 mod session;
-pub mod system;
-mod triggers;
-mod watched;
-pub mod words;
 
-pub use expression::Expression;
-pub use front::Front;
-pub use input::Input;
 pub use laws::{every_line, every_restart};
-pub use local::LocalFront;
-pub use output::Output;
-pub use query::Inquiry;
-pub use reply::REFUSAL_ROOM;
-pub use request::{MAX_LINE, Request};
-pub use session::Session;
-pub use watched::{RootView, Stand};
+pub use local::{LocalFront, RootView};
+pub use program::{lines, system, words};
+pub use session::{Front, Input, Output, Session, run};
+pub use wm_file::file;
+pub use wm_lines::reply::REFUSAL_ROOM;
+pub use wm_lines::{Expression, Inquiry, MAX_LINE, Progress, Request};

@@ -1,26 +1,33 @@
+//! The session: a line to its reply, and the lines of a reader. Its definitions are in specs/session.
+//! Tests: session_tests/src/lines.
 ghost use Rattle.std.specs.Prelude.{◌≡◌, ◌≢◌, Ok, Err, [], ◌∷◌, ◌++◌, ◌+◌, ◌≤◌, ◌<◌, List, ℕ, vec_len, vec_capacity, IfOk, IfErr, OnOk, OnErr};
 ghost use Rattle.wm_registry.specs.Roots.{root_at};
-ghost use Rattle.wm_server.specs.Asked.{asked_by};
-ghost use Rattle.wm_server.specs.Lines.{request_of_line};
-ghost use Rattle.wm_server.specs.Sessions.{commanded, triggers_met, question_met, line_met, inquiry_met, met, operated, view_of};
-ghost use Rattle.wm_server.specs.Replies.{clock_reply};
-ghost use Rattle.wm_server.specs.Watched.{answer_of, clock_answer};
-ghost use Rattle.wm_server.specs.Faults.{Answers, Way, faults_of, is_fault as is_fault_lem};
-ghost use Rattle.wm_server.specs.Pages.{Meets, Told, page};
-ghost use Rattle.wm_server.specs.Inquiries.{inquired, point_answer};
+ghost use Rattle.wm_server.specs.session.Asked.{asked_by};
+ghost use Rattle.wm_lines.specs.Lines.{request_of_line};
+ghost use Rattle.wm_server.specs.session.Sessions.{commanded, triggers_met, question_met, line_met, inquiry_met, handled, operation_outcome, view_of};
+ghost use Rattle.wm_lines.specs.Replies.{clock_reply};
+ghost use Rattle.wm_server.specs.session.Watched.{answer_of, clock_answer};
+ghost use Rattle.wm_server.specs.session.Faults.{RepliesTo, Way, faults_of, is_fault as is_fault_lem};
+ghost use Rattle.wm_server.specs.session.Pages.{Handles, Told, page};
+ghost use Rattle.wm_server.specs.session.Inquiries.{inquired, point_answer};
 ghost use Rattle.wm_expr.specs.Meanings.{holds};
 ghost use Rattle.wm_expr.specs.Views.{term};
 ghost use Rattle.wm_since.specs.Answers.{question};
 
-use crate::front::Front;
-use crate::query::Inquiry;
-use crate::reply;
-use crate::reply::REFUSAL_ROOM;
-use crate::request::Request;
+mod front;
+mod input;
+mod output;
+pub mod run;
+
+pub use front::Front;
+pub use input::Input;
+pub use output::Output;
 use std::alloc::Global;
 use wm_clock::{ClockId, ClockSpec};
 use wm_disk::{NoMemory, Refusal};
 use wm_expr::Expr;
+use wm_lines::reply::REFUSAL_ROOM;
+use wm_lines::{Inquiry, Request, reply};
 use wm_names::RootPath;
 use wm_registry::{Command, Reply};
 use wm_since::{Fields, Query};
@@ -50,7 +57,7 @@ impl<F: Front> Session<F> {
     /// Submits a command. Each reply that it may have is made first, with its room, so that an accepted
     /// command has its reply.
     fn command(&mut self, alloc: Global, command: Command, out: &mut Vec<u8>) -> Result<(), Refusal>
-        ensures met { Meets (commanded (F.standing self.old.front).state command) (page (F.standing self.old.front) out.old.items) result (page (F.standing self.new.front) out.new.items) }
+        ensures met { Handles (commanded (F.front_state self.old.front).state command) (page (F.front_state self.old.front) out.old.items) result (page (F.front_state self.new.front) out.new.items) }
         ensures room { vec_capacity out.old ≤ vec_capacity out.new }
         ensures later { F.leads_to self.old.front (command ∷ []) self.new.front }
     {
@@ -70,7 +77,7 @@ impl<F: Front> Session<F> {
 
     /// Tells the triggers of a root.
     fn triggers(&self, alloc: Global, path: &RootPath, out: &mut Vec<u8>) -> Result<(), Refusal>
-        ensures met { let s = (F.standing self.now.front).state in Meets (triggers_met s (root_at path.now s.registry)) (page (F.standing self.now.front) out.old.items) result (page (F.standing self.now.front) out.new.items) }
+        ensures met { let s = (F.front_state self.now.front).state in Handles (triggers_met s (root_at path.now s.registry)) (page (F.front_state self.now.front) out.old.items) result (page (F.front_state self.now.front) out.new.items) }
         ensures room { vec_capacity out.old ≤ vec_capacity out.new }
     {
         let Some(root) = self.front.registry().roots().get(path) else {
@@ -88,14 +95,14 @@ impl<F: Front> Session<F> {
         op: &Op,
         out: &mut Vec<u8>,
     ) -> Result<(), Refusal>
-        ensures met { let s = (F.standing self.old.front).state in Meets (operated s root.now op.now) (page (F.standing self.old.front) out.old.items) result (page (F.standing self.new.front) out.new.items) }
+        ensures met { let s = (F.front_state self.old.front).state in Handles (operation_outcome s root.now op.now) (page (F.front_state self.old.front) out.old.items) result (page (F.front_state self.new.front) out.new.items) }
         ensures room { vec_capacity out.old ≤ vec_capacity out.new }
         ensures later { F.leads_to self.old.front [] self.new.front }
     {
-        out.try_reserve(reply::STAND_ROOM)?;
+        out.try_reserve(reply::PROGRESS_ROOM)?;
         match self.front.operate(alloc, root, op) {
-            Ok(stand) => {
-                reply::put_stand(op, stand, out);
+            Ok(progress) => {
+                reply::put_progress(op, progress, out);
                 Ok(())
             }
             Err(refusal) => Err(refusal),
@@ -104,18 +111,18 @@ impl<F: Front> Session<F> {
 
     /// Tells the clock of a root.
     fn clock(&self, root: &RootPath, out: &mut Vec<u8>) -> Result<(), Refusal>
-        ensures met { let s = (F.standing self.now.front).state in Meets (question_met s (clock_answer (view_of s root.now)) clock_reply) (page (F.standing self.now.front) out.old.items) result (page (F.standing self.now.front) out.new.items) }
+        ensures met { let s = (F.front_state self.now.front).state in Handles (question_met s (clock_answer (view_of s root.now)) clock_reply) (page (F.front_state self.now.front) out.old.items) result (page (F.front_state self.now.front) out.new.items) }
         ensures room { vec_capacity out.old ≤ vec_capacity out.new }
     {
         let clock = self.front.clock(root)?;
-        out.try_reserve(reply::STAND_ROOM)?;
+        out.try_reserve(reply::PROGRESS_ROOM)?;
         reply::put_clock(clock, out);
         Ok(())
     }
 
     /// The clock since which is asked: none in another instance, and none by a cursor that isn't there.
     fn point(&self, root: &RootPath, since: &Option<ClockSpec>) -> Result<Option<ClockId>, Refusal>
-        ensures { result ≡ point_answer (view_of (F.standing self.now.front).state root.now) since.now }
+        ensures { result ≡ point_answer (view_of (F.front_state self.now.front).state root.now) since.now }
     {
         match since {
             Some(ClockSpec::Clock(clock)) => Ok(Some(*clock)),
@@ -134,8 +141,8 @@ impl<F: Front> Session<F> {
         fields: &Fields,
         out: &mut Vec<u8>,
     ) -> Result<ClockId, Refusal>
-        ensures ok { IfOk result (λ clock. Told (answer_of (holds (term query.now.test)) (view_of (F.standing self.now.front).state root.now) (question query.now)) fields.now clock out.old.items out.new.items) }
-        ensures refused { IfErr result (λ e. e ≢ Refusal.NoMemory → answer_of (holds (term query.now.test)) (view_of (F.standing self.now.front).state root.now) (question query.now) ≡ Err e) }
+        ensures ok { IfOk result (λ clock. Told (answer_of (holds (term query.now.test)) (view_of (F.front_state self.now.front).state root.now) (question query.now)) fields.now clock out.old.items out.new.items) }
+        ensures refused { IfErr result (λ e. e ≢ Refusal.NoMemory → answer_of (holds (term query.now.test)) (view_of (F.front_state self.now.front).state root.now) (question query.now) ≡ Err e) }
         ensures err { OnErr result (out.new.items ≡ out.old.items) }
         ensures room { vec_capacity out.old ≤ vec_capacity out.new }
     {
@@ -153,7 +160,7 @@ impl<F: Front> Session<F> {
         inquiry: Inquiry,
         out: &mut Vec<u8>,
     ) -> Result<(), Refusal>
-        ensures met { let s = (F.standing self.old.front).state in Meets (inquiry_met s root.now inquiry (inquired (view_of s root.now) inquiry)) (page (F.standing self.old.front) out.old.items) result (page (F.standing self.new.front) out.new.items) }
+        ensures met { let s = (F.front_state self.old.front).state in Handles (inquiry_met s root.now inquiry (inquired (view_of s root.now) inquiry)) (page (F.front_state self.old.front) out.old.items) result (page (F.front_state self.new.front) out.new.items) }
         ensures room { vec_capacity out.old ≤ vec_capacity out.new }
         ensures later { F.leads_to self.old.front [] self.new.front }
     {
@@ -183,7 +190,7 @@ impl<F: Front> Session<F> {
         request: Request,
         out: &mut Vec<u8>,
     ) -> Result<(), Refusal>
-        ensures met { Meets (met (F.standing self.old.front).state moment request) (page (F.standing self.old.front) out.old.items) result (page (F.standing self.new.front) out.new.items) }
+        ensures met { Handles (handled (F.front_state self.old.front).state moment request) (page (F.front_state self.old.front) out.old.items) result (page (F.front_state self.new.front) out.new.items) }
         ensures room { vec_capacity out.old ≤ vec_capacity out.new }
         ensures later { F.leads_to self.old.front (asked_by (Ok request)) self.new.front }
     {
@@ -222,7 +229,7 @@ impl<F: Front> Session<F> {
         line: &[u8],
         out: &mut Vec<u8>,
     ) -> Result<(), Refusal>
-        ensures met { Meets (line_met (F.standing self.old.front).state moment line.now) (page (F.standing self.old.front) out.old.items) result (page (F.standing self.new.front) out.new.items) }
+        ensures met { Handles (line_met (F.front_state self.old.front).state moment line.now) (page (F.front_state self.old.front) out.old.items) result (page (F.front_state self.new.front) out.new.items) }
         ensures room { vec_capacity out.old ≤ vec_capacity out.new }
         ensures later { F.leads_to self.old.front (asked_by (request_of_line line.now)) self.new.front }
     {
@@ -232,7 +239,7 @@ impl<F: Front> Session<F> {
 
     /// Answers a line, which comes with its newline: appends the reply and a newline, and tells how many
     /// faults were met: none or one. The room of a refusal is made before anything changes: an `Err` is
-    /// want of memory for it, comes only where `out` has no such room yet, and changes nothing.
+    /// running out of memory for it, comes only where `out` has no such room yet, and changes nothing.
     pub fn line(
         &mut self,
         alloc: Global,
@@ -241,7 +248,7 @@ impl<F: Front> Session<F> {
         out: &mut Vec<u8>,
     ) -> Result<u64, NoMemory>
         ensures ok { IfOk result (λ n. (way : Way) × (bytes : List ℕ) × (n ≡ faults_of way) × (out.new.items ≡ out.old.items ++ bytes)
-            × Answers way (F.standing self.old.front) moment line.now bytes (F.standing self.new.front)) }
+            × RepliesTo way (F.front_state self.old.front) moment line.now bytes (F.front_state self.new.front)) }
         ensures err { OnErr result ((out.new.items ≡ out.old.items) × (self.new ≡ self.old)) }
         ensures full { OnErr result (vec_capacity out.old < vec_len out.old + REFUSAL_ROOM) }
         ensures later { F.leads_to self.old.front (asked_by (request_of_line line.now)) self.new.front }

@@ -6,14 +6,14 @@ use Rattle.wm_names.specs.declared.entry.Entry.{Entry}
 use Rattle.wm_view.specs.declared.known.Known.{Known}
 use Rattle.wm_view.specs.Files.{is_in}
 use Rattle.wm_view.specs.Histories.{History, IsMade, tick_of, ever, last_change, has_changed, exists_now}
-use Rattle.wm_view.specs.Laws.{Low}
+use Rattle.wm_view.specs.HistoryLaws.{Low}
 use Rattle.wm_view.specs.Summaries.{Summary, summary, tagged, known_paths, known_of, by_last, changed_since, existing_now}
-use Rattle.wm_view.proofs.PathLaws.{low_made}
-use Rattle.wm_view.proofs.Paths.{both-first, both-second}
+use Rattle.wm_disk.specs.laws.Tests.{both_first, both_second}
 use Rattle.wm_since.specs.declared.listed.Listed.{Listed}
 use Rattle.wm_since.specs.declared.query.Answer.{Answer}
-use Rattle.wm_view.proofs.KnownPaths.{tagged_where, map-tagged}
-use Rattle.wm_since.specs.Answers.{Question, can_tell, is_fresh, since_tick, down_from, matches_now, all_existing, difference, answer_to, told, entry_in, listed_in, listed_all, files_by, answer_by}
+use Rattle.wm_view.specs.laws.Tagged.{tagged_where, map-tagged}
+use Rattle.wm_since.specs.Laws.{AnswersBySummary}
+use Rattle.wm_since.specs.Answers.{Question, can_tell, is_fresh, since_tick, down_from, matches_now, all_existing, difference, answer_to, answerable_since, entry_in, listed_in, listed_all, files_by, answer_by}
 
 filter_filter : {A : Type 0} (f g : A → Bool) (xs : List A) → filter f (filter g xs) ≡ filter (λ x. g x && f x) xs
 filter_filter f g [] = refl
@@ -89,11 +89,11 @@ existing_agrees x h low = by_ticks h (exists_now h) (matches_now h x) (there h l
 changed_agrees : (x : Entry → Bool) (h : History) → Low h → (t : ℕ) → h.floor ≤ t → listed_all x (Some t) (changed_since (summary h) t) ≡ difference h x t
 changed_agrees x h low t high = by_ticks h (has_changed h t) (matches_now h x) (later h low t high) (λ e. nat_lt t e.1.last) (λ e. x (entry_in e)) (λ p. refl) (λ p. refl) (listed_in (Some t)) (tick_of h)
 
-agree : (x : Entry → Bool) (h : History) (q : Question) → Low h → answer_by x (summary h) q ≡ answer_to x h q
+pub agree : (x : Entry → Bool) (h : History) (q : Question) → Low h → answer_by x (summary h) q ≡ answer_to x h q
 agree x h q low = λ i. record { clock = record { incarnation = h.incarnation; root = h.root; tick = tick_of h }; fresh = (told_so q.since).0 i; files = (told_so q.since).1 i }
   where
-    told_so : (since : Option ClockId) → (not (is_some (told (summary h) since)) ≡ is_fresh h since)
-        × (files_by x (summary h) q.empty_on_fresh (told (summary h) since) ≡ cond (is_fresh h since) (cond q.empty_on_fresh [] (all_existing h x)) (difference h x (since_tick since)))
+    told_so : (since : Option ClockId) → (not (is_some (answerable_since (summary h) since)) ≡ is_fresh h since)
+        × (files_by x (summary h) q.empty_on_fresh (answerable_since (summary h) since) ≡ cond (is_fresh h since) (cond q.empty_on_fresh [] (all_existing h x)) (difference h x (since_tick since)))
     told_so None = (refl, ap (λ l. cond q.empty_on_fresh [] l) (existing_agrees x h low))
     told_so (Some c) = elim (can_tell h c) as (λ b. can_tell h c ≡ b → (not (is_some (cond b (Some c.tick) None)) ≡ not b)
         × (files_by x (summary h) q.empty_on_fresh (cond b (Some c.tick) None) ≡ cond (not b) (cond q.empty_on_fresh [] (all_existing h x)) (difference h x c.tick))) [
@@ -102,7 +102,7 @@ agree x h q low = λ i. record { clock = record { incarnation = h.incarnation; r
         ] refl
       where
         floor_low : can_tell h c ≡ true → h.floor ≤ c.tick
-        floor_low e = leb-true h.floor c.tick (both-second ((c.incarnation == h.incarnation) && (c.root == h.root)) (nat_le h.floor c.tick) (both-first ((c.incarnation == h.incarnation) && (c.root == h.root) && nat_le h.floor c.tick) (nat_le c.tick (tick_of h)) e))
+        floor_low e = leb-true h.floor c.tick (both_second ((c.incarnation == h.incarnation) && (c.root == h.root)) (nat_le h.floor c.tick) (both_first ((c.incarnation == h.incarnation) && (c.root == h.root) && nat_le h.floor c.tick) (nat_le c.tick (tick_of h)) e))
 
-pub by_summary : (x : Entry → Bool) (h : History) (s : Summary) (q : Question) (a : Answer) → a ≡ answer_by x s q → IsMade h → summary h ≡ s → a ≡ answer_to x h q
-by_summary x h s q a e made same = e ∙ ap (λ s. answer_by x s q) (sym same) ∙ agree x h q (low_made h made)
+pub by_summary : AnswersBySummary → (x : Entry → Bool) (h : History) (s : Summary) (q : Question) (a : Answer) → a ≡ answer_by x s q → IsMade h → summary h ≡ s → a ≡ answer_to x h q
+by_summary every x h s q a e made same = e ∙ ap (λ s. answer_by x s q) (sym same) ∙ every x h q made

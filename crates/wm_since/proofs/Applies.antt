@@ -1,19 +1,20 @@
 -- A client who applies an answer has exactly the matching files of the map at the answer's clock.
-use Rattle.std.proofs.Common.{◌≡◌, ℕ, zero, suc, ◌<◌, Bool, true, false, cond, not, ◌&&◌, ◌||◌, List, [], ◌∷◌, ◌++◌, length, map, filter, flat_map, Option, Some, None, is_some, nat_lt, nat_le, ◌==◌, refl, sym, ap, subst, ◌∙◌, T, arith, true≢false, ltb-true, ltb-false, lt-ltb, le-leb}
+use Rattle.std.proofs.Common.{◌≡◌, ℕ, zero, suc, ◌<◌, Bool, true, false, cond, not, ◌&&◌, ◌||◌, List, [], ◌∷◌, map, filter, flat_map, Option, Some, None, is_some, nat_lt, nat_le, ◌==◌, refl, sym, ap, subst, ◌∙◌, T, arith, ltb-true, ltb-false, lt-ltb, le-leb}
 use Rattle.std.proofs.lemmas.Bool.Decides.{nat_tests}
 use Rattle.wm_clock.specs.declared.clock_id.ClockId.{ClockId}
 use Rattle.std.specs.Cmp.Lexicographic.{nat_list_cmp_total}
 use Rattle.std.specs.FinMap.{is_sorted}
 use Rattle.std.specs.FinMap.Entries.{is_sorted-put, is_sorted-where_key, same_entries}
 use Rattle.wm_names.specs.Paths.{Path, path_cmp, same_path}
-use Rattle.wm_names.specs.Entries.{same_state}
 use Rattle.wm_names.specs.declared.entry.Entry.{Entry}
 use Rattle.wm_names.specs.declared.entry.Meta.{Meta}
 use Rattle.wm_view.specs.Files.{Paths, Files, at, is_in, with_path}
-use Rattle.wm_view.specs.Histories.{Ticks, History, newest, tick_of, map_at, differs, last_change, has_changed, creation, ever, exists_now}
+use Rattle.wm_view.specs.Histories.{History, tick_of, map_at, last_change, has_changed, creation, ever, exists_now}
 use Rattle.wm_view.specs.Summaries.{tagged}
-use Rattle.wm_view.proofs.KnownPaths.{tagged-with, tagged-filter, added_sorted, find_tagged}
-use Rattle.wm_view.proofs.Paths.{both-first, same→≡, tied→≡, add_in, with_path-in, in_filter, changes, changes_bound, was_there, stays}
+use Rattle.wm_view.specs.laws.Tagged.{tagged-with, tagged-filter, added_sorted, find_tagged}
+use Rattle.wm_disk.specs.laws.Tests.{both_first}
+use Rattle.wm_view.specs.laws.PathSets.{same→≡, tied→≡, add_in, with_path-in, in_filter, in_append}
+use Rattle.wm_view.specs.laws.LastChanges.{changes_bound, was_there, unchanged_since, there_changed}
 use Rattle.wm_since.specs.declared.listed.Listed.{Listed}
 use Rattle.wm_since.specs.declared.query.Answer.{Answer}
 use Rattle.wm_since.specs.Answers.{clock_of, can_tell, entry_of, listed, down_from, by_change, matches_now, all_existing, difference, answer_to}
@@ -29,29 +30,6 @@ is_matching passes p (Some meta) = passes (there (p, meta))
 -- the list has just the paths of the map at tick t that pass
 abbrev HasExactly : Paths → History → (Entry → Bool) → ℕ → Type 0
 HasExactly ps h passes t = (p : Path) → is_in p ps ≡ is_matching passes p (at (map_at h t) p)
-
-or_assoc : (a b c : Bool) → ((a || b) || c) ≡ (a || (b || c))
-or_assoc true b c = refl
-or_assoc false b c = refl
-
-in_append : (r : Path) (ps qs : Paths) → is_in r (ps ++ qs) ≡ (is_in r ps || is_in r qs)
-in_append r [] qs = refl
-in_append r (p ∷ ps) qs = ap (λ b. same_path r p || b) (in_append r ps qs) ∙ sym (or_assoc (same_path r p) (is_in r ps) (is_in r qs))
-
-alike : (a b : Option Meta) → not (same_state a b) ≡ false → is_some a ≡ is_some b
-alike None None h = refl
-alike None (Some y) h = absurd (true≢false h)
-alike (Some x) None h = absurd (true≢false h)
-alike (Some x) (Some y) h = refl
-
--- what is there has changed
-there_changed : (r : Path) (ts : Ticks) → is_some (at (newest ts) r) ≡ true → 0 < changes ts r
-there_changed r [] h = absurd (true≢false (sym h))
-there_changed r (t ∷ ts) h =
-    elim (differs (t ∷ ts) r) as (λ b. differs (t ∷ ts) r ≡ b → 0 < cond b (suc (length ts)) (changes ts r)) [
-      | true ↦ λ e. omega arith
-      | false ↦ λ e. there_changed r ts (sym (alike (at t.files r) (at (newest ts) r) e) ∙ h)
-    ] refl
 
 -- ---- what an answer lists
 
@@ -149,9 +127,9 @@ fresh_case false x = refl
 fresh_applies : (h : History) (x : Entry → Bool) → PathOnly x → HasExactly (put_in (λ f. true) (all_existing h x) []) h x (tick_of h)
 fresh_applies h x n r =
     in_put h (λ p. true) (λ f. true) r (by_change h (λ p. exists_now h p && matches_now h x p)) []
-    ∙ ap (λ b. (b && true) || false) (in_by_change h (λ p. exists_now h p && matches_now h x p) r (λ e. there_changed r h.ticks (both-first (exists_now h r) (matches_now h x r) e)))
+    ∙ ap (λ b. (b && true) || false) (in_by_change h (λ p. exists_now h p && matches_now h x p) r (λ e. there_changed r h.ticks (both_first (exists_now h r) (matches_now h x r) e)))
     ∙ fresh_case (exists_now h r) (matches_now h x r)
-    ∙ ap (λ b. b && matches_now h x r) (sym (stays r h.ticks (tick_of h) (changes_bound r h.ticks)))
+    ∙ ap (λ b. b && matches_now h x r) (sym (unchanged_since r h.ticks (tick_of h) (changes_bound r h.ticks)))
     ∙ sym (matching x n (entry_of h r) (at (map_at h (tick_of h)) r))
 
 changed_case : (c x e s : Bool) → (c ≡ false → s ≡ e) → (((c && x) && e) || ((s && x) && not ((c && x) && not e))) ≡ (e && x)
@@ -174,15 +152,15 @@ difference_applies h x t ps n held r =
     let is_new : Path → Bool = λ p. nat_lt t (creation h p) in
     let test : Path → Bool = λ p. has_changed h t p && matches_now h x p in
     let listed_r : is_in r (by_change h test) ≡ (has_changed h t r && matches_now h x r) =
-    in_by_change h test r (λ e. let late : t < last_change h r = ltb-true t (last_change h r) (both-first (has_changed h t r) (matches_now h x r) e) in omega arith) in
+    in_by_change h test r (λ e. let late : t < last_change h r = ltb-true t (last_change h r) (both_first (has_changed h t r) (matches_now h x r) e) in omega arith) in
     let held_r : is_in r ps ≡ (is_some (at (map_at h t) r) && matches_now h x r) = held r ∙ matching x n (entry_of h r) (at (map_at h t) r) in
     in_put h is_new (λ f. f.entry.exists) r (by_change h test) (filter (λ p. not (is_gone (difference h x t) p)) ps)
     ∙ ap (λ b. (is_in r (by_change h test) && exists_now h r) || b) (in_filter r (λ p. not (is_gone (difference h x t) p)) ps)
     ∙ ap (λ b. (is_in r (by_change h test) && exists_now h r) || (is_in r ps && not b)) (gone h is_new r (by_change h test))
     ∙ ap (λ l. (l && exists_now h r) || (is_in r ps && not (l && not (exists_now h r)))) listed_r
     ∙ ap (λ i. ((has_changed h t r && matches_now h x r) && exists_now h r) || (i && not ((has_changed h t r && matches_now h x r) && not (exists_now h r)))) held_r
-    ∙ changed_case (has_changed h t r) (matches_now h x r) (exists_now h r) (is_some (at (map_at h t) r)) (λ c. stays r h.ticks t (ltb-false t (last_change h r) c))
-    ∙ ap (λ b. b && matches_now h x r) (sym (stays r h.ticks (tick_of h) (changes_bound r h.ticks)))
+    ∙ changed_case (has_changed h t r) (matches_now h x r) (exists_now h r) (is_some (at (map_at h t) r)) (λ c. unchanged_since r h.ticks t (ltb-false t (last_change h r) c))
+    ∙ ap (λ b. b && matches_now h x r) (sym (unchanged_since r h.ticks (tick_of h) (changes_bound r h.ticks)))
     ∙ sym (matching x n (entry_of h r) (at (map_at h (tick_of h)) r))
 
 -- ---- sets

@@ -1,10 +1,11 @@
 -- One more path, and one more file of an answer.
 use Rattle.std.proofs.Common.{◌≡◌, ℕ, zero, suc, ◌+◌, ◌-◌, ◌<◌, ◌≤◌, Bool, cond, List, [], ◌∷◌, ◌++◌, length, take, drop, get_or, refl, sym, ap, ◌∙◌, append_assoc, add-one, drop-cons, arith, Less, Equal, Greater}
+use Rattle.std.proofs.lemmas.List.{drop_all}
 use Rattle.std.specs.List.{insert}
 use Rattle.std.specs.Ordering.{match_ordering}
 use Rattle.wm_names.specs.Paths.{Path, path_cmp}
 use Rattle.wm_view.specs.Files.{Paths, with_path}
-use Rattle.wm_view.proofs.Lists.{drop_here, all_dropped}
+use Rattle.wm_view.specs.laws.Lists.{drop_here}
 use Rattle.wm_since.specs.declared.listed.Listed.{Listed}
 use Rattle.wm_since.specs.Clients.{put_in}
 
@@ -19,7 +20,7 @@ with_less p xs i x l e less =
     ∙ ap (λ m. take i xs ++ p ∷ m) (sym (drop_here xs i x l e))
 
 pub with_last : (p : Path) (xs : Paths) (i : ℕ) → length xs ≤ i → take i xs ++ with_path p (drop i xs) ≡ insert xs i p
-with_last p xs i l = ap (λ m. take i xs ++ with_path p m) (all_dropped xs i l) ∙ ap (λ m. take i xs ++ p ∷ m) (sym (all_dropped xs i l))
+with_last p xs i l = ap (λ m. take i xs ++ with_path p m) (drop_all i xs l) ∙ ap (λ m. take i xs ++ p ∷ m) (sym (drop_all i xs l))
 
 whole : {A : Type 0} (xs : List A) (i : ℕ) → take i xs ++ drop i xs ≡ xs
 whole [] zero = refl

@@ -75,9 +75,9 @@ answer_to passes h q =
 -- ---- the same from the summary alone
 
 -- the tick of the clock, where what changed since it can be told
-abbrev pub told : Summary → Option ClockId → Option ℕ
-told s None = None
-told s (Some c) = cond ((c.incarnation == s.incarnation) && (c.root == s.root) && nat_le s.floor c.tick && nat_le c.tick s.tick) (Some c.tick) None
+abbrev pub answerable_since : Summary → Option ClockId → Option ℕ
+answerable_since s None = None
+answerable_since s (Some c) = cond ((c.incarnation == s.incarnation) && (c.root == s.root) && nat_le s.floor c.tick && nat_le c.tick s.tick) (Some c.tick) None
 
 abbrev pub is_new : Option ℕ → ℕ → Bool
 is_new None created = true
@@ -100,6 +100,6 @@ abbrev pub answer_by : (Entry → Bool) → Summary → Question → Answer
 answer_by passes s q =
     record {
       clock = record { incarnation = s.incarnation; root = s.root; tick = s.tick };
-      fresh = not (is_some (told s q.since));
-      files = files_by passes s q.empty_on_fresh (told s q.since);
+      fresh = not (is_some (answerable_since s q.since));
+      files = files_by passes s q.empty_on_fresh (answerable_since s q.since);
     }

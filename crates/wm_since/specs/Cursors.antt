@@ -16,9 +16,13 @@ abbrev pub moved_to : List ℕ → ClockId → CursorList → CursorList
 moved_to name clock [] = (name, clock) ∷ []
 moved_to name clock (c ∷ cursors) = if bytes_eq name c.0 then (c.0, clock) ∷ cursors else c ∷ moved_to name clock cursors
 
--- the cursor is there, or fewer than 256 are
+-- the most cursors of a root
+abbrev pub max_cursors : ℕ
+max_cursors = 256
+
+-- the cursor is there, or there are fewer than the most
 abbrev pub has_room : List ℕ → CursorList → Bool
-has_room name cursors = is_some (cursor_at name cursors) || nat_lt (length cursors) 256
+has_room name cursors = is_some (cursor_at name cursors) || nat_lt (length cursors) max_cursors
 
 -- ---- laws
 

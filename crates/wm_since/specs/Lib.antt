@@ -2,6 +2,7 @@ pub mod Answers
 pub mod Clients
 pub mod Cursors
 pub mod Fields
+pub mod Laws
 pub mod Matching
 pub mod Rendered
 pub mod Tests

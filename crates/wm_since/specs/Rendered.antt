@@ -1,22 +1,15 @@
 -- The files of an answer as JSON. The keys of each object are in the order of their bytes, as the fields are.
-use Rattle.std.specs.Prelude.{ℕ, List, [], ◌∷◌, map, codes}
+use Rattle.std.specs.Prelude.{ℕ, List, [], ◌∷◌, map}
 use Rattle.serde_json.specs.Data.{Data, boolean, number, unsigned, string, array, object, Members, member, no_members}
 use Rattle.serde_json.specs.View.{items_of}
-use Rattle.wm_names.specs.declared.entry.Kind.{Kind}
-use Rattle.wm_names.specs.declared.entry.Kind.TheVariants as kinds
+use Rattle.wm_names.specs.Entries.{letter_of}
 use Rattle.wm_clock.specs.declared.clock_id.ClockId.{ClockId}
 use Rattle.wm_clock.specs.Clocks.{clock_text}
 use Rattle.wm_since.specs.declared.field.Field.{Field}
 use Rattle.wm_since.specs.declared.field.Field.TheVariants.{Name, Exists, New, Size, «Type», MtimeMs, Cclock, Oclock}
 use Rattle.wm_since.specs.declared.listed.Listed.{Listed}
 use Rattle.wm_since.specs.declared.query.Answer.{Answer}
-use Rattle.wm_since.specs.Fields.{name_of}
-
-abbrev pub kind_text : Kind → List ℕ
-kind_text kinds.File = codes "f"
-kind_text kinds.Folder = codes "d"
-kind_text kinds.Link = codes "l"
-kind_text kinds.Other = codes "o"
+use Rattle.wm_since.specs.Fields.{field_name}
 
 -- the text of a tick in the incarnation and the root of a clock
 abbrev pub tick_text : ClockId → ℕ → List ℕ
@@ -28,14 +21,14 @@ value_of c f Name = string f.entry.path
 value_of c f Exists = boolean f.entry.exists
 value_of c f New = boolean f.is_new
 value_of c f Size = number (unsigned f.entry.meta.size)
-value_of c f «Type» = string (kind_text f.entry.meta.kind)
+value_of c f «Type» = string (letter_of f.entry.meta.kind)
 value_of c f MtimeMs = number (unsigned f.entry.meta.mtime_ms)
 value_of c f Cclock = string (tick_text c f.created)
 value_of c f Oclock = string (tick_text c f.last)
 
 abbrev pub members_of : ClockId → Listed → List Field → Members
 members_of c f [] = no_members
-members_of c f (x ∷ fields) = member (name_of x) (value_of c f x) (members_of c f fields)
+members_of c f (x ∷ fields) = member (field_name x) (value_of c f x) (members_of c f fields)
 
 -- the bare value of a field that is alone, and else an object
 abbrev pub file_data : List Field → ClockId → Listed → Data

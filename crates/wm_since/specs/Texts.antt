@@ -25,5 +25,5 @@ abbrev pub files_text : List Field → ClockId → List Listed → List ℕ
 files_text fields clock files = compact_text (array (items_of (map (file_data fields clock) files)))
 
 -- what stood there still stands in front
-abbrev pub KeepsFront : List ℕ → List ℕ → Type 0
-KeepsFront old new = take (length old) new ≡ old
+abbrev pub KeepsTextPrefix : List ℕ → List ℕ → Type 0
+KeepsTextPrefix old new = take (length old) new ≡ old

@@ -3,8 +3,9 @@
 ghost use Rattle.std.specs.Prelude.{◌≡◌, ◌≢◌, ◌↔◌, ℕ, true, false, IfOk, IfErr, IsErrOf};
 ghost use Rattle.wm_view.specs.Histories.{History, IsMade};
 ghost use Rattle.wm_view.specs.Summaries.{summary};
-ghost use Rattle.wm_since.specs.Answers.{answer_by, answer_to, files_by, is_new, listed_all, listed_in, question, told};
+ghost use Rattle.wm_since.specs.Answers.{answer_by, answer_to, files_by, is_new, listed_all, listed_in, question, answerable_since};
 
+use crate::laws::every_answer;
 use crate::listed::{Listed, ListedFiles};
 use crate::query::{Answer, Query};
 use crate::test::Test;
@@ -60,7 +61,7 @@ fn listed_all<T: Test>(
 
 /// The tick from which on the view can tell what changed since the clock.
 fn told(view: &View, since: Option<ClockId>) -> Option<u64>
-    ensures { result ≡ told view.now since }
+    ensures { result ≡ answerable_since view.now since }
 {
     match since {
         Some(clock) => {
@@ -102,6 +103,7 @@ pub fn answer<T: Test>(alloc: Global, view: &View, query: &Query<T>) -> Result<A
     ensures refused { IsErrOf result Refusal.NotReady ↔ (view.now.ready ≡ false) }
     ensures kinds { IfErr result (λ e. e ≢ Refusal.NoMemory → e ≡ Refusal.NotReady) }
 {
+    every_answer();
     if !view.ready() {
         return Err(Refusal::NotReady);
     }

@@ -16,7 +16,7 @@ use wm_disk::NoMemory;
 pub const MAX_CURSORS: usize = 256;
 
 /// The named cursors of one root, each with the clock up to which its client was told. There are at
-/// most 256, and the room for all is made at once, so that a move takes no memory. Contracts see the
+/// most `MAX_CURSORS`, and the room for all is made at once, so that a move takes no memory. Contracts see the
 /// names with their clocks, in the order in which they were made.
 #[derive(Drop)]
 pub struct Cursors {
@@ -26,17 +26,17 @@ pub struct Cursors {
 impl Model for Cursors {
     ghost use Rattle.std.specs.Prelude.{◌+◌, ◌≤◌, length};
     ghost use Rattle.indexmap.specs.IndexMap.{spare};
-    ghost use Rattle.wm_since.specs.Cursors.{CursorList};
+    ghost use Rattle.wm_since.specs.Cursors.{CursorList, max_cursors};
 
     ghost Value = { CursorList };
 
     ghost view = { λ c. c.clocks.entries };
 
-    ghost invariant = { λ c. (length c.clocks.entries ≤ 256) × (256 ≤ length c.clocks.entries + spare c.clocks) };
+    ghost invariant = { λ c. (length c.clocks.entries ≤ max_cursors) × (max_cursors ≤ length c.clocks.entries + spare c.clocks) };
 }
 
 impl Cursors {
-    /// No cursors yet, with room for 256: some 20 kilobytes.
+    /// No cursors yet, with room for `MAX_CURSORS`: some 20 kilobytes.
     pub fn new(alloc: Global) -> Result<Cursors, NoMemory>
         ensures { IfOk result (λ c. c ≡ []) }
     {
@@ -60,7 +60,7 @@ impl Cursors {
         self.clocks.len()
     }
 
-    /// Whether the cursor may be moved: it is there, or there are fewer than 256.
+    /// Whether the cursor may be moved: it is there, or there are fewer than `MAX_CURSORS`.
     pub fn has_room(&self, name: &CursorName) -> bool
         ensures { result ≡ has_room name.now self.now }
     {

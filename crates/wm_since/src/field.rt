@@ -1,7 +1,7 @@
 //! What may be told of a file, and the name of each such field.
 //! Definitions: specs/Fields.antt. Tests: view_tests/src/answers/rendering.rt.
 ghost use Rattle.std.specs.Prelude.{◌≡◌};
-ghost use Rattle.wm_since.specs.Fields.{field_of, name_of};
+ghost use Rattle.wm_since.specs.Fields.{field_of, field_name};
 
 /// What an answer may tell of a file.
 #[derive(Clone, Copy, Debug, PartialEq, Eq)]
@@ -57,7 +57,7 @@ impl Field {
 
     /// Its name.
     pub fn name(self) -> &'static str
-        ensures { result.now ≡ name_of self }
+        ensures { result.now ≡ field_name self }
     {
         match self {
             Field::Name => "name",

@@ -3,7 +3,7 @@
 ghost use Rattle.std.specs.Prelude.{◌≡◌, ◌≢◌, ◌↔◌, ◌<◌, true, None, Some, length, map, is_some, IfOk, IfErr, IsErrOf};
 ghost use Rattle.std.specs.List.{filter, list_all, list_any};
 ghost use Rattle.std.specs.Str.{bytes_eq};
-ghost use Rattle.wm_since.specs.Fields.{are_apart, are_fields, by_name, default_fields, field_of, fields_of, in_order, is_among, name_of};
+ghost use Rattle.wm_since.specs.Fields.{are_distinct, are_fields, by_name, default_fields, field_of, fields_of, are_ordered, is_among, field_name};
 
 use crate::field::{BY_NAME, Field};
 use std::alloc::Global;
@@ -20,13 +20,13 @@ pub struct Fields {
 impl Model for Fields {
     ghost use Rattle.std.specs.Prelude.{◌≡◌, ◌<◌, List, length, true};
     ghost use Rattle.wm_since.specs.declared.field.Field.{Field};
-    ghost use Rattle.wm_since.specs.Fields.{in_order};
+    ghost use Rattle.wm_since.specs.Fields.{are_ordered};
 
     ghost Value = { List Field };
 
     ghost view = { λ f. f.fields.items };
 
-    ghost invariant = { λ f. (0 < length f.fields.items) × (in_order f.fields.items ≡ true) };
+    ghost invariant = { λ f. (0 < length f.fields.items) × (are_ordered f.fields.items ≡ true) };
 }
 
 /// Whether the name is among these.
@@ -44,11 +44,11 @@ fn are_known(names: &[&str]) -> bool
 }
 
 /// Whether no name stands there twice.
-fn are_apart(names: &[&str]) -> bool
-    ensures { result ≡ are_apart (map (λ n. n.now) names.now) }
+fn are_distinct(names: &[&str]) -> bool
+    ensures { result ≡ are_distinct (map (λ n. n.now) names.now) }
 {
     match names {
-        [name, rest @ ..] => !is_among(name, rest) && are_apart(rest),
+        [name, rest @ ..] => !is_among(name, rest) && are_distinct(rest),
         [] => true,
     }
 }
@@ -58,14 +58,14 @@ fn are_fields(names: &[&str]) -> bool
     ensures { result ≡ are_fields (map (λ n. n.now) names.now) }
 {
     match names {
-        [_, ..] => are_known(names) && are_apart(names),
+        [_, ..] => are_known(names) && are_distinct(names),
         [] => false,
     }
 }
 
 /// Those of the fields that are named.
 fn named(alloc: Global, names: &[&str], fields: &[Field]) -> Result<Vec<Field>, NoMemory>
-    ensures { IfOk result (λ v. v.items ≡ filter (λ x. is_among (name_of x) (map (λ n. n.now) names.now)) fields.now) }
+    ensures { IfOk result (λ v. v.items ≡ filter (λ x. is_among (field_name x) (map (λ n. n.now) names.now)) fields.now) }
 {
     let mut chosen = Vec::with_capacity(alloc, names.len())?;
     for field in fields {
@@ -108,7 +108,7 @@ impl Fields {
     pub fn as_slice(&self) -> &[Field]
         ensures value { result.now ≡ self.now }
         ensures some { 0 < length self.now }
-        ensures order { in_order self.now ≡ true }
+        ensures order { are_ordered self.now ≡ true }
     {
         &self.fields
     }

@@ -149,7 +149,7 @@ impl<T: Test> Mirror<T> {
         &self.files
     }
 
-    /// Opens a question: what changed since the last answer. Want of memory changes nothing.
+    /// Opens a question: what changed since the last answer. Running out of memory changes nothing.
     pub fn ask(&mut self, alloc: Global) -> Result<Query<T>, NoMemory>
         requires { self.old.asked ≡ false }
         ensures ok { IfOk result (λ q. (question q ≡ next_question self.old) × (self.new ≡ record self.old { asked = true })) }

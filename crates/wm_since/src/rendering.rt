@@ -3,8 +3,8 @@
 ghost use Rattle.std.specs.Prelude.{◌≡◌, ◌++◌, ◌≤◌, vec_capacity, IfOk, OnOk, OnErr};
 ghost use Rattle.serde_json.specs.Data.{boolean, number, string, unsigned};
 ghost use Rattle.serde_json.specs.Written.{compact_text};
-ghost use Rattle.wm_since.specs.Rendered.{file_data, files_data, kind_text, members_of, tick_text, value_of};
-ghost use Rattle.wm_since.specs.Texts.{KeepsFront, files_text, item_text, members_tokens_of, tokens_of};
+ghost use Rattle.wm_since.specs.Rendered.{file_data, files_data, members_of, tick_text, value_of};
+ghost use Rattle.wm_since.specs.Texts.{KeepsTextPrefix, files_text, item_text, members_tokens_of, tokens_of};
 
 use crate::field::Field;
 use crate::fields::Fields;
@@ -14,18 +14,6 @@ use json::Writer;
 use std::alloc::Global;
 use wm_clock::ClockId;
 use wm_disk::NoMemory;
-use wm_names::Kind;
-
-fn kind_text(kind: Kind) -> &'static str
-    ensures { result.now ≡ kind_text kind }
-{
-    match kind {
-        Kind::File => "f",
-        Kind::Folder => "d",
-        Kind::Link => "l",
-        Kind::Other => "o",
-    }
-}
 
 fn put_text(text: &str, out: &mut Writer) -> Result<(), NoMemory>
     ensures ok { OnOk result (out.new.tokens ≡ out.old.tokens ++ tokens_of (string text.now)) }
@@ -76,7 +64,7 @@ fn put_value(
         Field::Exists => put_flag(file.entry.exists, out),
         Field::New => put_flag(file.is_new, out),
         Field::Size => put_number(file.entry.meta.size, out),
-        Field::Type => put_text(kind_text(file.entry.meta.kind), out),
+        Field::Type => put_text(file.entry.meta.kind.letter(), out),
         Field::MtimeMs => put_number(file.entry.meta.mtime_ms, out),
         Field::Cclock => put_tick(alloc, clock, file.created, out),
         Field::Oclock => put_tick(alloc, clock, file.last, out),
@@ -142,7 +130,7 @@ fn file_text(
 /// Appends a file's text, and before it a comma where it isn't the first. A failure may leave part of it.
 fn put_item(text: &[u8], is_later: bool, out: &mut Vec<u8>) -> Result<(), NoMemory>
     ensures ok { OnOk result (out.new.items ≡ out.old.items ++ item_text is_later text.now) }
-    ensures err { OnErr result (KeepsFront out.old.items out.new.items) }
+    ensures err { OnErr result (KeepsTextPrefix out.old.items out.new.items) }
     ensures room { vec_capacity out.old ≤ vec_capacity out.new }
 {
     if is_later {
@@ -161,7 +149,7 @@ fn put_files(
     out: &mut Vec<u8>,
 ) -> Result<(), NoMemory>
     ensures ok { OnOk result (out.new.items ≡ out.old.items ++ files_text fields.now clock files.now) }
-    ensures err { OnErr result (KeepsFront out.old.items out.new.items) }
+    ensures err { OnErr result (KeepsTextPrefix out.old.items out.new.items) }
     ensures room { vec_capacity out.old ≤ vec_capacity out.new }
 {
     let mut text = Vec::new(alloc);

@@ -10,23 +10,23 @@ use Rattle.wm_disk.specs.Contents.{Rose}
 use Rattle.wm_journal.specs.Records.{taken}
 use Rattle.wm_registry.specs.Commands.{command_spelling}
 use Rattle.wm_disk.specs.Moments.{then_runs}
-use Rattle.wm_journal.proofs.Opening.{weaker}
+use Rattle.wm_disk.specs.laws.Runs.{weaker}
 use Rattle.wm_registry.specs.declared.command.Command.{Command}
 use Rattle.wm_registry.specs.declared.reply.Reply.{Reply}
-use Rattle.wm_registry.specs.Registry.{after}
+use Rattle.wm_registry.specs.Registry.{after_command}
 use Rattle.wm_registry.specs.Roots.{State}
 use Rattle.wm_registry.specs.MachineLaws.{watches}
-use Rattle.wm_checkpoint.proofs.Numbering.{numbered_more}
+use Rattle.wm_checkpoint.specs.laws.Numbering.{numbered_more}
 use Rattle.wm_checkpoint.specs.Machines.{replay_on, Accepts}
-use Rattle.wm_checkpoint.specs.Meanings.{MeansState, MeansBeginning}
-use Rattle.wm_checkpoint.specs.Kept.{disk_of, state_of, has_failed, number_of, room_left, Keeps}
-use Rattle.wm_checkpoint.proofs.Outside.{replayed_append}
+use Rattle.wm_checkpoint.specs.Meanings.{MeansState, MeansPrefix}
+use Rattle.wm_checkpoint.specs.Kept.{disk_of, state_of, has_failed, slot_number_of, room_left, Keeps}
+use Rattle.wm_checkpoint.specs.laws.Replays.{replayed_append}
 use Rattle.wm_store.specs.Batches.{accepted_of}
-use Rattle.wm_store.specs.UnderWay.{K, AreCalls, IsPast, IsCut, IsDown, IsReady, IsRoomMade, IsSpared, IsWhole, KeepsRoom}
+use Rattle.wm_store.specs.UnderWay.{K, AreCalls, IsPast, IsCut, WentDown, IsReady, IsRoomMade, IsSpared, IsWhole, KeepsRoom}
 use Rattle.wm_store.specs.declared.batch.Batch.{Batch}
 use Rattle.wm_store.proofs.Runs.{Leaves}
 
--- ---- beginnings of lists of commands
+-- ---- prefixes of lists of commands
 
 take_behind : (cs ds : List Command) (n : ℕ) → take (length cs + n) (cs ++ ds) ≡ cs ++ take n ds
 take_behind [] ds n = let e : 0 + n ≡ n = omega arith in ap (λ (k : ℕ). take k ds) e
@@ -34,22 +34,22 @@ take_behind (c ∷ cs) ds n =
     let e : length (c ∷ cs) + n ≡ suc (length cs + n) = omega arith in
     ap (λ (k : ℕ). take k (c ∷ (cs ++ ds))) e ∙ ap (λ (l : List Command). c ∷ l) (take_behind cs ds n)
 
--- after some commands, a beginning of those behind
-pub behind : (s : State) (cs ds : List Command) (c : List ℕ) → MeansBeginning watches (replay_on watches s cs) ds c → MeansBeginning watches s (cs ++ ds) c
+-- after some commands, a prefix of those behind
+pub behind : (s : State) (cs ds : List Command) (c : List ℕ) → MeansPrefix watches (replay_on watches s cs) ds c → MeansPrefix watches s (cs ++ ds) c
 behind s cs ds c b = record {
   count = length cs + b.count;
   within = omega (arith, b.within, length-append cs ds);
-  means = subst (λ (t : State). MeansState watches t c) (sym (replayed_append after s cs (take b.count ds)) ∙ ap (λ (l : List Command). replay_on watches s l) (sym (take_behind cs ds b.count))) b.means;
+  means = subst (λ (t : State). MeansState watches t c) (sym (replayed_append after_command s cs (take b.count ds)) ∙ ap (λ (l : List Command). replay_on watches s l) (sym (take_behind cs ds b.count))) b.means;
 }
 
-pub longer : (s : State) (cs ds : List Command) (c : List ℕ) → MeansBeginning watches s cs c → MeansBeginning watches s (cs ++ ds) c
+pub longer : (s : State) (cs ds : List Command) (c : List ℕ) → MeansPrefix watches s cs c → MeansPrefix watches s (cs ++ ds) c
 longer s cs ds c b = record {
   count = b.count;
   within = omega (arith, b.within, length-append cs ds);
   means = subst (λ (l : List Command). MeansState watches (replay_on watches s l) c) (sym (take-append-le b.count cs ds b.within)) b.means;
 }
 
-pub all_done : (s : State) (cs : List Command) (c : List ℕ) → MeansState watches (replay_on watches s cs) c → MeansBeginning watches s cs c
+pub all_done : (s : State) (cs : List Command) (c : List ℕ) → MeansState watches (replay_on watches s cs) c → MeansPrefix watches s cs c
 all_done s cs c m = record {
   count = length cs;
   within = omega arith;
@@ -58,16 +58,16 @@ all_done s cs c m = record {
 
 module _ {D : Type 0} (disk : disks.Ghosts D) where
   -- a run of more commands
-  pub run_more : (old mid new : D) (s t : State) (cs ds : List Command) → t ≡ replay_on watches s cs → Leaves disk old mid (MeansBeginning watches s cs) → Leaves disk mid new (MeansBeginning watches t ds) → Leaves disk old new (MeansBeginning watches s (cs ++ ds))
+  pub run_more : (old mid new : D) (s t : State) (cs ds : List Command) → t ≡ replay_on watches s cs → Leaves disk old mid (MeansPrefix watches s cs) → Leaves disk mid new (MeansPrefix watches t ds) → Leaves disk old new (MeansPrefix watches s (cs ++ ds))
   run_more old mid new s t cs ds is first second =
-      then_runs disk.moment disk.left_since old mid new (MeansBeginning watches s (cs ++ ds)) (MeansBeginning watches t ds)
-      (weaker disk.moment disk.left_since old mid (MeansBeginning watches s cs) (MeansBeginning watches s (cs ++ ds)) first (longer s cs ds)) second
-      (λ c b. behind s cs ds c (subst (λ (x : State). MeansBeginning watches x ds c) is b))
+      then_runs disk.moment disk.left_since old mid new (MeansPrefix watches s (cs ++ ds)) (MeansPrefix watches t ds)
+      (weaker disk.moment disk.left_since old mid (MeansPrefix watches s cs) (MeansPrefix watches s (cs ++ ds)) first (longer s cs ds)) second
+      (λ c b. behind s cs ds c (subst (λ (x : State). MeansPrefix watches x ds c) is b))
 
   -- one that leaves the state
-  pub run_still : (old mid new : D) (s t : State) (cs : List Command) → t ≡ replay_on watches s cs → Leaves disk old mid (MeansBeginning watches s cs) → Leaves disk mid new (MeansState watches t) → Leaves disk old new (MeansBeginning watches s cs)
+  pub run_still : (old mid new : D) (s t : State) (cs : List Command) → t ≡ replay_on watches s cs → Leaves disk old mid (MeansPrefix watches s cs) → Leaves disk mid new (MeansState watches t) → Leaves disk old new (MeansPrefix watches s cs)
   run_still old mid new s t cs is first second =
-      then_runs disk.moment disk.left_since old mid new (MeansBeginning watches s cs) (MeansState watches t) first second
+      then_runs disk.moment disk.left_since old mid new (MeansPrefix watches s cs) (MeansState watches t) first second
       (λ c m. all_done s cs c (subst (λ (x : State). MeansState watches x c) is m))
 
   -- nothing but why the rest is refused, and what stood before, differs
@@ -81,7 +81,7 @@ module _ {D : Type 0} (disk : disks.Ghosts D) where
     first = subst (λ n. n ≤ length b.replies.items) (sym first) (subst (λ v. a.first ≤ length v.items) (sym replies) p.first);
     front = ap (λ n. accepted_of (take n done) (take n b.replies.items)) first ∙ ap (λ v. accepted_of (take a.first done) (take a.first v.items)) replies ∙ p.front;
     before = ⊎_elim (λ e. ⊎_elim (λ x. inl (e ∙ x)) (λ x. inr (e ∙ x.0, x.1)) p.before) (λ e. inl e) before;
-    run = λ h. subst (λ k. Leaves disk (disk_of start) (disk_of k) (MeansBeginning watches (state_of start) p.committed)) (sym keeper) (p.run (subst (λ k. disk.honest (disk_of k)) keeper h));
+    run = λ h. subst (λ k. Leaves disk (disk_of start) (disk_of k) (MeansPrefix watches (state_of start) p.committed)) (sym keeper) (p.run (subst (λ k. disk.honest (disk_of k)) keeper h));
   }
 
   -- after a checkpoint
@@ -100,10 +100,10 @@ module _ {D : Type 0} (disk : disks.Ghosts D) where
 
   -- after the group was committed
   pub past_committed : (start : K disk) (done : List Command) (old new : K disk) (a b : Batch) → IsPast disk start done old a → state_of new ≡ replay_on watches (state_of old) a.group.items → (disk.honest (disk_of new) → disk.honest (disk_of old))
-      → (disk.honest (disk_of new) → Leaves disk (disk_of old) (disk_of new) (MeansBeginning watches (state_of old) a.group.items)) → b.group.items ≡ [] → b.replies ≡ a.replies → b.first ≡ length a.replies.items → b.before ≡ Some (state_of start) → IsPast disk start done new b
+      → (disk.honest (disk_of new) → Leaves disk (disk_of old) (disk_of new) (MeansPrefix watches (state_of old) a.group.items)) → b.group.items ≡ [] → b.replies ≡ a.replies → b.first ≡ length a.replies.items → b.before ≡ Some (state_of start) → IsPast disk start done new b
   past_committed start done old new a b p made honest run none replies first before = record {
     committed = p.committed ++ a.group.items;
-    led = made ∙ ap (λ (s : State). replay_on watches s a.group.items) p.led ∙ sym (replayed_append after (state_of start) p.committed a.group.items);
+    led = made ∙ ap (λ (s : State). replay_on watches s a.group.items) p.led ∙ sym (replayed_append after_command (state_of start) p.committed a.group.items);
     len = p.len ∙ ap (λ v. length v.items) (sym replies);
     accepted = ap (λ v. accepted_of done v.items) replies ∙ p.accepted ∙ sym (append-nil (p.committed ++ a.group.items)) ∙ ap (λ (l : List Command). (p.committed ++ a.group.items) ++ l) (sym none);
     first = subst (λ n. n ≤ length b.replies.items) (sym first) (subst (λ v. length a.replies.items ≤ length v.items) (sym replies) (omega arith));
@@ -138,16 +138,16 @@ module _ {D : Type 0} (disk : disks.Ghosts D) where
       → (disk.honest (disk_of new) → Leaves disk (disk_of old) (disk_of new) (MeansState watches (state_of old))) → IsCut disk start done b.replies.items new b.before
   cut_switching start done old new b p none same honest run = record {
     was = was_before start done old new b.before p.committed (same ∙ p.led) p.before;
-    run = λ h. subst (λ (l : List Command). Leaves disk (disk_of start) (disk_of new) (MeansBeginning watches (state_of start) l)) (sym (append-nil p.committed) ∙ ap (λ (l : List Command). p.committed ++ l) (sym none) ∙ sym p.accepted)
+    run = λ h. subst (λ (l : List Command). Leaves disk (disk_of start) (disk_of new) (MeansPrefix watches (state_of start) l)) (sym (append-nil p.committed) ∙ ap (λ (l : List Command). p.committed ++ l) (sym none) ∙ sym p.accepted)
         (run_still (disk_of start) (disk_of old) (disk_of new) (state_of start) (state_of old) p.committed p.led (p.run (honest h)) (run h));
   }
 
   -- the device failed in a commit
   pub cut_committing : (start : K disk) (done : List Command) (old new : K disk) (b : Batch) (before : Option State) → IsPast disk start done old b → (unwrap_or before (state_of new) ≡ state_of start) → (disk.honest (disk_of new) → disk.honest (disk_of old))
-      → (disk.honest (disk_of new) → Leaves disk (disk_of old) (disk_of new) (MeansBeginning watches (state_of old) b.group.items)) → IsCut disk start done b.replies.items new before
+      → (disk.honest (disk_of new) → Leaves disk (disk_of old) (disk_of new) (MeansPrefix watches (state_of old) b.group.items)) → IsCut disk start done b.replies.items new before
   cut_committing start done old new b before p was honest run = record {
     was = was;
-    run = λ h. subst (λ (l : List Command). Leaves disk (disk_of start) (disk_of new) (MeansBeginning watches (state_of start) l)) (sym p.accepted)
+    run = λ h. subst (λ (l : List Command). Leaves disk (disk_of start) (disk_of new) (MeansPrefix watches (state_of start) l)) (sym p.accepted)
         (run_more (disk_of start) (disk_of old) (disk_of new) (state_of start) (state_of old) p.committed b.group.items p.led (p.run (honest h)) (run h));
   }
 
@@ -155,8 +155,8 @@ module _ {D : Type 0} (disk : disks.Ghosts D) where
 
   pub calls_none : (n : ℕ) (old new : K disk) → new ≡ old → AreCalls disk n old new
   calls_none n old new same = record {
-    least = subst (λ k. number_of old ≤ number_of k) (sym same) (omega arith);
-    most = subst (λ k. number_of k ≤ number_of old + n) (sym same) (omega arith);
+    least = subst (λ k. slot_number_of old ≤ slot_number_of k) (sym same) (omega arith);
+    most = subst (λ k. slot_number_of k ≤ slot_number_of old + n) (sym same) (omega arith);
     honest = λ h. subst (λ k. disk.honest (disk_of k)) same h;
     later = subst (λ k. disk.failures (disk_of old) ≤ disk.failures (disk_of k)) (sym same) (omega arith);
     numbered = λ h m le all x left. numbered_more m (m + n) x (omega arith) (all x (subst (λ k. disk.may_leave (disk_of k) x) same left));
@@ -172,7 +172,7 @@ module _ {D : Type 0} (disk : disks.Ghosts D) where
   pub whole_then : (old mid new : K disk) → IsWhole disk old mid → IsWhole disk mid new → IsWhole disk old new
   whole_then old mid new a b = record { kept = b.kept; up = b.up; count = b.count ∙ a.count }
 
-  pub down_then : (old mid new : K disk) → IsWhole disk old mid → IsDown disk mid new → IsDown disk old new
+  pub down_then : (old mid new : K disk) → IsWhole disk old mid → WentDown disk mid new → WentDown disk old new
   down_then old mid new a b = record { kept = b.kept; down = b.down; rose = subst (λ n. Rose n (disk.failures (disk_of new))) a.count b.rose }
 
   pub calls_then : (m n : ℕ) (old mid new : K disk) → AreCalls disk m old mid → AreCalls disk n mid new → AreCalls disk (m + n) old new
@@ -230,7 +230,7 @@ keeps_room a b e x y = record { replies = omega (arith, x.replies, y.replies); g
 -- no call of the keeper
 pub spared_none : {D : Type 0} (disk : disks.Ghosts D) (old new : K disk) (commands left : List Command) → new ≡ old → left ≡ commands → IsSpared disk old commands new left
 spared_none disk old new commands left same all = record {
-  number = ap (λ k. number_of k) same;
+  number = ap (λ k. slot_number_of k) same;
   room = ap (λ k. room_left k + taken command_spelling commands) same ∙ ap (λ (l : List Command). room_left old + taken command_spelling l) (sym all);
 }
 

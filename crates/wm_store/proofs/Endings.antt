@@ -1,29 +1,29 @@
 -- A batch from its first command to its end.
 use Rattle.std.proofs.Common.{◌≡◌, ◌⊎◌, ⊎_elim, inl, inr, refl, sym, ◌∙◌, ap, subst, ℕ, zero, suc, ◌+◌, ◌≤◌, ◌<◌, Bool, true, false, List, [], ◌∷◌, ◌++◌, length, take, drop, get_or, arith, append_assoc, length-append, vec_len, vec_capacity}
-use Rattle.std.specs.Prelude.{Option, Some, None, Result, Ok, Err, IfErr, OnErr, if◌then◌else◌}
+use Rattle.std.specs.Prelude.{Option, Some, None, if◌then◌else◌}
 use Rattle.std.specs.Option.{unwrap_or}
 use Rattle.std.proofs.lemmas.List.{length-take-le, take-append-drop}
 use Rattle.wm_disk.specs.declared.disk.Disk as disks
 use Rattle.wm_disk.specs.declared.refusal.Refusal.TheVariants.{NoMemory, Exhausted}
 use Rattle.wm_journal.specs.Records.{taken}
-use Rattle.wm_journal.proofs.Opening.{weaker}
+use Rattle.wm_disk.specs.laws.Runs.{weaker, OnlyNow}
 use Rattle.wm_registry.specs.Commands.{command_spelling}
 use Rattle.wm_registry.specs.declared.command.Command.{Command}
 use Rattle.wm_registry.specs.declared.reply.Reply.{Reply}
 use Rattle.wm_registry.specs.declared.reply.Reply.TheVariants.{Refused}
-use Rattle.wm_registry.specs.Registry.{after, is_change, reply_to}
+use Rattle.wm_registry.specs.Registry.{after_command, is_change, reply_to}
 use Rattle.wm_registry.specs.Roots.{State}
 use Rattle.wm_registry.specs.MachineLaws.{watches}
 use Rattle.wm_checkpoint.specs.Machines.{replay_on, Accepts}
-use Rattle.wm_checkpoint.specs.Meanings.{MeansBeginning}
-use Rattle.wm_checkpoint.specs.Kept.{disk_of, state_of, has_failed, number_of, room_left, Keeps}
-use Rattle.wm_checkpoint.proofs.Outside.{replayed_append}
-use Rattle.wm_store.specs.Batches.{IsBatch, IsShort, AreAnswered, accepted_of, is_begin, met}
-use Rattle.wm_store.specs.UnderWay.{K, AreCalls, AreIdle, AreMet, IsCut, IsDone, IsNew, IsPast, IsReady, IsSoFar, IsSparing, IsWhole, KeepsRoom}
+use Rattle.wm_checkpoint.specs.Meanings.{MeansPrefix}
+use Rattle.wm_checkpoint.specs.Kept.{disk_of, state_of, has_failed, slot_number_of, room_left, Keeps}
+use Rattle.wm_checkpoint.specs.laws.Replays.{replayed_append}
+use Rattle.wm_store.specs.Batches.{IsBatch, IsOutOfMemory, AreAnswered, accepted_of, is_begin, after_reply}
+use Rattle.wm_store.specs.UnderWay.{AreCalls, AreIdle, AreMet, IsCut, IsCutBatch, IsDone, IsMetToo, IsNew, IsPast, IsReady, IsSoFar, IsSparing, IsWhole, K}
 use Rattle.wm_store.specs.declared.batch.Batch.{Batch}
 use Rattle.wm_store.proofs.Batching.{calls_more, calls_none, calls_then, whole_none, whole_then, longer}
-use Rattle.wm_store.proofs.Replying.{accepted_append, all_short, answered_met, met_append, short_append, short_last, short_replies}
-use Rattle.wm_store.proofs.Runs.{Leaves, OnlyNow, stood, unbegun}
+use Rattle.wm_store.proofs.Replying.{accepted_append, all_out_of_memory, answered_met, met_append, out_of_memory_append, out_of_memory_last, out_of_memory_replies}
+use Rattle.wm_store.proofs.Runs.{Leaves, stood, unbegun}
 use Rattle.wm_store.proofs.Stores.{stored}
 
 -- ---- commands and replies
@@ -72,19 +72,14 @@ len_behind n all seen le = (
   omega (arith, ap (λ (l : List Command). length l) (take-append-drop n all), length-append (take n all) (drop n all), length-take-le n all le),
 )
 
--- what a failure has, by two clauses
-pub err_both : {T E Q : Type 0} {P R : E → Type 0} (r : Result T E) → ((x : E) → P x → Q → R x) → IfErr r P → OnErr r Q → IfErr r R
-err_both (Ok x) f p q = tt
-err_both (Err e) f p q = f e p q
-
 module _ {D : Type 0} (disk : disks.Ghosts D) where
   -- Of a batch of commands from start on, some were met, and the device hasn't failed.
   pub record IsUnderWay (start : K disk) (commands done : List Command) (keeper : K disk) (batch : Batch) : Type 0 where
     pub ready : IsReady disk keeper batch
     pub past : IsPast disk start done keeper batch
-    pub so_far : IsSoFar (number_of keeper) (room_left keeper) (state_of start) done batch
+    pub so_far : IsSoFar (slot_number_of keeper) (room_left keeper) (state_of start) done batch
     pub slot : IsSparing disk start done batch.replies.items keeper batch.group.items
-    pub idle : accepted_of done batch.replies.items ≡ [] → (keeper ≡ start) ⊎ IsShort batch.replies.items
+    pub idle : accepted_of done batch.replies.items ≡ [] → (keeper ≡ start) ⊎ IsOutOfMemory batch.replies.items
     pub calls : AreCalls disk (length done) start keeper
     pub whole : IsWhole disk start keeper
     pub len : vec_len batch.replies ≡ length done
@@ -93,7 +88,7 @@ module _ {D : Type 0} (disk : disks.Ghosts D) where
 
   -- the first commands are answered, and none of them is accepted
   pub idle_yet : (start : K disk) (commands : List Command) (batch : Batch) → Keeps watches start → has_failed start ≡ false → AreIdle (state_of start) commands batch.replies → IsNew (state_of start) batch.replies (length commands) batch
-      → (disk.honest (disk_of start) → Leaves disk (disk_of start) (disk_of start) (MeansBeginning watches (state_of start) [])) → IsUnderWay start commands (take (vec_len batch.replies) commands) start batch
+      → (disk.honest (disk_of start) → Leaves disk (disk_of start) (disk_of start) (MeansPrefix watches (state_of start) [])) → IsUnderWay start commands (take (vec_len batch.replies) commands) start batch
   idle_yet start commands batch kp alive idle new standing =
       let done : List Command = take (vec_len batch.replies) commands in
       let len : length done ≡ vec_len batch.replies = length-take-le (vec_len batch.replies) commands idle.within in
@@ -132,7 +127,7 @@ module _ {D : Type 0} (disk : disks.Ghosts D) where
 
   -- one command more
   module _ (start : K disk) (commands done : List Command) (old new : K disk) (a b : Batch) (c : Command) (u : IsUnderWay start commands done old a) where
-    still_idle : (q : Reply) → b.replies.items ≡ a.replies.items ++ (q ∷ []) → (is_change q ≡ false → a.group.items ≡ [] → (new ≡ old) ⊎ (q ≡ Refused NoMemory)) → accepted_of (done ++ (c ∷ [])) b.replies.items ≡ [] → (new ≡ start) ⊎ IsShort b.replies.items
+    still_idle : (q : Reply) → b.replies.items ≡ a.replies.items ++ (q ∷ []) → (is_change q ≡ false → a.group.items ≡ [] → (new ≡ old) ⊎ (q ≡ Refused NoMemory)) → accepted_of (done ++ (c ∷ [])) b.replies.items ≡ [] → (new ≡ start) ⊎ IsOutOfMemory b.replies.items
     still_idle q is same none =
         let both : accepted_of done a.replies.items ++ accepted_of (c ∷ []) (q ∷ []) ≡ [] = sym (accepted_append done (c ∷ []) a.replies.items (q ∷ []) u.past.len) ∙ ap (λ (l : List Reply). accepted_of (done ++ (c ∷ [])) l) (sym is) ∙ none in
         let front : accepted_of done a.replies.items ≡ [] = none_left (accepted_of done a.replies.items) (accepted_of (c ∷ []) (q ∷ [])) both in
@@ -141,35 +136,30 @@ module _ {D : Type 0} (disk : disks.Ghosts D) where
         ⊎_elim
         (λ k. ⊎_elim
         (λ first. inl (k ∙ first))
-        (λ short. inr (subst (λ (l : List Reply). IsShort l) (sym is) (short_append a.replies.items (q ∷ []) short)))
+        (λ short. inr (subst (λ (l : List Reply). IsOutOfMemory l) (sym is) (out_of_memory_append a.replies.items (q ∷ []) short)))
         (u.idle front))
-        (λ k. inr (subst (λ (l : List Reply). IsShort l) (sym is) (short_last a.replies.items q k)))
+        (λ k. inr (subst (λ (l : List Reply). IsOutOfMemory l) (sym is) (out_of_memory_last a.replies.items q k)))
         (same idle group)
 
-    pub one_more : IsReady disk new b → vec_len b.replies ≡ vec_len a.replies + 1 → KeepsRoom a b
-        → ((s : K disk) (cs : List Command) → IsPast disk s cs old a → IsPast disk s (cs ++ (c ∷ [])) new b)
-        → ((s : K disk) (cs : List Command) → IsPast disk s cs old a → IsSoFar (number_of old) (room_left old) (state_of s) cs a → IsSoFar (number_of new) (room_left new) (state_of s) (cs ++ (c ∷ [])) b)
-        → ((s : K disk) (cs : List Command) → IsPast disk s cs old a → IsSparing disk s cs a.replies.items old a.group.items → IsSparing disk s (cs ++ (c ∷ [])) b.replies.items new b.group.items)
-        → ((q : Reply) × (b.replies.items ≡ a.replies.items ++ (q ∷ [])) × (is_change q ≡ false → a.group.items ≡ [] → (new ≡ old) ⊎ (q ≡ Refused NoMemory)))
-        → AreCalls disk 1 old new → IsWhole disk old new → IsUnderWay start commands (done ++ (c ∷ [])) new b
-    one_more ready len room past so_far slot idle calls whole =
+    pub one_more : IsMetToo disk c old a new b → AreCalls disk 1 old new → IsWhole disk old new → IsUnderWay start commands (done ++ (c ∷ [])) new b
+    one_more m calls whole =
         let one : length (done ++ (c ∷ [])) ≡ length done + 1 = length-append done (c ∷ []) in
         record {
-          ready = ready;
-          past = past start done u.past;
-          so_far = so_far start done u.past u.so_far;
-          slot = slot start done u.past u.slot;
-          idle = still_idle idle.0 idle.1 idle.2;
+          ready = m.ready;
+          past = m.past start done u.past;
+          so_far = m.so_far start done u.past u.so_far;
+          slot = m.slot start done u.past u.slot;
+          idle = still_idle m.reply m.replies m.idle;
           calls = subst (λ (n : ℕ). AreCalls disk n start new) (sym one) (calls_then disk (length done) 1 start old new u.calls calls);
           whole = whole_then disk start old new u.whole whole;
-          len = omega (arith, len, u.len, one);
-          replies = omega (arith, room.replies, u.replies);
-          group = omega (arith, room.group, u.group);
+          len = omega (arith, m.len, u.len, one);
+          replies = omega (arith, m.room.replies, u.replies);
+          group = omega (arith, m.room.group, u.group);
         }
 
   -- The device failed in the midst of the batch: the replies are those so far, then that to a command that was to be accepted.
   cut_replies : (done : Batch) (c : Command) (rest : List Command) → List Reply
-  cut_replies a c rest = a.replies.items ++ (reply_to a.next c ∷ short_replies rest)
+  cut_replies a c rest = a.replies.items ++ (reply_to a.next c ∷ out_of_memory_replies rest)
 
   -- Unless the slot's number is spent, all commands so far were met.
   all_met : (start : K disk) (commands done : List Command) (old : K disk) (a : Batch) → IsUnderWay start commands done old a → (a.refused ≡ None) ⊎ (a.group.items ≡ [] → ⊥) → AreMet (state_of start) done a.replies.items
@@ -180,46 +170,47 @@ module _ {D : Type 0} (disk : disks.Ghosts D) where
   -- the batch's registry is that behind the commands accepted so far
   next_is : (start : K disk) (commands done : List Command) (old : K disk) (a : Batch) → IsUnderWay start commands done old a → a.next ≡ replay_on watches (state_of start) (accepted_of done a.replies.items)
   next_is start commands done old a u =
-      u.ready.next ∙ ap (λ (s : State). replay_on watches s a.group.items) u.past.led ∙ sym (replayed_append after (state_of start) u.past.committed a.group.items)
+      u.ready.next ∙ ap (λ (s : State). replay_on watches s a.group.items) u.past.led ∙ sym (replayed_append after_command (state_of start) u.past.committed a.group.items)
       ∙ ap (λ (l : List Command). replay_on watches (state_of start) l) (sym u.past.accepted)
 
   module _ (start : K disk) (commands done : List Command) (old new : K disk) (a : Batch) (c : Command) (rest : List Command) (before : Option State)
       (u : IsUnderWay start commands done old a) (all : commands ≡ done ++ (c ∷ rest)) (cut : IsCut disk start done a.replies.items new before)
       (none : a.refused ≡ None) (other : is_begin c ≡ false) (accepts : is_change (reply_to a.next c) ≡ true) where
-    accepted_cut : accepted_of commands (cut_replies a c rest) ≡ accepted_of done a.replies.items ++ accepted_of (c ∷ rest) (reply_to a.next c ∷ short_replies rest)
+    accepted_cut : accepted_of commands (cut_replies a c rest) ≡ accepted_of done a.replies.items ++ accepted_of (c ∷ rest) (reply_to a.next c ∷ out_of_memory_replies rest)
     unfolding cut_replies
-    accepted_cut = ap (λ (l : List Command). accepted_of l (a.replies.items ++ (reply_to a.next c ∷ short_replies rest))) all
-        ∙ accepted_append done (c ∷ rest) a.replies.items (reply_to a.next c ∷ short_replies rest) u.past.len
+    accepted_cut = ap (λ (l : List Command). accepted_of l (a.replies.items ++ (reply_to a.next c ∷ out_of_memory_replies rest))) all
+        ∙ accepted_append done (c ∷ rest) a.replies.items (reply_to a.next c ∷ out_of_memory_replies rest) u.past.len
 
-    last_met : (s : State) → a.next ≡ s → AreMet s (c ∷ rest) (reply_to a.next c ∷ short_replies rest)
+    last_met : (s : State) → a.next ≡ s → AreMet s (c ∷ rest) (reply_to a.next c ∷ out_of_memory_replies rest)
     last_met s is = (
       inl (ap (λ (t : State). reply_to t c) is ∙ as_asked (is_begin c) _ (reply_to s c) other),
-      all_short (met s c (reply_to a.next c)) rest,
+      all_out_of_memory (after_reply s c (reply_to a.next c)) rest,
     )
 
-    pub cut_at : (replies : List Reply) × AreMet (state_of start) commands replies × IsCut disk start commands replies new before × (accepted_of commands replies ≡ [] → ⊥)
+    pub cut_at : IsCutBatch disk start commands new before
     unfolding cut_replies
     cut_at =
         let replies : List Reply = cut_replies a c rest in
         let front : List Command = accepted_of done a.replies.items in
-        let back : List Command = accepted_of (c ∷ rest) (reply_to a.next c ∷ short_replies rest) in (
-          replies,
-          subst (λ (l : List Command). AreMet (state_of start) l replies) (sym all)
-              (met_append (state_of start) done (c ∷ rest) a.replies.items (reply_to a.next c ∷ short_replies rest) (all_met start commands done old a u (inl none)) (last_met (replay_on watches (state_of start) front) (next_is start commands done old a u))),
-          record {
+        let back : List Command = accepted_of (c ∷ rest) (reply_to a.next c ∷ out_of_memory_replies rest) in
+        record {
+          replies = replies;
+          met = subst (λ (l : List Command). AreMet (state_of start) l replies) (sym all)
+              (met_append (state_of start) done (c ∷ rest) a.replies.items (reply_to a.next c ∷ out_of_memory_replies rest) (all_met start commands done old a u (inl none)) (last_met (replay_on watches (state_of start) front) (next_is start commands done old a u)));
+          cut = record {
             was = cut.was;
-            run = λ h. subst (λ (l : List Command). Leaves disk (disk_of start) (disk_of new) (MeansBeginning watches (state_of start) l)) (sym accepted_cut)
-                (weaker disk.moment disk.left_since (disk_of start) (disk_of new) (MeansBeginning watches (state_of start) front) (MeansBeginning watches (state_of start) (front ++ back)) (cut.run h) (longer (state_of start) front back));
-          },
-          λ e. one_accepted (is_change (reply_to a.next c)) c (accepted_of rest (short_replies rest)) (accepted_of rest (short_replies rest)) accepts (none_right front back (sym accepted_cut ∙ e)),
-        )
+            run = λ h. subst (λ (l : List Command). Leaves disk (disk_of start) (disk_of new) (MeansPrefix watches (state_of start) l)) (sym accepted_cut)
+                (weaker disk.moment disk.left_since (disk_of start) (disk_of new) (MeansPrefix watches (state_of start) front) (MeansPrefix watches (state_of start) (front ++ back)) (cut.run h) (longer (state_of start) front back));
+          };
+          some = λ e. one_accepted (is_change (reply_to a.next c)) c (accepted_of rest (out_of_memory_replies rest)) (accepted_of rest (out_of_memory_replies rest)) accepts (none_right front back (sym accepted_cut ∙ e));
+        }
 
   -- It failed at the end.
   pub cut_last : (start : K disk) (commands done : List Command) (old new : K disk) (a : Batch) (before : Option State) → IsUnderWay start commands done old a → done ≡ commands
-      → IsCut disk start done a.replies.items new before → (a.group.items ≡ [] → ⊥) → (replies : List Reply) × AreMet (state_of start) commands replies × IsCut disk start commands replies new before × (accepted_of commands replies ≡ [] → ⊥)
+      → IsCut disk start done a.replies.items new before → (a.group.items ≡ [] → ⊥) → IsCutBatch disk start commands new before
   cut_last start commands done old new a before u all cut some = subst
-      (λ (l : List Command). (replies : List Reply) × AreMet (state_of start) l replies × IsCut disk start l replies new before × (accepted_of l replies ≡ [] → ⊥)) all
-      (a.replies.items, all_met start commands done old a u (inr some), cut, λ e. some (none_right u.past.committed a.group.items (sym u.past.accepted ∙ e)))
+      (λ (l : List Command). IsCutBatch disk start l new before) all
+      (record { replies = a.replies.items; met = all_met start commands done old a u (inr some); cut = cut; some = λ e. some (none_right u.past.committed a.group.items (sym u.past.accepted ∙ e)) })
 
   -- ---- what a store has of it
 
@@ -228,27 +219,27 @@ module _ {D : Type 0} (disk : disks.Ghosts D) where
     registry_is = ap (λ (o : Option State). unwrap_or o (state_of start)) none
 
     -- from the store's registry on
-    from_registry : (new : D) (cs : List Command) → Leaves disk (disk_of start) new (MeansBeginning watches (state_of start) cs) → Leaves disk (disk_of start) new (MeansBeginning watches (unwrap_or before (state_of start)) cs)
-    from_registry new cs run = subst (λ (s : State). Leaves disk (disk_of start) new (MeansBeginning watches s cs)) (sym registry_is) run
+    from_registry : (new : D) (cs : List Command) → Leaves disk (disk_of start) new (MeansPrefix watches (state_of start) cs) → Leaves disk (disk_of start) new (MeansPrefix watches (unwrap_or before (state_of start)) cs)
+    from_registry new cs run = subst (λ (s : State). Leaves disk (disk_of start) new (MeansPrefix watches s cs)) (sym registry_is) run
 
     -- nothing was done
     pub still_met : OnlyNow disk → Keeps watches start → has_failed start ≡ false → (commands : List Command) (replies : List Reply) → AreMet (unwrap_or before (state_of start)) commands replies
         → IsBatch disk (stored disk start before closed) (stored disk start before closed) commands replies
     still_met only_now kp alive commands replies met =
         record {
-          answered = answered_met (number_of start) (room_left start) (unwrap_or before (state_of start)) commands replies met;
+          answered = answered_met (slot_number_of start) (room_left start) (unwrap_or before (state_of start)) commands replies met;
           any_moment = λ h. from_registry (disk_of start) (accepted_of commands replies) (unbegun disk (disk_of start) (disk_of start) (state_of start) (accepted_of commands replies) (stood disk only_now start kp alive h));
         }
 
     -- no command was met
-    pub none_met : OnlyNow disk → Keeps watches start → has_failed start ≡ false → (commands : List Command) → IsBatch disk (stored disk start before closed) (stored disk start before closed) commands (short_replies commands)
-    none_met only_now kp alive commands = still_met only_now kp alive commands (short_replies commands) (all_short (unwrap_or before (state_of start)) commands)
+    pub none_met : OnlyNow disk → Keeps watches start → has_failed start ≡ false → (commands : List Command) → IsBatch disk (stored disk start before closed) (stored disk start before closed) commands (out_of_memory_replies commands)
+    none_met only_now kp alive commands = still_met only_now kp alive commands (out_of_memory_replies commands) (all_out_of_memory (unwrap_or before (state_of start)) commands)
 
     -- the device failed
     module _ (new : K disk) (commands : List Command) (replies : List Reply) (was : Option State) (cut : IsCut disk start commands replies new was) where
       pub cut_batch : AreMet (state_of start) commands replies → IsBatch disk (stored disk start before closed) (stored disk new was closed) commands replies
       cut_batch met = record {
-        answered = subst (λ (s : State). AreAnswered (number_of new) (room_left new) s commands replies) (sym registry_is) (answered_met (number_of new) (room_left new) (state_of start) commands replies met);
+        answered = subst (λ (s : State). AreAnswered (slot_number_of new) (room_left new) s commands replies) (sym registry_is) (answered_met (slot_number_of new) (room_left new) (state_of start) commands replies met);
         any_moment = λ h. from_registry (disk_of new) (accepted_of commands replies) (cut.run h);
       }
 
@@ -259,15 +250,15 @@ module _ {D : Type 0} (disk : disks.Ghosts D) where
     module _ (new : K disk) (commands : List Command) (replies : List Reply) (d : IsDone disk start commands new replies) where
       pub done_batch : IsBatch disk (stored disk start before closed) (stored disk new before closed) commands replies
       done_batch = record {
-        answered = subst (λ (s : State). AreAnswered (number_of new) (room_left new) s commands replies) (sym registry_is) d.answered;
+        answered = subst (λ (s : State). AreAnswered (slot_number_of new) (room_left new) s commands replies) (sym registry_is) d.answered;
         any_moment = λ h. from_registry (disk_of new) (accepted_of commands replies) (d.run h);
       }
 
       pub done_registry : unwrap_or before (state_of new) ≡ replay_on watches (unwrap_or before (state_of start)) (accepted_of commands replies)
       done_registry = ap (λ (o : Option State). unwrap_or o (state_of new)) none ∙ d.led ∙ ap (λ (s : State). replay_on watches s (accepted_of commands replies)) (sym registry_is)
 
-      pub done_slot : IsShort replies ⊎ (taken command_spelling (accepted_of commands replies) ≤ room_left start → (number_of new ≡ number_of start) × (room_left new + taken command_spelling (accepted_of commands replies) ≡ room_left start))
+      pub done_slot : IsOutOfMemory replies ⊎ (taken command_spelling (accepted_of commands replies) ≤ room_left start → (slot_number_of new ≡ slot_number_of start) × (room_left new + taken command_spelling (accepted_of commands replies) ≡ room_left start))
       done_slot = ⊎_elim (λ h. inr (λ fits. (h.number, omega (arith, h.room)))) (λ w. ⊎_elim (λ h. inr (λ fits. absurd (omega (arith, h, fits)))) (λ h. inl h) w) d.slot
 
-      pub done_idle : accepted_of commands replies ≡ [] → (stored disk new before closed ≡ stored disk start before closed) ⊎ IsShort replies
+      pub done_idle : accepted_of commands replies ≡ [] → (stored disk new before closed ≡ stored disk start before closed) ⊎ IsOutOfMemory replies
       done_idle e = ⊎_elim (λ k. inl (ap (λ (x : K disk). stored disk x before closed) k)) (λ short. inr short) (d.idle e)

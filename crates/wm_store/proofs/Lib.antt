@@ -1,6 +1,8 @@
 pub mod Batching
+pub mod Beginning
 pub mod Endings
 pub mod Finishing
+pub mod Keepers
 pub mod Opened
 pub mod Replies
 pub mod Replying

@@ -1,31 +1,34 @@
 -- How a store is opened over what its keeper found.
-use Rattle.std.proofs.Common.{◌≡◌, ◌⊎◌, inl, inr, subst, arith, ℕ, ◌+◌, ◌≤◌, ◌<◌, List, [], ◌∷◌}
+use Rattle.std.proofs.Common.{◌≡◌, ◌⊎◌, inl, inr, sym, ap, ◌∙◌, subst, arith, ℕ, ◌+◌, ◌≤◌, ◌<◌, List, [], ◌∷◌}
 use Rattle.std.specs.Prelude.{Result, Ok, Err, IfOk, IfErr}
 use Rattle.wm_disk.specs.declared.disk.Disk as disks
 use Rattle.wm_disk.specs.Moments.{then_runs}
 use Rattle.wm_disk.specs.declared.refusal.Refusal.{Refusal}
 use Rattle.wm_disk.specs.declared.refusal.Refusal.TheVariants.{DeviceFailed, NoMemory, Exhausted, Damaged, Retired}
-use Rattle.wm_journal.proofs.Opening.{weaker}
+use Rattle.wm_disk.specs.Counters.{max_counter}
+use Rattle.wm_disk.specs.laws.Runs.{CountsNow, left_after_run, weaker}
 use Rattle.wm_journal.specs.Records.{taken}
 use Rattle.wm_registry.specs.Commands.{command_spelling}
 use Rattle.wm_registry.specs.declared.command.Command.{Command}
 use Rattle.wm_registry.specs.declared.command.Command.TheVariants.{Begin}
 use Rattle.wm_registry.specs.declared.reply.Reply.{Reply}
 use Rattle.wm_registry.specs.declared.reply.Reply.TheVariants.{Changed, Refused}
-use Rattle.wm_registry.specs.Registry.{after, reply_to}
+use Rattle.wm_registry.specs.Registry.{after_command, reply_to}
 use Rattle.wm_registry.specs.Roots.{State}
 use Rattle.wm_registry.specs.MachineLaws.{watches}
-use Rattle.wm_checkpoint.specs.Meanings.{Means, MeansState, MeansBeginning}
-use Rattle.wm_checkpoint.specs.Kept.{disk_of, state_of, number_of, room_left, IsKept, Keeps}
+use Rattle.wm_checkpoint.specs.Meanings.{Means, MeansState, MeansPrefix}
+use Rattle.wm_checkpoint.specs.Kept.{disk_of, state_of, slot_number_of, room_left, IsKept, Keeps}
 use Rattle.wm_checkpoint.specs.Numbers.{IsNumberedTo}
-use Rattle.wm_checkpoint.proofs.Numbering.{number_within}
+use Rattle.wm_checkpoint.specs.laws.Numbering.{number_within}
 use Rattle.wm_checkpoint.specs.declared.keeper.Keeper.{Keeper}
-use Rattle.wm_store.specs.Openings.{IsBegun, IsFound}
+use Rattle.wm_store.specs.Beginnings.{IsUnbegun}
+use Rattle.wm_store.specs.Openings.{IsBegun, FindsRegistry, IsLeftBy, IsRefusedFor}
+use Rattle.wm_store.specs.Room.{journal_room, begin_len}
 use Rattle.wm_store.specs.Stored.{Stored}
 use Rattle.wm_store.proofs.Runs.{Leaves}
 
 -- the journal's bytes: those that its commands take, and those that are left
-pub journal_is : {D : Type 0} (disk : disks.Ghosts D) (keeper : Keeper D State State Command Reply disk) → Keeps watches keeper → (k : IsKept watches keeper) → room_left keeper + taken command_spelling k.commands ≡ 262143
+pub journal_is : {D : Type 0} (disk : disks.Ghosts D) (keeper : Keeper D State State Command Reply disk) → Keeps watches keeper → (k : IsKept watches keeper) → room_left keeper + taken command_spelling k.commands ≡ journal_room
 journal_is disk keeper kp k = omega (arith, kp.place.len_is, k.at_rest.read.end, keeper.region.within)
 
 module _ {D : Type 0} (disk : disks.Ghosts D) (old : D) (keeper : Keeper D State State Command Reply disk) (k : IsKept watches keeper) (seen : disk.seen (disk_of keeper) ≡ disk.seen old) where
@@ -40,7 +43,7 @@ module _ {D : Type 0} (disk : disks.Ghosts D) (old : D) (keeper : Keeper D State
     is = k.is;
   }
 
-  pub found : Leaves disk old (disk_of keeper) (disk.may_leave old) → (new : D) → Leaves disk (disk_of keeper) new (MeansBeginning watches (state_of keeper) (Begin ∷ [])) → IsFound disk old new (state_of keeper)
+  pub found : Leaves disk old (disk_of keeper) (disk.may_leave old) → (new : D) → Leaves disk (disk_of keeper) new (MeansPrefix watches (state_of keeper) (Begin ∷ [])) → FindsRegistry disk old new (state_of keeper)
   found until new run = record { means = means_seen; synced = disk_of keeper; until = until; from = run }
 
   -- of no Begin at any moment
@@ -53,13 +56,13 @@ module _ {D : Type 0} (disk : disks.Ghosts D) (old : D) (keeper : Keeper D State
         (weaker disk.moment disk.left_since old (disk_of keeper) (disk.may_leave old) (λ c. disk.may_leave old c ⊎ MeansState watches (state_of keeper) c) until (λ c left. inl left)) run (λ c m. inr m),
   )
 
-  pub spent : (reply_to (state_of keeper) Begin ≡ Refused Exhausted) ⊎ (9223372036854775807 ≤ number_of keeper) → (s : State) × (m : MeansState watches s (disk.seen old)) × ((reply_to s Begin ≡ Refused Exhausted) ⊎ (9223372036854775807 ≤ m.number))
+  pub spent : (reply_to (state_of keeper) Begin ≡ Refused Exhausted) ⊎ (max_counter ≤ slot_number_of keeper) → (s : State) × (m : MeansState watches s (disk.seen old)) × ((reply_to s Begin ≡ Refused Exhausted) ⊎ (max_counter ≤ m.number))
   unfolding means_seen
   spent why = (state_of keeper, means_seen, why)
 
-  pub is_begun : Leaves disk old (disk_of keeper) (disk.may_leave old) → (store : Stored D) → Leaves disk (disk_of keeper) store.disk (MeansBeginning watches (state_of keeper) (Begin ∷ []))
-      → reply_to (state_of keeper) Begin ≡ Changed → store.registry ≡ after (state_of keeper) Begin → store.number ≤ number_of keeper + 1 → room_left keeper + taken command_spelling k.commands ≡ 262143
-      → (2 ≤ room_left keeper → (store.number ≡ number_of keeper) × (store.room + 2 ≡ room_left keeper)) → (room_left keeper < 2 → (store.number ≡ number_of keeper + 1) × (store.room + 2 ≡ 262143)) → IsBegun disk old store
+  pub is_begun : Leaves disk old (disk_of keeper) (disk.may_leave old) → (store : Stored D) → Leaves disk (disk_of keeper) store.disk (MeansPrefix watches (state_of keeper) (Begin ∷ []))
+      → reply_to (state_of keeper) Begin ≡ Changed → store.registry ≡ after_command (state_of keeper) Begin → store.number ≤ slot_number_of keeper + 1 → room_left keeper + taken command_spelling k.commands ≡ journal_room
+      → (begin_len ≤ room_left keeper → (store.number ≡ slot_number_of keeper) × (store.room + begin_len ≡ room_left keeper)) → (room_left keeper < begin_len → (store.number ≡ slot_number_of keeper + 1) × (store.room + begin_len ≡ journal_room)) → IsBegun disk old store
   unfolding means_seen found
   is_begun until store run is led le all stays moves = record {
     found = state_of keeper;
@@ -71,7 +74,7 @@ module _ {D : Type 0} (disk : disks.Ghosts D) (old : D) (keeper : Keeper D State
     moves = λ over. moves (omega (arith, all, over));
   }
 
-  pub number_of_found : (n : ℕ) → IsNumberedTo n (disk.seen old) → number_of keeper ≤ n
+  pub number_of_found : (n : ℕ) → IsNumberedTo n (disk.seen old) → slot_number_of keeper ≤ n
   unfolding means_seen
   number_of_found n all = number_within (disk.seen old) means_seen n all
 
@@ -115,3 +118,31 @@ not_retired x (inr (inr h)) e = absurd cc
 pub if_err_both : {T E : Type 0} {P Q R : E → Type 0} (r : Result T E) → ((x : E) → P x → Q x → R x) → IfErr r P → IfErr r Q → IfErr r R
 if_err_both (Ok x) f p q = tt
 if_err_both (Err e) f p q = f e p q
+
+-- ---- why an opening that found a registry is refused, and what it leaves
+
+module _ {D : Type 0} (disk : disks.Ghosts D) (old : D) (keeper : Keeper D State State Command Reply disk) (k : IsKept watches keeper) (seen : disk.seen (disk_of keeper) ≡ disk.seen old) (new : D) (e : Refusal)
+    (kind : (e ≡ DeviceFailed) ⊎ (e ≡ NoMemory) ⊎ (e ≡ Exhausted)) (b : IsUnbegun disk keeper e new) where
+  pub why_refused : IsRefusedFor disk old new e
+  why_refused = record {
+    damaged = λ is. absurd (not_damaged e kind is);
+    retired = λ is. absurd (not_retired e kind is);
+    exhausted = λ is. spent disk old keeper k seen (b.exhausted is).0;
+  }
+
+  spent_not_failed : e ≡ Exhausted → e ≡ DeviceFailed → ⊥
+  spent_not_failed is d = let clash : Exhausted ≡ DeviceFailed = sym is ∙ d in absurd cc
+
+  short_not_failed : e ≡ NoMemory → e ≡ DeviceFailed → ⊥
+  short_not_failed is d = let clash : NoMemory ≡ DeviceFailed = sym is ∙ d in absurd cc
+
+  pub left_by : CountsNow disk → disk.may_leave old (disk.seen old) → Leaves disk old (disk_of keeper) (disk.may_leave old) → disk.honest (disk_of keeper) → disk.honest new → IsLeftBy disk old new e
+  left_by counts stands until was h = record {
+    cut = inr (state_of keeper, found disk old keeper k seen until new (b.cut h));
+    unbegun = λ no. inr (state_of keeper, means_seen disk old keeper k seen, b.unbegun h no);
+    refused = λ is. (state_of keeper, means_seen disk old keeper k seen, b.unbegun h (spent_not_failed is));
+    still = λ is. stays_found disk old keeper k seen until new (b.still (spent_not_failed is) h);
+    short = λ is. inr (stays_found disk old keeper k seen until new (b.still (short_not_failed is) h));
+    seen = λ up room. ap (λ d. disk.seen d) (b.exhausted (is_exhausted e kind up room)).1 ∙ seen;
+    numbered = λ n all. b.numbered h n (number_of_found disk old keeper k seen n (all (disk.seen old) stands)) (λ x left. all x (left_after_run disk counts old (disk_of keeper) (disk.may_leave old) was until x left));
+  }

@@ -8,48 +8,33 @@ use Rattle.wm_registry.specs.Commands.{command_spelling}
 use Rattle.wm_registry.specs.declared.command.Command.{Command}
 use Rattle.wm_registry.specs.declared.reply.Reply.{Reply}
 use Rattle.wm_registry.specs.declared.reply.Reply.TheVariants.{Refused}
-use Rattle.wm_registry.specs.Registry.{after, changed, changes, is_change, reply_to}
+use Rattle.wm_registry.specs.Registry.{after_command, changed, changes, is_change, reply_to}
 use Rattle.wm_registry.specs.Roots.{State}
 use Rattle.wm_registry.specs.MachineLaws.{watches}
 use Rattle.wm_checkpoint.specs.Machines.{replay_on}
-use Rattle.wm_store.specs.Batches.{IsMet, IsShort, IsWithoutRoom, AreAnswered, accepted_of, in_batch, is_begin, met, unless_begin}
-use Rattle.wm_store.specs.UnderWay.{AreMet, AreSpent, shortened, spent, with_command}
+use Rattle.wm_store.specs.Batches.{IsMet, IsOutOfMemory, IsWithoutRoom, AreAnswered, accepted_of, in_batch, is_begin, after_reply, unless_begin}
+use Rattle.wm_store.specs.UnderWay.{AreMet, AreSpent, refused_for_memory, spent, with_command}
 use Rattle.wm_store.proofs.Replies.{never_bad}
+use Rattle.wm_store.specs.laws.Replies.{changes_met, refusal_stays}
 
 -- ---- one reply
 
-in_case : (b : Bool) (r y : Reply) → r ≡ (if b then Refused BadArguments else y) → is_change r ≡ true → is_change y ≡ true
-in_case true r y e h = let clash : true ≡ false = sym h ∙ ap is_change e in absurd cc
-in_case false r y e h = sym (ap is_change e) ∙ h
-
--- a command that is accepted changes the registry
-pub changes_met : (s : State) (c : Command) (r : Reply) → IsMet s c r → is_change r ≡ true → changes s c ≡ true
-changes_met s c r (inl e) h = in_case (is_begin c) r (reply_to s c) e h
-changes_met s c r (inr e) h = let clash : false ≡ true = in_case (is_begin c) r (Refused NoMemory) e h in absurd cc
-
-after_changes : (s : State) (c : Command) → changes s c ≡ true → after s c ≡ changed s c
+after_changes : (s : State) (c : Command) → changes s c ≡ true → after_command s c ≡ changed s c
 after_changes s c h = rw h refl
 
 -- the commands accepted by one reply lead to the state behind it
-met_is : (b : Bool) (s : State) (c : Command) → (b ≡ true → after s c ≡ changed s c) → replay_on watches s (if b then c ∷ [] else []) ≡ (if b then changed s c else s)
+met_is : (b : Bool) (s : State) (c : Command) → (b ≡ true → after_command s c ≡ changed s c) → replay_on watches s (if b then c ∷ [] else []) ≡ (if b then changed s c else s)
 met_is true s c h = h refl
 met_is false s c h = refl
 
-pub one_met : (s : State) (c : Command) (r : Reply) → IsMet s c r → replay_on watches s (with_command [] c r) ≡ met s c r
+pub one_met : (s : State) (c : Command) (r : Reply) → IsMet s c r → replay_on watches s (with_command [] c r) ≡ after_reply s c r
 one_met s c r m = met_is (is_change r) s c (λ h. after_changes s c (changes_met s c r m h))
-
-refused_stays : (b : Bool) (x : Refusal) → is_change (if b then Refused BadArguments else Refused x) ≡ false
-refused_stays true x = refl
-refused_stays false x = refl
-
-pub refusal_stays : (c : Command) (x : Refusal) → is_change (unless_begin c (Refused x)) ≡ false
-refusal_stays c x = refused_stays (is_begin c) x
 
 stays_met : (b : Bool) (s t : State) → b ≡ false → (if b then t else s) ≡ s
 stays_met true s t h = absurd cc
 stays_met false s t h = refl
 
-pub refusal_met : (s : State) (c : Command) (x : Refusal) → met s c (unless_begin c (Refused x)) ≡ s
+pub refusal_met : (s : State) (c : Command) (x : Refusal) → after_reply s c (unless_begin c (Refused x)) ≡ s
 refusal_met s c x = stays_met (is_change (unless_begin c (Refused x))) s (changed s c) (refusal_stays c x)
 
 -- ---- lists of them
@@ -73,7 +58,7 @@ replay_first : (b : Bool) (s : State) (c : Command) (l : List Command) → repla
 replay_first true s c l = refl
 replay_first false s c l = refl
 
-replay_met : (s : State) (c : Command) (r : Reply) (l : List Command) → IsMet s c r → replay_on watches s (if is_change r then c ∷ l else l) ≡ replay_on watches (met s c r) l
+replay_met : (s : State) (c : Command) (r : Reply) (l : List Command) → IsMet s c r → replay_on watches s (if is_change r then c ∷ l else l) ≡ replay_on watches (after_reply s c r) l
 replay_met s c r l m = replay_first (is_change r) s c l ∙ ap (λ (t : State). replay_on watches t l) (one_met s c r m)
 
 pub met_append : (s : State) (cs ds : List Command) (rs qs : List Reply) → AreMet s cs rs → AreMet (replay_on watches s (accepted_of cs rs)) ds qs → AreMet s (cs ++ ds) (rs ++ qs)
@@ -81,7 +66,7 @@ met_append s [] ds [] qs h k = k
 met_append s [] ds (r ∷ rs) qs h k = absurd h
 met_append s (c ∷ cs) ds [] qs h k = absurd h
 met_append s (c ∷ cs) ds (r ∷ rs) qs h k =
-    (h.0, met_append (met s c r) cs ds rs qs h.1 (subst (λ (t : State). AreMet t ds qs) (replay_met s c r (accepted_of cs rs) h.0) k))
+    (h.0, met_append (after_reply s c r) cs ds rs qs h.1 (subst (λ (t : State). AreMet t ds qs) (replay_met s c r (accepted_of cs rs) h.0) k))
 
 pub met_more : (s : State) (cs : List Command) (rs : List Reply) (d : Command) (q : Reply) → AreMet s cs rs → IsMet (replay_on watches s (accepted_of cs rs)) d q → AreMet s (cs ++ (d ∷ [])) (rs ++ (q ∷ []))
 met_more s cs rs d q h k = met_append s cs (d ∷ []) rs (q ∷ []) h (k, tt)
@@ -90,7 +75,7 @@ pub met_len : (s : State) (cs : List Command) (rs : List Reply) → AreMet s cs 
 met_len s [] [] h = refl
 met_len s [] (r ∷ rs) h = absurd h
 met_len s (c ∷ cs) [] h = absurd h
-met_len s (c ∷ cs) (r ∷ rs) h = omega (arith, met_len (met s c r) cs rs h.1)
+met_len s (c ∷ cs) (r ∷ rs) h = omega (arith, met_len (after_reply s c r) cs rs h.1)
 
 -- one command more that is answered as the registry has it, and isn't accepted
 pub idle_more : (s : State) (cs : List Command) (rs : List Reply) (d : Command) (q : Reply) → AreMet s cs rs → accepted_of cs rs ≡ [] → q ≡ in_batch s d → is_change q ≡ false
@@ -104,14 +89,14 @@ pub answered_met : (n room : ℕ) (s : State) (cs : List Command) (rs : List Rep
 answered_met n room s [] [] h = tt
 answered_met n room s [] (r ∷ rs) h = absurd h
 answered_met n room s (c ∷ cs) [] h = absurd h
-answered_met n room s (c ∷ cs) (r ∷ rs) h = inl (h.0, answered_met n room (met s c r) cs rs h.1)
+answered_met n room s (c ∷ cs) (r ∷ rs) h = inl (h.0, answered_met n room (after_reply s c r) cs rs h.1)
 
 -- ---- a spent number
 
 pub answered_spent : (n room : ℕ) (s : State) (cs : List Command) (rs : List Reply) → AreSpent n room s cs rs → AreAnswered n room s cs rs
 answered_spent n room s [] rs h = absurd h
 answered_spent n room s (c ∷ cs) [] h = absurd h
-answered_spent n room s (c ∷ cs) (r ∷ rs) (inl h) = inl (h.0, answered_spent n room (met s c r) cs rs h.1)
+answered_spent n room s (c ∷ cs) (r ∷ rs) (inl h) = inl (h.0, answered_spent n room (after_reply s c r) cs rs h.1)
 answered_spent n room s (c ∷ cs) (r ∷ rs) (inr h) = inr h
 
 spent_append : (cs : List Command) (d : Command) → spent (cs ++ (d ∷ [])) ≡ spent cs ++ (unless_begin d (Refused Exhausted) ∷ [])
@@ -121,7 +106,7 @@ spent_append (c ∷ cs) d = ap (λ (l : List Reply). unless_begin c (Refused Exh
 pub spent_more : (n room : ℕ) (s : State) (cs : List Command) (rs : List Reply) (d : Command) → AreSpent n room s cs rs → AreSpent n room s (cs ++ (d ∷ [])) (rs ++ (unless_begin d (Refused Exhausted) ∷ []))
 spent_more n room s [] rs d h = absurd h
 spent_more n room s (c ∷ cs) [] d h = absurd h
-spent_more n room s (c ∷ cs) (r ∷ rs) d (inl h) = inl (h.0, spent_more n room (met s c r) cs rs d h.1)
+spent_more n room s (c ∷ cs) (r ∷ rs) d (inl h) = inl (h.0, spent_more n room (after_reply s c r) cs rs d h.1)
 spent_more n room s (c ∷ cs) (r ∷ rs) d (inr h) = inr (h.0, h.1, ap (λ (l : List Reply). l ++ (unless_begin d (Refused Exhausted) ∷ [])) h.2 ∙ sym (spent_append (c ∷ cs) d))
 
 pub spent_first : (n room : ℕ) (s : State) (cs : List Command) (rs : List Reply) (d : Command) → AreMet s cs rs → IsWithoutRoom n room d → is_change (in_batch (replay_on watches s (accepted_of cs rs)) d) ≡ true → AreSpent n room s (cs ++ (d ∷ [])) (rs ++ (unless_begin d (Refused Exhausted) ∷ []))
@@ -129,83 +114,83 @@ spent_first n room s [] [] d h less is = inr (less, is, refl)
 spent_first n room s [] (r ∷ rs) d h less is = absurd h
 spent_first n room s (c ∷ cs) [] d h less is = absurd h
 spent_first n room s (c ∷ cs) (r ∷ rs) d h less is =
-    inl (h.0, spent_first n room (met s c r) cs rs d h.1 less (subst (λ (t : State). is_change (in_batch t d) ≡ true) (replay_met s c r (accepted_of cs rs) h.0) is))
+    inl (h.0, spent_first n room (after_reply s c r) cs rs d h.1 less (subst (λ (t : State). is_change (in_batch t d) ≡ true) (replay_met s c r (accepted_of cs rs) h.0) is))
 
--- ---- refusals for want of memory
+-- ---- refusals when out of memory
 
--- what all commands are answered where a growth is refused
-abbrev pub short_replies : List Command → List Reply
-short_replies cs = map (λ c. unless_begin c (Refused NoMemory)) cs
+-- what all commands are answered where memory runs out
+abbrev pub out_of_memory_replies : List Command → List Reply
+out_of_memory_replies cs = map (λ c. unless_begin c (Refused NoMemory)) cs
 
-pub all_short : (s : State) (cs : List Command) → AreMet s cs (short_replies cs)
-all_short s [] = tt
-all_short s (c ∷ cs) = (inr refl, subst (λ (t : State). AreMet t cs (short_replies cs)) (sym (refusal_met s c NoMemory)) (all_short s cs))
+pub all_out_of_memory : (s : State) (cs : List Command) → AreMet s cs (out_of_memory_replies cs)
+all_out_of_memory s [] = tt
+all_out_of_memory s (c ∷ cs) = (inr refl, subst (λ (t : State). AreMet t cs (out_of_memory_replies cs)) (sym (refusal_met s c NoMemory)) (all_out_of_memory s cs))
 
-pub none_accepted : (cs : List Command) → accepted_of cs (short_replies cs) ≡ []
+pub none_accepted : (cs : List Command) → accepted_of cs (out_of_memory_replies cs) ≡ []
 none_accepted [] = refl
-none_accepted (c ∷ cs) = if_nil (is_change (unless_begin c (Refused NoMemory))) c (accepted_of cs (short_replies cs)) (refusal_stays c NoMemory) ∙ none_accepted cs
+none_accepted (c ∷ cs) = if_nil (is_change (unless_begin c (Refused NoMemory))) c (accepted_of cs (out_of_memory_replies cs)) (refusal_stays c NoMemory) ∙ none_accepted cs
 
-shortened_other : (r : Reply) → r ≢ Refused BadArguments → shortened r ≡ Refused NoMemory
-shortened_other (Refused BadArguments) h = absurd (h refl)
-shortened_other r h = refl
+refused_for_memory_other : (r : Reply) → r ≢ Refused BadArguments → refused_for_memory r ≡ Refused NoMemory
+refused_for_memory_other (Refused BadArguments) h = absurd (h refl)
+refused_for_memory_other r h = refl
 
-shortened_in : (b : Bool) (r y : Reply) → y ≢ Refused BadArguments → r ≡ (if b then Refused BadArguments else y) → shortened r ≡ (if b then Refused BadArguments else Refused NoMemory)
-shortened_in true r y h e = ap shortened e
-shortened_in false r y h e = ap shortened e ∙ shortened_other y h
+refused_for_memory_in : (b : Bool) (r y : Reply) → y ≢ Refused BadArguments → r ≡ (if b then Refused BadArguments else y) → refused_for_memory r ≡ (if b then Refused BadArguments else Refused NoMemory)
+refused_for_memory_in true r y h e = ap refused_for_memory e
+refused_for_memory_in false r y h e = ap refused_for_memory e ∙ refused_for_memory_other y h
 
 -- a reply that is turned into a refusal
-pub shortened_met : (s : State) (c : Command) (r : Reply) → IsMet s c r → shortened r ≡ unless_begin c (Refused NoMemory)
-shortened_met s c r (inl e) = shortened_in (is_begin c) r (reply_to s c) (never_bad s c) e
-shortened_met s c r (inr e) = shortened_in (is_begin c) r (Refused NoMemory) (λ x. absurd cc) e
+pub refused_for_memory_met : (s : State) (c : Command) (r : Reply) → IsMet s c r → refused_for_memory r ≡ unless_begin c (Refused NoMemory)
+refused_for_memory_met s c r (inl e) = refused_for_memory_in (is_begin c) r (reply_to s c) (never_bad s c) e
+refused_for_memory_met s c r (inr e) = refused_for_memory_in (is_begin c) r (Refused NoMemory) (λ x. absurd cc) e
 
-pub all_shortened : (s : State) (cs : List Command) (rs : List Reply) → AreMet s cs rs → map shortened rs ≡ short_replies cs
-all_shortened s [] [] h = refl
-all_shortened s [] (r ∷ rs) h = absurd h
-all_shortened s (c ∷ cs) [] h = absurd h
-all_shortened s (c ∷ cs) (r ∷ rs) h =
-    ap (λ (x : Reply). x ∷ map shortened rs) (shortened_met s c r h.0) ∙ ap (λ (l : List Reply). unless_begin c (Refused NoMemory) ∷ l) (all_shortened (met s c r) cs rs h.1)
+pub all_refused_for_memory : (s : State) (cs : List Command) (rs : List Reply) → AreMet s cs rs → map refused_for_memory rs ≡ out_of_memory_replies cs
+all_refused_for_memory s [] [] h = refl
+all_refused_for_memory s [] (r ∷ rs) h = absurd h
+all_refused_for_memory s (c ∷ cs) [] h = absurd h
+all_refused_for_memory s (c ∷ cs) (r ∷ rs) h =
+    ap (λ (x : Reply). x ∷ map refused_for_memory rs) (refused_for_memory_met s c r h.0) ∙ ap (λ (l : List Reply). unless_begin c (Refused NoMemory) ∷ l) (all_refused_for_memory (after_reply s c r) cs rs h.1)
 
 -- the replies, those from a place on turned
-abbrev pub short_behind : ℕ → List Reply → List Reply
-short_behind n rs = take n rs ++ map shortened (drop n rs)
+abbrev pub out_of_memory_behind : ℕ → List Reply → List Reply
+out_of_memory_behind n rs = take n rs ++ map refused_for_memory (drop n rs)
 
-pub met_behind : (n : ℕ) (s : State) (cs : List Command) (rs : List Reply) → AreMet s cs rs → AreMet s cs (short_behind n rs)
-met_behind zero s cs rs h = subst (λ (l : List Reply). AreMet s cs l) (sym (all_shortened s cs rs h)) (all_short s cs)
+pub met_behind : (n : ℕ) (s : State) (cs : List Command) (rs : List Reply) → AreMet s cs rs → AreMet s cs (out_of_memory_behind n rs)
+met_behind zero s cs rs h = subst (λ (l : List Reply). AreMet s cs l) (sym (all_refused_for_memory s cs rs h)) (all_out_of_memory s cs)
 met_behind (suc n) s [] [] h = tt
 met_behind (suc n) s [] (r ∷ rs) h = absurd h
 met_behind (suc n) s (c ∷ cs) [] h = absurd h
-met_behind (suc n) s (c ∷ cs) (r ∷ rs) h = (h.0, met_behind n (met s c r) cs rs h.1)
+met_behind (suc n) s (c ∷ cs) (r ∷ rs) h = (h.0, met_behind n (after_reply s c r) cs rs h.1)
 
-pub accepted_behind : (n : ℕ) (s : State) (cs : List Command) (rs : List Reply) → AreMet s cs rs → accepted_of cs (short_behind n rs) ≡ accepted_of (take n cs) (take n rs)
-accepted_behind zero s cs rs h = ap (λ (l : List Reply). accepted_of cs l) (all_shortened s cs rs h) ∙ none_accepted cs
+pub accepted_behind : (n : ℕ) (s : State) (cs : List Command) (rs : List Reply) → AreMet s cs rs → accepted_of cs (out_of_memory_behind n rs) ≡ accepted_of (take n cs) (take n rs)
+accepted_behind zero s cs rs h = ap (λ (l : List Reply). accepted_of cs l) (all_refused_for_memory s cs rs h) ∙ none_accepted cs
 accepted_behind (suc n) s [] [] h = refl
 accepted_behind (suc n) s [] (r ∷ rs) h = absurd h
 accepted_behind (suc n) s (c ∷ cs) [] h = absurd h
-accepted_behind (suc n) s (c ∷ cs) (r ∷ rs) h = ap (λ (l : List Command). if is_change r then c ∷ l else l) (accepted_behind n (met s c r) cs rs h.1)
+accepted_behind (suc n) s (c ∷ cs) (r ∷ rs) h = ap (λ (l : List Command). if is_change r then c ∷ l else l) (accepted_behind n (after_reply s c r) cs rs h.1)
 
-short_turned : (cs : List Command) (rs : List Reply) → length cs ≡ length rs → IsShort (map shortened rs) ⊎ (accepted_of cs rs ≡ [])
-short_turned [] [] e = inr refl
-short_turned [] (r ∷ rs) e = absurd (omega (arith, e))
-short_turned (c ∷ cs) [] e = absurd (omega (arith, e))
-short_turned (c ∷ cs) (Refused BadArguments ∷ rs) e = ⊎_elim (λ k. inl (inr k)) (λ k. inr k) (short_turned cs rs (omega (arith, e)))
-short_turned (c ∷ cs) (r ∷ rs) e = inl (inl refl)
+out_of_memory_turned : (cs : List Command) (rs : List Reply) → length cs ≡ length rs → IsOutOfMemory (map refused_for_memory rs) ⊎ (accepted_of cs rs ≡ [])
+out_of_memory_turned [] [] e = inr refl
+out_of_memory_turned [] (r ∷ rs) e = absurd (omega (arith, e))
+out_of_memory_turned (c ∷ cs) [] e = absurd (omega (arith, e))
+out_of_memory_turned (c ∷ cs) (Refused BadArguments ∷ rs) e = ⊎_elim (λ k. inl (inr k)) (λ k. inr k) (out_of_memory_turned cs rs (omega (arith, e)))
+out_of_memory_turned (c ∷ cs) (r ∷ rs) e = inl (inl refl)
 
 -- one of them was turned; or all accepted commands stand before the place
-pub short_or_all : (n : ℕ) (cs : List Command) (rs : List Reply) → length cs ≡ length rs → IsShort (short_behind n rs) ⊎ (accepted_of cs rs ≡ accepted_of (take n cs) (take n rs))
-short_or_all zero cs rs e = short_turned cs rs e
-short_or_all (suc n) [] [] e = inr refl
-short_or_all (suc n) [] (r ∷ rs) e = absurd (omega (arith, e))
-short_or_all (suc n) (c ∷ cs) [] e = absurd (omega (arith, e))
-short_or_all (suc n) (c ∷ cs) (r ∷ rs) e = ⊎_elim (λ k. inl (inr k)) (λ k. inr (ap (λ (l : List Command). if is_change r then c ∷ l else l) k)) (short_or_all n cs rs (omega (arith, e)))
+pub out_of_memory_or_all : (n : ℕ) (cs : List Command) (rs : List Reply) → length cs ≡ length rs → IsOutOfMemory (out_of_memory_behind n rs) ⊎ (accepted_of cs rs ≡ accepted_of (take n cs) (take n rs))
+out_of_memory_or_all zero cs rs e = out_of_memory_turned cs rs e
+out_of_memory_or_all (suc n) [] [] e = inr refl
+out_of_memory_or_all (suc n) [] (r ∷ rs) e = absurd (omega (arith, e))
+out_of_memory_or_all (suc n) (c ∷ cs) [] e = absurd (omega (arith, e))
+out_of_memory_or_all (suc n) (c ∷ cs) (r ∷ rs) e = ⊎_elim (λ k. inl (inr k)) (λ k. inr (ap (λ (l : List Command). if is_change r then c ∷ l else l) k)) (out_of_memory_or_all n cs rs (omega (arith, e)))
 
-pub short_append : (rs qs : List Reply) → IsShort rs → IsShort (rs ++ qs)
-short_append [] qs h = absurd h
-short_append (r ∷ rs) qs (inl h) = inl h
-short_append (r ∷ rs) qs (inr h) = inr (short_append rs qs h)
+pub out_of_memory_append : (rs qs : List Reply) → IsOutOfMemory rs → IsOutOfMemory (rs ++ qs)
+out_of_memory_append [] qs h = absurd h
+out_of_memory_append (r ∷ rs) qs (inl h) = inl h
+out_of_memory_append (r ∷ rs) qs (inr h) = inr (out_of_memory_append rs qs h)
 
-pub short_last : (rs : List Reply) (q : Reply) → q ≡ Refused NoMemory → IsShort (rs ++ (q ∷ []))
-short_last [] q h = inl h
-short_last (r ∷ rs) q h = inr (short_last rs q h)
+pub out_of_memory_last : (rs : List Reply) (q : Reply) → q ≡ Refused NoMemory → IsOutOfMemory (rs ++ (q ∷ []))
+out_of_memory_last [] q h = inl h
+out_of_memory_last (r ∷ rs) q h = inr (out_of_memory_last rs q h)
 
 -- ---- the group
 

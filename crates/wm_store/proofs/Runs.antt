@@ -5,39 +5,34 @@ use Rattle.wm_disk.specs.declared.refusal.Refusal.{Refusal}
 use Rattle.wm_disk.specs.declared.refusal.Refusal.TheVariants.{DeviceFailed, NoMemory, Exhausted, StoreFailed}
 use Rattle.wm_disk.specs.declared.disk.Disk as disks
 use Rattle.wm_disk.specs.Moments.{LeavesOnly, then_runs}
-use Rattle.wm_journal.proofs.Opening.{weaker}
+use Rattle.wm_disk.specs.laws.Runs.{weaker, OnlyNow}
 use Rattle.wm_registry.specs.declared.command.Command.{Command}
 use Rattle.wm_registry.specs.declared.reply.Reply.{Reply}
 use Rattle.wm_registry.specs.Roots.{State}
 use Rattle.wm_registry.specs.MachineLaws.{watches}
-use Rattle.wm_checkpoint.specs.Meanings.{MeansState, MeansBeginning}
+use Rattle.wm_checkpoint.specs.Meanings.{MeansState, MeansPrefix}
 use Rattle.wm_checkpoint.specs.Kept.{disk_of, state_of, has_failed, Keeps}
 use Rattle.wm_checkpoint.specs.declared.keeper.Keeper.{Keeper}
-use Rattle.wm_checkpoint.proofs.Keeping.{untouched}
-use Rattle.wm_checkpoint.proofs.Outside.{beginning_none}
+use Rattle.wm_checkpoint.specs.laws.Uncalled.{untouched, prefix_none}
 
 module _ {D : Type 0} (disk : disks.Ghosts D) where
   -- what a crash at a moment from old to new leaves
   abbrev pub Leaves : D → D → (List ℕ → Type 0) → Type 0
   Leaves old new P = LeavesOnly disk.moment disk.left_since old new P
 
-  -- a disk's law
-  abbrev pub OnlyNow : Type 0
-  OnlyNow = (d : D) (c : List ℕ) → disk.honest d → disk.left_since d (disk.moment d) c → disk.may_leave d c
-
   -- no call of the disk
-  pub stood : OnlyNow → (keeper : Keeper D State State Command Reply disk) → Keeps watches keeper → has_failed keeper ≡ false → disk.honest (disk_of keeper) → Leaves (disk_of keeper) (disk_of keeper) (MeansState watches (state_of keeper))
+  pub stood : OnlyNow disk → (keeper : Keeper D State State Command Reply disk) → Keeps watches keeper → has_failed keeper ≡ false → disk.honest (disk_of keeper) → Leaves (disk_of keeper) (disk_of keeper) (MeansState watches (state_of keeper))
   stood only_now keeper kp alive h = untouched disk watches keeper (kp.kept alive h) (λ c left. only_now (disk_of keeper) c h left)
 
   -- of no command yet
-  pub unbegun : (old new : D) (s : State) (cs : List Command) → Leaves old new (MeansState watches s) → Leaves old new (MeansBeginning watches s cs)
-  unbegun old new s cs run = weaker disk.moment disk.left_since old new (MeansState watches s) (MeansBeginning watches s cs) run (λ c m. beginning_none watches s cs c m)
+  pub unbegun : (old new : D) (s : State) (cs : List Command) → Leaves old new (MeansState watches s) → Leaves old new (MeansPrefix watches s cs)
+  unbegun old new s cs run = weaker disk.moment disk.left_since old new (MeansState watches s) (MeansPrefix watches s cs) run (λ c m. prefix_none watches s cs c m)
 
   -- first a run that leaves the state, then one of commands
-  pub then_begun : (old mid new : D) (s t : State) (cs : List Command) → t ≡ s → Leaves old mid (MeansState watches s) → Leaves mid new (MeansBeginning watches t cs) → Leaves old new (MeansBeginning watches s cs)
+  pub then_begun : (old mid new : D) (s t : State) (cs : List Command) → t ≡ s → Leaves old mid (MeansState watches s) → Leaves mid new (MeansPrefix watches t cs) → Leaves old new (MeansPrefix watches s cs)
   then_begun old mid new s t cs same first second =
-      then_runs disk.moment disk.left_since old mid new (MeansBeginning watches s cs) (MeansBeginning watches t cs) (unbegun old mid s cs first) second
-      (λ c m. subst (λ (x : State). MeansBeginning watches x cs c) same m)
+      then_runs disk.moment disk.left_since old mid new (MeansPrefix watches s cs) (MeansPrefix watches t cs) (unbegun old mid s cs first) second
+      (λ c m. subst (λ (x : State). MeansPrefix watches x cs c) same m)
 
 -- an answer of a keeper that is up
 pub kinds_up : (r : Result Unit Refusal) → IfErr r (λ e. (e ≡ DeviceFailed) ⊎ (e ≡ NoMemory) ⊎ (e ≡ Exhausted) ⊎ (e ≡ StoreFailed)) → (IsErrOf r StoreFailed → ⊥) → IfErr r (λ e. (e ≡ DeviceFailed) ⊎ (e ≡ NoMemory) ⊎ (e ≡ Exhausted))

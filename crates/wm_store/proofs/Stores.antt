@@ -1,20 +1,23 @@
 -- What a store keeps after a call of its keeper.
-use Rattle.std.proofs.Common.{◌≡◌, ◌≤◌, ◌⊎◌, ⊎_elim, inl, inr, refl, sym, ◌∙◌, subst, ℕ, Bool, true, false, List, []}
-use Rattle.std.specs.Prelude.{Option, None}
+use Rattle.std.proofs.Common.{◌≡◌, ◌⊎◌, ⊎_elim, inl, inr, refl, sym, ◌∙◌, subst, arith, ℕ, Bool, true, false, List, []}
+use Rattle.std.specs.Prelude.{Option, None, Result, Ok, Err, OnOk, IsErrOf}
 use Rattle.std.specs.Option.{unwrap_or}
 use Rattle.wm_disk.specs.Contents.{NoMore}
 use Rattle.wm_disk.specs.declared.disk.Disk as disks
+use Rattle.wm_disk.specs.declared.refusal.Refusal.{Refusal}
+use Rattle.wm_disk.specs.declared.refusal.Refusal.TheVariants.{DeviceFailed, StoreFailed}
 use Rattle.wm_registry.specs.declared.command.Command.{Command}
 use Rattle.wm_registry.specs.declared.reply.Reply.{Reply}
 use Rattle.wm_registry.specs.Roots.{State}
 use Rattle.wm_registry.specs.MachineLaws.{watches}
-use Rattle.wm_checkpoint.specs.Meanings.{Means, MeansState, MeansBeginning}
-use Rattle.wm_checkpoint.specs.Kept.{disk_of, state_of, has_failed, number_of, room_left, IsKept, Keeps}
+use Rattle.wm_checkpoint.specs.Meanings.{Means, MeansState, MeansPrefix}
+use Rattle.wm_checkpoint.specs.Kept.{disk_of, state_of, has_failed, slot_number_of, room_left, IsKept, Keeps}
 use Rattle.wm_checkpoint.specs.declared.keeper.Keeper.{Keeper}
-use Rattle.wm_checkpoint.proofs.Keeping.{kept_means}
-use Rattle.wm_checkpoint.proofs.Outside.{beginning_none}
+use Rattle.wm_checkpoint.specs.laws.Uncalled.{kept_means, prefix_none}
+use Rattle.wm_store.specs.Calls.{CallsStore, IsOver}
 use Rattle.wm_store.specs.Stored.{Stored, IsStored}
 use Rattle.wm_store.proofs.Runs.{Leaves}
+use Rattle.wm_disk.specs.laws.Runs.{CountsNow, left_after_run}
 
 pub either_bool : (b : Bool) → (b ≡ true) ⊎ (b ≡ false)
 either_bool true = inl refl
@@ -26,26 +29,18 @@ module _ {D : Type 0} (disk : disks.Ghosts D) where
 
   -- a store, by its fields
   abbrev pub stored : K → Option State → Bool → Stored D
-  stored keeper before closed = record { disk = disk_of keeper; registry = unwrap_or before (state_of keeper); failed = has_failed keeper; closed = closed; number = number_of keeper; room = room_left keeper }
+  stored keeper before closed = record { disk = disk_of keeper; registry = unwrap_or before (state_of keeper); failed = has_failed keeper; closed = closed; number = slot_number_of keeper; room = room_left keeper }
 
   -- what it keeps
   abbrev pub IsInside : K → Option State → Bool → Type 0
   IsInside keeper before closed = Keeps watches keeper × (has_failed keeper ≡ false → before ≡ None) × IsStored disk (stored keeper before closed)
-
-  -- a disk's law
-  abbrev pub CountsNow : Type 0
-  CountsNow = (d : D) (t : ℕ) (c : List ℕ) → disk.honest d → t ≤ disk.moment d → disk.may_leave d c → disk.left_since d t c
-
-  -- what a crash may leave at the end of a run
-  pub left_now : CountsNow → (old new : D) (P : List ℕ → Type 0) → disk.honest new → Leaves disk old new P → (c : List ℕ) → disk.may_leave new c → P c
-  left_now counts old new P h run c left = run.each c (counts new (disk.moment old) c h run.later left)
 
   pub means_up : (keeper : K) → Keeps watches keeper → has_failed keeper ≡ false → disk.honest (disk_of keeper) → (c : List ℕ) → disk.may_leave (disk_of keeper) c → MeansState watches (state_of keeper) c
   means_up keeper kp alive h c left = kept_means disk watches keeper (kp.kept alive h) c left
 
   -- under the number of the keeper's slot
   pub counted_up : (keeper : K) → Keeps watches keeper → has_failed keeper ≡ false → (before : Option State) → before ≡ None → disk.honest (disk_of keeper) → (c : List ℕ) → disk.may_leave (disk_of keeper) c
-      → (m : MeansState watches (unwrap_or before (state_of keeper)) c) × (m.number ≡ number_of keeper)
+      → (m : MeansState watches (unwrap_or before (state_of keeper)) c) × (m.number ≡ slot_number_of keeper)
   counted_up keeper kp alive before none h c left =
       let k : IsKept watches keeper = kp.kept alive h in (
         record {
@@ -59,6 +54,29 @@ module _ {D : Type 0} (disk : disks.Ghosts D) where
         refl,
       )
 
+  pub not_over : (keeper : K) (before : Option State) (closed : Bool) → has_failed keeper ≡ false → closed ≡ false → IsOver (stored keeper before closed) → ⊥
+  not_over keeper before closed alive shut (inl down) = let clash : true ≡ false = sym down ∙ alive in absurd cc
+  not_over keeper before closed alive shut (inr over) = let clash : true ≡ false = sym over ∙ shut in absurd cc
+
+  -- an answer without a call of the disk, which isn't its failure
+  pub uncalled : {T : Type 0} (result : Result T Refusal) (store : Stored D) → (IsErrOf result DeviceFailed → ⊥) → OnOk result (store.failed ≡ false) → (IsErrOf result StoreFailed → IsOver store) → (IsOver store → IsErrOf result StoreFailed) → CallsStore disk store store result
+  uncalled (Ok x) store none works down over = record {
+    device = record { honest = λ h. h; failures_grow = omega arith; no_failure = refl; failed = λ e. absurd (none e); failures_kept = tt };
+    works = works;
+    failed = λ e. absurd (none e);
+    memory = λ e. refl;
+    down = λ e. (down e, refl);
+    stays_down = over;
+  }
+  uncalled (Err e) store none works down over = record {
+    device = record { honest = λ h. h; failures_grow = omega arith; no_failure = tt; failed = λ e. absurd (none e); failures_kept = λ no. refl };
+    works = tt;
+    failed = λ e. absurd (none e);
+    memory = λ e. refl;
+    down = λ e. (down e, refl);
+    stays_down = over;
+  }
+
   -- a store whose keeper hasn't failed
   pub up : (keeper : K) → Keeps watches keeper → has_failed keeper ≡ false → (closed : Bool) → IsInside keeper None closed
   up keeper kp alive closed = (
@@ -71,18 +89,18 @@ module _ {D : Type 0} (disk : disks.Ghosts D) where
   )
 
   -- one whose keeper has failed in a batch
-  pub fallen : (keeper : K) → Keeps watches keeper → has_failed keeper ≡ true → (before : Option State) (closed : Bool) (s : State) → unwrap_or before (state_of keeper) ≡ s → (further : List Command) → (disk.honest (disk_of keeper) → (c : List ℕ) → disk.may_leave (disk_of keeper) c → MeansBeginning watches s further c) → IsInside keeper before closed
+  pub fallen : (keeper : K) → Keeps watches keeper → has_failed keeper ≡ true → (before : Option State) (closed : Bool) (s : State) → unwrap_or before (state_of keeper) ≡ s → (further : List Command) → (disk.honest (disk_of keeper) → (c : List ℕ) → disk.may_leave (disk_of keeper) c → MeansPrefix watches s further c) → IsInside keeper before closed
   fallen keeper kp down before closed s is further left = (
     kp,
     λ alive. let clash : true ≡ false = sym down ∙ alive in absurd cc,
     record {
       means = λ alive. let clash : true ≡ false = sym down ∙ alive in absurd cc;
-      failed = λ _ h. (further, λ c k. subst (λ (x : State). MeansBeginning watches x further c) (sym is) (left h c k));
+      failed = λ _ h. (further, λ c k. subst (λ (x : State). MeansPrefix watches x further c) (sym is) (left h c k));
     },
   )
 
   -- after a call that leaves the state
-  module _ (counts : CountsNow) (old new : K) (before : Option State) (closed closed' : Bool) (inside : IsInside old before closed) where
+  module _ (counts : CountsNow disk) (old new : K) (before : Option State) (closed closed' : Bool) (inside : IsInside old before closed) where
     pub inside_after : Keeps watches new → state_of new ≡ state_of old → (has_failed old ≡ true → (has_failed new ≡ true) × (disk.honest (disk_of new) → disk.honest (disk_of old) × NoMore (disk.may_leave (disk_of old)) (disk.may_leave (disk_of new))))
         → (has_failed old ≡ false → disk.honest (disk_of new) → Leaves disk (disk_of old) (disk_of new) (MeansState watches (state_of old))) → IsInside new before closed'
     inside_after kp same down run = (
@@ -96,12 +114,12 @@ module _ {D : Type 0} (disk : disks.Ghosts D) where
         failed = λ fell h. ⊎_elim
             (λ d.
             let was = inside.2.failed d ((down d).1 h).0 in
-            (was.0, λ c left. subst (λ (s : State). MeansBeginning watches (unwrap_or before s) was.0 c) (sym same) (was.1 c (((down d).1 h).1 c left))))
+            (was.0, λ c left. subst (λ (s : State). MeansPrefix watches (unwrap_or before s) was.0 c) (sym same) (was.1 c (((down d).1 h).1 c left))))
             (λ a. (
               [],
-              λ c left. beginning_none watches (unwrap_or before (state_of new)) [] c
+              λ c left. prefix_none watches (unwrap_or before (state_of new)) [] c
                   (subst (λ (b : Option State). MeansState watches (unwrap_or b (state_of new)) c) (sym (inside.1 a))
-                  (subst (λ (s : State). MeansState watches s c) (sym same) (left_now counts (disk_of old) (disk_of new) (MeansState watches (state_of old)) h (run a h) c left))),
+                  (subst (λ (s : State). MeansState watches s c) (sym same) (left_after_run disk counts (disk_of old) (disk_of new) (MeansState watches (state_of old)) h (run a h) c left))),
             ))
             (either_bool (has_failed old));
       },

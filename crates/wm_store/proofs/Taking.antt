@@ -10,17 +10,18 @@ use Rattle.wm_registry.specs.Commands.{command_spelling}
 use Rattle.wm_registry.specs.declared.command.Command.{Command}
 use Rattle.wm_registry.specs.declared.reply.Reply.{Reply}
 use Rattle.wm_registry.specs.declared.reply.Reply.TheVariants.{Refused}
-use Rattle.wm_registry.specs.Registry.{after, changes, is_change, reply_to}
+use Rattle.wm_registry.specs.Registry.{after_command, changes, is_change, reply_to}
 use Rattle.wm_registry.specs.Roots.{State}
 use Rattle.wm_registry.specs.MachineLaws.{watches}
 use Rattle.wm_checkpoint.specs.Machines.{Accepts, replay_on}
-use Rattle.wm_checkpoint.specs.Kept.{state_of, number_of, room_left}
-use Rattle.wm_checkpoint.proofs.Outside.{all_append, replayed_append}
-use Rattle.wm_store.specs.Batches.{IsMet, IsShort, IsWithoutRoom, accepted_of, in_batch, is_begin, met, unless_begin}
-use Rattle.wm_store.specs.UnderWay.{AreMet, AreSpent, IsPast, IsPushed, IsReady, IsRefused, IsSoFar, IsSpared, IsSparing, K, with_command}
+use Rattle.wm_checkpoint.specs.Kept.{state_of, slot_number_of, room_left}
+use Rattle.wm_checkpoint.specs.laws.Replays.{all_append, replayed_append}
+use Rattle.wm_store.specs.Batches.{IsMet, IsOutOfMemory, IsWithoutRoom, accepted_of, in_batch, is_begin, after_reply, unless_begin}
+use Rattle.wm_store.specs.UnderWay.{AreMet, AreSpent, IsAsked, IsPast, IsPushed, IsReady, IsRefused, IsSoFar, IsSpared, IsSparing, K, with_command}
 use Rattle.wm_store.specs.declared.batch.Batch.{Batch}
 use Rattle.wm_store.proofs.Batching.{spared_none}
-use Rattle.wm_store.proofs.Replying.{accepted_append, changes_met, met_more, one_met, refusal_stays, short_append, short_last, spent_first, spent_more, taken_append}
+use Rattle.wm_store.proofs.Replying.{accepted_append, met_more, one_met, out_of_memory_append, out_of_memory_last, spent_first, spent_more, taken_append}
+use Rattle.wm_store.specs.laws.Replies.{changes_met, refusal_stays}
 
 -- ---- one reply
 
@@ -68,7 +69,7 @@ module _ {D : Type 0} (disk : disks.Ghosts D) where
   abbrev pub IsSpentHere : Command → K disk → Batch → K disk → Batch → Reply → Type 0
   IsSpentHere command old a new b reply =
       (reply ≡ unless_begin command (Refused Exhausted)) × (b.refused ≡ Some Exhausted)
-      × (((a.refused ≡ None) × (is_change (in_batch a.next command) ≡ true) × IsWithoutRoom (number_of new) (room_left new) command × (b.group.items ≡ []))
+      × (((a.refused ≡ None) × (is_change (in_batch a.next command) ≡ true) × IsWithoutRoom (slot_number_of new) (room_left new) command × (b.group.items ≡ []))
       ⊎ ((a.refused ≡ Some Exhausted) × (new ≡ old) × (b.group.items ≡ a.group.items)))
 
   -- No checkpoint was made for the command, or it didn't fit behind the group, or it found no memory.
@@ -134,17 +135,10 @@ module _ {D : Type 0} (disk : disks.Ghosts D) where
     slot = refused_slot command old a new b reply x why is;
   }
 
-  -- what is known where the registry is asked
-  abbrev pub IsAsked : Command → K disk → Batch → K disk → Batch → Type 0
-  IsAsked command old a new b =
-      (b.refused ≡ None) × (a.refused ≡ None) × (is_begin command ≡ false)
-      × (((new ≡ old) × (b.group ≡ a.group)) ⊎ ((is_change (reply_to a.next command) ≡ true) × (room_left old < taken command_spelling (a.group.items ++ (command ∷ [])))))
-      × (is_change (reply_to a.next command) ≡ true → taken command_spelling (b.group.items ++ (command ∷ [])) ≤ room_left new)
-
-  pub taken_asked : (command : Command) (old : K disk) (a : Batch) (new : K disk) (b : Batch) (reply : Reply) (next : State) → IsAsked command old a new b
-      → ((reply ≡ Refused NoMemory) × (next ≡ a.next)) ⊎ ((reply ≡ reply_to a.next command) × (next ≡ after a.next command)) → IsTaken command old a new b reply next
+  pub taken_asked : (command : Command) (old : K disk) (a : Batch) (new : K disk) (b : Batch) (reply : Reply) (next : State) → IsAsked disk command old a new b
+      → ((reply ≡ Refused NoMemory) × (next ≡ a.next)) ⊎ ((reply ≡ reply_to a.next command) × (next ≡ after_command a.next command)) → IsTaken command old a new b reply next
   taken_asked command old a new b reply next o (inl h) = record {
-    so = inl (inr (h.0 ∙ sym (unless_false command (Refused NoMemory) o.2)), inl o.1, inl o.0);
+    so = inl (inr (h.0 ∙ sym (unless_false command (Refused NoMemory) o.plain)), inl o.was_open, inl o.open_yet);
     leads = refusal_leads a.next command reply NoMemory next h.0 h.1;
     changing = λ is. absurd (not_changed reply NoMemory h.0 is);
     fits = λ is. absurd (not_changed reply NoMemory h.0 is);
@@ -152,17 +146,17 @@ module _ {D : Type 0} (disk : disks.Ghosts D) where
     slot = inr (inr h.0);
   }
   taken_asked command old a new b reply next o (inr h) =
-      let here : IsMet a.next command reply = inl (h.0 ∙ sym (unless_false command (reply_to a.next command) o.2)) in
+      let here : IsMet a.next command reply = inl (h.0 ∙ sym (unless_false command (reply_to a.next command) o.plain)) in
       record {
-        so = inl (here, inl o.1, inl o.0);
-        leads = h.1 ∙ ap (λ (y : Reply). met a.next command y) (sym h.0) ∙ sym (one_met a.next command reply here);
+        so = inl (here, inl o.was_open, inl o.open_yet);
+        leads = h.1 ∙ ap (λ (y : Reply). after_reply a.next command y) (sym h.0) ∙ sym (one_met a.next command reply here);
         changing = λ is. changes_met a.next command reply here is;
-        fits = λ is. o.4 (ap is_change (sym h.0) ∙ is);
-        idle = λ is none. ⊎_elim (λ k. inl k.0) (λ k. let clash : false ≡ true = sym is ∙ ap is_change h.0 ∙ k.0 in absurd cc) o.3;
+        fits = λ is. o.fits (ap is_change (sym h.0) ∙ is);
+        idle = λ is none. ⊎_elim (λ k. inl k.0) (λ k. let clash : false ≡ true = sym is ∙ ap is_change h.0 ∙ k.0 in absurd cc) o.spared;
         slot = ⊎_elim
             (λ k. inl (spared_none disk old new a.group.items b.group.items k.0 (ap (λ v. v.items) k.1)))
             (λ k. inr (inl (ap is_change h.0 ∙ k.0, k.1)))
-            o.3;
+            o.spared;
       }
 
   -- ---- what it leaves of the batch
@@ -178,9 +172,9 @@ module _ {D : Type 0} (disk : disks.Ghosts D) where
         kept = r.kept;
         whole = r.whole;
         accepted = subst (λ (l : List Command). Accepts watches (state_of new) l) (sym group)
-            (all_append after changes (state_of new) b.group.items more r.accepted
+            (all_append after_command changes (state_of new) b.group.items more r.accepted
             (subst (λ (s : State). Accepts watches s more) (sym same ∙ met_in) (all_if (is_change reply) a.next command t.changing)));
-        next = p.next ∙ mid_next ∙ t.leads ∙ ap (λ (s : State). replay_on watches s more) (sym same ∙ met_in) ∙ sym (replayed_append after (state_of new) b.group.items more) ∙ ap (λ (l : List Command). replay_on watches (state_of new) l) (sym group);
+        next = p.next ∙ mid_next ∙ t.leads ∙ ap (λ (s : State). replay_on watches s more) (sym same ∙ met_in) ∙ sym (replayed_append after_command (state_of new) b.group.items more) ∙ ap (λ (l : List Command). replay_on watches (state_of new) l) (sym group);
         size = size ∙ ap (λ (n : ℕ). n + taken command_spelling more) r.size ∙ sym (taken_append b.group.items more) ∙ ap (λ (l : List Command). taken command_spelling l) (sym group);
         fits = fits_more (is_change reply) b.group.items command b.size e.size (room_left new) r.size r.fits size t.fits;
         len = p.group_len;
@@ -217,7 +211,7 @@ module _ {D : Type 0} (disk : disks.Ghosts D) where
   pub so_far_leads : (start : K disk) (done : List Command) (old : K disk) (a : Batch) → IsPast disk start done old a → IsReady disk old a → replay_on watches (state_of start) (accepted_of done a.replies.items) ≡ a.next
   so_far_leads start done old a p r =
       ap (λ (l : List Command). replay_on watches (state_of start) l) p.accepted
-      ∙ replayed_append after (state_of start) p.committed a.group.items
+      ∙ replayed_append after_command (state_of start) p.committed a.group.items
       ∙ ap (λ (s : State). replay_on watches s a.group.items) (sym p.led)
       ∙ sym r.next
 
@@ -236,10 +230,10 @@ module _ {D : Type 0} (disk : disks.Ghosts D) where
 
   module _ (start : K disk) (done : List Command) (command : Command) (old : K disk) (a : Batch) (new : K disk) (b e : Batch) (reply : Reply) where
     so_far_cases : replay_on watches (state_of start) (accepted_of done a.replies.items) ≡ a.next → e.refused ≡ b.refused → e.group.items ≡ with_command b.group.items command reply → e.replies.items ≡ a.replies.items ++ (reply ∷ [])
-        → IsSoFar (number_of old) (room_left old) (state_of start) done a → IsMetHere command a b reply ⊎ IsSpentHere command old a new b reply → IsSoFar (number_of new) (room_left new) (state_of start) (done ++ (command ∷ [])) e
+        → IsSoFar (slot_number_of old) (room_left old) (state_of start) done a → IsMetHere command a b reply ⊎ IsSpentHere command old a new b reply → IsSoFar (slot_number_of new) (room_left new) (state_of start) (done ++ (command ∷ [])) e
     so_far_cases leads refused group replies f (inl h) =
         let now : AreMet (state_of start) (done ++ (command ∷ [])) e.replies.items = subst (λ (l : List Reply). AreMet (state_of start) (done ++ (command ∷ [])) l) (sym replies)
-        (met_more (state_of start) done a.replies.items command reply (met_so_far (number_of old) (room_left old) (state_of start) done a h.1 f) (subst (λ (s : State). IsMet s command reply) (sym leads) h.0)) in
+        (met_more (state_of start) done a.replies.items command reply (met_so_far (slot_number_of old) (room_left old) (state_of start) done a h.1 f) (subst (λ (s : State). IsMet s command reply) (sym leads) h.0)) in
         ⊎_elim (λ k. inl (refused ∙ k, now)) (λ k. inr (inl (refused ∙ k, now))) h.2
     so_far_cases leads refused group replies f (inr h) =
         let still : with_command b.group.items command reply ≡ b.group.items = none_added b.group.items command reply (ap is_change h.0 ∙ refusal_stays command Exhausted) in
@@ -248,21 +242,21 @@ module _ {D : Type 0} (disk : disks.Ghosts D) where
         (λ k. inr (inr (
           refused ∙ h.1,
           group ∙ still ∙ k.3,
-          subst (λ (l : List Reply). AreSpent (number_of new) (room_left new) (state_of start) (done ++ (command ∷ [])) l) (sym last)
-              (spent_first (number_of new) (room_left new) (state_of start) done a.replies.items command (met_so_far (number_of old) (room_left old) (state_of start) done a (inl k.0) f) k.2 (subst (λ (s : State). is_change (in_batch s command) ≡ true) (sym leads) k.1)),
+          subst (λ (l : List Reply). AreSpent (slot_number_of new) (room_left new) (state_of start) (done ++ (command ∷ [])) l) (sym last)
+              (spent_first (slot_number_of new) (room_left new) (state_of start) done a.replies.items command (met_so_far (slot_number_of old) (room_left old) (state_of start) done a (inl k.0) f) k.2 (subst (λ (s : State). is_change (in_batch s command) ≡ true) (sym leads) k.1)),
         )))
         (λ k.
-        let was = spent_so_far (number_of old) (room_left old) (state_of start) done a k.0 f in
+        let was = spent_so_far (slot_number_of old) (room_left old) (state_of start) done a k.0 f in
         inr (inr (
           refused ∙ h.1,
           group ∙ still ∙ k.2 ∙ was.0,
-          subst (λ (l : List Reply). AreSpent (number_of new) (room_left new) (state_of start) (done ++ (command ∷ [])) l) (sym last)
-              (spent_more (number_of new) (room_left new) (state_of start) done a.replies.items command (subst (λ y. AreSpent (number_of y) (room_left y) (state_of start) done a.replies.items) (sym k.1) was.1)),
+          subst (λ (l : List Reply). AreSpent (slot_number_of new) (room_left new) (state_of start) (done ++ (command ∷ [])) l) (sym last)
+              (spent_more (slot_number_of new) (room_left new) (state_of start) done a.replies.items command (subst (λ y. AreSpent (slot_number_of y) (room_left y) (state_of start) done a.replies.items) (sym k.1) was.1)),
         )))
         h.2
 
   pub so_far_taken : (start : K disk) (done : List Command) (command : Command) (old : K disk) (a : Batch) (new : K disk) (b mid e : Batch) (reply : Reply) (next : State) → IsTaken command old a new b reply next → IsPast disk start done old a → IsReady disk old a
-      → b.replies ≡ a.replies → mid.group ≡ b.group → mid.replies ≡ b.replies → mid.refused ≡ b.refused → IsPushed command reply mid e → IsSoFar (number_of old) (room_left old) (state_of start) done a → IsSoFar (number_of new) (room_left new) (state_of start) (done ++ (command ∷ [])) e
+      → b.replies ≡ a.replies → mid.group ≡ b.group → mid.replies ≡ b.replies → mid.refused ≡ b.refused → IsPushed command reply mid e → IsSoFar (slot_number_of old) (room_left old) (state_of start) done a → IsSoFar (slot_number_of new) (room_left new) (state_of start) (done ++ (command ∷ [])) e
   so_far_taken start done command old a new b mid e reply next t p r same mid_group mid_replies mid_refused q f =
       so_far_cases start done command old a new b e reply (so_far_leads start done old a p r) (q.refused ∙ mid_refused) (q.group ∙ ap (λ v. with_command v.items command reply) mid_group)
       (q.replies ∙ ap (λ v. v.items ++ (reply ∷ [])) (mid_replies ∙ same)) f t.so
@@ -270,9 +264,9 @@ module _ {D : Type 0} (disk : disks.Ghosts D) where
   -- ---- whether a checkpoint was made
 
   sparing : (start old new : K disk) (was now group left added : List Command) (rs : List Reply) (c : Command) (q : Reply) → now ≡ was ++ with_command [] c q → added ≡ left ++ with_command [] c q
-      → IsSpared disk start was old group ⊎ (room_left start < taken command_spelling was) ⊎ IsShort rs
+      → IsSpared disk start was old group ⊎ (room_left start < taken command_spelling was) ⊎ IsOutOfMemory rs
       → IsSpared disk old group new left ⊎ ((is_change q ≡ true) × (room_left old < taken command_spelling (group ++ (c ∷ [])))) ⊎ (q ≡ Refused NoMemory)
-      → IsSpared disk start now new added ⊎ (room_left start < taken command_spelling now) ⊎ IsShort (rs ++ (q ∷ []))
+      → IsSpared disk start now new added ⊎ (room_left start < taken command_spelling now) ⊎ IsOutOfMemory (rs ++ (q ∷ []))
   sparing start old new was now group left added rs c q all more (inl h) (inl k) = inl (record {
     number = k.number ∙ h.number;
     room = omega (arith, h.room, k.room, ap (λ (l : List Command). taken command_spelling l) all, taken_append was (with_command [] c q), ap (λ (l : List Command). taken command_spelling l) more, taken_append left (with_command [] c q));
@@ -280,9 +274,9 @@ module _ {D : Type 0} (disk : disks.Ghosts D) where
   sparing start old new was now group left added rs c q all more (inl h) (inr (inl k)) =
       let one : with_command [] c q ≡ c ∷ [] = ap (λ (b : Bool). if b then c ∷ [] else []) k.0 in
       inr (inl (omega (arith, h.room, k.1, ap (λ (l : List Command). taken command_spelling l) all, taken_append was (with_command [] c q), ap (λ (l : List Command). taken command_spelling l) one, taken_append group (c ∷ []))))
-  sparing start old new was now group left added rs c q all more (inl h) (inr (inr k)) = inr (inr (short_last rs q k))
+  sparing start old new was now group left added rs c q all more (inl h) (inr (inr k)) = inr (inr (out_of_memory_last rs q k))
   sparing start old new was now group left added rs c q all more (inr (inl h)) k = inr (inl (omega (arith, h, ap (λ (l : List Command). taken command_spelling l) all, taken_append was (with_command [] c q))))
-  sparing start old new was now group left added rs c q all more (inr (inr h)) k = inr (inr (short_append rs (q ∷ []) h))
+  sparing start old new was now group left added rs c q all more (inr (inr h)) k = inr (inr (out_of_memory_append rs (q ∷ []) h))
 
   pub slot_taken : (start : K disk) (done : List Command) (command : Command) (old : K disk) (a : Batch) (new : K disk) (b mid e : Batch) (reply : Reply) (next : State) → IsTaken command old a new b reply next → IsPast disk start done old a
       → b.replies ≡ a.replies → mid.group ≡ b.group → mid.replies ≡ b.replies → IsPushed command reply mid e → IsSparing disk start done a.replies.items old a.group.items
@@ -296,11 +290,11 @@ module _ {D : Type 0} (disk : disks.Ghosts D) where
 
   -- a command that is answered, by why it is refused before the registry is asked
   pub taken_answered : (command : Command) (old : K disk) (a : Batch) (new : K disk) (b : Batch) (reply : Reply) (next : State) (o : Option Refusal) → (a.refused ≡ None) ⊎ (a.refused ≡ Some NoMemory) ⊎ (a.refused ≡ Some Exhausted) → b.next ≡ a.next
-      → (o ≡ None → IsAsked command old a new b) → ((x : Refusal) → o ≡ Some x → IsRefused disk command old a new b x) → IfSome o (λ x. (reply ≡ Refused x) × (next ≡ b.next))
-      → (o ≡ None → ((reply ≡ Refused NoMemory) × (next ≡ b.next)) ⊎ ((reply ≡ reply_to b.next command) × (next ≡ after b.next command))) → IsTaken command old a new b reply next
+      → (o ≡ None → IsAsked disk command old a new b) → ((x : Refusal) → o ≡ Some x → IsRefused disk command old a new b x) → IfSome o (λ x. (reply ≡ Refused x) × (next ≡ b.next))
+      → (o ≡ None → ((reply ≡ Refused NoMemory) × (next ≡ b.next)) ⊎ ((reply ≡ reply_to b.next command) × (next ≡ after_command b.next command))) → IsTaken command old a new b reply next
   taken_answered command old a new b reply next None which same yet why refused asked =
       taken_asked command old a new b reply next (yet refl) (⊎_elim
       (λ h. inl (h.0, h.1 ∙ same))
-      (λ h. inr (h.0 ∙ ap (λ (s : State). reply_to s command) same, h.1 ∙ ap (λ (s : State). after s command) same))
+      (λ h. inr (h.0 ∙ ap (λ (s : State). reply_to s command) same, h.1 ∙ ap (λ (s : State). after_command s command) same))
       (asked refl))
   taken_answered command old a new b reply next (Some x) which same yet why refused asked = taken_refused command old a new b reply next x which (why x refl) refused.0 (refused.1 ∙ same)

@@ -1,8 +1,9 @@
 -- What a batch of commands is answered.
-use Rattle.std.specs.Prelude.{◌≡◌, ◌⊎◌, ◌≤◌, ◌<◌, ℕ, Bool, true, false, List, [], ◌∷◌, if◌then◌else◌, map}
+use Rattle.std.specs.Prelude.{◌≡◌, ◌⊎◌, ◌+◌, ◌≤◌, ◌<◌, ℕ, Bool, true, false, List, [], ◌∷◌, if◌then◌else◌, map}
 use Rattle.wm_disk.specs.declared.refusal.Refusal.TheVariants.{BadArguments, Exhausted, NoMemory}
 use Rattle.wm_disk.specs.declared.disk.Disk as disks
-use Rattle.wm_disk.specs.Moments.{LeavesOnly}
+use Rattle.wm_disk.specs.Calls.{EachLeft, LeavesAtAnyMoment}
+use Rattle.wm_disk.specs.Counters.{max_counter}
 use Rattle.wm_journal.specs.Records.{taken}
 use Rattle.wm_registry.specs.Commands.{command_spelling}
 use Rattle.wm_registry.specs.declared.command.Command.{Command}
@@ -12,7 +13,8 @@ use Rattle.wm_registry.specs.declared.reply.Reply.TheVariants.{Refused}
 use Rattle.wm_registry.specs.Roots.{State}
 use Rattle.wm_registry.specs.Registry.{changed, is_change, reply_to}
 use Rattle.wm_registry.specs.MachineLaws.{watches}
-use Rattle.wm_checkpoint.specs.Meanings.{MeansBeginning}
+use Rattle.wm_checkpoint.specs.Machines.{replay_on}
+use Rattle.wm_checkpoint.specs.Meanings.{MeansPrefix, MeansState}
 use Rattle.wm_store.specs.Stored.{Stored}
 
 abbrev pub is_begin : Command → Bool
@@ -35,12 +37,12 @@ abbrev pub IsMet : State → Command → Reply → Type 0
 IsMet s command reply = (reply ≡ in_batch s command) ⊎ (reply ≡ unless_begin command (Refused NoMemory))
 
 -- the state after a command with this reply
-abbrev pub met : State → Command → Reply → State
-met s command reply = if is_change reply then changed s command else s
+abbrev pub after_reply : State → Command → Reply → State
+after_reply s command reply = if is_change reply then changed s command else s
 
 -- The command doesn't fit into what the journal has left, and the slot's number is spent.
 abbrev pub IsWithoutRoom : ℕ → ℕ → Command → Type 0
-IsWithoutRoom number room command = (9223372036854775807 ≤ number) × (room < taken command_spelling (command ∷ []))
+IsWithoutRoom number room command = (max_counter ≤ number) × (room < taken command_spelling (command ∷ []))
 
 -- Each command is met in the state that those before it leave. One that the registry accepts, and for which a slot with this number and
 -- room has no room and can't be left, is refused for that, with all behind it.
@@ -49,7 +51,7 @@ AreAnswered number room s [] [] = Unit {0}
 AreAnswered number room s [] (reply ∷ replies) = ⊥
 AreAnswered number room s (command ∷ commands) [] = ⊥
 AreAnswered number room s (command ∷ commands) (reply ∷ replies) =
-    (IsMet s command reply × AreAnswered number room (met s command reply) commands replies)
+    (IsMet s command reply × AreAnswered number room (after_reply s command reply) commands replies)
     ⊎ (IsWithoutRoom number room command × (is_change (in_batch s command) ≡ true)
     × (reply ∷ replies ≡ map (λ c. unless_begin c (Refused Exhausted)) (command ∷ commands)))
 
@@ -60,12 +62,26 @@ accepted_of (command ∷ commands) [] = []
 accepted_of (command ∷ commands) (reply ∷ replies) =
     if is_change reply then command ∷ accepted_of commands replies else accepted_of commands replies
 
--- a growth was refused for one of the commands
-abbrev pub IsShort : List Reply → Type 0
-IsShort [] = ⊥
-IsShort (reply ∷ replies) = (reply ≡ Refused NoMemory) ⊎ IsShort replies
+-- memory ran out for one of the commands
+abbrev pub IsOutOfMemory : List Reply → Type 0
+IsOutOfMemory [] = ⊥
+IsOutOfMemory (reply ∷ replies) = (reply ≡ Refused NoMemory) ⊎ IsOutOfMemory replies
 
--- A batch from old to new, with these replies; a crash at any moment of it leaves the registry after a beginning of those accepted.
-pub record IsBatch {D : Type 0} (disk : disks.Ghosts D) (old new : Stored D) (commands : List Command) (replies : List Reply) : Type 0 where
-  pub answered : AreAnswered new.number new.room old.registry commands replies
-  pub any_moment : disk.honest new.disk → LeavesOnly disk.moment disk.left_since old.disk new.disk (MeansBeginning watches old.registry (accepted_of commands replies))
+module _ {D : Type 0} (disk : disks.Ghosts D) (old new : Stored D) (commands : List Command) (replies : List Reply) where
+  -- A batch from old to new, with these replies; a crash at any moment of it leaves the registry after a prefix of those accepted.
+  pub record IsBatch : Type 0 where
+    pub answered : AreAnswered new.number new.room old.registry commands replies
+    pub any_moment : LeavesAtAnyMoment disk old.disk new.disk (λ c. MeansPrefix watches old.registry (accepted_of commands replies) c)
+
+  -- A batch that was answered.
+  pub record IsCommitted : Type 0 where
+    pub batch : IsBatch
+    pub registry : new.registry ≡ replay_on watches old.registry (accepted_of commands replies)
+    pub open_yet : new.closed ≡ false
+    -- every content that a crash may leave then means the registry
+    pub means : disk.honest new.disk → EachLeft disk new.disk (λ c. MeansState watches new.registry c)
+    -- where none is accepted nothing was done, but for a checkpoint before a group that found no memory
+    pub idle : accepted_of commands replies ≡ [] → (new ≡ old) ⊎ IsOutOfMemory replies
+    -- unless memory ran out, no checkpoint was made for commands that the journal had room for
+    pub slot : IsOutOfMemory replies ⊎ (taken command_spelling (accepted_of commands replies) ≤ old.room
+        → (new.number ≡ old.number) × (new.room + taken command_spelling (accepted_of commands replies) ≡ old.room))

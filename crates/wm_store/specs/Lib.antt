@@ -1,4 +1,9 @@
 pub mod Batches
+pub mod Beginnings
+pub mod Calls
+pub mod Checkpoints
 pub mod Openings
+pub mod Room
 pub mod Stored
 pub mod UnderWay
+pub mod laws

@@ -1,14 +1,18 @@
+//! A batch from its first accepted command on: each command is met on a copy of the registry,
+//! and the accepted ones are committed in groups.
+//! Definitions: specs/Batches.antt, specs/UnderWay.antt. Tests: file_tests/src/store/calls.rt.
 ghost use Rattle.std.specs.Prelude.{◌≡◌, ◌≢◌, ◌⊎◌, ◌+◌, ◌≤◌, ◌<◌, ◌++◌, ◌∷◌, true, false, List, ℕ, [], length, map, take, drop, Option, Some, None, IfOk, IfErr, OnOk, OnErr, IfSome, vec_len, vec_capacity};
 ghost use Rattle.wm_disk.specs.declared.refusal.Refusal.TheVariants.{BadArguments as bad_arguments, NoMemory as no_memory, Exhausted as exhausted};
 ghost use Rattle.wm_disk.specs.Moments.{LeavesOnly};
 ghost use Rattle.wm_journal.specs.Records.{taken};
-ghost use Rattle.wm_checkpoint.specs.Meanings.{MeansBeginning};
+ghost use Rattle.wm_checkpoint.specs.Meanings.{MeansPrefix};
 ghost use Rattle.wm_registry.specs.MachineLaws.{watches};
-ghost use Rattle.wm_checkpoint.specs.Kept.{disk_of, state_of, has_failed, number_of, room_left, Keeps};
+ghost use Rattle.wm_checkpoint.specs.Kept.{disk_of, state_of, has_failed, slot_number_of, room_left, Keeps};
 ghost use Rattle.wm_registry.specs.Commands.{command_spelling};
-ghost use Rattle.wm_registry.specs.Registry.{after, is_change, reply_to};
-ghost use Rattle.wm_store.specs.Batches.{IsShort, accepted_of, is_begin};
-ghost use Rattle.wm_store.specs.UnderWay.{AreCalls, AreIdle, AreMet, HasRoom, IsCut, IsDone, IsDown, IsNew, IsPast, IsPushed, IsReady, IsRefused, IsRoomMade, IsSoFar, IsSpared, IsSparing, IsWhole, KeepsRoom, shortened, K};
+ghost use Rattle.wm_registry.specs.Registry.{after_command, is_change, reply_to};
+ghost use Rattle.wm_store.specs.Batches.{IsOutOfMemory, accepted_of, is_begin};
+ghost use Rattle.wm_store.specs.Room.{group_bound};
+ghost use Rattle.wm_store.specs.UnderWay.{AreIdle, IsUnmoved, HasRoom, IsAsked, IsCutAtEnd, IsCutBatch, IsCutBehind, IsCutFor, IsDone, IsFinished, IsGroupDone, IsMetToo, IsNew, IsPushed, IsReady, IsRefused, IsRoomMade, UsesKeeper, refused_for_memory};
 
 use std::alloc::Global;
 use wm_checkpoint::Keeper;
@@ -67,18 +71,9 @@ impl Batch {
         requires ready { IsReady D.Disk keeper.old self.old }
         requires refused { (self.old.refused ≡ None) ⊎ (self.old.refused ≡ Some no_memory) ⊎ (self.old.refused ≡ Some exhausted) }
         requires room { HasRoom self.old }
-        ensures ready { OnOk result (IsReady D.Disk keeper.new self.new) }
-        ensures len { OnOk result (vec_len self.new.replies ≡ vec_len self.old.replies + 1) }
-        ensures room { OnOk result (KeepsRoom self.old self.new) }
-        ensures past { OnOk result ((start : K D.Disk) (done : List Command) → IsPast D.Disk start done keeper.old self.old → IsPast D.Disk start (done ++ (command ∷ [])) keeper.new self.new) }
-        ensures so_far { OnOk result ((start : K D.Disk) (done : List Command) → IsPast D.Disk start done keeper.old self.old → IsSoFar (number_of keeper.old) (room_left keeper.old) (state_of start) done self.old → IsSoFar (number_of keeper.new) (room_left keeper.new) (state_of start) (done ++ (command ∷ [])) self.new) }
-        ensures idle { OnOk result ((reply : Reply) × (self.new.replies.items ≡ self.old.replies.items ++ (reply ∷ [])) × (is_change reply ≡ false → self.old.group.items ≡ [] → (keeper.new ≡ keeper.old) ⊎ (reply ≡ Reply.Refused no_memory))) }
-        ensures slot { OnOk result ((start : K D.Disk) (done : List Command) → IsPast D.Disk start done keeper.old self.old → IsSparing D.Disk start done self.old.replies.items keeper.old self.old.group.items → IsSparing D.Disk start (done ++ (command ∷ [])) self.new.replies.items keeper.new self.new.group.items) }
-        ensures cut { OnErr result ((start : K D.Disk) (done : List Command) → IsPast D.Disk start done keeper.old self.old → IsCut D.Disk start done self.old.replies.items keeper.new self.new.before) }
-        ensures asked { OnErr result ((self.old.refused ≡ None) × (is_begin command ≡ false) × (is_change (reply_to self.old.next command) ≡ true)) }
-        ensures calls { AreCalls D.Disk 1 keeper.old keeper.new }
-        ensures whole { OnOk result (IsWhole D.Disk keeper.old keeper.new) }
-        ensures down { OnErr result (IsDown D.Disk keeper.old keeper.new) }
+        ensures met { OnOk result (IsMetToo D.Disk command keeper.old self.old keeper.new self.new) }
+        ensures cut { OnErr result (IsCutFor D.Disk command keeper.old self.old keeper.new self.new) }
+        ensures keeper { UsesKeeper D.Disk 1 keeper.old keeper.new result }
     {
         let Ok(refusal) = self.admit(alloc, keeper, &command) else {
             return Err(DeviceFailed);
@@ -98,17 +93,11 @@ impl Batch {
     ) -> Result<Option<Refusal>, DeviceFailed>
         requires ready { IsReady D.Disk keeper.old self.old }
         requires refused { (self.old.refused ≡ None) ⊎ (self.old.refused ≡ Some no_memory) ⊎ (self.old.refused ≡ Some exhausted) }
-        ensures ready { OnOk result (IsReady D.Disk keeper.new self.new) }
-        ensures same { OnOk result ((self.new.next ≡ self.old.next) × (self.new.replies ≡ self.old.replies)) }
-        ensures room { OnOk result (KeepsRoom self.old self.new) }
-        ensures open_yet { IfOk result (λ r. r ≡ None → (self.new.refused ≡ None) × (self.old.refused ≡ None) × (is_begin command.now ≡ false) × (((keeper.new ≡ keeper.old) × (self.new.group ≡ self.old.group)) ⊎ ((is_change (reply_to self.old.next command.now) ≡ true) × (room_left keeper.old < taken command_spelling (self.old.group.items ++ (command.now ∷ []))))) × (is_change (reply_to self.old.next command.now) ≡ true → taken command_spelling (self.new.group.items ++ (command.now ∷ [])) ≤ room_left keeper.new)) }
+        ensures goes_on { OnOk result (IsUnmoved D.Disk keeper.old self.old keeper.new self.new) }
+        ensures asked { IfOk result (λ o. o ≡ None → IsAsked D.Disk command.now keeper.old self.old keeper.new self.new) }
         ensures refused { IfOk result (λ o. (r : Refusal) → o ≡ Some r → IsRefused D.Disk command.now keeper.old self.old keeper.new self.new r) }
-        ensures past { OnOk result ((start : K D.Disk) (done : List Command) → IsPast D.Disk start done keeper.old self.old → IsPast D.Disk start done keeper.new self.new) }
-        ensures cut { OnErr result ((start : K D.Disk) (done : List Command) → IsPast D.Disk start done keeper.old self.old → IsCut D.Disk start done self.old.replies.items keeper.new self.new.before) }
-        ensures asked { OnErr result ((self.old.refused ≡ None) × (is_begin command.now ≡ false) × (is_change (reply_to self.old.next command.now) ≡ true)) }
-        ensures calls { AreCalls D.Disk 1 keeper.old keeper.new }
-        ensures whole { OnOk result (IsWhole D.Disk keeper.old keeper.new) }
-        ensures down { OnErr result (IsDown D.Disk keeper.old keeper.new) }
+        ensures cut { OnErr result (IsCutFor D.Disk command.now keeper.old self.old keeper.new self.new) }
+        ensures keeper { UsesKeeper D.Disk 1 keeper.old keeper.new result }
     {
         if let Command::Begin = command {
             return Ok(Some(Refusal::BadArguments));
@@ -132,7 +121,7 @@ impl Batch {
     fn push(&mut self, command: Command, reply: Reply)
         requires room { HasRoom self.old }
         requires len { vec_len self.old.group ≤ vec_len self.old.replies }
-        requires small { self.old.size ≤ 1000000 }
+        requires small { self.old.size ≤ group_bound }
         ensures { IsPushed command reply self.old self.new }
     {
         self.replies.push_reserved(reply);
@@ -151,15 +140,10 @@ impl Batch {
     ) -> Result<(), DeviceFailed>
         requires ready { IsReady D.Disk keeper.old self.old }
         requires open_yet { self.old.refused ≡ None }
-        ensures ready { OnOk result (IsReady D.Disk keeper.new self.new) }
-        ensures same { OnOk result ((self.new.next ≡ self.old.next) × (self.new.replies ≡ self.old.replies)) }
-        ensures room { OnOk result (KeepsRoom self.old self.new) }
+        ensures goes_on { OnOk result (IsUnmoved D.Disk keeper.old self.old keeper.new self.new) }
         ensures made { OnOk result (IsRoomMade D.Disk keeper.old self.old keeper.new self.new) }
-        ensures past { OnOk result ((start : K D.Disk) (done : List Command) → IsPast D.Disk start done keeper.old self.old → IsPast D.Disk start done keeper.new self.new) }
-        ensures cut { OnErr result ((start : K D.Disk) (done : List Command) → IsPast D.Disk start done keeper.old self.old → IsCut D.Disk start done self.old.replies.items keeper.new self.new.before) }
-        ensures calls { AreCalls D.Disk 1 keeper.old keeper.new }
-        ensures whole { OnOk result (IsWhole D.Disk keeper.old keeper.new) }
-        ensures down { OnErr result (IsDown D.Disk keeper.old keeper.new) }
+        ensures cut { OnErr result (IsCutBehind D.Disk keeper.old self.old keeper.new self.new.before) }
+        ensures keeper { UsesKeeper D.Disk 1 keeper.old keeper.new result }
     {
         if self.group.is_empty() {
             return self.switch(alloc, keeper);
@@ -182,15 +166,10 @@ impl Batch {
         requires ready { IsReady D.Disk keeper.old self.old }
         requires open_yet { self.old.refused ≡ None }
         requires none { self.old.group.items ≡ [] }
-        ensures ready { OnOk result (IsReady D.Disk keeper.new self.new) }
-        ensures same { OnOk result ((self.new.next ≡ self.old.next) × (self.new.replies ≡ self.old.replies)) }
-        ensures room { OnOk result (KeepsRoom self.old self.new) }
+        ensures goes_on { OnOk result (IsUnmoved D.Disk keeper.old self.old keeper.new self.new) }
         ensures made { OnOk result (IsRoomMade D.Disk keeper.old self.old keeper.new self.new) }
-        ensures past { OnOk result ((start : K D.Disk) (done : List Command) → IsPast D.Disk start done keeper.old self.old → IsPast D.Disk start done keeper.new self.new) }
-        ensures cut { OnErr result ((start : K D.Disk) (done : List Command) → IsPast D.Disk start done keeper.old self.old → IsCut D.Disk start done self.old.replies.items keeper.new self.new.before) }
-        ensures calls { AreCalls D.Disk 1 keeper.old keeper.new }
-        ensures whole { OnOk result (IsWhole D.Disk keeper.old keeper.new) }
-        ensures down { OnErr result (IsDown D.Disk keeper.old keeper.new) }
+        ensures cut { OnErr result (IsCutBehind D.Disk keeper.old self.old keeper.new self.new.before) }
+        ensures keeper { UsesKeeper D.Disk 1 keeper.old keeper.new result }
     {
         match keeper.checkpoint(alloc) {
             Ok(()) => Ok(()),
@@ -204,7 +183,7 @@ impl Batch {
         }
     }
 
-    /// Commits the group in the midst of the batch; or refuses the rest of the batch for want of memory.
+    /// Commits the group in the midst of the batch; or refuses the rest of the batch when out of memory.
     fn commit_so_far<D: Disk + Drop>(
         &mut self,
         alloc: Global,
@@ -212,15 +191,10 @@ impl Batch {
     ) -> Result<(), DeviceFailed>
         requires ready { IsReady D.Disk keeper.old self.old }
         requires open_yet { self.old.refused ≡ None }
-        ensures ready { OnOk result (IsReady D.Disk keeper.new self.new) }
-        ensures same { OnOk result ((self.new.next ≡ self.old.next) × (self.new.replies ≡ self.old.replies)) }
-        ensures room { OnOk result (KeepsRoom self.old self.new) }
-        ensures made { OnOk result (((self.new.refused ≡ None) × (self.new.group.items ≡ []) × IsSpared D.Disk keeper.old self.old.group.items keeper.new []) ⊎ (self.new.refused ≡ Some no_memory)) }
-        ensures past { OnOk result ((start : K D.Disk) (done : List Command) → IsPast D.Disk start done keeper.old self.old → IsPast D.Disk start done keeper.new self.new) }
-        ensures cut { OnErr result ((start : K D.Disk) (done : List Command) → IsPast D.Disk start done keeper.old self.old → IsCut D.Disk start done self.old.replies.items keeper.new self.new.before) }
-        ensures calls { AreCalls D.Disk 0 keeper.old keeper.new }
-        ensures whole { OnOk result (IsWhole D.Disk keeper.old keeper.new) }
-        ensures down { OnErr result (IsDown D.Disk keeper.old keeper.new) }
+        ensures goes_on { OnOk result (IsUnmoved D.Disk keeper.old self.old keeper.new self.new) }
+        ensures made { OnOk result (IsGroupDone D.Disk keeper.old self.old keeper.new self.new) }
+        ensures cut { OnErr result (IsCutBehind D.Disk keeper.old self.old keeper.new self.new.before) }
+        ensures keeper { UsesKeeper D.Disk 0 keeper.old keeper.new result }
     {
         let Ok(next) = self.next.copy(alloc) else {
             self.refused = Some(Refusal::NoMemory);
@@ -274,12 +248,9 @@ impl Batch {
     ) -> Result<Vec<Reply>, Option<Registry>>
         requires ready { IsReady D.Disk keeper.old self }
         requires first { self.first ≤ vec_len self.replies }
-        ensures done { IfOk result (λ replies. (start : K D.Disk) (commands : List Command) → IsPast D.Disk start commands keeper.old self → IsSoFar (number_of keeper.old) (room_left keeper.old) (state_of start) commands self → (accepted_of commands self.replies.items ≡ [] → (keeper.old ≡ start) ⊎ IsShort self.replies.items) → IsSparing D.Disk start commands self.replies.items keeper.old self.group.items → IsDone D.Disk start commands keeper.new replies.items) }
-        ensures cut { IfErr result (λ before. (start : K D.Disk) (commands : List Command) → IsPast D.Disk start commands keeper.old self → IsCut D.Disk start commands self.replies.items keeper.new before) }
-        ensures asked { OnErr result (self.group.items ≢ []) }
-        ensures calls { AreCalls D.Disk 0 keeper.old keeper.new }
-        ensures whole { OnOk result (IsWhole D.Disk keeper.old keeper.new) }
-        ensures down { OnErr result (IsDown D.Disk keeper.old keeper.new) }
+        ensures done { IfOk result (λ replies. IsFinished D.Disk keeper.old self keeper.new replies.items) }
+        ensures cut { IfErr result (λ before. IsCutAtEnd D.Disk keeper.old self keeper.new before) }
+        ensures keeper { UsesKeeper D.Disk 0 keeper.old keeper.new result }
     {
         let mut replies = self.replies;
         let group = self.group;
@@ -302,7 +273,7 @@ impl Batch {
 /// Answers a command: with this refusal, or as the registry has it.
 fn answer(alloc: Global, next: &mut Draft, refusal: Option<Refusal>, command: &Command) -> Reply
     ensures refused { IfSome refusal (λ r. (result ≡ Reply.Refused r) × (next.new ≡ next.old)) }
-    ensures asked { refusal ≡ None → ((result ≡ Reply.Refused no_memory) × (next.new ≡ next.old)) ⊎ ((result ≡ reply_to next.old command.now) × (next.new ≡ after next.old command.now)) }
+    ensures asked { refusal ≡ None → ((result ≡ Reply.Refused no_memory) × (next.new ≡ next.old)) ⊎ ((result ≡ reply_to next.old command.now) × (next.new ≡ after_command next.old command.now)) }
 {
     match refusal {
         Some(refusal) => Reply::Refused(refusal),
@@ -310,9 +281,9 @@ fn answer(alloc: Global, next: &mut Draft, refusal: Option<Refusal>, command: &C
     }
 }
 
-/// The reply in place of another, where a growth was refused: `16`, but to a `Begin`.
-fn short_reply(reply: Reply) -> Reply
-    ensures { result ≡ shortened reply }
+/// The reply in place of another, where memory ran out: `16`, but to a `Begin`.
+fn refuse_for_memory(reply: Reply) -> Reply
+    ensures { result ≡ refused_for_memory reply }
 {
     match reply {
         Reply::Refused(Refusal::BadArguments) => reply,
@@ -320,13 +291,13 @@ fn short_reply(reply: Reply) -> Reply
     }
 }
 
-/// Turns the replies from a place on into refusals for want of memory, but those to a `Begin`.
+/// Turns the replies from a place on into refusals when out of memory, but those to a `Begin`.
 fn refuse_from(replies: &mut Vec<Reply>, first: usize)
     requires { first ≤ vec_len replies.old }
-    ensures { replies.new.items ≡ take first replies.old.items ++ map shortened (drop first replies.old.items) }
+    ensures { replies.new.items ≡ take first replies.old.items ++ map refused_for_memory (drop first replies.old.items) }
 {
     for reply in &mut replies[first..] {
-        *reply = short_reply(*reply);
+        *reply = refuse_for_memory(*reply);
     }
 }
 
@@ -342,12 +313,10 @@ pub(crate) fn run<D: Disk + Drop>(
     requires whole { has_failed keeper.old ≡ false }
     requires idle { AreIdle (state_of keeper.old) commands.items batch.replies }
     requires new { IsNew (state_of keeper.old) batch.replies (length commands.items) batch }
-    requires standing { D.honest (disk_of keeper.old) → LeavesOnly D.moment D.left_since (disk_of keeper.old) (disk_of keeper.old) (MeansBeginning watches (state_of keeper.old) []) }
+    requires standing { D.honest (disk_of keeper.old) → LeavesOnly D.moment D.left_since (disk_of keeper.old) (disk_of keeper.old) (MeansPrefix watches (state_of keeper.old) []) }
     ensures done { IfOk result (λ replies. IsDone D.Disk keeper.old commands.items keeper.new replies.items) }
-    ensures cut { IfErr result (λ before. (replies : List Reply) × AreMet (state_of keeper.old) commands.items replies × IsCut D.Disk keeper.old commands.items replies keeper.new before × (accepted_of commands.items replies ≡ [] → ⊥)) }
-    ensures calls { AreCalls D.Disk (length commands.items) keeper.old keeper.new }
-    ensures whole { OnOk result (IsWhole D.Disk keeper.old keeper.new) }
-    ensures down { OnErr result (IsDown D.Disk keeper.old keeper.new) }
+    ensures cut { IfErr result (λ before. IsCutBatch D.Disk keeper.old commands.items keeper.new before) }
+    ensures keeper { UsesKeeper D.Disk (length commands.items) keeper.old keeper.new result }
 {
     let mut batch = batch;
     let answered = batch.replies.len();

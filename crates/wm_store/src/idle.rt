@@ -1,3 +1,5 @@
+//! Answers the first commands of a batch, as long as the registry accepts none: it isn't copied for them.
+//! Definitions: specs/Batches.antt, specs/UnderWay.antt. Tests: file_tests/src/store/calls.rt.
 ghost use Rattle.std.specs.Prelude.{◌≡◌, IfOk};
 ghost use Rattle.wm_store.specs.Batches.{in_batch};
 ghost use Rattle.wm_store.specs.UnderWay.{AreIdle};

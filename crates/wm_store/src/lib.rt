@@ -1,16 +1,18 @@
 //! The watches and triggers of a server, on a disk: complete after any crash.
 //!
 //! [`Store::commit_batch`] answers a batch of commands when all that it accepted are durable. A crash at
-//! any moment of it leaves the registry after a beginning of the accepted commands, and [`Store::open`]
+//! any moment of it leaves the registry after a prefix of the accepted commands, and [`Store::open`]
 //! finds it, and makes the next incarnation durable before it answers.
+//!
+//! Tests: file_tests/src/store.
 #![tactic(auto)]
 
+mod arming;
 mod batch;
 mod begin;
-mod crashed;
 mod formatting;
 mod idle;
 mod store;
 
 pub use formatting::format;
-pub use store::{MAX_BATCH, Store};
+pub use store::Store;

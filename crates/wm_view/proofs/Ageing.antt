@@ -2,6 +2,7 @@
 use Rattle.std.proofs.Common.{◌≡◌, ℕ, ◌+◌, ◌-◌, Bool, true, false, cond, not, ◌&&◌, ◌||◌, T, List, [], ◌∷◌, Option, Some, None, filter, fold, is_some, unwrap_or, refl, sym, ap, subst, ◌∙◌, nat_lt, nat_le, lt-ltb, Less, Equal, Greater, true≢false}
 use Rattle.std.specs.Ordering.{is_lt, is_eq, nat_cmp}
 use Rattle.std.specs.declared.cmp.Ordering.{Ordering}
+use Rattle.wm_disk.specs.Counters.{max_counter}
 use Rattle.wm_view.proofs.ByLast.{then_apart}
 use Rattle.wm_view.proofs.InOrder.{told_low}
 use Rattle.std.specs.List.{AllByRecursion, list_any}
@@ -15,7 +16,6 @@ use Rattle.std.specs.Cmp.Lexicographic.{nat_list_cmp_total}
 use Rattle.std.specs.FinMap.{find, is_sorted}
 use Rattle.std.specs.FinMap.Entries.{below_all, same_entries, is_sorted-where_key, find-where_key}
 use Rattle.std.proofs.lemmas.Map.Keys.{sorted_head, sorted_tail}
-use Rattle.wm_clock.specs.Clocks.{limit}
 use Rattle.wm_names.specs.Paths.{Path, path_cmp, same_path}
 use Rattle.wm_view.specs.declared.known.Known.{Known}
 use Rattle.wm_view.specs.declared.known_paths.KnownPaths.{KnownPaths}
@@ -23,7 +23,7 @@ use Rattle.wm_view.specs.Summaries.{Knowns, unknown}
 use Rattle.wm_view.specs.Steps.{known_or, is_gone_for}
 use Rattle.wm_view.specs.KnownPaths.{Place, place_cmp, is_told, told, add_known, IsSound, IsUpTo}
 use Rattle.wm_view.proofs.Orders.{both, first, second, not_found}
-use Rattle.wm_view.proofs.Paths.{same→≡, tied→≡}
+use Rattle.wm_view.specs.laws.PathSets.{same→≡, tied→≡}
 use Rattle.wm_view.proofs.Maps.{same_swap}
 use Rattle.wm_view.proofs.KnownPaths.{same_itself}
 use Rattle.wm_view.proofs.Rooms.{told_sorted, sorted_from}
@@ -221,7 +221,7 @@ sound_forgotten k m o g p b s mo oo go t places gones = record {
   ordered = mo;
   in_order = oo;
   gone_ordered = go;
-  placed = λ q x e. let f = other k m p s t q x e in ((s.placed q x f.1).0, places (limit - x.last, q) ∙ ap (λ c. cond c false (sorted.contains place_cmp k.order (limit - x.last, q))) (then_apart (nat_cmp b (limit - x.last)) (path_cmp p q) f.0) ∙ (s.placed q x f.1).1);
+  placed = λ q x e. let f = other k m p s t q x e in ((s.placed q x f.1).0, places (max_counter - x.last, q) ∙ ap (λ c. cond c false (sorted.contains place_cmp k.order (max_counter - x.last, q))) (then_apart (nat_cmp b (max_counter - x.last)) (path_cmp p q) f.0) ∙ (s.placed q x f.1).1);
   gone = λ q x e h. let f = other k m p s t q x e in gones q ∙ ap (λ c. cond c false (sorted.contains path_cmp k.gone q)) f.0 ∙ s.gone q x f.1 h;
 }
 

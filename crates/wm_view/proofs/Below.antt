@@ -7,7 +7,8 @@ use Rattle.std.specs.declared.ops.Bound.TheVariants.{Excluded, Unbounded}
 use Rattle.std.proofs.lemmas.List.{take-append-drop}
 use Rattle.std.proofs.lemmas.Cmp.{nat_cmp_total, tied_itself}
 use Rattle.wm_names.specs.Paths.{Path, is_under, path_cmp, same_path}
-use Rattle.wm_view.proofs.Paths.{both-first, both-second, same→≡}
+use Rattle.wm_disk.specs.laws.Tests.{both_first, both_second}
+use Rattle.wm_view.specs.laws.PathSets.{same→≡}
 
 same_front : (xs ys zs : List ℕ) → slice_cmp nat_cmp (xs ++ ys) (xs ++ zs) ≡ slice_cmp nat_cmp ys zs
 same_front [] ys zs = refl
@@ -21,10 +22,10 @@ nothing_more (x ∷ xs) = ap (λ l. x ∷ l) (nothing_more xs)
 apart : (top p : Path) → is_under top p ≡ true → p ≡ top ++ 47 ∷ drop (suc (length top)) p
 apart top p under =
     let n = length top in
-    let first : nat_lt n (length p) ≡ true = both-first (nat_lt n (length p)) ((slice_index p n == 47) && same_path (take n p) top) under in
-    let more : ((slice_index p n == 47) && same_path (take n p) top) ≡ true = both-second (nat_lt n (length p)) ((slice_index p n == 47) && same_path (take n p) top) under in
-    let slash : slice_index p n ≡ 47 = eqb-true (slice_index p n) 47 (both-first (slice_index p n == 47) (same_path (take n p) top) more) in
-    let front : take n p ≡ top = same→≡ (take n p) top (both-second (slice_index p n == 47) (same_path (take n p) top) more) in
+    let first : nat_lt n (length p) ≡ true = both_first (nat_lt n (length p)) ((slice_index p n == 47) && same_path (take n p) top) under in
+    let more : ((slice_index p n == 47) && same_path (take n p) top) ≡ true = both_second (nat_lt n (length p)) ((slice_index p n == 47) && same_path (take n p) top) under in
+    let slash : slice_index p n ≡ 47 = eqb-true (slice_index p n) 47 (both_first (slice_index p n == 47) (same_path (take n p) top) more) in
+    let front : take n p ≡ top = same→≡ (take n p) top (both_second (slice_index p n == 47) (same_path (take n p) top) more) in
     sym (take-append-drop n p) ∙ ap (λ l. l ++ drop n p) front ∙ ap (λ l. top ++ l) (drop-cons p n 0 (ltb-true n (length p) first)) ∙ ap (λ b. top ++ b ∷ drop (suc n) p) slash
 
 -- it stands behind the folder, and before the folder with the byte after the slash

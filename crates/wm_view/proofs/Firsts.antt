@@ -9,7 +9,7 @@ use Rattle.std.specs.FinMap.{find, is_sorted}
 use Rattle.std.specs.FinMap.Entries.{below_all, same_entries}
 use Rattle.std.specs.BTreeMap as tree
 use Rattle.std.specs.BTreeMap.{BTreeMap}
-use Rattle.wm_clock.specs.Clocks.{limit}
+use Rattle.wm_disk.specs.Counters.{max_counter}
 use Rattle.wm_names.specs.Entries.{covers, is_whole}
 use Rattle.wm_names.specs.Paths.{Path, path_cmp, same_path}
 use Rattle.wm_names.specs.declared.entry.Meta.{Meta}
@@ -24,7 +24,7 @@ use Rattle.wm_view.specs.Summaries.{Knowns, Summary, unknown}
 use Rattle.wm_view.specs.declared.known.Known.{Known}
 use Rattle.wm_view.proofs.Maps.{same_swap, spoken}
 use Rattle.wm_view.proofs.Orders.{both, first, second, not_found}
-use Rattle.wm_view.proofs.Paths.{same→≡, tied→≡}
+use Rattle.wm_view.specs.laws.PathSets.{same→≡, tied→≡}
 use Rattle.wm_view.proofs.KnownPaths.{same_itself}
 use Rattle.wm_view.proofs.Plans.{after_sorted, find_after, plan_next}
 use Rattle.wm_view.proofs.Rooms.{sorted_from}
@@ -67,18 +67,18 @@ first_told m (e ∷ es) = ap (λ l. (e.0, record { exists = true; meta = e.1; la
 
 -- each path is there, with its place
 module _ (m : ℕ) (p : Path) (x : Known) where
-  pub first_there : (files : Files) → find path_cmp p (first_known m files) ≡ Some x → (x.last ≡ 1) × (x.exists ≡ true) × (is_member (eq_by_cmp place_cmp) (first_places files) (limit - 1, p) ≡ true)
+  pub first_there : (files : Files) → find path_cmp p (first_known m files) ≡ Some x → (x.last ≡ 1) × (x.exists ≡ true) × (is_member (eq_by_cmp place_cmp) (first_places files) (max_counter - 1, p) ≡ true)
   first_there [] e = absurd (true≢false (sym (ap is_some e)))
   first_there (y ∷ ys) e =
-      elim (same_path p y.0) as (λ b. same_path p y.0 ≡ b → cond b (Some (record { exists = true; meta = y.1; last = 1; created = 1; moment = m })) (find path_cmp p (first_known m ys)) ≡ Some x → (x.last ≡ 1) × (x.exists ≡ true) × (is_member (eq_by_cmp place_cmp) (first_places (y ∷ ys)) (limit - 1, p) ≡ true)) [
+      elim (same_path p y.0) as (λ b. same_path p y.0 ≡ b → cond b (Some (record { exists = true; meta = y.1; last = 1; created = 1; moment = m })) (find path_cmp p (first_known m ys)) ≡ Some x → (x.last ≡ 1) × (x.exists ≡ true) × (is_member (eq_by_cmp place_cmp) (first_places (y ∷ ys)) (max_counter - 1, p) ≡ true)) [
         | true ↦ λ same f. (
           sym (ap (λ o. (unwrap_or o x).last) f),
           sym (ap (λ o. (unwrap_or o x).exists) f),
-          ap (λ b. b || is_member (eq_by_cmp place_cmp) (first_places ys) (limit - 1, p)) same,
+          ap (λ b. b || is_member (eq_by_cmp place_cmp) (first_places ys) (max_counter - 1, p)) same,
         )
         | false ↦ λ other f.
             let rest = first_there ys f in
-            (rest.0, rest.1, ap (λ b. b || is_member (eq_by_cmp place_cmp) (first_places ys) (limit - 1, p)) other ∙ rest.2)
+            (rest.0, rest.1, ap (λ b. b || is_member (eq_by_cmp place_cmp) (first_places ys) (max_counter - 1, p)) other ∙ rest.2)
       ] refl e
 
 -- ---- the map that a first listing makes

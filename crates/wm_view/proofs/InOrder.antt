@@ -1,4 +1,5 @@
 -- What is listed in the order of change, with a test.
+use Rattle.wm_disk.specs.Counters.{max_counter}
 use Rattle.wm_view.proofs.ByLast.{listed_by_last, nat_less, own_place, tied}
 use Rattle.std.proofs.Common.{◌≡◌, Result, Ok, Err, IfOk, ℕ, zero, suc, ◌-◌, ◌<◌, ◌≤◌, ◌==◌, Bool, true, false, cond, not, ◌&&◌, ◌||◌, T, List, [], ◌∷◌, ◌++◌, Some, None, filter, unwrap_or, is_some, refl, sym, ap, subst, ◌∙◌, arith, nat_lt, ltb-true, ltb-false, le-ltb, Less, Greater, true≢false}
 use Rattle.std.specs.Ordering.{is_lt, is_eq, ordering_then, ordering_reverse, nat_cmp}
@@ -6,12 +7,11 @@ use Rattle.std.specs.declared.cmp.Ordering.{Ordering}
 use Rattle.std.specs.List.{AllByRecursion}
 use Rattle.std.specs.Cmp.{nat_cmp_total}
 use Rattle.std.specs.FinMap.{find, is_sorted}
-use Rattle.wm_clock.specs.Clocks.{limit}
 use Rattle.wm_names.specs.Paths.{Path, path_cmp}
 use Rattle.wm_view.specs.declared.known.Known.{Known}
 use Rattle.wm_view.specs.Summaries.{Knowns, by_last, unknown}
 use Rattle.std.proofs.lemmas.List.Elements.{filter-append}
-use Rattle.wm_view.specs.KnownPaths.{Place, place_cmp, known_there, add_known, listed, is_wanted, is_told, told, IsSound, IsUpTo}
+use Rattle.wm_view.specs.KnownPaths.{Place, place_cmp, known_there, add_known, known_at, is_wanted, is_told, told, IsSound, IsUpTo}
 use Rattle.wm_view.specs.declared.known_paths.KnownPaths.{KnownPaths}
 use Rattle.wm_view.proofs.Rooms.{if_told, find_told, told_sorted, sorted_from}
 
@@ -50,19 +50,19 @@ zero_not e l = omega arith
 above_zero : (x : Known) → x ≡ unknown → 0 < x.last → ⊥
 above_zero x f l = zero_not (ap (λ k. k.last) f) l
 
-pub there_so : (ks : Knowns) (q : Place) (x : Known) → x ≡ unwrap_or (find path_cmp q.1 ks) unknown → 0 < x.last → limit - x.last ≡ q.0 → Some x ≡ known_there (find path_cmp q.1 ks) q.0
+pub there_so : (ks : Knowns) (q : Place) (x : Known) → x ≡ unwrap_or (find path_cmp q.1 ks) unknown → 0 < x.last → max_counter - x.last ≡ q.0 → Some x ≡ known_there (find path_cmp q.1 ks) q.0
 there_so ks q x e low at =
     elim (find path_cmp q.1 ks) as (λ o. x ≡ unwrap_or o unknown → Some x ≡ known_there o q.0) [
       | None ↦ λ f. absurd (above_zero x f low)
-      | Some y ↦ λ f. ap Some f ∙ sym (ap (λ b. cond b (Some y) None) (ap is_eq (tied q.0 (limit - y.last) (sym at ∙ ap (λ k. limit - k.last) f))))
+      | Some y ↦ λ f. ap Some f ∙ sym (ap (λ b. cond b (Some y) None) (ap is_eq (tied q.0 (max_counter - y.last) (sym at ∙ ap (λ k. max_counter - k.last) f))))
     ] e
 
-pub not_there : (ks : Knowns) (q : Place) (x : Known) → x ≡ unwrap_or (find path_cmp q.1 ks) unknown → (limit - x.last ≡ q.0 → ⊥) → None ≡ known_there (find path_cmp q.1 ks) q.0
+pub not_there : (ks : Knowns) (q : Place) (x : Known) → x ≡ unwrap_or (find path_cmp q.1 ks) unknown → (max_counter - x.last ≡ q.0 → ⊥) → None ≡ known_there (find path_cmp q.1 ks) q.0
 not_there ks q x e apart =
     elim (find path_cmp q.1 ks) as (λ o. x ≡ unwrap_or o unknown → None ≡ known_there o q.0) [
       | None ↦ λ _. refl
-      | Some y ↦ λ f. elim (is_eq (nat_cmp q.0 (limit - y.last))) as (λ b. is_eq (nat_cmp q.0 (limit - y.last)) ≡ b → None ≡ cond b (Some y) None) [
-        | true ↦ λ t. absurd (apart (ap (λ k. limit - k.last) f ∙ sym (own_place q y t)))
+      | Some y ↦ λ f. elim (is_eq (nat_cmp q.0 (max_counter - y.last))) as (λ b. is_eq (nat_cmp q.0 (max_counter - y.last)) ≡ b → None ≡ cond b (Some y) None) [
+        | true ↦ λ t. absurd (apart (ap (λ k. max_counter - k.last) f ∙ sym (own_place q y t)))
         | false ↦ λ _. refl
       ] refl
     ] e
@@ -75,7 +75,7 @@ greater_less e = true≢false (sym (ap is_lt e))
 is_greater : (a b : ℕ) → b < a → nat_cmp a b ≡ Greater
 is_greater a b l = nat_cmp_total.antisymm a b ∙ ap ordering_reverse (nat_less b a l)
 
-early : (o last b tick : ℕ) → o ≡ limit - last → last ≤ limit → b ≤ o → limit - b ≤ tick → last ≤ tick
+early : (o last b tick : ℕ) → o ≡ max_counter - last → last ≤ max_counter → b ≤ o → max_counter - b ≤ tick → last ≤ tick
 early o last b tick e l h t = omega arith
 
 above_place : (a b : ℕ) (o : Ordering) → ordering_then (nat_cmp a b) o ≡ Less → a ≤ b
@@ -86,18 +86,18 @@ above_place a b o e =
     ] refl
 
 -- no entry at this place or a later one changed after the tick
-pub late : (ks : Knowns) (tick : ℕ) (existing : Bool) (b : ℕ) (os : List Place) → limit - b ≤ tick → ((p : Path) (x : Known) → find path_cmp p ks ≡ Some x → x.last ≤ limit) → AllByRecursion (λ (o : Place). b ≤ o.0) os → filter (is_wanted tick existing) (listed ks os) ≡ []
+pub late : (ks : Knowns) (tick : ℕ) (existing : Bool) (b : ℕ) (os : List Place) → max_counter - b ≤ tick → ((p : Path) (x : Known) → find path_cmp p ks ≡ Some x → x.last ≤ max_counter) → AllByRecursion (λ (o : Place). b ≤ o.0) os → filter (is_wanted tick existing) (known_at ks os) ≡ []
 late ks tick existing b [] l low h = refl
 late ks tick existing b (o ∷ os) l low h =
-    let rest : filter (is_wanted tick existing) (listed ks os) ≡ [] = late ks tick existing b os l low h.1 in
-    elim (find path_cmp o.1 ks) as (λ f. find path_cmp o.1 ks ≡ f → filter (is_wanted tick existing) (add_known o.1 (known_there f o.0) (listed ks os)) ≡ []) [
+    let rest : filter (is_wanted tick existing) (known_at ks os) ≡ [] = late ks tick existing b os l low h.1 in
+    elim (find path_cmp o.1 ks) as (λ f. find path_cmp o.1 ks ≡ f → filter (is_wanted tick existing) (add_known o.1 (known_there f o.0) (known_at ks os)) ≡ []) [
       | None ↦ λ _. rest
-      | Some x ↦ λ e. elim (is_eq (nat_cmp o.0 (limit - x.last))) as (λ c. is_eq (nat_cmp o.0 (limit - x.last)) ≡ c → filter (is_wanted tick existing) (add_known o.1 (cond c (Some x) None) (listed ks os)) ≡ []) [
+      | Some x ↦ λ e. elim (is_eq (nat_cmp o.0 (max_counter - x.last))) as (λ c. is_eq (nat_cmp o.0 (max_counter - x.last)) ≡ c → filter (is_wanted tick existing) (add_known o.1 (cond c (Some x) None) (known_at ks os)) ≡ []) [
         | true ↦ λ t.
-            let own : o.0 ≡ limit - x.last = own_place o x t in
-            let high : x.last ≤ limit = low o.1 x e in
+            let own : o.0 ≡ max_counter - x.last = own_place o x t in
+            let high : x.last ≤ max_counter = low o.1 x e in
             let after : b ≤ o.0 = h.0 in
-            ap (λ c. cond (c && (not existing || x.exists)) ((o.1, x) ∷ filter (is_wanted tick existing) (listed ks os)) (filter (is_wanted tick existing) (listed ks os))) (le-ltb tick x.last (early o.0 x.last b tick own high after l)) ∙ rest
+            ap (λ c. cond (c && (not existing || x.exists)) ((o.1, x) ∷ filter (is_wanted tick existing) (known_at ks os)) (filter (is_wanted tick existing) (known_at ks os))) (le-ltb tick x.last (early o.0 x.last b tick own high after l)) ∙ rest
         | false ↦ λ _. rest
       ] refl
     ] refl
@@ -138,19 +138,19 @@ after_tests : (tick : ℕ) (es : Knowns) → AllByRecursion (λ (e : Path × Kno
 after_tests tick [] = tt
 after_tests tick (e ∷ es) = (with_true (nat_lt tick e.1.last), after_tests tick es)
 
-order_is : (k : KnownPaths) (n : ℕ) → IsSound k → n ≤ limit → IsUpTo n (told k) → listed (told k) k.order.keys ≡ by_last (told k) n
+order_is : (k : KnownPaths) (n : ℕ) → IsSound k → n ≤ max_counter → IsUpTo n (told k) → known_at (told k) k.order.keys ≡ by_last (told k) n
 order_is k n s l up =
     listed_by_last (told k) k.order.keys n (told_sorted k.known.entries (sorted_from k.known.entries s.ordered)) s.in_order l
     (λ p x e. (told_low p x k.known.entries (sorted_from k.known.entries s.ordered) e, up p x e))
     (λ p x e. (s.placed p x e).1)
 
-pub existing_is : (k : KnownPaths) (n : ℕ) → IsSound k → n ≤ limit → IsUpTo n (told k) → filter (is_wanted 0 true) (listed (told k) k.order.keys) ≡ by_last (filter (λ e. e.1.exists) (told k)) n
+pub existing_is : (k : KnownPaths) (n : ℕ) → IsSound k → n ≤ max_counter → IsUpTo n (told k) → filter (is_wanted 0 true) (known_at (told k) k.order.keys) ≡ by_last (filter (λ e. e.1.exists) (told k)) n
 existing_is k n s l up =
     ap (filter (is_wanted 0 true)) (order_is k n s l up)
     ∙ by_last_where (is_wanted 0 true) (told k) n
     ∙ ap (λ m. by_last m n) (same_tests (is_wanted 0 true) (λ e. e.1.exists) (told k) (exists_tests (told k) (all_told k.known.entries)))
 
-pub changed_is : (k : KnownPaths) (tick n : ℕ) → IsSound k → n ≤ limit → IsUpTo n (told k) → filter (is_wanted tick false) (listed (told k) k.order.keys) ≡ by_last (filter (λ e. nat_lt tick e.1.last) (told k)) n
+pub changed_is : (k : KnownPaths) (tick n : ℕ) → IsSound k → n ≤ max_counter → IsUpTo n (told k) → filter (is_wanted tick false) (known_at (told k) k.order.keys) ≡ by_last (filter (λ e. nat_lt tick e.1.last) (told k)) n
 changed_is k tick n s l up =
     ap (filter (is_wanted tick false)) (order_is k n s l up)
     ∙ by_last_where (is_wanted tick false) (told k) n

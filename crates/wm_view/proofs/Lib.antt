@@ -1,4 +1,3 @@
-pub mod Paths
 pub mod Plans
 pub mod Recrawls
 pub mod PathLaws

@@ -9,9 +9,9 @@ use Rattle.wm_names.specs.Paths.{Path, path_cmp, same_path}
 use Rattle.wm_names.specs.declared.entry.Meta.{Meta}
 use Rattle.wm_view.specs.Files.{Files, IsMap, at, only, set_at}
 use Rattle.wm_view.specs.Histories.{newest, may_say}
-use Rattle.wm_view.specs.Laws.{LastPairCounts, RecrawlSpeaks, last_told}
+use Rattle.wm_view.specs.HistoryLaws.{LastPairCounts, RecrawlSpeaks, last_told}
 use Rattle.std.specs.declared.cmp.Ordering.{Ordering}
-use Rattle.wm_view.proofs.Paths.{same→≡, tied→≡}
+use Rattle.wm_view.specs.laws.PathSets.{same→≡, tied→≡}
 
 turn : (p q : Path) → p ≡ q → same_path p q ≡ same_path q p
 turn p q e = λ i. same_path (e i) (sym e i)

@@ -4,6 +4,7 @@ use Rattle.std.specs.Ordering.{is_lt}
 use Rattle.std.specs.Cmp.Lexicographic.{nat_list_cmp_total}
 use Rattle.std.specs.FinMap.{find, put, is_sorted}
 use Rattle.std.specs.FinMap.Entries.{below_all, is_sorted-put, find-put, same_entries}
+use Rattle.wm_disk.specs.Counters.{max_counter}
 use Rattle.wm_names.specs.Paths.{Path, path_cmp, same_path}
 use Rattle.wm_names.specs.Entries.{same_state, same_meta}
 use Rattle.wm_names.specs.declared.entry.Meta.{Meta}
@@ -11,27 +12,28 @@ use Rattle.wm_view.specs.declared.known.Known.{Known}
 use Rattle.wm_view.specs.Files.{Files, IsMap, at, is_in, add_paths, same_files}
 use Rattle.wm_view.specs.Summaries.{Summary, Knowns, unknown, state_in, next_known, tagged}
 use Rattle.wm_view.specs.Steps.{present, keys, known_or, known_next, next_in, grown_in, spent_in, refused_in, done_in}
-use Rattle.wm_view.specs.Histories.{refuse_if, unless_refused, observed}
+use Rattle.wm_view.specs.Histories.{max_pairs, refuse_if, unless_refused, observed}
 use Rattle.wm_disk.specs.declared.refusal.Refusal.TheVariants.{Exhausted, NotReady, TooMany}
-use Rattle.wm_clock.specs.Clocks.{limit}
 use Rattle.wm_view.proofs.ByLast.{not_at_most}
 use Rattle.wm_view.specs.KnownPaths.{AreAt, IsUpTo, after_changes}
-use Rattle.wm_view.specs.ViewStates.{Ends}
+use Rattle.wm_view.specs.ViewStates.{IsDoneOrRefused}
 use Rattle.wm_view.specs.Changes.{IsPlan, change_of, told_change}
 use Rattle.std.specs.Option.{option_or}
 use Rattle.wm_disk.specs.declared.refusal.Refusal.{Refusal}
 use Rattle.wm_view.specs.declared.op.Op.{Op}
 use Rattle.wm_view.specs.declared.op.Op.TheVariants.{Observe}
-use Rattle.wm_view.specs.Views.{Moved}
+use Rattle.wm_view.specs.Views.{IsStepped}
 use Rattle.std.specs.Map.{lookup}
 use Rattle.std.specs.BTreeMap.{is_at}
-use Rattle.wm_view.specs.Laws.{last_told}
+use Rattle.wm_view.specs.HistoryLaws.{last_told}
 use Rattle.wm_view.proofs.Maps.{same_swap}
 use Rattle.wm_view.proofs.Orders.{both, first, second, not_found}
-use Rattle.wm_view.proofs.Paths.{same→≡, tied→≡, both-first, both-second, add_in}
+use Rattle.wm_view.specs.laws.PathSets.{same→≡, tied→≡, add_in}
+use Rattle.wm_disk.specs.laws.Tests.{both_first, both_second}
 use Rattle.wm_view.proofs.PathLaws.{same_state→≡, same_meta→≡}
 use Rattle.wm_view.proofs.TickLaws.{same_files_itself, same_meta_itself}
-use Rattle.wm_view.proofs.KnownPaths.{added_sorted, find_tagged, same_itself}
+use Rattle.wm_view.proofs.KnownPaths.{same_itself}
+use Rattle.wm_view.specs.laws.Tagged.{added_sorted, find_tagged}
 
 none_after : (p : Path) (e : Path × Known) (es : Knowns) → same_path p e.0 ≡ true → T (is_sorted path_cmp (e ∷ es)) → find path_cmp p es ≡ None
 none_after p e es same s = ap (λ r. find path_cmp r es) (same→≡ p e.0 same) ∙ not_found e.0 es (first (below_all path_cmp e.0 es) (is_sorted path_cmp es) s)
@@ -157,10 +159,10 @@ same_files→≡ [] [] h = refl
 same_files→≡ [] (y ∷ ys) h = absurd (true≢false (sym h))
 same_files→≡ (x ∷ xs) [] h = absurd (true≢false (sym h))
 same_files→≡ (x ∷ xs) (y ∷ ys) h =
-    let head : (same_path x.0 y.0 && same_meta x.1 y.1) ≡ true = both-first (same_path x.0 y.0 && same_meta x.1 y.1) (same_files xs ys) h in
-    let path : x.0 ≡ y.0 = same→≡ x.0 y.0 (both-first (same_path x.0 y.0) (same_meta x.1 y.1) head) in
-    let meta : x.1 ≡ y.1 = same_meta→≡ x.1 y.1 (both-second (same_path x.0 y.0) (same_meta x.1 y.1) head) in
-    λ i. (path i, meta i) ∷ same_files→≡ xs ys (both-second (same_path x.0 y.0 && same_meta x.1 y.1) (same_files xs ys) h) i
+    let head : (same_path x.0 y.0 && same_meta x.1 y.1) ≡ true = both_first (same_path x.0 y.0 && same_meta x.1 y.1) (same_files xs ys) h in
+    let path : x.0 ≡ y.0 = same→≡ x.0 y.0 (both_first (same_path x.0 y.0) (same_meta x.1 y.1) head) in
+    let meta : x.1 ≡ y.1 = same_meta→≡ x.1 y.1 (both_second (same_path x.0 y.0) (same_meta x.1 y.1) head) in
+    λ i. (path i, meta i) ∷ same_files→≡ xs ys (both_second (same_path x.0 y.0 && same_meta x.1 y.1) (same_files xs ys) h) i
 
 pub some_change : (ks : Knowns) (t m : ℕ) (files : Files) (e : Path × Known) (es : Knowns) → T (is_sorted path_cmp ks) → IsPlan ks t m files (e ∷ es) → same_files files (present ks) ≡ false
 some_change ks t m files e es s plan =
@@ -233,7 +235,7 @@ module _ (s : Summary) (sorted : T (is_sorted path_cmp s.known)) (moment : ℕ) 
   next_none (e ∷ es) l f is = absurd (omega arith)
   next_none [] l f is =
       let same : same_files files (present s.known) ≡ true = no_change s.known (s.tick + 1) moment files sorted f is in (
-        ap (λ b. refuse_if (nat_le limit s.tick && not b) Exhausted None) same ∙ ap (λ b. refuse_if b Exhausted None) (and_false (nat_le limit s.tick)),
+        ap (λ b. refuse_if (nat_le max_counter s.tick && not b) Exhausted None) same ∙ ap (λ b. refuse_if b Exhausted None) (and_false (nat_le max_counter s.tick)),
         sym (ap (λ b. cond b s (grown_in s moment files)) same),
       )
 
@@ -241,19 +243,19 @@ module _ (s : Summary) (sorted : T (is_sorted path_cmp s.known)) (moment : ℕ) 
   differs [] l is = absurd (omega arith)
   differs (e ∷ es) l is = some_change s.known (s.tick + 1) moment files e es sorted is
 
-  pub next_spent : (plan : Knowns) → 1 ≤ length plan → limit ≤ s.tick → IsPlan s.known (s.tick + 1) moment files plan → refuse_if (spent_in s files) Exhausted None ≡ Some Exhausted
-  next_spent plan l high is = λ i. refuse_if (le-leb limit s.tick high i && not (differs plan l is i)) Exhausted None
+  pub next_spent : (plan : Knowns) → 1 ≤ length plan → max_counter ≤ s.tick → IsPlan s.known (s.tick + 1) moment files plan → refuse_if (spent_in s files) Exhausted None ≡ Some Exhausted
+  next_spent plan l high is = λ i. refuse_if (le-leb max_counter s.tick high i && not (differs plan l is i)) Exhausted None
 
   and_true : (b : Bool) → (b && true) ≡ b
   and_true true = refl
   and_true false = refl
 
-  pub next_grown : (plan : Knowns) → 1 ≤ length plan → s.tick < limit → T (is_sorted path_cmp plan) → IsPlan s.known (s.tick + 1) moment files plan
+  pub next_grown : (plan : Knowns) → 1 ≤ length plan → s.tick < max_counter → T (is_sorted path_cmp plan) → IsPlan s.known (s.tick + 1) moment files plan
       → (refuse_if (spent_in s files) Exhausted None ≡ None) × (record s { ready = true; tick = suc s.tick; known = after_changes s.known plan } ≡ next_in s moment files)
   next_grown plan l low p is =
       let other : same_files files (present s.known) ≡ false = differs plan l is in
       let made : after_changes s.known plan ≡ known_next s.known (suc s.tick) moment files = plan_next s.known (suc s.tick) moment files plan sorted p (subst (λ t. IsPlan s.known t moment files plan) (add-one s.tick) is) in (
-        ap (λ b. refuse_if (nat_le limit s.tick && not b) Exhausted None) other ∙ ap (λ b. refuse_if b Exhausted None) (and_true (nat_le limit s.tick) ∙ not_at_most limit s.tick low),
+        ap (λ b. refuse_if (nat_le max_counter s.tick && not b) Exhausted None) other ∙ ap (λ b. refuse_if b Exhausted None) (and_true (nat_le max_counter s.tick) ∙ not_at_most max_counter s.tick low),
         (λ i. record s { ready = true; tick = suc s.tick; known = made i }) ∙ sym (ap (λ b. cond b s (grown_in s moment files)) other),
       )
 
@@ -327,9 +329,9 @@ module _ (ks : Knowns) (t m : ℕ) (told : Path → Option (Option Meta)) (plan 
 
 -- ---- done as the summary's step has it
 
-pub moved_from : (s : Summary) (op : Op) (refused : Option Refusal) (r : Result (Unit {0}) Refusal) (new : Summary) → refused_in s op ≡ refused → Ends refused (done_in s op) s r new → Moved s op r new
+pub moved_from : (s : Summary) (op : Op) (refused : Option Refusal) (r : Result (Unit {0}) Refusal) (new : Summary) → refused_in s op ≡ refused → IsDoneOrRefused refused (done_in s op) s r new → IsStepped s op r new
 moved_from s op refused (Ok d) new e h = (e ∙ h.0, h.1 ∙ sym (ap (λ r. unless_refused r (done_in s op) s) (e ∙ h.0)))
 moved_from s op refused (Err x) new e h = ((λ n. e ∙ h.0 n), h.1)
 
-pub observe_refused : (s : Summary) (moment : ℕ) (pairs : List (Path × Option Meta)) → s.ready ≡ true → length pairs ≤ 65536 → refused_in s (Observe moment pairs) ≡ refuse_if (spent_in s (observed (present s.known) pairs)) Exhausted None
-observe_refused s moment pairs ready few = λ i. refuse_if (not (ready i)) NotReady (refuse_if (le-ltb 65536 (length pairs) few i) TooMany (refuse_if (spent_in s (observed (present s.known) pairs)) Exhausted None))
+pub observe_refused : (s : Summary) (moment : ℕ) (pairs : List (Path × Option Meta)) → s.ready ≡ true → length pairs ≤ max_pairs → refused_in s (Observe moment pairs) ≡ refuse_if (spent_in s (observed (present s.known) pairs)) Exhausted None
+observe_refused s moment pairs ready few = λ i. refuse_if (not (ready i)) NotReady (refuse_if (le-ltb max_pairs (length pairs) few i) TooMany (refuse_if (spent_in s (observed (present s.known) pairs)) Exhausted None))

@@ -19,7 +19,8 @@ use Rattle.wm_view.proofs.Kept.{put_all_sorted}
 use Rattle.wm_view.proofs.Maps.{spoken}
 use Rattle.wm_view.proofs.Orders.{second}
 use Rattle.wm_names.specs.declared.subtree.Subtree.{Subtree}
-use Rattle.wm_view.proofs.Paths.{same→≡, tied→≡, both-first, both-second}
+use Rattle.wm_view.specs.laws.PathSets.{same→≡, tied→≡}
+use Rattle.wm_disk.specs.laws.Tests.{both_first, both_second}
 use Rattle.wm_view.proofs.Plans.{present_sorted, told_plan}
 
 pub drop_sorted : {V : Type 0} (xs : List (Path × V)) (i : ℕ) → T (is_sorted path_cmp xs) → T (is_sorted path_cmp (drop i xs))
@@ -81,8 +82,8 @@ covered_at : (subtree : Subtree) (files : Files) (p : Path) (meta : Meta) → li
 covered_at subtree [] p meta all e = absurd (true≢false (sym (ap is_some e)))
 covered_at subtree (x ∷ xs) p meta all e =
     elim (same_path p x.0) as (λ b. same_path p x.0 ≡ b → cond b (Some x.1) (at xs p) ≡ Some meta → covers subtree p ≡ true) [
-      | true ↦ λ same _. ap (covers subtree) (same→≡ p x.0 same) ∙ both-first (covers subtree x.0) (list_all (λ e. covers subtree e.0) xs) all
-      | false ↦ λ _ f. covered_at subtree xs p meta (both-second (covers subtree x.0) (list_all (λ e. covers subtree e.0) xs) all) f
+      | true ↦ λ same _. ap (covers subtree) (same→≡ p x.0 same) ∙ both_first (covers subtree x.0) (list_all (λ e. covers subtree e.0) xs) all
+      | false ↦ λ _ f. covered_at subtree xs p meta (both_second (covers subtree x.0) (list_all (λ e. covers subtree e.0) xs) all) f
     ] refl e
 
 pub recrawl_change : (ks : Knowns) (b t m : ℕ) (found : Found) (p : Path) → ((k : Known) → find path_cmp p ks ≡ Some k → nat_lt 0 k.last ≡ true) → IsCovered found

@@ -1,19 +1,18 @@
 -- Room in what is known of each path.
-use Rattle.std.proofs.Common.{◌≡◌, ℕ, ◌<◌, ◌≤◌, lt-ltb, le-ltb, ltb-true, rules, arith, ◌-◌, ◌≢◌, Bool, true, false, cond, T, List, [], ◌∷◌, Option, Some, None, filter, unwrap_or, is_some, refl, sym, ap, subst, ◌∙◌, nat_lt, Less, Equal, Greater, true≢false}
+use Rattle.std.proofs.Common.{BTreeMap, ◌≡◌, ℕ, ◌<◌, ◌≤◌, lt-ltb, le-ltb, ltb-true, rules, arith, ◌-◌, ◌≢◌, Bool, true, false, cond, T, List, [], ◌∷◌, Option, Some, None, filter, unwrap_or, is_some, refl, sym, ap, subst, ◌∙◌, nat_lt, Less, Equal, Greater, true≢false}
 use Rattle.std.specs.Ordering.{is_lt, is_eq, match_ordering, ordering_then, nat_cmp}
 use Rattle.std.specs.declared.cmp.Ordering.{Ordering}
-use Rattle.std.specs.FinMap.{nat_cmp-IsAntisymmetric}
+use Rattle.std.specs.FinMap.{nat_cmp-IsAntisymmetric, find, put, is_sorted}
 use Rattle.std.specs.List.{AllByRecursion, list_any}
 use Rattle.std.specs.List.Sorted.{IsStrictlySortedBy}
 use Rattle.std.specs.Map.{lookup, keys_of, set_value, remove_entry}
 use Rattle.std.proofs.lemmas.Map.{lookup-set_value, keys-set_value}
 use Rattle.std.specs.Cmp.{eq_by_cmp_equiv}
-use Rattle.wm_clock.specs.Clocks.{limit}
 use Rattle.std.specs.BTreeMap.{insert_entry, is_at}
 use Rattle.std.specs.Cmp.Lexicographic.{nat_list_cmp_total}
-use Rattle.std.specs.FinMap.{find, put, is_sorted}
 use Rattle.std.specs.FinMap.Entries.{below_all, is_sorted-put, find-put, same_entries, is_some-find}
 use Rattle.std.proofs.lemmas.Map.Keys.{sorted_head, sorted_tail}
+use Rattle.wm_disk.specs.Counters.{max_counter}
 use Rattle.wm_names.specs.Paths.{Path, path_cmp, same_path}
 use Rattle.wm_view.specs.declared.known.Known.{Known}
 use Rattle.wm_view.specs.Summaries.{Knowns, unknown}
@@ -21,12 +20,11 @@ use Rattle.wm_view.specs.Steps.{known_or}
 use Rattle.std.specs.Prelude.{IsSome, IfSome}
 use Rattle.std.specs.BTreeMap as tree
 use Rattle.std.specs.BTreeSet as sorted
-use Rattle.std.specs.BTreeMap.{BTreeMap}
 use Rattle.std.specs.BTreeSet.{BTreeSet}
 use Rattle.wm_view.specs.declared.known_paths.KnownPaths.{KnownPaths}
-use Rattle.wm_view.specs.KnownPaths.{is_told, told, Place, place_cmp, IsPlaced, IsAmongGone, IsSound, HasRoom, KeepsRoom, KeepsOtherRoom, HaveRoom}
+use Rattle.wm_view.specs.KnownPaths.{is_told, told, Place, place_cmp, IsPlaced, IsAmongGone, IsSound, HasChangeRoom, KeepsChangeRoom, KeepsOtherRoom, HaveRoom}
 use Rattle.wm_view.proofs.Orders.{both, first, second, not_found}
-use Rattle.wm_view.proofs.Paths.{same→≡, tied→≡}
+use Rattle.wm_view.specs.laws.PathSets.{same→≡, tied→≡}
 use Rattle.wm_view.proofs.Maps.{same_swap}
 use Rattle.wm_view.proofs.KnownPaths.{same_itself}
 
@@ -148,7 +146,7 @@ sound_order k o s stay ordered = record {
   gone = s.gone;
 }
 
-pub room_order : (k : KnownPaths) (o : BTreeSet Place) → ((q : Place) → sorted.contains place_cmp k.order q ≡ true → sorted.contains place_cmp o q ≡ true) → KeepsRoom k (record { known = k.known; order = o; gone = k.gone })
+pub room_order : (k : KnownPaths) (o : BTreeSet Place) → ((q : Place) → sorted.contains place_cmp k.order q ≡ true → sorted.contains place_cmp o q ≡ true) → KeepsChangeRoom k (record { known = k.known; order = o; gone = k.gone })
 room_order k o stay tick p exists room = record { entry = room.entry; place = stay _ room.place; gone = room.gone }
 
 pub stays : (b c : Bool) → c ≡ true → cond b true c ≡ true
@@ -198,16 +196,16 @@ put_cases k p w P here there q x e =
     ] refl (sym (find-put path_cmp nat_list_cmp_total q p w (told k)) ∙ e)
 
 -- a write where there is room
-pub sound_write : (k : KnownPaths) (m : BTreeMap Path Known) (p : Path) (w : Known) → IsSound k → HasRoom k w.last p w.exists → w.last ≤ limit → filter is_told m.entries ≡ put path_cmp p w (told k) → tree.IsOrdered path_cmp m → IsSound (record { known = m; order = k.order; gone = k.gone })
+pub sound_write : (k : KnownPaths) (m : BTreeMap Path Known) (p : Path) (w : Known) → IsSound k → HasChangeRoom k w.last p w.exists → w.last ≤ max_counter → filter is_told m.entries ≡ put path_cmp p w (told k) → tree.IsOrdered path_cmp m → IsSound (record { known = m; order = k.order; gone = k.gone })
 sound_write k m p w s room low e o = record {
   ordered = o;
   in_order = s.in_order;
   gone_ordered = s.gone_ordered;
-  placed = λ q x f. put_cases k p w (λ q x. (x.last ≤ limit) × IsPlaced k x.last q) (low, room.place) s.placed q x (ap (find path_cmp q) (sym e) ∙ f);
+  placed = λ q x f. put_cases k p w (λ q x. (x.last ≤ max_counter) × IsPlaced k x.last q) (low, room.place) s.placed q x (ap (find path_cmp q) (sym e) ∙ f);
   gone = λ q x f. put_cases k p w (λ q x. x.exists ≡ false → IsAmongGone k q) room.gone s.gone q x (ap (find path_cmp q) (sym e) ∙ f);
 }
 
-pub room_write : (k : KnownPaths) (m : BTreeMap Path Known) → tree.keys m ≡ tree.keys k.known → KeepsRoom k (record { known = m; order = k.order; gone = k.gone })
+pub room_write : (k : KnownPaths) (m : BTreeMap Path Known) → tree.keys m ≡ tree.keys k.known → KeepsChangeRoom k (record { known = m; order = k.order; gone = k.gone })
 room_write k m same tick p exists room = record {
   entry = is_some-lookup p m.entries ∙ ap (list_any (same_path p)) same ∙ sym (is_some-lookup p k.known.entries) ∙ room.entry;
   place = room.place;
@@ -257,31 +255,31 @@ same_left a b n l m e = omega arith
 
 -- ---- a place that doesn't count is taken out
 
-module _ (k : KnownPaths) (o : BTreeSet Place) (last : ℕ) (p : Path) (out : (q : Place) → sorted.contains place_cmp o q ≡ cond (is_at (place_cmp (limit - last, p)) q) false (sorted.contains place_cmp k.order q)) where
-  pub sound_place : IsSound k → last ≤ limit → IfSome (find path_cmp p (told k)) (λ x. x.last ≢ last) → sorted.IsOrdered place_cmp o → IsSound (record { known = k.known; order = o; gone = k.gone })
+module _ (k : KnownPaths) (o : BTreeSet Place) (last : ℕ) (p : Path) (out : (q : Place) → sorted.contains place_cmp o q ≡ cond (is_at (place_cmp (max_counter - last, p)) q) false (sorted.contains place_cmp k.order q)) where
+  pub sound_place : IsSound k → last ≤ max_counter → IfSome (find path_cmp p (told k)) (λ x. x.last ≢ last) → sorted.IsOrdered place_cmp o → IsSound (record { known = k.known; order = o; gone = k.gone })
   sound_place s low other ordered = record {
     ordered = s.ordered;
     in_order = ordered;
     gone_ordered = s.gone_ordered;
-    placed = λ q x e. ((s.placed q x e).0, out (limit - x.last, q) ∙ ap (λ b. cond b false (sorted.contains place_cmp k.order (limit - x.last, q))) (apart q x e) ∙ (s.placed q x e).1);
+    placed = λ q x e. ((s.placed q x e).0, out (max_counter - x.last, q) ∙ ap (λ b. cond b false (sorted.contains place_cmp k.order (max_counter - x.last, q))) (apart q x e) ∙ (s.placed q x e).1);
     gone = s.gone;
   }
     where
-      apart : (q : Path) (x : Known) → find path_cmp q (told k) ≡ Some x → is_at (place_cmp (limit - last, p)) (limit - x.last, q) ≡ false
+      apart : (q : Path) (x : Known) → find path_cmp q (told k) ≡ Some x → is_at (place_cmp (max_counter - last, p)) (max_counter - x.last, q) ≡ false
       apart q x e =
-          elim (is_at (place_cmp (limit - last, p)) (limit - x.last, q)) as (λ b. is_at (place_cmp (limit - last, p)) (limit - x.last, q) ≡ b → b ≡ false) [
+          elim (is_at (place_cmp (max_counter - last, p)) (max_counter - x.last, q)) as (λ b. is_at (place_cmp (max_counter - last, p)) (max_counter - x.last, q) ≡ b → b ≡ false) [
             | true ↦ λ same.
-                let tick : limit - last ≡ limit - x.last = nat_cmp-IsAntisymmetric (limit - last) (limit - x.last) (then_first (nat_cmp (limit - last) (limit - x.last)) (path_cmp p q) same) in
-                let path : p ≡ q = same→≡ p q (then_second (nat_cmp (limit - last) (limit - x.last)) (path_cmp p q) same) in
+                let tick : max_counter - last ≡ max_counter - x.last = nat_cmp-IsAntisymmetric (max_counter - last) (max_counter - x.last) (then_first (nat_cmp (max_counter - last) (max_counter - x.last)) (path_cmp p q) same) in
+                let path : p ≡ q = same→≡ p q (then_second (nat_cmp (max_counter - last) (max_counter - x.last)) (path_cmp p q) same) in
                 let here : IfSome (Some x) (λ x. x.last ≢ last) = subst (λ o. IfSome o (λ x. x.last ≢ last)) (ap (λ r. find path_cmp r (told k)) path ∙ e) other in
-                absurd (here (same_left last x.last limit low (s.placed q x e).0 tick))
+                absurd (here (same_left last x.last max_counter low (s.placed q x e).0 tick))
             | false ↦ λ _. refl
           ] refl
 
   pub room_place : KeepsOtherRoom p k (record { known = k.known; order = o; gone = k.gone })
   room_place tick q exists other room = record {
     entry = room.entry;
-    place = out (limit - tick, q) ∙ ap (λ b. cond b false (sorted.contains place_cmp k.order (limit - tick, q))) (then_other (nat_cmp (limit - last) (limit - tick)) (path_cmp p q) other) ∙ room.place;
+    place = out (max_counter - tick, q) ∙ ap (λ b. cond b false (sorted.contains place_cmp k.order (max_counter - tick, q))) (then_other (nat_cmp (max_counter - last) (max_counter - tick)) (path_cmp p q) other) ∙ room.place;
     gone = room.gone;
   }
 

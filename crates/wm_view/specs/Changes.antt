@@ -1,7 +1,7 @@
 -- What becomes of paths at the next tick. For private clauses.
 use Rattle.std.specs.Prelude.{◌≡◌, ℕ, ◌-◌, List, Bool, true, map, cond, not, ◌&&◌, nat_lt, nat_le, Option, Some, None, is_some, option_and_then}
 use Rattle.std.specs.FinMap.{find}
-use Rattle.wm_clock.specs.Clocks.{limit}
+use Rattle.wm_disk.specs.Counters.{max_counter}
 use Rattle.wm_names.specs.Paths.{Path, path_cmp}
 use Rattle.wm_names.specs.Entries.{covers, same_state}
 use Rattle.wm_names.specs.declared.entry.Meta.{Meta}
@@ -49,4 +49,4 @@ first_known moment files = map (λ e. (e.0, record { exists = true; meta = e.1; 
 
 -- the places in the order of change: of each path the ticks from 1 to the limit, and the path
 abbrev pub first_places : Files → List (ℕ × Path)
-first_places files = map (λ e. (limit - 1, e.0)) files
+first_places files = map (λ e. (max_counter - 1, e.0)) files

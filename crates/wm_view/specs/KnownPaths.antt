@@ -6,7 +6,7 @@ use Rattle.std.specs.declared.cmp.Ordering.{Ordering}
 use Rattle.std.specs.FinMap.{find, put}
 use Rattle.std.specs.BTreeMap as tree
 use Rattle.std.specs.BTreeSet as sorted
-use Rattle.wm_clock.specs.Clocks.{limit}
+use Rattle.wm_disk.specs.Counters.{max_counter}
 use Rattle.wm_names.specs.Paths.{Path, path_cmp, same_path}
 use Rattle.wm_view.specs.declared.known.Known.{Known}
 use Rattle.wm_view.specs.declared.known_paths.KnownPaths.{KnownPaths}
@@ -29,7 +29,7 @@ abbrev pub place_cmp : Place → Place → Ordering
 place_cmp a b = ordering_then (nat_cmp a.0 b.0) (path_cmp a.1 b.1)
 
 abbrev pub IsPlaced : KnownPaths → ℕ → Path → Type 0
-IsPlaced k last p = sorted.contains place_cmp k.order (limit - last, p) ≡ true
+IsPlaced k last p = sorted.contains place_cmp k.order (max_counter - last, p) ≡ true
 
 abbrev pub IsAmongGone : KnownPaths → Path → Type 0
 IsAmongGone k p = sorted.contains path_cmp k.gone p ≡ true
@@ -39,26 +39,26 @@ pub record IsSound (k : KnownPaths) : Type 0 where
   pub ordered : tree.IsOrdered path_cmp k.known
   pub in_order : sorted.IsOrdered place_cmp k.order
   pub gone_ordered : sorted.IsOrdered path_cmp k.gone
-  pub placed : (p : Path) (x : Known) → find path_cmp p (told k) ≡ Some x → (x.last ≤ limit) × IsPlaced k x.last p
+  pub placed : (p : Path) (x : Known) → find path_cmp p (told k) ≡ Some x → (x.last ≤ max_counter) × IsPlaced k x.last p
   pub gone : (p : Path) (x : Known) → find path_cmp p (told k) ≡ Some x → x.exists ≡ false → IsAmongGone k p
 
 -- room for a change of the path at the tick
-pub record HasRoom (k : KnownPaths) (tick : ℕ) (p : Path) (exists : Bool) : Type 0 where
+pub record HasChangeRoom (k : KnownPaths) (tick : ℕ) (p : Path) (exists : Bool) : Type 0 where
   pub entry : is_some (tree.get path_cmp k.known p) ≡ true
   pub place : IsPlaced k tick p
   pub gone : exists ≡ false → IsAmongGone k p
 
 -- what has room in the one has it in the other
-abbrev pub KeepsRoom : KnownPaths → KnownPaths → Type 0
-KeepsRoom old new = (tick : ℕ) (p : Path) (exists : Bool) → HasRoom old tick p exists → HasRoom new tick p exists
+abbrev pub KeepsChangeRoom : KnownPaths → KnownPaths → Type 0
+KeepsChangeRoom old new = (tick : ℕ) (p : Path) (exists : Bool) → HasChangeRoom old tick p exists → HasChangeRoom new tick p exists
 
 -- the same of the other paths
 abbrev pub KeepsOtherRoom : Path → KnownPaths → KnownPaths → Type 0
-KeepsOtherRoom own old new = (tick : ℕ) (p : Path) (exists : Bool) → same_path own p ≡ false → HasRoom old tick p exists → HasRoom new tick p exists
+KeepsOtherRoom own old new = (tick : ℕ) (p : Path) (exists : Bool) → same_path own p ≡ false → HasChangeRoom old tick p exists → HasChangeRoom new tick p exists
 
 -- room for each of the changes
 abbrev pub HaveRoom : KnownPaths → ℕ → Knowns → Type 0
-HaveRoom k tick changes = AllByRecursion (λ e. HasRoom k tick e.0 e.1.exists) changes
+HaveRoom k tick changes = AllByRecursion (λ e. HasChangeRoom k tick e.0 e.1.exists) changes
 
 -- each of the changes is one at the tick
 abbrev pub AreAt : ℕ → Knowns → Type 0
@@ -77,16 +77,16 @@ IsUpTo n ks = (p : Path) (x : Known) → find path_cmp p ks ≡ Some x → x.las
 -- what is known, where the last change has this place
 abbrev pub known_there : Option Known → ℕ → Option Known
 known_there None b = None
-known_there (Some x) b = cond (is_eq (nat_cmp b (limit - x.last))) (Some x) None
+known_there (Some x) b = cond (is_eq (nat_cmp b (max_counter - x.last))) (Some x) None
 
 abbrev pub add_known : Path → Option Known → Knowns → Knowns
 add_known p None es = es
 add_known p (Some x) es = (p, x) ∷ es
 
 -- what is known at each of the places that count
-abbrev pub listed : Knowns → List Place → Knowns
-listed ks [] = []
-listed ks (q ∷ qs) = add_known q.1 (known_there (find path_cmp q.1 ks) q.0) (listed ks qs)
+abbrev pub known_at : Knowns → List Place → Knowns
+known_at ks [] = []
+known_at ks (q ∷ qs) = add_known q.1 (known_there (find path_cmp q.1 ks) q.0) (known_at ks qs)
 
 -- changed after the tick, and exists where it is asked so
 abbrev pub is_wanted : ℕ → Bool → Path × Known → Bool

@@ -2,10 +2,11 @@ pub mod Changes
 pub mod Files
 pub mod Histories
 pub mod KnownPaths
-pub mod Laws
+pub mod HistoryLaws
 pub mod Listings
 pub mod Places
 pub mod Steps
 pub mod Summaries
 pub mod ViewStates
 pub mod Views
+pub mod laws

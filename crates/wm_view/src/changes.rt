@@ -10,7 +10,7 @@ ghost use Rattle.wm_names.specs.declared.entry.Meta.{Meta};
 ghost use Rattle.wm_view.specs.Changes.{change_of as change_of_lem, listed_change as listed_change_lem, told_change};
 ghost use Rattle.wm_view.specs.Files.{IsMap, at};
 ghost use Rattle.wm_view.specs.KnownPaths.{IsSound, told as told_lem};
-ghost use Rattle.wm_view.specs.Laws.{last_told as last_told_lem};
+ghost use Rattle.wm_view.specs.HistoryLaws.{last_told as last_told_lem};
 ghost use Rattle.wm_view.specs.Steps.{known_or};
 
 use crate::known::Known;

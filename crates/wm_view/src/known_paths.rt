@@ -4,17 +4,16 @@
 ghost use Rattle.std.specs.Prelude.{◌≡◌, [], ◌≤◌, ◌<◌, OnOk, OnErr, IfOk, is_some, true, false, Some, None, ◌≢◌, IfSome, ℕ, nat_lt, filter, not, ◌&&◌, fold};
 ghost use Rattle.std.specs.BTreeMap.{get};
 ghost use Rattle.std.specs.FinMap.{find, put};
+ghost use Rattle.wm_disk.specs.Counters.{max_counter};
 ghost use Rattle.wm_names.specs.Paths.{Path, path_cmp, same_path};
-ghost use Rattle.wm_clock.specs.Clocks.{limit};
 ghost use Rattle.wm_view.specs.Steps.{known_or, is_gone_for as is_gone_for_lem};
 ghost use Rattle.wm_view.specs.Summaries.{unknown as unknown_lem, by_last};
-ghost use Rattle.wm_view.specs.KnownPaths.{IsSound, HasRoom, HaveRoom, KeepsRoom, KeepsOtherRoom, AreAt, IsPlaced, IsAmongGone, IsUpTo, told, after_changes, is_wanted as is_wanted_lem, known_there as known_there_lem, listed as listed_lem};
+ghost use Rattle.wm_view.specs.KnownPaths.{IsSound, HasChangeRoom, HaveRoom, KeepsChangeRoom, KeepsOtherRoom, AreAt, IsPlaced, IsAmongGone, IsUpTo, told, after_changes, is_wanted as is_wanted_lem, known_there as known_there_lem, known_at};
 
 use crate::known::Known;
 use std::alloc::Global;
 use std::collections::{BTreeMap, BTreeSet};
-use wm_clock::LIMIT;
-use wm_disk::NoMemory;
+use wm_disk::{MAX_COUNTER, NoMemory};
 use wm_names::{Kind, Meta, RelPath};
 
 mod first;
@@ -88,7 +87,7 @@ impl KnownPaths {
     ) -> Result<(), NoMemory>
         requires sound { IsSound self.old }
         requires at { AreAt tick changes.entries }
-        requires tick { (0 < tick) × (tick ≤ limit) }
+        requires tick { (0 < tick) × (tick ≤ max_counter) }
         ensures value { OnOk result (told self.new ≡ after_changes (told self.old) changes.entries) }
         ensures same { OnErr result (told self.new ≡ told self.old) }
         ensures sound { IsSound self.new }

@@ -24,3 +24,4 @@ pub use laws::every_operation;
 pub use listing::Listing;
 pub use op::{Op, Pairs};
 pub use view::View;
+pub use view_state::MAX_PAIRS;

@@ -2,18 +2,18 @@
 //! What is known of the paths is left to known_paths.rt.
 //! Definitions: specs/ViewStates.antt, specs/Steps.antt. Tests: view_tests/src/views.
 ghost use Rattle.std.specs.Prelude.{◌≡◌, ℕ, ◌+◌, ◌<◌, suc, true, None, OnOk, OnErr, IfOk, fold, max, ◌&&◌, ◌==◌};
+ghost use Rattle.wm_disk.specs.Counters.{max_counter};
 ghost use Rattle.wm_names.specs.Entries.{is_whole};
 ghost use Rattle.std.specs.BTreeMap.{IsOrdered};
-ghost use Rattle.wm_clock.specs.Clocks.{limit};
 ghost use Rattle.wm_names.specs.Paths.{path_cmp};
 ghost use Rattle.wm_view.specs.Changes.{IsPlan};
 ghost use Rattle.wm_view.specs.Files.{Files, IsMap};
-ghost use Rattle.wm_view.specs.Histories.{refuse_if, begun};
+ghost use Rattle.wm_view.specs.Histories.{refuse_if, new_history};
 ghost use Rattle.wm_view.specs.KnownPaths.{AreAt, after_changes, told};
 ghost use Rattle.wm_view.specs.Steps.{next_in, spent_in};
 ghost use Rattle.wm_view.specs.Summaries.{summary, changed_since, existing_now};
-ghost use Rattle.wm_view.specs.ViewStates.{summary_of, IsKept, Ends};
-ghost use Rattle.wm_view.specs.Views.{Moved};
+ghost use Rattle.wm_view.specs.ViewStates.{summary_of, IsSoundState, IsDoneOrRefused};
+ghost use Rattle.wm_view.specs.Views.{IsStepped};
 ghost use Rattle.wm_view.specs.declared.op.Op.TheVariants.{Observe, Recrawl, AgeOut};
 
 use crate::changes::{last_told, told_changes};
@@ -23,12 +23,11 @@ use crate::listing::Listing;
 use crate::op::Pairs;
 use std::alloc::Global;
 use std::collections::BTreeMap;
-use wm_clock::LIMIT;
-use wm_disk::{NoMemory, Refusal};
+use wm_disk::{MAX_COUNTER, NoMemory, Refusal};
 use wm_names::RelPath;
 
 /// The most pairs of an observation.
-const MAX_PAIRS: usize = 65_536;
+pub const MAX_PAIRS: usize = 65_536;
 
 /// What a view keeps: the summary of its history, and beside it the order of change.
 #[derive(Drop)]
@@ -60,8 +59,8 @@ fn highest(floor: u64, aged: &[(RelPath, Known)]) -> u64
 
 impl ViewState {
     pub(crate) fn new(alloc: Global, incarnation: u64, root: u64) -> ViewState
-        ensures begun { summary_of result ≡ summary (begun incarnation root) }
-        ensures kept { IsKept result }
+        ensures begun { summary_of result ≡ summary (new_history incarnation root) }
+        ensures kept { IsSoundState result }
     {
         ViewState {
             incarnation,
@@ -74,13 +73,13 @@ impl ViewState {
 
     /// Makes a tick of these changes.
     fn grow(&mut self, alloc: Global, changes: BTreeMap<RelPath, Known>) -> Result<(), NoMemory>
-        requires kept { IsKept self.old }
-        requires left { self.old.tick < limit }
+        requires kept { IsSoundState self.old }
+        requires left { self.old.tick < max_counter }
         requires at { AreAt (self.old.tick + 1) changes.entries }
         requires ordered { IsOrdered path_cmp changes }
         ensures ok { OnOk result (summary_of self.new ≡ record (summary_of self.old) { ready = true; tick = suc self.old.tick; known = after_changes (told self.old.paths) changes.entries }) }
         ensures err { OnErr result (summary_of self.new ≡ summary_of self.old) }
-        ensures kept { IsKept self.new }
+        ensures kept { IsSoundState self.new }
     {
         self.paths.change(alloc, self.tick + 1, changes)?;
         self.tick += 1;
@@ -89,17 +88,17 @@ impl ViewState {
 
     /// Makes a tick of these changes, where there are any.
     fn next(&mut self, alloc: Global, changes: BTreeMap<RelPath, Known>) -> Result<(), Refusal>
-        requires kept { IsKept self.old }
+        requires kept { IsSoundState self.old }
         requires at { AreAt (self.old.tick + 1) changes.entries }
         requires ordered { IsOrdered path_cmp changes }
         ensures moved { (moment : ℕ) (files : Files) → IsMap files → IsPlan (told self.old.paths) (self.old.tick + 1) moment files changes.entries
-            → Ends (refuse_if (spent_in (summary_of self.old) files) Refusal.Exhausted None) (next_in (summary_of self.old) moment files) (summary_of self.old) result (summary_of self.new) }
-        ensures kept { IsKept self.new }
+            → IsDoneOrRefused (refuse_if (spent_in (summary_of self.old) files) Refusal.Exhausted None) (next_in (summary_of self.old) moment files) (summary_of self.old) result (summary_of self.new) }
+        ensures kept { IsSoundState self.new }
     {
         if changes.len() < 1 {
             return Ok(());
         }
-        if self.tick >= LIMIT {
+        if self.tick >= MAX_COUNTER {
             return Err(Refusal::Exhausted);
         }
         self.grow(alloc, changes)?;
@@ -113,9 +112,9 @@ impl ViewState {
         moment: u64,
         pairs: &Pairs,
     ) -> Result<(), Refusal>
-        requires { IsKept self.old }
-        ensures moved { Moved (summary_of self.old) (Observe moment pairs.now) result (summary_of self.new) }
-        ensures kept { IsKept self.new }
+        requires { IsSoundState self.old }
+        ensures moved { IsStepped (summary_of self.old) (Observe moment pairs.now) result (summary_of self.new) }
+        ensures kept { IsSoundState self.new }
     {
         if self.tick == 0 {
             return Err(Refusal::NotReady);
@@ -136,10 +135,10 @@ impl ViewState {
         begun_at: u64,
         listing: &Listing,
     ) -> Result<(), Refusal>
-        requires kept { IsKept self.old }
+        requires kept { IsSoundState self.old }
         requires begins { self.old.tick ≡ 0 }
-        ensures moved { Moved (summary_of self.old) (Recrawl moment begun_at listing.now) result (summary_of self.new) }
-        ensures kept { IsKept self.new }
+        ensures moved { IsStepped (summary_of self.old) (Recrawl moment begun_at listing.now) result (summary_of self.new) }
+        ensures kept { IsSoundState self.new }
     {
         if !is_first(begun_at, listing) {
             return Err(Refusal::NotReady);
@@ -157,9 +156,9 @@ impl ViewState {
         begun_at: u64,
         listing: &Listing,
     ) -> Result<(), Refusal>
-        requires { IsKept self.old }
-        ensures moved { Moved (summary_of self.old) (Recrawl moment begun_at listing.now) result (summary_of self.new) }
-        ensures kept { IsKept self.new }
+        requires { IsSoundState self.old }
+        ensures moved { IsStepped (summary_of self.old) (Recrawl moment begun_at listing.now) result (summary_of self.new) }
+        ensures kept { IsSoundState self.new }
     {
         if self.tick == 0 {
             return self.begin(alloc, moment, begun_at, listing);
@@ -175,9 +174,9 @@ impl ViewState {
 
     /// As `View::age_out`.
     pub(crate) fn age_out(&mut self, alloc: Global, time: u64, age: u64) -> Result<(), Refusal>
-        requires { IsKept self.old }
-        ensures moved { Moved (summary_of self.old) (AgeOut time age) result (summary_of self.new) }
-        ensures kept { IsKept self.new }
+        requires { IsSoundState self.old }
+        ensures moved { IsStepped (summary_of self.old) (AgeOut time age) result (summary_of self.new) }
+        ensures kept { IsSoundState self.new }
     {
         if self.tick == 0 {
             return Err(Refusal::NotReady);
@@ -194,7 +193,7 @@ impl ViewState {
         alloc: Global,
         tick: u64,
     ) -> Result<Vec<(RelPath, Known)>, NoMemory>
-        requires { IsKept self.now }
+        requires { IsSoundState self.now }
         ensures { IfOk result (λ v. v.items ≡ changed_since (summary_of self.now) tick) }
     {
         self.paths.changed_after(alloc, tick)
@@ -202,7 +201,7 @@ impl ViewState {
 
     /// As `View::existing`.
     pub(crate) fn existing(&self, alloc: Global) -> Result<Vec<(RelPath, Known)>, NoMemory>
-        requires { IsKept self.now }
+        requires { IsSoundState self.now }
         ensures { IfOk result (λ v. v.items ≡ existing_now (summary_of self.now)) }
     {
         self.paths.existing(alloc)

@@ -5,11 +5,11 @@ use Rattle.std.proofs.lemmas.Grind.{flat_map-append}
 use Rattle.std.specs.List.{AllByRecursion}
 use Rattle.byteorder.specs.Endian.{big_bytes}
 use Rattle.wm_wire.specs.Laws.{alone_u32}
-use Rattle.wm_wire.specs.ListLaws.{goes_on, list_parts}
+use Rattle.wm_wire.specs.ListLaws.{longer_continues, list_parts}
 use Rattle.wm_wire.specs.NotPushed.{IsReason}
 use Rattle.wm_wire.specs.declared.list.NotPushed.{NotPushed}
 use Rattle.wm_wire.specs.declared.list.NotPushed.TheVariants.{Full, TooLong}
-use Rattle.wm_wire.specs.Spelling.{Alone, Begins, NoneBegins, IsList, list_spelling}
+use Rattle.wm_wire.specs.Spelling.{Alone, BeginsWith, NoneBegins, IsList, list_spelling}
 
 -- the bytes begin with a count and these items, and what stands from a place on is still to be read
 pub record HasRead {V : Type 0} (spelling : V → List ℕ) (bytes : List ℕ) (count : ℕ) (items : List V) (at : ℕ) : Type 0 where
@@ -53,7 +53,7 @@ pub next : {V : Type 0} (max : ℕ) (fits : V → Type 0) (spelling : V → List
 next max fits spelling alone bytes count items at all rest small read each lt h e =
     let same : count ≡ length all = count_is max fits spelling bytes (flat_map spelling items ++ drop at bytes) count all rest small read.parts h e in
     let behind : flat_map spelling items ++ drop at bytes ≡ flat_map spelling all ++ rest = append_cancel_left (big_bytes 4 count) _ _ (sym read.parts ∙ e ∙ list_parts spelling all rest ∙ ap (λ n. big_bytes 4 n ++ (flat_map spelling all ++ rest)) (sym same)) in
-    let found = goes_on fits spelling alone items all (drop at bytes) rest each h.each (omega (arith, same)) behind in
+    let found = longer_continues fits spelling alone items all (drop at bytes) rest each h.each (omega (arith, same)) behind in
     next_of fits spelling items found.more all (drop at bytes) rest found.items found.bytes h.each (omega (arith, same))
 
 -- where no item stands at the place, no list begins the bytes
@@ -68,7 +68,7 @@ length-list spelling items more value =
     omega (arith, ap length (flat_map-append spelling items (value ∷ [])), length-append (flat_map spelling items) (flat_map spelling (value ∷ [])), length-append (spelling value) [], ap length (flat_map-append spelling items (value ∷ more)), length-append (flat_map spelling items) (flat_map spelling (value ∷ more)), length-append (spelling value) (flat_map spelling more))
 
 -- nor where the item that stands there is one too long
-pub item_too_long : {V : Type 0} (max : ℕ) (fits : V → Type 0) (spelling : V → List ℕ) → Alone fits spelling → (bytes : List ℕ) (count : ℕ) (items : List V) (at : ℕ) (value : V) (size : ℕ) → count < 2 ^ 32 → HasRead spelling bytes count items at → AllByRecursion fits items → length items < count → Begins fits spelling (drop at bytes) value size → 2 ^ 32 ≤ length (list_spelling spelling (items ++ value ∷ [])) → NoneBegins (IsList max fits spelling) (list_spelling spelling) bytes
+pub item_too_long : {V : Type 0} (max : ℕ) (fits : V → Type 0) (spelling : V → List ℕ) → Alone fits spelling → (bytes : List ℕ) (count : ℕ) (items : List V) (at : ℕ) (value : V) (size : ℕ) → count < 2 ^ 32 → HasRead spelling bytes count items at → AllByRecursion fits items → length items < count → BeginsWith fits spelling (drop at bytes) value size → 2 ^ 32 ≤ length (list_spelling spelling (items ++ value ∷ [])) → NoneBegins (IsList max fits spelling) (list_spelling spelling) bytes
 item_too_long max fits spelling alone bytes count items at value size small read each lt begins long all rest h e =
     let found = next max fits spelling alone bytes count items at all rest small read each lt h e in
     let same : value ≡ found.value = alone value found.value (drop size (drop at bytes)) (flat_map spelling found.more ++ rest) begins.known found.known (sym begins.parts ∙ found.bytes) in
@@ -76,7 +76,7 @@ item_too_long max fits spelling alone bytes count items at value size small read
     omega (arith, long, length-list spelling items found.more value, ap (λ l. length (list_spelling spelling l)) all_is, h.short)
 
 -- an item that the list refuses for its limits is in no list either
-pub item_refused : {V : Type 0} (max : ℕ) (fits : V → Type 0) (spelling : V → List ℕ) → Alone fits spelling → (bytes : List ℕ) (count : ℕ) (items : List V) (at : ℕ) (value : V) (size : ℕ) (refusal : NotPushed) → count < 2 ^ 32 → count ≤ max → HasRead spelling bytes count items at → AllByRecursion fits items → length items < count → Begins fits spelling (drop at bytes) value size → (refusal ≡ Full) ⊎ (refusal ≡ TooLong) → IsReason max spelling items value refusal → NoneBegins (IsList max fits spelling) (list_spelling spelling) bytes
+pub item_refused : {V : Type 0} (max : ℕ) (fits : V → Type 0) (spelling : V → List ℕ) → Alone fits spelling → (bytes : List ℕ) (count : ℕ) (items : List V) (at : ℕ) (value : V) (size : ℕ) (refusal : NotPushed) → count < 2 ^ 32 → count ≤ max → HasRead spelling bytes count items at → AllByRecursion fits items → length items < count → BeginsWith fits spelling (drop at bytes) value size → (refusal ≡ Full) ⊎ (refusal ≡ TooLong) → IsReason max spelling items value refusal → NoneBegins (IsList max fits spelling) (list_spelling spelling) bytes
 item_refused max fits spelling alone bytes count items at value size refusal small within read each lt begins (inl full) reason = absurd (let past : max ≤ length items = rw full at reason in omega (arith, past))
 item_refused max fits spelling alone bytes count items at value size refusal small within read each lt begins (inr long) reason =
     item_too_long max fits spelling alone bytes count items at value size small read each lt begins (rw long at reason)

@@ -5,7 +5,7 @@ use Rattle.std.proofs.lemmas.List.{length-append, length-take, get_or-take, get_
 use Rattle.std.proofs.lemmas.Nat.{be_bytes_4, be_bytes_8}
 use Rattle.byteorder.specs.Endian.{big_bytes, big_number}
 use Rattle.byteorder.specs.Numbers.{length-bytes_high_first}
-use Rattle.wm_wire.specs.Spelling.{Begins, NoneBegins}
+use Rattle.wm_wire.specs.Spelling.{BeginsWith, NoneBegins}
 
 abbrev pub IsBytes : List ℕ → Type 0
 IsBytes bytes = (i : ℕ) → get_or bytes i 0 < 256
@@ -38,14 +38,14 @@ front8 (a ∷ b ∷ c ∷ d ∷ e ∷ f ∷ g ∷ []) le fits = absurd (omega ar
 front8 (a ∷ b ∷ c ∷ d ∷ e ∷ f ∷ g ∷ h ∷ rest) le fits =
     ap (λ (t : List ℕ). t ++ rest) (sym (be_bytes_8 (a ∷ b ∷ c ∷ d ∷ e ∷ f ∷ g ∷ h ∷ []) (big_number 8 (a ∷ b ∷ c ∷ d ∷ e ∷ f ∷ g ∷ h ∷ rest)) refl (IsBytes-take 8 (a ∷ b ∷ c ∷ d ∷ e ∷ f ∷ g ∷ h ∷ rest) fits) (omega arith)))
 
-pub read4 : (bs : List ℕ) → 4 ≤ length bs → IsBytes bs → Begins (λ n. n < 2 ^ 32) (big_bytes 4) bs (big_number 4 bs) 4
+pub read4 : (bs : List ℕ) → 4 ≤ length bs → IsBytes bs → BeginsWith (λ n. n < 2 ^ 32) (big_bytes 4) bs (big_number 4 bs) 4
 read4 bs le fits = record {
   known = omega (arith, fits 0, fits 1, fits 2, fits 3);
   parts = front4 bs le fits;
   whole = sym (length-bytes_high_first 4 (big_number 4 bs));
 }
 
-pub read8 : (bs : List ℕ) → 8 ≤ length bs → IsBytes bs → Begins (λ n. n < 2 ^ 64) (big_bytes 8) bs (big_number 8 bs) 8
+pub read8 : (bs : List ℕ) → 8 ≤ length bs → IsBytes bs → BeginsWith (λ n. n < 2 ^ 64) (big_bytes 8) bs (big_number 8 bs) 8
 read8 bs le fits = record {
   known = omega (arith, fits 0, fits 1, fits 2, fits 3, fits 4, fits 5, fits 6, fits 7);
   parts = front8 bs le fits;

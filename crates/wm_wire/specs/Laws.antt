@@ -1,4 +1,5 @@
 -- The laws of `Wire` for numbers, truth values and texts.
+-- For proofs and the ghost members of impls: a reader of definitions may skip it.
 use Rattle.std.proofs.Common.{◌≡◌, ℕ, ◌+◌, ◌^◌, ◌<◌, ◌≤◌, Bool, true, false, List, ◌++◌, length, take, drop, refl, sym, ap, ◌∙◌, append_assoc, arith}
 use Rattle.std.proofs.lemmas.List.{length-append, take_at}
 use Rattle.byteorder.specs.Endian.{big_bytes, big_number}
@@ -36,13 +37,13 @@ short_truth false p = omega arith
 short_truth true p = omega arith
 
 -- the parts of what begins with a text's spelling
-pub record Front (v bytes : List ℕ) : Type 0 where
+pub record BeginsWithText (v bytes : List ℕ) : Type 0 where
   pub length_is : big_number 4 bytes ≡ length v
   pub long : 4 + length v ≤ length bytes
   pub bytes_are : take (length v) (drop 4 bytes) ≡ v
 
-pub text_front : (max : ℕ) (v rest bytes : List ℕ) → IsText max v → bytes ≡ text v ++ rest → Front v bytes
-text_front max v rest bytes fits e =
+pub text_prefix : (max : ℕ) (v rest bytes : List ℕ) → IsText max v → bytes ≡ text v ++ rest → BeginsWithText v bytes
+text_prefix max v rest bytes fits e =
     let grouped : bytes ≡ big_bytes 4 (length v) ++ (v ++ rest) = e ∙ append_assoc (big_bytes 4 (length v)) v rest in
     let below : length v < 256 ^ 4 = omega (arith, fits.below) in
     record {
@@ -53,8 +54,8 @@ text_front max v rest bytes fits e =
 
 pub alone_text : (max : ℕ) (x y : List ℕ) (a b : List ℕ) → IsText max x → IsText max y → text x ++ a ≡ text y ++ b → x ≡ y
 alone_text max x y a b hx hy e =
-    let p = text_front max x a (text x ++ a) hx refl in
-    let q = text_front max y b (text x ++ a) hy e in
+    let p = text_prefix max x a (text x ++ a) hx refl in
+    let q = text_prefix max y b (text x ++ a) hy e in
     let same : length x ≡ length y = sym p.length_is ∙ q.length_is in
     sym p.bytes_are ∙ ap (λ (n : ℕ). take n (drop 4 (text x ++ a))) same ∙ q.bytes_are
 

@@ -1,4 +1,5 @@
 -- The laws of `Wire` for lists.
+-- For proofs and the ghost members of impls: a reader of definitions may skip it.
 use Rattle.std.proofs.Common.{◌≡◌, ℕ, ◌^◌, ◌<◌, ◌≤◌, List, [], ◌∷◌, ◌++◌, length, flat_map, refl, sym, ap, ◌∙◌, append_assoc, arith}
 use Rattle.std.proofs.lemmas.List.{append-nil, append_cancel_left, length-append}
 use Rattle.std.specs.List.{AllByRecursion}
@@ -7,19 +8,19 @@ use Rattle.wm_wire.specs.Laws.{alone_u32}
 use Rattle.wm_wire.specs.Spelling.{Alone, IsList, list_spelling}
 
 -- of two rows of items that begin the same bytes, the longer one goes on where the shorter one ends
-pub record GoesOn {V : Type 0} (spelling : V → List ℕ) (xs ys : List V) (a b : List ℕ) : Type 0 where
+pub record Continues {V : Type 0} (spelling : V → List ℕ) (xs ys : List V) (a b : List ℕ) : Type 0 where
   pub more : List V
   pub items : ys ≡ xs ++ more
   pub bytes : a ≡ flat_map spelling more ++ b
 
-pub goes_on : {V : Type 0} (fits : V → Type 0) (spelling : V → List ℕ) → Alone fits spelling → (xs ys : List V) (a b : List ℕ) → AllByRecursion fits xs → AllByRecursion fits ys → length xs ≤ length ys → flat_map spelling xs ++ a ≡ flat_map spelling ys ++ b → GoesOn spelling xs ys a b
-goes_on fits spelling alone [] ys a b hx hy le e = record { more = ys; items = refl; bytes = e }
-goes_on fits spelling alone (x ∷ xs) [] a b hx hy le e = absurd (omega arith)
-goes_on fits spelling alone (x ∷ xs) (y ∷ ys) a b hx hy le e =
+pub longer_continues : {V : Type 0} (fits : V → Type 0) (spelling : V → List ℕ) → Alone fits spelling → (xs ys : List V) (a b : List ℕ) → AllByRecursion fits xs → AllByRecursion fits ys → length xs ≤ length ys → flat_map spelling xs ++ a ≡ flat_map spelling ys ++ b → Continues spelling xs ys a b
+longer_continues fits spelling alone [] ys a b hx hy le e = record { more = ys; items = refl; bytes = e }
+longer_continues fits spelling alone (x ∷ xs) [] a b hx hy le e = absurd (omega arith)
+longer_continues fits spelling alone (x ∷ xs) (y ∷ ys) a b hx hy le e =
     let apart : spelling x ++ (flat_map spelling xs ++ a) ≡ spelling y ++ (flat_map spelling ys ++ b) = sym (append_assoc (spelling x) (flat_map spelling xs) a) ∙ e ∙ append_assoc (spelling y) (flat_map spelling ys) b in
     let same : x ≡ y = alone x y (flat_map spelling xs ++ a) (flat_map spelling ys ++ b) hx.0 hy.0 apart in
     let rest : flat_map spelling xs ++ a ≡ flat_map spelling ys ++ b = append_cancel_left (spelling x) (flat_map spelling xs ++ a) (flat_map spelling ys ++ b) (apart ∙ ap (λ v. spelling v ++ (flat_map spelling ys ++ b)) (sym same)) in
-    let found = goes_on fits spelling alone xs ys a b hx.1 hy.1 (omega arith) rest in
+    let found = longer_continues fits spelling alone xs ys a b hx.1 hy.1 (omega arith) rest in
     record {
       more = found.more;
       items = ap (λ v. v ∷ ys) (sym same) ∙ ap (λ l. x ∷ l) found.items;
@@ -40,7 +41,7 @@ alone_list max fits spelling alone x y a b hx hy e =
     let apart : big_bytes 4 (length x) ++ (flat_map spelling x ++ a) ≡ big_bytes 4 (length y) ++ (flat_map spelling y ++ b) = sym (list_parts spelling x a) ∙ e ∙ list_parts spelling y b in
     let same : length x ≡ length y = alone_u32 (length x) (length y) _ _ (omega (arith, hx.below)) (omega (arith, hy.below)) apart in
     let rest : flat_map spelling x ++ a ≡ flat_map spelling y ++ b = append_cancel_left (big_bytes 4 (length x)) (flat_map spelling x ++ a) (flat_map spelling y ++ b) (apart ∙ ap (λ n. big_bytes 4 n ++ (flat_map spelling y ++ b)) (sym same)) in
-    let found = goes_on fits spelling alone x y a b hx.each hy.each (omega (arith, same)) rest in
+    let found = longer_continues fits spelling alone x y a b hx.each hy.each (omega (arith, same)) rest in
     same_length x found.more y found.items same
 
 pub short_list : {V : Type 0} (max : ℕ) (fits : V → Type 0) (spelling : V → List ℕ) (x : List V) → IsList max fits spelling x → length (list_spelling spelling x) < 2 ^ 32

@@ -53,7 +53,7 @@ pub record IsOptional {V : Type 0} (fits : V → Type 0) (spelling : V → List 
   pub short : length (optional_spelling spelling value) < 2 ^ 32
 
 -- the spelling of the value is the first len of the bytes
-pub record Begins {V : Type 0} (fits : V → Type 0) (spelling : V → List ℕ) (bytes : List ℕ) (value : V) (len : ℕ) : Type 0 where
+pub record BeginsWith {V : Type 0} (fits : V → Type 0) (spelling : V → List ℕ) (bytes : List ℕ) (value : V) (len : ℕ) : Type 0 where
   pub known : fits value
   pub parts : bytes ≡ spelling value ++ drop len bytes
   pub whole : len ≡ length (spelling value)
@@ -62,10 +62,10 @@ pub record Begins {V : Type 0} (fits : V → Type 0) (spelling : V → List ℕ)
 abbrev pub Alone : {V : Type 0} → (V → Type 0) → (V → List ℕ) → Type 0
 Alone {V} fits spelling = (x y : V) (a b : List ℕ) → fits x → fits y → spelling x ++ a ≡ spelling y ++ b → x ≡ y
 
--- no front of the bytes is a spelling
+-- no prefix of the bytes is a spelling
 abbrev pub NoneBegins : {V : Type 0} → (V → Type 0) → (V → List ℕ) → List ℕ → Type 0
 NoneBegins {V} fits spelling bytes = (value : V) (rest : List ℕ) → fits value → bytes ≡ spelling value ++ rest → ⊥
 
 abbrev pub Takes : {V : Type 0} → (V → Type 0) → (V → List ℕ) → List ℕ → Option (V × ℕ) → Type 0
 Takes fits spelling bytes None = NoneBegins fits spelling bytes
-Takes fits spelling bytes (Some found) = Begins fits spelling bytes found.0 found.1
+Takes fits spelling bytes (Some found) = BeginsWith fits spelling bytes found.0 found.1

@@ -6,7 +6,7 @@ ghost use Rattle.std.specs.List.{remove};
 ghost use Rattle.wm_wire.specs.Spelling.{IsList, list_spelling};
 ghost use Rattle.wm_wire.specs.ListLaws.{alone_list, short_list};
 
-use crate::wire::{TOO_LONG, Wire};
+use crate::wire::{SPELLING_LIMIT, Wire};
 use std::alloc::Global;
 use std::marker::Model;
 use thiserror::Error;
@@ -87,7 +87,7 @@ impl<W: Wire + Drop, const MAX: u16> List<W, MAX> {
             return Err(NotPushed::Full);
         }
         let bytes = self.bytes + value.size();
-        if bytes >= TOO_LONG {
+        if bytes >= SPELLING_LIMIT {
             return Err(NotPushed::TooLong);
         }
         if self.values.push(value).is_err() {
@@ -129,7 +129,7 @@ impl<W: Wire + Drop, const MAX: u16> List<W, MAX> {
         ensures too_long { OnErr result (2 ^ 32 ≤ length (list_spelling W.spelling (slice_set self.old index value))) }
     {
         let bytes = self.bytes - self.values[index].size() + value.size();
-        if bytes >= TOO_LONG {
+        if bytes >= SPELLING_LIMIT {
             return Err(value);
         }
         self.values[index] = value;

@@ -5,7 +5,7 @@ ghost use Rattle.std.specs.Option.{option_copied};
 ghost use Rattle.wm_wire.specs.Spelling.{IsOptional, optional_spelling};
 ghost use Rattle.wm_wire.specs.PairLaws.{alone_optional, short_optional};
 
-use crate::wire::{TOO_LONG, Wire};
+use crate::wire::{SPELLING_LIMIT, Wire};
 use std::alloc::Global;
 use std::marker::Model;
 use wm_disk::NoMemory;
@@ -39,7 +39,7 @@ impl<A: Wire> Optional<A> {
         ensures err { IfErr result (λ again. again ≡ value) }
         ensures too_long { OnErr result (2 ^ 32 ≤ length (optional_spelling A.spelling (Some value))) }
     {
-        if value.size() + 1 >= TOO_LONG {
+        if value.size() + 1 >= SPELLING_LIMIT {
             return Err(value);
         }
         Ok(Optional { value: Some(value) })

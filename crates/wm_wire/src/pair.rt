@@ -4,7 +4,7 @@ ghost use Rattle.std.specs.Prelude.{◌≡◌, ◌≤◌, ◌^◌, length, IfOk,
 ghost use Rattle.wm_wire.specs.Spelling.{IsPair, pair_spelling};
 ghost use Rattle.wm_wire.specs.PairLaws.{alone_pair, short_pair};
 
-use crate::wire::{TOO_LONG, Wire};
+use crate::wire::{SPELLING_LIMIT, Wire};
 use std::alloc::Global;
 use std::marker::Model;
 use wm_disk::NoMemory;
@@ -33,7 +33,7 @@ impl<A: Wire, B: Wire> Pair<A, B> {
         ensures err { IfErr result (λ parts. parts ≡ (first, second)) }
         ensures too_long { OnErr result (2 ^ 32 ≤ length (pair_spelling A.spelling B.spelling (first, second))) }
     {
-        if first.size() + second.size() >= TOO_LONG {
+        if first.size() + second.size() >= SPELLING_LIMIT {
             return Err((first, second));
         }
         Ok(Pair { first, second })

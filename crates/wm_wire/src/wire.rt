@@ -7,7 +7,7 @@ use std::alloc::Global;
 use wm_disk::NoMemory;
 
 /// The number of bytes that each spelling is shorter than.
-pub(crate) const TOO_LONG: u64 = 0x1_0000_0000;
+pub(crate) const SPELLING_LIMIT: u64 = 0x1_0000_0000;
 
 /// A type whose values have one spelling each, and in which no spelling begins another.
 pub trait Wire {
@@ -28,7 +28,7 @@ pub trait Wire {
         ensures fits { fits self.now };
 
     /// The value whose spelling begins the bytes, and that spelling's length; `None` only where no
-    /// front of the bytes is a spelling, and an error only for want of memory.
+    /// prefix of the bytes is a spelling, and an error only when out of memory.
     fn take(alloc: Global, bytes: &[u8]) -> Result<Option<(Self, usize)>, NoMemory>
         ensures { IfOk result (Takes fits spelling bytes.now) };
 

@@ -13,15 +13,15 @@ use Rattle.wm_registry.specs.Triggers.{defined, without}
 use Rattle.std.specs.Option.{option_map_or}
 use Rattle.std.specs.Prelude.{Option, Some, None}
 use Rattle.wm_checkpoint.specs.Machines.{replay_on}
-use Rattle.wm_store.specs.Batches.{AreAnswered, IsMet, accepted_of, met, unless_begin}
-use Rattle.wm_store.proofs.Replying.{changes_met, refusal_stays}
+use Rattle.wm_store.specs.Batches.{AreAnswered, IsMet, accepted_of, after_reply, unless_begin}
+use Rattle.wm_store.specs.laws.Replies.{changes_met, refusal_stays}
 
 -- a greater number is spent as well, and no command fits into no room
 pub answered_more : (n room m : ℕ) (s : State) (cs : List Command) (rs : List Reply) → n ≤ m → AreAnswered n room s cs rs → AreAnswered m 0 s cs rs
 answered_more n room m s [] [] le h = h
 answered_more n room m s [] (r ∷ rs) le h = h
 answered_more n room m s (c ∷ cs) [] le h = h
-answered_more n room m s (c ∷ cs) (r ∷ rs) le (inl (is, rest)) = inl (is, answered_more n room m (met s c r) cs rs le rest)
+answered_more n room m s (c ∷ cs) (r ∷ rs) le (inl (is, rest)) = inl (is, answered_more n room m (after_reply s c r) cs rs le rest)
 answered_more n room m s (c ∷ cs) (r ∷ rs) le (inr (spent, accepted, e)) = inr ((omega (arith, spent.0, le), omega arith), accepted, e)
 
 pub none_accepted : (cs : List Command) → accepted_of cs (map (λ c. unless_begin c (Refused Exhausted)) cs) ≡ []

@@ -7,7 +7,7 @@ use Rattle.wm_expr.specs.Views.{term}
 use Rattle.wm_registry.specs.declared.command.Command.{Command}
 use Rattle.wm_registry.specs.declared.root.Root.{Root}
 use Rattle.wm_registry.specs.Roots.{root_at}
-use Rattle.wm_view.specs.Histories.{after}
+use Rattle.wm_view.specs.Histories.{after_operation}
 use Rattle.wm_view.specs.declared.op.Op.{Op}
 use Rattle.wm_view.specs.declared.op.Op.TheVariants as ops
 use Rattle.wm_world.specs.declared.event.Event.{Event}
@@ -48,7 +48,7 @@ bound_step old event new s = by event s
     operation : (path : Path) (op : Op) → new ≡ cond old.up (operated path op old) old → new.slot ≤ old.slot + 0
     operation path op e = if_fits old.up (operated path op old) (at (root_at path (registry old))) e
       where
-        at : (o : Option Root) → (option_map_or (λ root. record old { histories = at_first (is_of (registry old).incarnation root.number) (λ h. after h op) old.histories }) o old).slot ≡ old.slot
+        at : (o : Option Root) → (option_map_or (λ root. record old { histories = at_first (is_of (registry old).incarnation root.number) (λ h. after_operation h op) old.histories }) o old).slot ≡ old.slot
         at None = refl
         at (Some root) = refl
 

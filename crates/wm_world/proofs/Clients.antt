@@ -15,14 +15,15 @@ use Rattle.wm_since.specs.Answers.{answer_to, can_tell}
 use Rattle.wm_since.specs.Clients.{files_after, next_question}
 use Rattle.wm_since.specs.Matching.{files_at, matching_at, there}
 use Rattle.wm_since.specs.Tests.{PathOnly}
-use Rattle.wm_since.proofs.Applies.{client_law}
+use Rattle.wm_since.specs.Laws.{AnswersApply}
 use Rattle.wm_world.specs.declared.connection.Connection.{Connection}
 use Rattle.wm_world.specs.declared.event.Event.{Event}
 use Rattle.wm_world.specs.Worlds.{World, connected, history_in, is_of, live, nothing_yet, registry, wants, without_answer}
 use Rattle.wm_world.specs.Steps.{IsReached, Run, Step, answer_about, asking, applied, receiving, with_answer}
 use Rattle.wm_world.specs.Laws.{MatchesAt}
 use Rattle.wm_world.proofs.EachClient.{Lasts, all_on, each_client}
-use Rattle.wm_world.proofs.Growing.{Extends, Grows, both-first, both-second, found_is, later_tick, of_ids, same_Some, same_map}
+use Rattle.wm_world.proofs.Growing.{Extends, Grows, found_is, later_tick, of_ids, same_Some, same_map}
+use Rattle.wm_disk.specs.laws.Tests.{both_first, both_second}
 use Rattle.wm_world.proofs.Moments.{live_found}
 use Rattle.wm_world.proofs.Shapes.{grows_shape, shape}
 
@@ -82,10 +83,10 @@ fresh_replaces ps qs a f = from a.fresh f
     from b e = rw f refl
 
 -- the answer takes the list to the matching files now
-answered : (hs : List History) (h : History) (passes : Entry → Bool) (files : Paths) (clock : Option ClockId) → PathOnly passes → history_in hs h.incarnation h.root ≡ Some h
+answered : AnswersApply → (hs : List History) (h : History) (passes : Entry → Bool) (files : Paths) (clock : Option ClockId) → PathOnly passes → history_in hs h.incarnation h.root ≡ Some h
     → MatchOption clock (files ≡ []) (MatchesAt hs passes files) → files_after files (answer_to passes h (record { since = clock; empty_on_fresh = false })) ≡ matching_at h passes (tick_of h)
-answered hs h passes files None only there held = ap (λ ps. files_after ps (answer_to passes h (record { since = None; empty_on_fresh = false }))) held ∙ client_law passes only h None
-answered hs h passes files (Some k) only found (g, there, le, is) = by (can_tell h k) refl
+answered applies hs h passes files None only there held = ap (λ ps. files_after ps (answer_to passes h (record { since = None; empty_on_fresh = false }))) held ∙ applies passes h None only
+answered applies hs h passes files (Some k) only found (g, there, le, is) = by (can_tell h k) refl
   where
     a : Answer
     a = answer_to passes h (record { since = Some k; empty_on_fresh = false })
@@ -93,17 +94,17 @@ answered hs h passes files (Some k) only found (g, there, le, is) = by (can_tell
     this : can_tell h k ≡ true → g ≡ h
     this t =
         let ids : ((k.incarnation == h.incarnation) && (k.root == h.root)) ≡ true =
-        both-first ((k.incarnation == h.incarnation) && (k.root == h.root)) (nat_le h.floor k.tick) (both-first (((k.incarnation == h.incarnation) && (k.root == h.root)) && nat_le h.floor k.tick) (nat_le k.tick (tick_of h)) t) in
-        let i : k.incarnation ≡ h.incarnation = eqb-true k.incarnation h.incarnation (both-first (k.incarnation == h.incarnation) (k.root == h.root) ids) in
-        let r : k.root ≡ h.root = eqb-true k.root h.root (both-second (k.incarnation == h.incarnation) (k.root == h.root) ids) in
+        both_first ((k.incarnation == h.incarnation) && (k.root == h.root)) (nat_le h.floor k.tick) (both_first (((k.incarnation == h.incarnation) && (k.root == h.root)) && nat_le h.floor k.tick) (nat_le k.tick (tick_of h)) t) in
+        let i : k.incarnation ≡ h.incarnation = eqb-true k.incarnation h.incarnation (both_first (k.incarnation == h.incarnation) (k.root == h.root) ids) in
+        let r : k.root ≡ h.root = eqb-true k.root h.root (both_second (k.incarnation == h.incarnation) (k.root == h.root) ids) in
         same_Some g h (sym there ∙ (λ j. history_in hs (i j) (r j)) ∙ found)
 
     by : (b : Bool) → can_tell h k ≡ b → files_after files a ≡ matching_at h passes (tick_of h)
-    by true t = ap (λ ps. files_after ps a) (is ∙ ap (λ x. matching_at x passes k.tick) (this t)) ∙ client_law passes only h (Some k)
-    by false t = fresh_replaces files (files_at h passes (Some k)) a (ap not t) ∙ client_law passes only h (Some k)
+    by true t = ap (λ ps. files_after ps a) (is ∙ ap (λ x. matching_at x passes k.tick) (this t)) ∙ applies passes h (Some k) only
+    by false t = fresh_replaces files (files_at h passes (Some k)) a (ap not t) ∙ applies passes h (Some k) only
 
-good_asking : (w : World) (c : Connection) → Good w.histories c → Good w.histories (asking w c)
-good_asking w c g = either c.mirror.asked
+good_asking : AnswersApply → (w : World) (c : Connection) → Good w.histories c → Good w.histories (asking w c)
+good_asking applies w c g = either c.mirror.asked
   where
     about : (o : Option History) → live w c.mirror.root ≡ o → Good w.histories (with_answer c (answer_about c o))
     about None e = g
@@ -120,7 +121,7 @@ good_asking w c g = either c.mirror.asked
           path_only = g.path_only;
           asked = refl;
           held = g.held;
-          coming = (h, found, omega arith, answered w.histories h (wants c) c.mirror.files c.mirror.clock (reads_path_alone (term c.mirror.test) g.path_only) found g.held);
+          coming = (h, found, omega arith, answered applies w.histories h (wants c) c.mirror.files c.mirror.clock (reads_path_alone (term c.mirror.test) g.path_only) found g.held);
         }
         ready false = g
 
@@ -134,17 +135,17 @@ good_asking w c g = either c.mirror.asked
 abbrev pub AllGood : List History → World → Type 0
 AllGood hs w = AllByRecursion (Good hs) w.clients
 
-lasts : (w : World) → Lasts (Good w.histories) w
-lasts w = record { without = good_without w.histories; receives = good_receiving w.histories; begins = good_connected w.histories; asks = good_asking w }
+lasts : AnswersApply → (w : World) → Lasts (Good w.histories) w
+lasts applies w = record { without = good_without w.histories; receives = good_receiving w.histories; begins = good_connected w.histories; asks = good_asking applies w }
 
-pub good_step : (old : World) (event : Event) (new : World) → AllGood old.histories old → Step old event new → AllGood new.histories new
-good_step old event new g s =
+pub good_step : AnswersApply → (old : World) (event : Event) (new : World) → AllGood old.histories old → Step old event new → AllGood new.histories new
+good_step applies old event new g s =
     all_on (Good old.histories) (Good new.histories) (good_on old.histories new.histories (grows_shape old new (shape old event new s))) new.clients
-    (each_client (Good old.histories) old event new (lasts old) g s)
+    (each_client (Good old.histories) old event new (lasts applies old) g s)
 
-good_run : (old : World) (events : List Event) (new : World) → AllGood old.histories old → Run old events new → AllGood new.histories new
-good_run old [] new g e = subst (λ (w : World). AllGood w.histories w) e g
-good_run old (event ∷ events) new g (mid, step, run) = good_run mid events new (good_step old event mid g step) run
+good_run : AnswersApply → (old : World) (events : List Event) (new : World) → AllGood old.histories old → Run old events new → AllGood new.histories new
+good_run applies old [] new g e = subst (λ (w : World). AllGood w.histories w) e g
+good_run applies old (event ∷ events) new g (mid, step, run) = good_run applies mid events new (good_step applies old event mid g step) run
 
-pub good_reached : (w : World) → IsReached w → AllGood w.histories w
-good_reached w (events, (faults, run)) = good_run (nothing_yet faults) events w tt run
+pub good_reached : AnswersApply → (w : World) → IsReached w → AllGood w.histories w
+good_reached applies w (events, (faults, run)) = good_run applies (nothing_yet faults) events w tt run

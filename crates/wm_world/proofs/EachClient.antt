@@ -6,11 +6,12 @@ use Rattle.wm_names.specs.Paths.{Path}
 use Rattle.wm_expr.specs.declared.expr.Expr.{Expr}
 use Rattle.wm_expr.specs.Meanings.{is_path_only}
 use Rattle.wm_expr.specs.Views.{term}
+use Rattle.wm_registry.specs.Limits.{max_batch}
 use Rattle.wm_registry.specs.declared.command.Command.{Command}
 use Rattle.wm_registry.specs.declared.root.Root.{Root}
 use Rattle.wm_registry.specs.Roots.{root_at}
 use Rattle.wm_store.specs.Batches.{accepted_of}
-use Rattle.wm_view.specs.Histories.{after}
+use Rattle.wm_view.specs.Histories.{after_operation}
 use Rattle.wm_view.specs.declared.op.Op.{Op}
 use Rattle.wm_view.specs.declared.op.Op.TheVariants as ops
 use Rattle.wm_world.specs.declared.connection.Connection.{Connection}
@@ -81,13 +82,13 @@ each_client P old event new lasts g s = by event s
     operation : (b : Bool) (path : Path) (op : Op) → new ≡ cond b (operated path op old) old → AllByRecursion P new.clients
     operation true path op e = at (root_at path (registry old)) e
       where
-        at : (o : Option Root) → new ≡ option_map_or (λ root. record old { histories = at_first (is_of (registry old).incarnation root.number) (λ h. after h op) old.histories }) o old → AllByRecursion P new.clients
+        at : (o : Option Root) → new ≡ option_map_or (λ root. record old { histories = at_first (is_of (registry old).incarnation root.number) (λ h. after_operation h op) old.histories }) o old → AllByRecursion P new.clients
         at None q = to old q g
-        at (Some root) q = to (record old { histories = at_first (is_of (registry old).incarnation root.number) (λ h. after h op) old.histories }) q g
+        at (Some root) q = to (record old { histories = at_first (is_of (registry old).incarnation root.number) (λ h. after_operation h op) old.histories }) q g
     operation false path op e = to old e g
 
     by : (event : Event) → Step old event new → AllByRecursion P new.clients
-    by (events.Commands commands) q = batch (old.up && nat_le (length commands.items) 64) commands.items q
+    by (events.Commands commands) q = batch (old.up && nat_le (length commands.items) max_batch) commands.items q
     by events.Checkpoint q = checkpoint old.up q
     by events.Open q = start old.up q
     by (events.Arm calls) q = to old q g

@@ -4,10 +4,11 @@ use Rattle.std.proofs.lemmas.Bool.{lt-leb}
 use Rattle.std.specs.List.{find}
 use Rattle.wm_disk.specs.declared.refusal.Refusal.{Refusal}
 use Rattle.wm_view.specs.Files.{Files, same_files}
-use Rattle.wm_view.specs.Histories.{History, Ticks, after, grown, is_ready, map_at, newest, next_map, observed, performed, recrawled, refusal, tick_of, unless_refused, up_to}
+use Rattle.wm_view.specs.Histories.{History, Ticks, after_operation, grown, is_ready, map_at, newest, next_map, observed, performed, recrawled, refusal, tick_of, unless_refused, up_to}
 use Rattle.wm_view.specs.declared.op.Op.{Op}
 use Rattle.wm_view.specs.declared.op.Op.TheVariants.{AgeOut, Observe, Recrawl}
 use Rattle.wm_world.specs.Worlds.{at_first, history_in, is_of}
+use Rattle.wm_disk.specs.laws.Tests.{both_first, both_second}
 
 -- h is g, or g later on
 pub record Extends (g h : History) : Type 0 where
@@ -36,7 +37,7 @@ extends_performed h (Recrawl moment begun_at found) =
     ]
 extends_performed h (AgeOut time age) = record { incarnation = refl; root = refl; more = []; ticks = refl }
 
-pub extends_after : (h : History) (op : Op) → Extends h (after h op)
+pub extends_after : (h : History) (op : Op) → Extends h (after_operation h op)
 extends_after h op = by (refusal h op)
   where
     by : (r : Option Refusal) → Extends h (unless_refused r (performed h op) h)
@@ -135,16 +136,8 @@ grows_at test f on (x ∷ xs) i r g e =
 
 -- ---- ids
 
-pub both-first : (a b : Bool) → (a && b) ≡ true → a ≡ true
-both-first true b h = refl
-both-first false b h = h
-
-pub both-second : (a b : Bool) → (a && b) ≡ true → b ≡ true
-both-second true b h = h
-both-second false b h = absurd (true≢false (sym h))
-
 pub of_ids : (i r : ℕ) (h : History) → is_of i r h ≡ true → (h.incarnation ≡ i) × (h.root ≡ r)
-of_ids i r h e = (eqb-true h.incarnation i (both-first (h.incarnation == i) (h.root == r) e), eqb-true h.root r (both-second (h.incarnation == i) (h.root == r) e))
+of_ids i r h e = (eqb-true h.incarnation i (both_first (h.incarnation == i) (h.root == r) e), eqb-true h.root r (both_second (h.incarnation == i) (h.root == r) e))
 
 pub ids_of : (i r : ℕ) (h : History) → h.incarnation ≡ i → h.root ≡ r → is_of i r h ≡ true
 ids_of i r h a b = λ j. eq-eqb h.incarnation i a j && eq-eqb h.root r b j

@@ -2,9 +2,12 @@
 use Rattle.std.proofs.Common.{◌≡◌, ◌⊎◌, inl, inr, ℕ, Bool, true, false, cond, not, ◌&&◌, List, [], ◌∷◌, ◌++◌, length, nat_le, Option, Some, None, refl, sym, ap, subst, ◌∙◌, append_assoc, append-nil, MatchBool}
 use Rattle.std.specs.Option.{option_map_or}
 use Rattle.wm_disk.specs.Contents.{Rose}
+use Rattle.wm_disk.specs.PartLaws.{part_behind, part_both, part_prefix, part_same, part_then}
+use Rattle.wm_disk.specs.Parts.{IsPartOf}
 use Rattle.wm_names.specs.Paths.{Path}
 use Rattle.wm_expr.specs.Meanings.{is_path_only}
 use Rattle.wm_expr.specs.Views.{term}
+use Rattle.wm_registry.specs.Limits.{max_batch}
 use Rattle.wm_registry.specs.declared.command.Command.{Command}
 use Rattle.wm_registry.specs.declared.command.Command.TheVariants.{Begin, Watch, WatchDel, Trigger, TriggerDel}
 use Rattle.wm_registry.specs.declared.reply.Reply.{Reply}
@@ -12,14 +15,14 @@ use Rattle.wm_registry.specs.declared.root.Root.{Root}
 use Rattle.wm_registry.specs.Registry.{changed, changes, is_change}
 use Rattle.wm_registry.specs.Roots.{State, root_at}
 use Rattle.wm_store.specs.Batches.{AreAnswered, IsMet, accepted_of, is_begin}
-use Rattle.wm_view.specs.Histories.{after}
+use Rattle.wm_view.specs.Histories.{after_operation}
 use Rattle.wm_view.specs.declared.op.Op.{Op}
 use Rattle.wm_view.specs.declared.op.Op.TheVariants as ops
 use Rattle.wm_world.specs.declared.event.Event.{Event}
 use Rattle.wm_world.specs.declared.event.Event.TheVariants as events
 use Rattle.wm_world.specs.Worlds.{World, at_first, is_of, cannot_rise, nothing_yet, registry, replay}
-use Rattle.wm_world.specs.Steps.{BatchCut, BatchDone, Begins, Checkpointed, Cut, Finds, OpenDone, Run, Step, begin_on, operated}
-use Rattle.wm_world.specs.Laws.{AcknowledgedStays, IsPartOf, KeptStays, NothingInvented, RestartFinds, given, given_by, without_begins}
+use Rattle.wm_world.specs.Steps.{BatchCut, BatchDone, IsPrefix, Checkpointed, Cut, Finds, OpenDone, Run, Step, begin_on, operated}
+use Rattle.wm_world.specs.Laws.{AcknowledgedStays, KeptStays, NothingInvented, RestartFinds, given, given_by, without_begins}
 use Rattle.wm_world.proofs.Batching.{none_accepted, not_begin}
 use Rattle.wm_world.proofs.Reached.{Settled, settled_shape, settled_start}
 use Rattle.wm_world.proofs.Shapes.{shape}
@@ -36,36 +39,7 @@ kept_stays old new (event ∷ events) (mid, step, run) =
 pub acknowledged_stays : AcknowledgedStays
 acknowledged_stays old mid new commands events (replies, answered, long, raise, e) run =
     let there : mid.kept ≡ old.kept ++ accepted_of commands mid.replies = ap (λ (w : World). w.kept) e ∙ ap (λ rs. old.kept ++ accepted_of commands rs) (sym (ap (λ (w : World). w.replies) e)) in
-    subst (λ k. Begins k new.kept) there (kept_stays mid new events run)
-
--- ---- parts of a list
-
-module _ {A : Type 0} where
-  part_same : (xs : List A) → IsPartOf xs xs
-  part_same [] = tt
-  part_same (x ∷ xs) = inl (refl, part_same xs)
-
-  part_behind : (xs ys : List A) (y : A) → IsPartOf xs ys → IsPartOf xs (y ∷ ys)
-  part_behind [] ys y h = tt
-  part_behind (x ∷ xs) ys y h = inr h
-
-  part_both : (xs ys us vs : List A) → IsPartOf xs ys → IsPartOf us vs → IsPartOf (xs ++ us) (ys ++ vs)
-  part_both [] [] us vs h k = k
-  part_both [] (y ∷ ys) us vs h k = part_behind us (ys ++ vs) y (part_both [] ys us vs tt k)
-  part_both (x ∷ xs) [] us vs h k = absurd h
-  part_both (x ∷ xs) (y ∷ ys) us vs (inl (e, h)) k = inl (e, part_both xs ys us vs h k)
-  part_both (x ∷ xs) (y ∷ ys) us vs (inr h) k = inr (part_both (x ∷ xs) ys us vs h k)
-
-  part_then : (xs ys zs : List A) → IsPartOf xs ys → IsPartOf ys zs → IsPartOf xs zs
-  part_then [] ys zs h k = tt
-  part_then (x ∷ xs) [] zs h k = absurd h
-  part_then (x ∷ xs) (y ∷ ys) [] h k = absurd k
-  part_then (x ∷ xs) (y ∷ ys) (z ∷ zs) (inl (e, h)) (inl (f, k)) = inl (e ∙ f, part_then xs ys zs h k)
-  part_then (x ∷ xs) (y ∷ ys) (z ∷ zs) (inr h) (inl (f, k)) = inr (part_then (x ∷ xs) ys zs h k)
-  part_then (x ∷ xs) (y ∷ ys) (z ∷ zs) h (inr k) = inr (part_then (x ∷ xs) (y ∷ ys) zs h k)
-
-  part_front : (xs ys zs : List A) → IsPartOf xs ys → IsPartOf xs (ys ++ zs)
-  part_front xs ys zs h = subst (λ us. IsPartOf us (ys ++ zs)) (append-nil xs) (part_both xs ys [] zs h tt)
+    subst (λ k. IsPrefix k new.kept) there (kept_stays mid new events run)
 
 -- ---- what a batch accepts of its commands
 
@@ -104,7 +78,7 @@ begin_on_part found = elim (changes (replay found) Begin) as (λ b. IsPartOf (co
 found_part : (old : World) (found : List Command) → Finds old found → IsPartOf found (standing old)
 found_part old found (part, (rest, whole), is) =
     subst (λ xs. IsPartOf xs (standing old)) (sym is)
-    (subst (λ xs. IsPartOf (old.kept ++ part) xs) (append_assoc old.kept part rest ∙ ap (λ p. old.kept ++ p) whole) (part_front (old.kept ++ part) (old.kept ++ part) rest (part_same (old.kept ++ part))))
+    (subst (λ xs. IsPartOf (old.kept ++ part) xs) (append_assoc old.kept part rest ∙ ap (λ p. old.kept ++ p) whole) (part_prefix (old.kept ++ part) (old.kept ++ part) rest (part_same (old.kept ++ part))))
 
 -- what a batch kept and what it was given
 batch_part : (old : World) (n : ℕ) (s : State) (commands : List Command) (replies : List Reply) → old.pending ≡ [] → AreAnswered n 0 s commands replies → IsPartOf (old.kept ++ accepted_of commands replies) (standing old ++ without_begins commands)
@@ -121,11 +95,11 @@ part_step old event new was s = by event s
 
     -- the same commands stand in it
     same : (more : List Command) → IsPartOf (standing old) (standing old ++ more)
-    same more = part_front (standing old) (standing old) more (part_same (standing old))
+    same more = part_prefix (standing old) (standing old) more (part_same (standing old))
 
     -- what was found, and no more
     found_alone : (found more : List Command) → Finds old found → IsPartOf (found ++ []) (standing old ++ more)
-    found_alone found more finds = subst (λ xs. IsPartOf xs (standing old ++ more)) (sym (append-nil found)) (part_front found (standing old) more (found_part old found finds))
+    found_alone found more finds = subst (λ xs. IsPartOf xs (standing old ++ more)) (sym (append-nil found)) (part_prefix found (standing old) more (found_part old found finds))
 
     batch : (u : Bool) → old.up ≡ u → (b : Bool) (commands : List Command) → MatchBool (u && b) (BatchDone old commands new ⊎ BatchCut old commands new) (new ≡ old) → IsPartOf (standing new) (standing old ++ without_begins commands)
     batch true up true commands (inl (replies, answered, long, raise, e)) =
@@ -157,12 +131,12 @@ part_step old event new was s = by event s
     operation : (path : Path) (op : Op) → new ≡ cond old.up (operated path op old) old → IsPartOf (standing new) (standing old ++ [])
     operation path op e = if_fits old.up (operated path op old) (at (root_at path (registry old))) e
       where
-        at : (o : Option Root) → standing (option_map_or (λ root. record old { histories = at_first (is_of (registry old).incarnation root.number) (λ h. after h op) old.histories }) o old) ≡ standing old
+        at : (o : Option Root) → standing (option_map_or (λ root. record old { histories = at_first (is_of (registry old).incarnation root.number) (λ h. after_operation h op) old.histories }) o old) ≡ standing old
         at None = refl
         at (Some root) = refl
 
     by : (event : Event) → Step old event new → IsPartOf (standing new) (standing old ++ given_by event)
-    by (events.Commands commands) q = batch old.up refl (nat_le (length commands.items) 64) commands.items q
+    by (events.Commands commands) q = batch old.up refl (nat_le (length commands.items) max_batch) commands.items q
     by events.Checkpoint q = checkpoint old.up refl q
     by events.Open q = start old.up q
     by (events.Arm calls) q = to [] old q (same [])
@@ -177,7 +151,7 @@ part_step old event new was s = by event s
     by (events.Lose n) q = to [] _ q (same [])
 
 part_run : (old : World) (es : List Event) (new : World) → Settled old → Run old es new → IsPartOf (standing new) (standing old ++ given es)
-part_run old [] new was e = subst (λ (w : World). IsPartOf (standing w) (standing old ++ [])) e (part_front (standing old) (standing old) [] (part_same (standing old)))
+part_run old [] new was e = subst (λ (w : World). IsPartOf (standing w) (standing old ++ [])) e (part_prefix (standing old) (standing old) [] (part_same (standing old)))
 part_run old (event ∷ es) new was (mid, step, run) =
     part_then (standing new) (standing mid ++ given es) (standing old ++ (given_by event ++ given es)) (part_run mid es new (settled_shape old mid (shape old event mid step) was) run)
     (subst (λ xs. IsPartOf (standing mid ++ given es) xs) (append_assoc (standing old) (given_by event) (given es))
@@ -195,7 +169,7 @@ restart_finds old new down step = by (subst (λ b. MatchBool b (new ≡ old) (Op
     Why = Rose old.faults new.faults ⊎ (cannot_rise old.slot ≡ true) ⊎ (changes (registry new) Begin ≡ false)
 
     Found : Type 0
-    Found = (part : List Command) × Begins part old.pending
+    Found = (part : List Command) × IsPrefix part old.pending
         × (((new.up ≡ true) × (changes (replay (old.kept ++ part)) Begin ≡ true) × (registry new ≡ replay (old.kept ++ part ++ Begin ∷ [])))
         ⊎ ((new.up ≡ false) × (new.kept ≡ old.kept ++ part) × Why))
 

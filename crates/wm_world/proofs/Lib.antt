@@ -14,6 +14,6 @@ pub mod Places
 pub mod Reached
 pub mod Replays
 pub mod Shapes
-pub mod Standing
+pub mod Refining
 pub mod Steps
 pub mod Stores

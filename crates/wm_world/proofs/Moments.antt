@@ -1,16 +1,17 @@
 -- Each history has an id of its own, in range, and one clock text names one moment.
 use Rattle.std.proofs.Common.{◌≡◌, inl, inr, ℕ, zero, suc, ◌+◌, ◌-◌, ◌<◌, ◌≤◌, Bool, true, false, cond, ◌&&◌, List, [], ◌∷◌, ◌++◌, map, find, Option, Some, None, nat_lt, nat_le, ◌==◌, refl, sym, ap, subst, ◌∙◌, arith, true≢false, ne_eqb, eq-eqb, lt-ltb, le-leb, ltb-true}
 use Rattle.std.specs.List.{AllByRecursion, IsDistinct, range_with_len}
+use Rattle.wm_disk.specs.Counters.{max_counter}
 use Rattle.wm_clock.specs.declared.clock_id.ClockId.{ClockId}
-use Rattle.wm_clock.specs.Clocks.{clock_text, is_number, limit}
+use Rattle.wm_clock.specs.Clocks.{clock_text, is_number}
 use Rattle.wm_clock.specs.Laws.{OneText}
 use Rattle.wm_registry.specs.declared.root.Root.{Root}
 use Rattle.wm_registry.specs.Roots.{State, root_at}
 use Rattle.wm_names.specs.Paths.{Path}
 use Rattle.std.specs.Option.{option_map_or}
 use Rattle.wm_registry.specs.Spelling.{numbers_of}
-use Rattle.wm_view.specs.Histories.{History, IsMade, after, begun, is_ready, newest, tick_of, up_to}
-use Rattle.wm_view.specs.Laws.{TickInRange}
+use Rattle.wm_view.specs.Histories.{History, IsMade, after_operation, new_history, is_ready, newest, tick_of, up_to}
+use Rattle.wm_view.specs.HistoryLaws.{TickInRange}
 use Rattle.wm_view.specs.declared.op.Op.{Op}
 use Rattle.wm_since.specs.Answers.{answer_to, clock_of}
 use Rattle.wm_since.specs.declared.query.Answer.{Answer}
@@ -91,34 +92,34 @@ pub record BegunIn (i a b : ℕ) (h : History) : Type 0 where
   pub low : a ≤ h.root
   pub high : h.root < b
 
-range_begun : (i a n : ℕ) → AllByRecursion (BegunIn i a (a + n)) (map (begun i) (range_with_len a n))
+range_begun : (i a n : ℕ) → AllByRecursion (BegunIn i a (a + n)) (map (new_history i) (range_with_len a n))
 range_begun i a zero = tt
 range_begun i a (suc n) = (
   record { incarnation = refl; low = omega arith; high = omega arith },
-  all_each (BegunIn i (a + 1) ((a + 1) + n)) (BegunIn i a (a + suc n)) (λ h b. record { incarnation = b.incarnation; low = omega (arith, b.low); high = omega (arith, b.high) }) (map (begun i) (range_with_len (a + 1) n)) (range_begun i (a + 1) n),
+  all_each (BegunIn i (a + 1) ((a + 1) + n)) (BegunIn i a (a + suc n)) (λ h b. record { incarnation = b.incarnation; low = omega (arith, b.low); high = omega (arith, b.high) }) (map (new_history i) (range_with_len (a + 1) n)) (range_begun i (a + 1) n),
 )
 
-range_apart : (i a n : ℕ) → Apart (map (begun i) (range_with_len a n))
+range_apart : (i a n : ℕ) → Apart (map (new_history i) (range_with_len a n))
 range_apart i a zero = tt
 range_apart i a (suc n) = (
-  all_each (BegunIn i (a + 1) ((a + 1) + n)) (Other (begun i a)) (λ h b. other_root (begun i a) h (λ e. let low : a + 1 ≤ h.root = b.low in omega (arith, e, low))) (map (begun i) (range_with_len (a + 1) n)) (range_begun i (a + 1) n),
+  all_each (BegunIn i (a + 1) ((a + 1) + n)) (Other (new_history i a)) (λ h b. other_root (new_history i a) h (λ e. let low : a + 1 ≤ h.root = b.low in omega (arith, e, low))) (map (new_history i) (range_with_len (a + 1) n)) (range_begun i (a + 1) n),
   range_apart i (a + 1) n,
 )
 
 -- ---- the histories of a start
 
-roots_begun : (i b : ℕ) (roots : List (List ℕ × Root)) → AllByRecursion (λ r. (0 < r.1.number) × (r.1.number < b)) roots → AllByRecursion (BegunIn i 1 b) (map (λ r. begun i r.1.number) roots)
+roots_begun : (i b : ℕ) (roots : List (List ℕ × Root)) → AllByRecursion (λ r. (0 < r.1.number) × (r.1.number < b)) roots → AllByRecursion (BegunIn i 1 b) (map (λ r. new_history i r.1.number) roots)
 roots_begun i b [] h = tt
 roots_begun i b (r ∷ roots) h = (record { incarnation = refl; low = omega (arith, h.0.0); high = h.0.1 }, roots_begun i b roots h.1)
 
-roots_apart : (i : ℕ) (roots : List (List ℕ × Root)) → IsDistinct ◌==◌ (numbers_of roots) → Apart (map (λ r. begun i r.1.number) roots)
+roots_apart : (i : ℕ) (roots : List (List ℕ × Root)) → IsDistinct ◌==◌ (numbers_of roots) → Apart (map (λ r. new_history i r.1.number) roots)
 unfolding IsDistinct
 roots_apart i [] h = tt
 roots_apart i (r ∷ roots) h = (others roots h.0, roots_apart i roots h.1)
   where
-    others : (qs : List (List ℕ × Root)) → AllByRecursion (λ n. (r.1.number == n) ≡ false) (numbers_of qs) → AllByRecursion (Other (begun i r.1.number)) (map (λ q. begun i q.1.number) qs)
+    others : (qs : List (List ℕ × Root)) → AllByRecursion (λ n. (r.1.number == n) ≡ false) (numbers_of qs) → AllByRecursion (Other (new_history i r.1.number)) (map (λ q. new_history i q.1.number) qs)
     others [] d = tt
-    others (q ∷ qs) d = (other_root (begun i r.1.number) (begun i q.1.number) (λ e. true≢false (sym (eq-eqb r.1.number q.1.number (sym e)) ∙ d.0)), others qs d.1)
+    others (q ∷ qs) d = (other_root (new_history i r.1.number) (new_history i q.1.number) (λ e. true≢false (sym (eq-eqb r.1.number q.1.number (sym e)) ∙ d.0)), others qs d.1)
 
 -- ---- one step, and a run
 
@@ -143,10 +144,10 @@ pub record Kept (s : State) (hs : List History) : Type 0 where
 kept_rises : (s t : State) (hs : List History) → Rises s t → Kept s hs → Kept t hs
 kept_rises s t hs r k = record { within = all_each (Within s) (Within t) (within_rises s t r) hs k.within; apart = k.apart }
 
-kept_first : (s : State) (test : History → Bool) (op : Op) (hs : List History) → Kept s hs → Kept s (at_first test (λ h. after h op) hs)
+kept_first : (s : State) (test : History → Bool) (op : Op) (hs : List History) → Kept s hs → Kept s (at_first test (λ h. after_operation h op) hs)
 kept_first s test op hs k = record {
-  within = all_first (Within s) test (λ h. after h op) (within_after s (λ h. after h op) (λ h. extends_after h op)) hs k.within;
-  apart = apart_first test (λ h. after h op) (λ h. extends_after h op) hs k.apart;
+  within = all_first (Within s) test (λ h. after_operation h op) (within_after s (λ h. after_operation h op) (λ h. extends_after h op)) hs k.within;
+  apart = apart_first test (λ h. after_operation h op) (λ h. extends_after h op) hs k.apart;
 }
 
 kept_batch : (s t : State) (hs : List History) → Rises s t → 0 < s.incarnation → 0 < s.next → Kept s hs → Kept t (hs ++ begun_between s t)
@@ -289,8 +290,8 @@ given_about w a h g =
 both : (a b : Bool) → a ≡ true → b ≡ true → (a && b) ≡ true
 both a b e f = λ i. e i && f i
 
-is_in_range : (n : ℕ) → 0 < n → n ≤ limit → is_number n ≡ true
-is_in_range n low high = both (nat_lt 0 n) (nat_le n limit) (lt-ltb 0 n low) (le-leb n limit high)
+is_in_range : (n : ℕ) → 0 < n → n ≤ max_counter → is_number n ≡ true
+is_in_range n low high = both (nat_lt 0 n) (nat_le n max_counter) (lt-ltb 0 n low) (le-leb n max_counter high)
 
 module _ (rising : NumbersRise) (ordered : NumbersInOrder) where
   one_id : (old new : World) (events : List Event) (g h : History) → IsReached old → Run old events new → IsAmong g old.histories → IsAmong h new.histories → clock_of g ≡ clock_of h → SameMoment g h

@@ -6,10 +6,10 @@ use Rattle.wm_disk.specs.Moments.{LeavesOnly, then_runs}
 use Rattle.wm_disk.specs.declared.disk.Disk as disks
 use Rattle.wm_disk.specs.declared.refusal.Refusal.{Refusal}
 use Rattle.wm_disk.specs.declared.refusal.Refusal.TheVariants as refusals
+use Rattle.wm_disk.specs.Counters.{max_counter}
 use Rattle.wm_checkpoint.specs.Machines.{replay_on}
-use Rattle.wm_checkpoint.specs.Meanings.{IsDamaged, IsRetired, MeansBeginning, MeansState}
-use Rattle.wm_checkpoint.proofs.Deciding.{one_header}
-use Rattle.wm_clock.specs.Clocks.{limit}
+use Rattle.wm_checkpoint.specs.Meanings.{IsDamaged, IsRetired, MeansPrefix, MeansState}
+use Rattle.wm_checkpoint.specs.laws.Headers.{one_header}
 use Rattle.wm_journal.specs.Areas.{area}
 use Rattle.wm_registry.specs.declared.command.Command.{Command}
 use Rattle.wm_registry.specs.declared.command.Command.TheVariants.{Begin}
@@ -17,29 +17,29 @@ use Rattle.wm_registry.specs.declared.reply.Reply.TheVariants.{Refused}
 use Rattle.wm_registry.specs.declared.root.Root.{Root}
 use Rattle.wm_registry.specs.MachineLaws.{watches}
 use Rattle.wm_registry.specs.Laws.{NumbersInOrder, NumbersRise}
-use Rattle.wm_registry.specs.Registry.{after, changed, changes, fresh, is_change, reply_to}
+use Rattle.wm_registry.specs.Registry.{after_command, changed, changes, empty_registry, is_change, reply_to}
 use Rattle.wm_registry.specs.Roots.{State}
-use Rattle.wm_store.specs.Openings.{IsBegun, IsFound}
+use Rattle.wm_store.specs.Openings.{IsBegun, FindsRegistry}
 use Rattle.wm_store.specs.Stored.{Stored}
-use Rattle.wm_view.specs.Histories.{History, begun}
+use Rattle.wm_view.specs.Histories.{History, new_history}
 use Rattle.wm_view.specs.Summaries.{summary}
 use Rattle.wm_checkpoint.specs.Numbers.{IsNumberedTo}
 use Rattle.wm_world.specs.declared.world.World.{World as Running}
 use Rattle.wm_world.specs.declared.world.Server.TheVariants.{Up, Down}
 use Rattle.wm_world.specs.Worlds.{World, begun_all, cannot_rise, registry, replay}
-use Rattle.wm_world.specs.Steps.{Begins, Finds, OpenCutEarly, OpenCutLate, OpenDone, OpenSpent, Opened, begin_on, opened}
-use Rattle.wm_world.specs.Standings.{IsDown, IsServer, KeepsPrefix, Meets, Stands, disk_of_server}
+use Rattle.wm_world.specs.Steps.{IsPrefix, Finds, OpenCutEarly, OpenCutLate, OpenDone, OpenSpent, Opened, begin_on, opened}
+use Rattle.wm_world.specs.Refinement.{IsDown, IsServer, KeepsPrefix, Simulates, Refines, disk_of_server}
 use Rattle.wm_world.specs.Passes.{KeepsBetween, Leaves}
-use Rattle.wm_journal.proofs.Opening.{weaker}
+use Rattle.wm_disk.specs.laws.Runs.{weaker}
 use Rattle.wm_world.proofs.Between.{between_before, between_from, take-drop}
 use Rattle.wm_world.proofs.Calls.{prefix_same}
 use Rattle.wm_world.proofs.Moments.{Within, ids_reached}
 use Rattle.wm_world.proofs.Replays.{began, replay_more}
-use Rattle.wm_checkpoint.proofs.Numbering.{number_within, numbered_more}
+use Rattle.wm_checkpoint.specs.laws.Numbering.{number_within, numbered_more}
 use Rattle.wm_world.proofs.Stores.{CountsNow, none_yet, now}
 
 -- where the Begin isn't accepted, it is nothing
-begin_kept : (s : State) (c : List ℕ) → MeansBeginning watches s (Begin ∷ []) c → MeansBeginning watches s (cond (changes s Begin) (Begin ∷ []) []) c
+begin_kept : (s : State) (c : List ℕ) → MeansPrefix watches s (Begin ∷ []) c → MeansPrefix watches s (cond (changes s Begin) (Begin ∷ []) []) c
 begin_kept s c m = by (changes s Begin) refl
   where
     unmoved : changes s Begin ≡ false → (n : ℕ) → n ≤ 1 → MeansState watches (replay_on watches s (take n (Begin ∷ []))) c → MeansState watches s c
@@ -47,11 +47,11 @@ begin_kept s c m = by (changes s Begin) refl
     unmoved e (suc zero) le k = subst (λ t. MeansState watches t c) (ap (λ b. cond b (changed s Begin) s) e) k
     unmoved e (suc (suc n)) le k = absurd (omega (arith, le))
 
-    by : (b : Bool) → changes s Begin ≡ b → MeansBeginning watches s (cond b (Begin ∷ []) []) c
+    by : (b : Bool) → changes s Begin ≡ b → MeansPrefix watches s (cond b (Begin ∷ []) []) c
     by true e = m
     by false e = none_yet s [] c (unmoved e m.count m.within m.means)
 
-all_now : (i : ℕ) (roots : List (List ℕ × Root)) → AllByRecursion (λ (h : History). h.incarnation ≡ i) (map (λ r. begun i r.1.number) roots)
+all_now : (i : ℕ) (roots : List (List ℕ × Root)) → AllByRecursion (λ (h : History). h.incarnation ≡ i) (map (λ r. new_history i r.1.number) roots)
 all_now i [] = tt
 all_now i (r ∷ roots) = (refl, all_now i roots)
 
@@ -69,7 +69,7 @@ module _ {D : Type 0} (disk : disks.Ghosts D) where
   ReadsStand = (d : D) → disk.honest d → disk.may_leave d (disk.seen d)
 
   module _ (old new : Running D) (d : D) (is_down : old.server ≡ Down d) (one : OneMeaning) (rising : NumbersRise) (ordered : NumbersInOrder) (stand : ReadsStand) where
-    down_of : (w : World) → Stands disk old w → IsDown disk d old.shown.views.items w
+    down_of : (w : World) → Refines disk old w → IsDown disk d old.shown.views.items w
     down_of w s = subst (λ x. IsServer disk x old.shown.views.items w) is_down s.server
 
     -- what the disk means, of the commands kept and in flight
@@ -79,30 +79,30 @@ module _ {D : Type 0} (disk : disks.Ghosts D) where
       pub means : MeansState watches (replay found) (disk.seen d)
       pub numbered : IsNumberedTo w.slot (disk.seen d)
 
-    known : (w : World) → Stands disk old w → disk.honest d → Known w
+    known : (w : World) → Refines disk old w → disk.honest d → Known w
     known w s h =
         let k : KeepsPrefix w (disk.seen d) = (down_of w s).on.prefix (disk.seen d) (stand d h) in
         let part : List Command = take k.means.count w.pending in
         record {
           found = w.kept ++ part;
           finds = (part, (drop k.means.count w.pending, take-drop k.means.count w.pending), refl);
-          means = subst (λ r. MeansState watches r (disk.seen d)) (sym (replay_more fresh w.kept part)) k.means.means;
+          means = subst (λ r. MeansState watches r (disk.seen d)) (sym (replay_more empty_registry w.kept part)) k.means.means;
           numbered = k.numbered;
         }
 
     -- before the content was durable, a crash leaves what one before might have left
-    early_leaves : (e : D) (w : World) (afterwards : List Command) → Stands disk old w → LeavesOnly disk.moment disk.left_since d e (disk.may_leave d) → LeavesOnly disk.moment disk.left_since d e (KeepsBetween w afterwards)
+    early_leaves : (e : D) (w : World) (afterwards : List Command) → Refines disk old w → LeavesOnly disk.moment disk.left_since d e (disk.may_leave d) → LeavesOnly disk.moment disk.left_since d e (KeepsBetween w afterwards)
     early_leaves e w afterwards s run =
         weaker disk.moment disk.left_since d e (disk.may_leave d) (KeepsBetween w afterwards) run (λ c left. between_before w afterwards c ((down_of w s).on.prefix c left).means)
 
     -- from then on the registry that was found, or that with a Begin, which is in flight where the registry accepts it
-    found_leaves : (e : D) (w : World) (more afterwards : List Command) → Stands disk old w → (k : Known w) → Begins (k.found ++ more) afterwards
-        → ((c : List ℕ) → MeansBeginning watches (replay k.found) (Begin ∷ []) c → MeansBeginning watches (replay k.found) more c) → (found : State) → IsFound disk d e found
+    found_leaves : (e : D) (w : World) (more afterwards : List Command) → Refines disk old w → (k : Known w) → IsPrefix (k.found ++ more) afterwards
+        → ((c : List ℕ) → MeansPrefix watches (replay k.found) (Begin ∷ []) c → MeansPrefix watches (replay k.found) more c) → (found : State) → FindsRegistry disk d e found
         → LeavesOnly disk.moment disk.left_since d e (KeepsBetween w afterwards)
     found_leaves e w more afterwards s k behind accepted found f =
         let at : found ≡ replay k.found = one (disk.seen d) found (replay k.found) f.means k.means in
-        then_runs disk.moment disk.left_since d f.synced e (KeepsBetween w afterwards) (MeansBeginning watches found (Begin ∷ [])) (early_leaves f.synced w afterwards s f.until) f.from
-        (λ c m. between_from w afterwards k.found more (k.finds.0, sym k.finds.2) behind c (accepted c (subst (λ r. MeansBeginning watches r (Begin ∷ []) c) at m)))
+        then_runs disk.moment disk.left_since d f.synced e (KeepsBetween w afterwards) (MeansPrefix watches found (Begin ∷ [])) (early_leaves f.synced w afterwards s f.until) f.from
+        (λ c m. between_from w afterwards k.found more (k.finds.0, sym k.finds.2) behind c (accepted c (subst (λ r. MeansPrefix watches r (Begin ∷ []) c) at m)))
 
     -- the disk of the store that was opened, or of the refusal
     started_on : (e : D) (w v : World) → disk_of_server disk new.server ≡ e → LeavesOnly disk.moment disk.left_since d e (KeepsBetween w (v.kept ++ v.pending)) → Leaves disk (disk_of_server disk old.server) w (disk_of_server disk new.server) v
@@ -113,7 +113,7 @@ module _ {D : Type 0} (disk : disks.Ghosts D) where
         → (disk.honest fresh_store.disk → IsBegun disk d fresh_store)
         → (disk.honest fresh_store.disk → (c : List ℕ) → disk.may_leave fresh_store.disk c → MeansState watches fresh_store.registry c)
         → (disk.honest fresh_store.disk → (c : List ℕ) → disk.may_leave fresh_store.disk c → IsNumberedTo fresh_store.number c)
-        → Meets disk opened (Leaves disk) old new
+        → Simulates disk opened (Leaves disk) old new
     open_done store server said clients views honest faults whole open_yet begins means numbered = record {
       honest = λ h. subst (λ x. disk.honest (disk_of_server disk x)) (sym is_down) (honest (subst (λ x. disk.honest (disk_of_server disk x)) server h));
       goes = λ h w reached s.
@@ -123,8 +123,8 @@ module _ {D : Type 0} (disk : disks.Ghosts D) where
           let at : b.found ≡ replay k.found = one (disk.seen d) b.found (replay k.found) b.opened.means k.means in
           let accepts : changes (replay k.found) Begin ≡ true = subst (λ r. changes r Begin ≡ true) at (ap is_change b.changed) in
           let kept : List Command = k.found ++ Begin ∷ [] in
-          let led : store.registry ≡ replay kept = b.registry ∙ ap (λ r. after r Begin) at ∙ sym (replay_more fresh k.found (Begin ∷ [])) in
-          let next : (replay kept).incarnation ≡ (replay k.found).incarnation + 1 = ap (λ (r : State). r.incarnation) (replay_more fresh k.found (Begin ∷ [])) ∙ began (replay k.found) accepts in
+          let led : store.registry ≡ replay kept = b.registry ∙ ap (λ r. after_command r Begin) at ∙ sym (replay_more empty_registry k.found (Begin ∷ [])) in
+          let next : (replay kept).incarnation ≡ (replay k.found).incarnation + 1 = ap (λ (r : State). r.incarnation) (replay_more empty_registry k.found (Begin ∷ [])) ∙ began (replay k.found) accepts in
           let rise : (registry w).incarnation ≤ (replay k.found).incarnation = subst (λ cs. (registry w).incarnation ≤ (replay cs).incarnation) (sym k.finds.2) (rising w.kept k.finds.0).incarnation in
           let low : b.opened.means.number ≤ w.slot = number_within (disk.seen d) b.opened.means w.slot k.numbered in
           let high : store.number ≤ w.slot + 1 = omega (arith, b.number, low) in
@@ -163,7 +163,7 @@ module _ {D : Type 0} (disk : disks.Ghosts D) where
     }
 
     module _ (later_disk : D) (server : new.server ≡ Down later_disk) (same_views : new.shown.views ≡ old.shown.views) (said : new.shown.replies ≡ old.shown.replies) (clients : new.shown.clients ≡ old.shown.clients) (honest : disk.honest later_disk → disk.honest d) where
-      stands_down : (w v : World) → v.up ≡ false → v.replies ≡ w.replies → v.clients ≡ w.clients → disk.failures later_disk ≡ v.faults → ((c : List ℕ) → disk.may_leave later_disk c → KeepsPrefix v c) → Stands disk old w → Stands disk new v
+      stands_down : (w v : World) → v.up ≡ false → v.replies ≡ w.replies → v.clients ≡ w.clients → disk.failures later_disk ≡ v.faults → ((c : List ℕ) → disk.may_leave later_disk c → KeepsPrefix v c) → Refines disk old w → Refines disk new v
       stands_down w v down replies cs faults prefix s = record {
         server = subst (λ x. IsServer disk x new.shown.views.items v) (sym server) (record { down = down; none = ap (λ r. r.items) same_views ∙ (down_of w s).none; on = record { prefix = prefix; faults = faults } });
         replies = ap (λ r. r.items) said ∙ s.replies ∙ sym replies;
@@ -171,13 +171,13 @@ module _ {D : Type 0} (disk : disks.Ghosts D) where
       }
 
       abbrev Open : World → Type 0
-      Open w = (v : World) × opened w v × Stands disk new v × Leaves disk (disk_of_server disk old.server) w (disk_of_server disk new.server) v
+      Open w = (v : World) × opened w v × Refines disk new v × Leaves disk (disk_of_server disk old.server) w (disk_of_server disk new.server) v
 
-      as_row : (w v : World) → Stands disk old w → OpenDone w v → opened w v
+      as_row : (w v : World) → Refines disk old w → OpenDone w v → opened w v
       as_row w v s row = subst (λ u. MatchBool u (v ≡ w) (OpenDone w v)) (sym (down_of w s).down) row
 
       -- before the content was durable
-      early : (w : World) → Stands disk old w → Rose (disk.failures d) (disk.failures later_disk) → disk.failures d ≤ disk.failures later_disk → ((c : List ℕ) → disk.may_leave later_disk c → disk.may_leave d c)
+      early : (w : World) → Refines disk old w → Rose (disk.failures d) (disk.failures later_disk) → disk.failures d ≤ disk.failures later_disk → ((c : List ℕ) → disk.may_leave later_disk c → disk.may_leave d c)
           → LeavesOnly disk.moment disk.left_since d later_disk (disk.may_leave d) → Open w
       early w s rose later less run =
           let down = down_of w s in
@@ -190,8 +190,8 @@ module _ {D : Type 0} (disk : disks.Ghosts D) where
           )
 
       -- after it was
-      late : (w : World) → Stands disk old w → (h : disk.honest later_disk) → Rose (disk.failures d) (disk.failures later_disk) → disk.failures d ≤ disk.failures later_disk
-          → (found : State) (f : IsFound disk d later_disk found) → ((c : List ℕ) → disk.may_leave later_disk c → MeansBeginning watches found (Begin ∷ []) c)
+      late : (w : World) → Refines disk old w → (h : disk.honest later_disk) → Rose (disk.failures d) (disk.failures later_disk) → disk.failures d ≤ disk.failures later_disk
+          → (found : State) (f : FindsRegistry disk d later_disk found) → ((c : List ℕ) → disk.may_leave later_disk c → MeansPrefix watches found (Begin ∷ []) c)
           → ((c : List ℕ) → disk.may_leave later_disk c → IsNumberedTo (w.slot + 1) c) → Open w
       late w s h rose later found f left_means numbered =
           let down = down_of w s in
@@ -202,13 +202,13 @@ module _ {D : Type 0} (disk : disks.Ghosts D) where
             v,
             as_row w v s (inr (inr (inl row))),
             stands_down w v down.down refl refl refl
-                (λ c left. record { means = begin_kept (replay k.found) c (subst (λ r. MeansBeginning watches r (Begin ∷ []) c) at (left_means c left)); numbered = numbered c left }) s,
+                (λ c left. record { means = begin_kept (replay k.found) c (subst (λ r. MeansPrefix watches r (Begin ∷ []) c) at (left_means c left)); numbered = numbered c left }) s,
             started_on later_disk w v (ap (disk_of_server disk) server) (found_leaves later_disk w (begin_on k.found) (k.found ++ begin_on k.found) s k ([], append-nil (k.found ++ begin_on k.found)) (λ c m. begin_kept (replay k.found) c m) found f),
           )
 
       -- a counter is spent
-      spent : (w : World) → Stands disk old w → (h : disk.honest later_disk) → disk.failures later_disk ≡ disk.failures d
-          → (found : State) (m : MeansState watches found (disk.seen d)) → (reply_to found Begin ≡ Refused refusals.Exhausted) ⊎ (limit ≤ m.number)
+      spent : (w : World) → Refines disk old w → (h : disk.honest later_disk) → disk.failures later_disk ≡ disk.failures d
+          → (found : State) (m : MeansState watches found (disk.seen d)) → (reply_to found Begin ≡ Refused refusals.Exhausted) ⊎ (max_counter ≤ m.number)
           → ((c : List ℕ) → disk.may_leave later_disk c → MeansState watches found c) → ((c : List ℕ) → disk.may_leave later_disk c → IsNumberedTo (w.slot + 1) c)
           → LeavesOnly disk.moment disk.left_since d later_disk (λ c. disk.may_leave d c ⊎ MeansState watches found c) → Open w
       spent w s h stood found m why left_means numbered run =
@@ -229,33 +229,33 @@ module _ {D : Type 0} (disk : disks.Ghosts D) where
               (λ c. ⊎_elim (λ left. between_before w (k.found ++ []) c ((down_of w s).on.prefix c left).means)
               (λ m. between_from w (k.found ++ []) k.found [] (k.finds.0, sym k.finds.2) ([], append-nil (k.found ++ [])) c (none_yet (replay k.found) [] c (subst (λ r. MeansState watches r c) at m))))
 
-          reason : (k : Known w) → found ≡ replay k.found → (reply_to found Begin ≡ Refused refusals.Exhausted) ⊎ (limit ≤ m.number) → (changes (replay k.found) Begin ≡ false) ⊎ (cannot_rise w.slot ≡ true)
+          reason : (k : Known w) → found ≡ replay k.found → (reply_to found Begin ≡ Refused refusals.Exhausted) ⊎ (max_counter ≤ m.number) → (changes (replay k.found) Begin ≡ false) ⊎ (cannot_rise w.slot ≡ true)
           reason k at (inl refused) = inl (subst (λ r. changes r Begin ≡ false) at (ap is_change refused))
           reason k at (inr high) =
               let low : m.number ≤ w.slot = number_within (disk.seen d) m w.slot k.numbered in
-              inr (le-leb limit w.slot (omega (arith, high, low)))
+              inr (le-leb max_counter w.slot (omega (arith, high, low)))
 
       pub open_failed : CountsNow disk → (e : Refusal) → e ≢ refusals.NoMemory
           → (e ≡ refusals.DeviceFailed) ⊎ (e ≡ refusals.NoMemory) ⊎ (e ≡ refusals.Exhausted) ⊎ (e ≡ refusals.Damaged) ⊎ (e ≡ refusals.Retired)
-          → (disk.honest later_disk → LeavesOnly disk.moment disk.left_since d later_disk (disk.may_leave d) ⊎ ((found : State) × IsFound disk d later_disk found))
+          → (disk.honest later_disk → LeavesOnly disk.moment disk.left_since d later_disk (disk.may_leave d) ⊎ ((found : State) × FindsRegistry disk d later_disk found))
           → (disk.honest later_disk → e ≡ refusals.Damaged → IsDamaged watches (disk.seen d)) → (disk.honest later_disk → e ≡ refusals.Retired → IsRetired (disk.seen d))
-          → (disk.honest later_disk → e ≡ refusals.Exhausted → (found : State) × (m : MeansState watches found (disk.seen d)) × ((reply_to found Begin ≡ Refused refusals.Exhausted) ⊎ (limit ≤ m.number)))
+          → (disk.honest later_disk → e ≡ refusals.Exhausted → (found : State) × (m : MeansState watches found (disk.seen d)) × ((reply_to found Begin ≡ Refused refusals.Exhausted) ⊎ (max_counter ≤ m.number)))
           → (e ≡ refusals.DeviceFailed → Rose (disk.failures d) (disk.failures later_disk)) → (e ≢ refusals.DeviceFailed → disk.failures later_disk ≡ disk.failures d) → disk.failures d ≤ disk.failures later_disk
           → (disk.honest later_disk → e ≡ refusals.Exhausted → (found : State) × MeansState watches found (disk.seen d) × ((c : List ℕ) → disk.may_leave later_disk c → MeansState watches found c))
           → (disk.honest later_disk → e ≡ refusals.Exhausted → (found : State) × MeansState watches found (disk.seen d) × LeavesOnly disk.moment disk.left_since d later_disk (λ c. disk.may_leave d c ⊎ MeansState watches found c))
           → (disk.honest later_disk → (n : ℕ) → ((c : List ℕ) → disk.may_leave d c → IsNumberedTo n c) → (c : List ℕ) → disk.may_leave later_disk c → IsNumberedTo (n + 1) c)
-          → Meets disk opened (Leaves disk) old new
+          → Simulates disk opened (Leaves disk) old new
       open_failed law e memory kinds cut damaged retired exhausted failed stood later only still numbered = record {
         honest = λ h. subst (λ x. disk.honest (disk_of_server disk x)) (sym is_down) (honest (subst (λ x. disk.honest (disk_of_server disk x)) server h));
         goes = λ h w reached s. by (subst (λ x. disk.honest (disk_of_server disk x)) server h) w s kinds;
       }
         where
-          all_numbered : (h : disk.honest later_disk) (w : World) → Stands disk old w → (c : List ℕ) → disk.may_leave later_disk c → IsNumberedTo (w.slot + 1) c
+          all_numbered : (h : disk.honest later_disk) (w : World) → Refines disk old w → (c : List ℕ) → disk.may_leave later_disk c → IsNumberedTo (w.slot + 1) c
           all_numbered h w s = numbered h w.slot (λ c left. ((down_of w s).on.prefix c left).numbered)
 
-          device : (h : disk.honest later_disk) (w : World) → Stands disk old w → e ≡ refusals.DeviceFailed → LeavesOnly disk.moment disk.left_since d later_disk (disk.may_leave d) ⊎ ((found : State) × IsFound disk d later_disk found) → Open w
+          device : (h : disk.honest later_disk) (w : World) → Refines disk old w → e ≡ refusals.DeviceFailed → LeavesOnly disk.moment disk.left_since d later_disk (disk.may_leave d) ⊎ ((found : State) × FindsRegistry disk d later_disk found) → Open w
           device h w s is (inl run) = early w s (failed is) later (now disk law d later_disk (disk.may_leave d) h run) run
-          device h w s is (inr (found, f)) = late w s h (failed is) later found f (now disk law f.synced later_disk (MeansBeginning watches found (Begin ∷ [])) h f.from) (all_numbered h w s)
+          device h w s is (inr (found, f)) = late w s h (failed is) later found f (now disk law f.synced later_disk (MeansPrefix watches found (Begin ∷ [])) h f.from) (all_numbered h w s)
 
           not_device : e ≡ refusals.Exhausted → e ≢ refusals.DeviceFailed
           not_device is d = absurd (apart (sym is ∙ d))
@@ -267,7 +267,7 @@ module _ {D : Type 0} (disk : disks.Ghosts D) where
               apart : refusals.Exhausted ≡ refusals.DeviceFailed → ⊥
               apart x = true≢false (ap is_exhausted x)
 
-          by : disk.honest later_disk → (w : World) → Stands disk old w → (e ≡ refusals.DeviceFailed) ⊎ (e ≡ refusals.NoMemory) ⊎ (e ≡ refusals.Exhausted) ⊎ (e ≡ refusals.Damaged) ⊎ (e ≡ refusals.Retired) → Open w
+          by : disk.honest later_disk → (w : World) → Refines disk old w → (e ≡ refusals.DeviceFailed) ⊎ (e ≡ refusals.NoMemory) ⊎ (e ≡ refusals.Exhausted) ⊎ (e ≡ refusals.Damaged) ⊎ (e ≡ refusals.Retired) → Open w
           by h w s (inl is) = device h w s is (cut h)
           by h w s (inr (inl is)) = absurd (memory is)
           by h w s (inr (inr (inl is))) =

@@ -11,10 +11,11 @@ use Rattle.wm_view.specs.Histories.{History, is_ready}
 use Rattle.wm_since.specs.declared.query.Answer.{Answer}
 use Rattle.wm_since.specs.Answers.{answer_to}
 use Rattle.wm_since.specs.Clients.{next_question}
+use Rattle.wm_since.specs.Laws.{AnswersApply}
 use Rattle.wm_world.specs.declared.connection.Connection.{Connection}
 use Rattle.wm_world.specs.declared.event.Event.{Event}
 use Rattle.wm_world.specs.Worlds.{World, connected, is_of, live, nothing_yet, registry, wants, without_answer}
-use Rattle.wm_world.specs.Steps.{Begins, Run, answer_about, applied, asking, receiving, with_answer}
+use Rattle.wm_world.specs.Steps.{IsPrefix, Run, answer_about, applied, asking, receiving, with_answer}
 use Rattle.wm_world.specs.Laws.{ClientHolds, ClientsHold, IsClockAt, MatchesAt}
 use Rattle.wm_world.proofs.Clients.{Good, good_reached}
 use Rattle.wm_world.proofs.EachClient.{Lasts, all_on, each_client}
@@ -29,7 +30,7 @@ record Own (kept : List Command) (c : Connection) : Type 0 where
 
 -- ---- what is kept grows
 
-clock_on : (kept more : List Command) → Begins kept more → (path : Path) (k : ClockId) → IsClockAt kept path k → IsClockAt more path k
+clock_on : (kept more : List Command) → IsPrefix kept more → (path : Path) (k : ClockId) → IsClockAt kept path k → IsClockAt more path k
 clock_on kept more (rest, whole) path k i = record {
   part = i.part;
   begins = (i.begins.0 ++ rest, sym (append_assoc i.part i.begins.0 rest) ∙ ap (λ cs. cs ++ rest) i.begins.1 ∙ whole);
@@ -39,7 +40,7 @@ clock_on kept more (rest, whole) path k i = record {
   incarnation = i.incarnation;
 }
 
-own_on : (kept more : List Command) → Begins kept more → (c : Connection) → Own kept c → Own more c
+own_on : (kept more : List Command) → IsPrefix kept more → (c : Connection) → Own kept c → Own more c
 own_on kept more grows c o = record { held = on_clock c.mirror.clock o.held; coming = on_answer c.answer o.coming }
   where
     on_clock : (k : Option ClockId) → MatchOption k (Unit {0}) (IsClockAt kept c.mirror.root) → MatchOption k (Unit {0}) (IsClockAt more c.mirror.root)
@@ -105,5 +106,5 @@ both_hold w (c ∷ cs) g o = (by c.mirror.clock g.0.held o.0.held, both_hold w c
     by None m i = m
     by (Some k) m i = (m, i)
 
-pub clients_hold : ClientsHold
-clients_hold w (events, (faults, run)) = both_hold w w.clients (good_reached w (events, (faults, run))) (own_run (nothing_yet faults) events w tt run)
+pub clients_hold : AnswersApply → ClientsHold
+clients_hold applies w (events, (faults, run)) = both_hold w w.clients (good_reached applies w (events, (faults, run))) (own_run (nothing_yet faults) events w tt run)

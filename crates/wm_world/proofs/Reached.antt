@@ -3,8 +3,8 @@
 use Rattle.std.proofs.Common.{◌≡◌, inl, inr, ℕ, ◌-◌, Bool, true, false, cond, List, [], ◌∷◌, ◌++◌, map, refl, sym, subst, ◌∙◌}
 use Rattle.std.specs.List.{AllByRecursion, range_with_len}
 use Rattle.wm_registry.specs.declared.root.Root.{Root}
-use Rattle.wm_view.specs.Histories.{History, IsMade, after, begun}
-use Rattle.wm_view.proofs.Kept.{made_after}
+use Rattle.wm_view.specs.Histories.{History, IsMade, after_operation, new_history}
+use Rattle.wm_view.specs.laws.Made.{made_after}
 use Rattle.wm_world.specs.declared.event.Event.{Event}
 use Rattle.wm_world.specs.Worlds.{World, at_first, nothing_yet, registry}
 use Rattle.wm_world.specs.Steps.{IsReached, Run}
@@ -30,11 +30,11 @@ all_first P test f goes (x ∷ xs) h = elim (test x) as (λ b. AllByRecursion P 
 
 -- ---- histories that begin
 
-range_made : (i : ℕ) (ns : List ℕ) → AllByRecursion IsMade (map (begun i) ns)
+range_made : (i : ℕ) (ns : List ℕ) → AllByRecursion IsMade (map (new_history i) ns)
 range_made i [] = tt
 range_made i (n ∷ ns) = ((i, n, [], refl), range_made i ns)
 
-roots_made : (i : ℕ) (roots : List (List ℕ × Root)) → AllByRecursion IsMade (map (λ r. begun i r.1.number) roots)
+roots_made : (i : ℕ) (roots : List (List ℕ × Root)) → AllByRecursion IsMade (map (λ r. new_history i r.1.number) roots)
 roots_made i [] = tt
 roots_made i (r ∷ roots) = ((i, r.1.number, [], refl), roots_made i roots)
 
@@ -56,7 +56,7 @@ settled_shape old new s was = record { pending = λ t. clear (s.up t); made = by
 
     by : IsGrown old new → AllByRecursion IsMade new.histories
     by (inl e) = to old.histories e was.made
-    by (inr (inl (test, op, e))) = to _ e (all_first IsMade test (λ h. after h op) (λ h m. made_after h op m) old.histories was.made)
+    by (inr (inl (test, op, e))) = to _ e (all_first IsMade test (λ h. after_operation h op) (λ h m. made_after h op m) old.histories was.made)
     by (inr (inr (inl (up, e)))) = to _ e (all_both IsMade old.histories _ was.made (range_made (registry new).incarnation (range_with_len (registry old).next ((registry new).next - (registry old).next))))
     by (inr (inr (inr (part, later, e)))) = to _ e (all_both IsMade old.histories _ was.made (roots_made (registry new).incarnation (registry new).roots))
 

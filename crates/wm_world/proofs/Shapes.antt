@@ -4,13 +4,13 @@ use Rattle.wm_names.specs.Paths.{Path}
 use Rattle.wm_registry.specs.declared.command.Command.{Command}
 use Rattle.wm_registry.specs.declared.command.Command.TheVariants.{Begin}
 use Rattle.wm_registry.specs.declared.root.Root.{Root}
-use Rattle.wm_registry.specs.Registry.{fresh}
+use Rattle.wm_registry.specs.Registry.{empty_registry}
 use Rattle.wm_registry.specs.Roots.{State, root_at}
 use Rattle.std.specs.Option.{option_map_or}
 use Rattle.wm_expr.specs.Meanings.{is_path_only}
 use Rattle.wm_expr.specs.Views.{term}
 use Rattle.wm_store.specs.Batches.{accepted_of}
-use Rattle.wm_view.specs.Histories.{History, after}
+use Rattle.wm_view.specs.Histories.{History, after_operation}
 use Rattle.wm_view.specs.declared.op.Op.{Op}
 use Rattle.wm_view.specs.declared.op.Op.TheVariants as ops
 use Rattle.wm_world.specs.declared.event.Event.{Event}
@@ -28,7 +28,7 @@ IsUp old new = ((old.up ≡ true) × (new.pending ≡ old.pending)) ⊎ ((new.pe
 abbrev pub IsGrown : World → World → Type 0
 IsGrown old new =
     (new.histories ≡ old.histories)
-    ⊎ ((test : History → Bool) × (op : Op) × (new.histories ≡ at_first test (λ h. after h op) old.histories))
+    ⊎ ((test : History → Bool) × (op : Op) × (new.histories ≡ at_first test (λ h. after_operation h op) old.histories))
     ⊎ ((old.up ≡ true) × (new.histories ≡ old.histories ++ begun_between (registry old) (registry new)))
     ⊎ ((part : List Command) × ((replay (old.kept ++ part)).incarnation < (registry new).incarnation) × (new.histories ≡ old.histories ++ begun_all (registry new)))
 
@@ -56,18 +56,18 @@ not_up old v f t = absurd (true≢false (sym t ∙ f))
 
 -- ---- views
 
-one_goes_on : (old : World) (test : History → Bool) (op : Op) → Shape old (record old { histories = at_first test (λ h. after h op) old.histories })
+one_goes_on : (old : World) (test : History → Bool) (op : Op) → Shape old (record old { histories = at_first test (λ h. after_operation h op) old.histories })
 one_goes_on old test op = record {
   more = [];
   kept = sym (append-nil old.kept);
   histories = inr (inl (test, op, refl));
-  up = stays_up old (record old { histories = at_first test (λ h. after h op) old.histories }) refl refl;
+  up = stays_up old (record old { histories = at_first test (λ h. after_operation h op) old.histories }) refl refl;
 }
 
 operation : (old new : World) (path : Path) (op : Op) → new ≡ cond old.up (operated path op old) old → Shape old new
 operation old new path op e = like old _ new e (either old.up)
   where
-    by : (o : Option Root) → Shape old (option_map_or (λ root. record old { histories = at_first (is_of (registry old).incarnation root.number) (λ h. after h op) old.histories }) o old)
+    by : (o : Option Root) → Shape old (option_map_or (λ root. record old { histories = at_first (is_of (registry old).incarnation root.number) (λ h. after_operation h op) old.histories }) o old)
     by None = same old old refl
     by (Some root) = one_goes_on old (is_of (registry old).incarnation root.number) op
 
@@ -109,7 +109,7 @@ opened old new (found, (part, begins, is), raise, accepts, e) =
     let more : List Command = part ++ Begin ∷ [] in
     let whole : found ++ Begin ∷ [] ≡ old.kept ++ more = ap (λ cs. cs ++ Begin ∷ []) is ∙ append_assoc old.kept part (Begin ∷ []) in
     let next : (replay (found ++ Begin ∷ [])).incarnation ≡ (replay found).incarnation + 1 =
-    ap (λ (s : State). s.incarnation) (replay_more fresh found (Begin ∷ [])) ∙ began (replay found) accepts in
+    ap (λ (s : State). s.incarnation) (replay_more empty_registry found (Begin ∷ [])) ∙ began (replay found) accepts in
     let later : (replay (old.kept ++ part)).incarnation < (replay (found ++ Begin ∷ [])).incarnation =
     subst (λ cs. (replay cs).incarnation < (replay (found ++ Begin ∷ [])).incarnation) is (omega (arith, next)) in
     like old _ new e (record {
@@ -165,7 +165,7 @@ grows_shape old new s = by s.histories
 
     by : IsGrown old new → Grows old.histories new.histories
     by (inl e) = to old.histories e (grows_same old.histories)
-    by (inr (inl (test, op, e))) = to _ e (grows_at test (λ h. after h op) (λ h. extends_after h op) old.histories)
+    by (inr (inl (test, op, e))) = to _ e (grows_at test (λ h. after_operation h op) (λ h. extends_after h op) old.histories)
     by (inr (inr (inl (up, e)))) = to _ e (grows_append old.histories (begun_between (registry old) (registry new)))
     by (inr (inr (inr (part, later, e)))) = to _ e (grows_append old.histories (begun_all (registry new)))
 

@@ -6,21 +6,22 @@ use Rattle.wm_checkpoint.specs.Meanings.{Means}
 use Rattle.wm_checkpoint.specs.declared.layout.Slot.TheVariants.{A}
 use Rattle.wm_registry.specs.Laws.{NumbersInOrder, NumbersRise}
 use Rattle.wm_registry.specs.MachineLaws.{watches}
-use Rattle.wm_registry.specs.Registry.{fresh}
-use Rattle.wm_view.specs.Laws.{TickInRange}
+use Rattle.wm_registry.specs.Registry.{empty_registry}
+use Rattle.wm_view.specs.HistoryLaws.{TickInRange}
+use Rattle.wm_since.specs.Laws.{AnswersApply}
 use Rattle.wm_world.specs.declared.event.Event.{Event}
 use Rattle.wm_world.specs.declared.world.World.{World as Running}
 use Rattle.wm_world.specs.declared.world.Server.TheVariants.{Down}
 use Rattle.wm_world.specs.Worlds.{World, nothing_yet}
 use Rattle.wm_world.specs.Steps.{IsReached, Run, Step}
-use Rattle.wm_world.specs.Standings.{IsServer, Meets, Stands, disk_of}
+use Rattle.wm_world.specs.Refinement.{IsServer, Simulates, Refines, disk_of_world}
 use Rattle.wm_world.specs.Passes.{Passes}
 use Rattle.wm_world.specs.Headline.{Goes, Holds, IsDriven, IsFormatted, start}
 use Rattle.wm_world.proofs.Calls.{on_of}
 use Rattle.wm_world.proofs.Owners.{clients_hold}
 use Rattle.wm_world.proofs.Moments.{in_range}
 use Rattle.wm_world.proofs.Shapes.{runs_on}
-use Rattle.wm_checkpoint.proofs.Numbering.{means_numbered}
+use Rattle.wm_checkpoint.specs.laws.Numbering.{means_numbered}
 use Rattle.wm_world.proofs.Stores.{none_yet}
 
 folds_more : {V X : Type 0} (R : V → X → V → Type 0) (a b c : V) (xs : List X) (x : X) → FoldsTo R a xs b → R b x c → FoldsTo R a (xs ++ x ∷ []) c
@@ -29,15 +30,15 @@ folds_more R a b c (y ∷ ys) x (mid, first, rest) r = (mid, first, folds_more R
 
 module _ {D : Type 0} (disk : disks.Ghosts D) where
   -- a world that has just been made
-  pub begins : (d : D) (world : Running D) → world.server ≡ Down d → world.shown.views.items ≡ [] → world.shown.replies.items ≡ [] → world.shown.clients.items ≡ [] → IsFormatted disk d → Stands disk world (nothing_yet (disk.failures d))
+  pub begins : (d : D) (world : Running D) → world.server ≡ Down d → world.shown.views.items ≡ [] → world.shown.replies.items ≡ [] → world.shown.clients.items ≡ [] → IsFormatted disk d → Refines disk world (nothing_yet (disk.failures d))
   begins d world server none replies clients f = record {
     server = subst (λ s. IsServer disk s world.shown.views.items (nothing_yet (disk.failures d))) (sym server) (record {
       down = refl;
       none = none;
       on = record {
         prefix = λ c left.
-            let m : Means watches c A 1 fresh [] = subst (λ x. Means watches x A 1 fresh []) (sym (f.durable c left)) f.formatted in
-            record { means = none_yet fresh [] c (record { slot = A; number = 1; base = fresh; commands = []; means = m; is = refl }); numbered = means_numbered watches c A 1 fresh [] m };
+            let m : Means watches c A 1 empty_registry [] = subst (λ x. Means watches x A 1 empty_registry []) (sym (f.durable c left)) f.formatted in
+            record { means = none_yet empty_registry [] c (record { slot = A; number = 1; base = empty_registry; commands = []; means = m; is = refl }); numbered = means_numbered watches c A 1 empty_registry [] m };
         faults = refl;
       };
     });
@@ -45,20 +46,20 @@ module _ {D : Type 0} (disk : disks.Ghosts D) where
     clients = clients;
   }
 
-module _ {D : Type 0} (disk : disks.Ghosts D) (rising : NumbersRise) (ordered : NumbersInOrder) (ticks : TickInRange) where
-  holds : (world : Running D) (w : World) → disk.honest (disk_of disk world) → IsReached w → Stands disk world w → Holds disk (record { disk = disk_of disk world; world = w })
+module _ {D : Type 0} (disk : disks.Ghosts D) (rising : NumbersRise) (ordered : NumbersInOrder) (ticks : TickInRange) (applies : AnswersApply) where
+  holds : (world : Running D) (w : World) → disk.honest (disk_of_world disk world) → IsReached w → Refines disk world w → Holds disk (record { disk = disk_of_world disk world; world = w })
   holds world w h reached s =
       let on = on_of disk world.server world.shown.views.items w s.server in
       record {
         honest = h;
         prefix = on.prefix;
-        clients = clients_hold w reached;
+        clients = clients_hold applies w reached;
         clocks = λ g among ready. in_range rising ordered ticks w g reached among ready;
         faults = on.faults;
       }
 
   module _ (plan : D → Option ℕ) where
-    pub driven_none : (d : D) (world : Running D) → disk.honest (disk_of disk world) → disk_of disk world ≡ d → Stands disk world (nothing_yet (disk.failures d)) → IsDriven disk plan d [] world
+    pub driven_none : (d : D) (world : Running D) → disk.honest (disk_of_world disk world) → disk_of_world disk world ≡ d → Refines disk world (nothing_yet (disk.failures d)) → IsDriven disk plan d [] world
     driven_none d world h is s = record {
       first = subst (λ x. Holds disk (record { disk = x; world = nothing_yet (disk.failures d) })) is (holds world (nothing_yet (disk.failures d)) h ([], (disk.failures d, refl)) s);
       last = nothing_yet (disk.failures d);
@@ -67,7 +68,7 @@ module _ {D : Type 0} (disk : disks.Ghosts D) (rising : NumbersRise) (ordered : 
       stands = s;
     }
 
-    pub driven_more : (d : D) (events : List Event) (event : Event) (old new : Running D) → disk.honest (disk_of disk new) → IsDriven disk plan d events old → Meets disk (λ w v. Step w event v) (Passes disk plan event) old new → IsDriven disk plan d (events ++ event ∷ []) new
+    pub driven_more : (d : D) (events : List Event) (event : Event) (old new : Running D) → disk.honest (disk_of_world disk new) → IsDriven disk plan d events old → Simulates disk (λ w v. Step w event v) (Passes disk plan event) old new → IsDriven disk plan d (events ++ event ∷ []) new
     driven_more d events event old new h driven meets =
         let next = meets.goes h driven.last (events, (disk.failures d, driven.steps)) driven.stands in
         let steps : Run (nothing_yet (disk.failures d)) (events ++ event ∷ []) next.0 = runs_on (nothing_yet (disk.failures d)) events driven.last (event ∷ []) next.0 driven.steps (next.0, next.1, refl) in
@@ -76,6 +77,6 @@ module _ {D : Type 0} (disk : disks.Ghosts D) (rising : NumbersRise) (ordered : 
           first = driven.first;
           last = next.0;
           steps = steps;
-          run = folds_more (Goes disk plan) (start disk d) (record { disk = disk_of disk old; world = driven.last }) (record { disk = disk_of disk new; world = next.0 }) events event driven.run (record { step = next.1; passes = next.3; holds = holds new next.0 h reached next.2 });
+          run = folds_more (Goes disk plan) (start disk d) (record { disk = disk_of_world disk old; world = driven.last }) (record { disk = disk_of_world disk new; world = next.0 }) events event driven.run (record { step = next.1; passes = next.3; holds = holds new next.0 h reached next.2 });
           stands = next.2;
         }

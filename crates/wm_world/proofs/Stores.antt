@@ -8,44 +8,44 @@ use Rattle.wm_disk.specs.Moments.{LeavesOnly}
 use Rattle.wm_disk.specs.declared.disk.Disk as disks
 use Rattle.wm_disk.specs.declared.refusal.Refusal.{Refusal}
 use Rattle.wm_disk.specs.declared.refusal.Refusal.TheVariants as refusals
+use Rattle.wm_disk.specs.Counters.{max_counter}
 use Rattle.wm_checkpoint.specs.Machines.{replay_on}
-use Rattle.wm_checkpoint.specs.Meanings.{Means, MeansBeginning, MeansState}
+use Rattle.wm_checkpoint.specs.Meanings.{Means, MeansPrefix, MeansState}
 use Rattle.wm_checkpoint.specs.declared.layout.Slot.{Slot}
-use Rattle.wm_checkpoint.proofs.Numbering.{means_numbered, numbered_more}
-use Rattle.wm_clock.specs.Clocks.{limit}
+use Rattle.wm_checkpoint.specs.laws.Numbering.{means_numbered, numbered_more}
 use Rattle.wm_registry.specs.declared.command.Command.{Command}
 use Rattle.wm_registry.specs.declared.reply.Reply.{Reply}
 use Rattle.wm_registry.specs.MachineLaws.{watches}
-use Rattle.wm_registry.specs.Registry.{fresh}
+use Rattle.wm_registry.specs.Registry.{empty_registry}
 use Rattle.wm_registry.specs.Roots.{State}
-use Rattle.wm_store.specs.Batches.{AreAnswered, IsShort, accepted_of}
+use Rattle.wm_store.specs.Batches.{AreAnswered, IsOutOfMemory, accepted_of}
 use Rattle.wm_store.specs.Stored.{Stored}
-use Rattle.wm_view.specs.Histories.{History, begun}
+use Rattle.wm_view.specs.Histories.{History, new_history}
 use Rattle.wm_view.specs.Summaries.{Summary, summary}
 use Rattle.wm_checkpoint.specs.Numbers.{IsNumberedTo}
 use Rattle.wm_world.specs.declared.world.World.{World as Running}
 use Rattle.wm_world.specs.declared.world.Server.TheVariants.{Up, Down}
 use Rattle.wm_world.specs.Worlds.{World, begun_between, registry, replay, without_answer}
 use Rattle.wm_world.specs.Steps.{BatchCut, BatchDone, Checkpointed, Cut, batch, checkpointed, down}
-use Rattle.wm_world.specs.Standings.{AreViews, IsServer, IsUp, Meets, Stands, disk_of_server}
+use Rattle.wm_world.specs.Refinement.{AreViews, IsServer, IsUp, Simulates, Refines, disk_of_server}
 use Rattle.wm_world.specs.Passes.{KeepsBetween, Leaves, Raises, Switches}
-use Rattle.wm_journal.proofs.Opening.{weaker}
-use Rattle.wm_store.proofs.Runs.{OnlyNow}
+use Rattle.wm_disk.specs.laws.Runs.{weaker, OnlyNow}
 use Rattle.wm_world.proofs.Batching.{answered_more, same_incarnation}
 use Rattle.wm_world.proofs.Between.{between_before, between_more}
 use Rattle.wm_world.proofs.Calls.{nothing}
 use Rattle.wm_world.proofs.Reached.{pending_is_own}
 use Rattle.wm_world.proofs.Replays.{replay_more}
+use Rattle.wm_registry.specs.Limits.{max_batch}
 
 -- ---- contents
 
 -- nothing of the commands is there yet
-pub none_yet : (s : State) (commands : List Command) (c : List ℕ) → MeansState watches s c → MeansBeginning watches s commands c
+pub none_yet : (s : State) (commands : List Command) (c : List ℕ) → MeansState watches s c → MeansPrefix watches s commands c
 none_yet s commands c m = record { count = 0; within = omega arith; means = m }
 
 -- ---- views of a batch
 
-all_begun_in : (i : ℕ) (ns : List ℕ) → AllByRecursion (λ (h : History). h.incarnation ≡ i) (map (begun i) ns)
+all_begun_in : (i : ℕ) (ns : List ℕ) → AllByRecursion (λ (h : History). h.incarnation ≡ i) (map (new_history i) ns)
 all_begun_in i [] = tt
 all_begun_in i (n ∷ ns) = (refl, all_begun_in i ns)
 
@@ -77,11 +77,11 @@ module _ {D : Type 0} (disk : disks.Ghosts D) where
   pub now : CountsNow → (old new : D) (P : List ℕ → Type 0) → disk.honest new → LeavesOnly disk.moment disk.left_since old new P → (c : List ℕ) → disk.may_leave new c → P c
   now law old new P h run c left = run.each c (law new (disk.moment old) c h run.later left)
 
-  up_of : (old : Running D) (before : Stored D) (w : World) → old.server ≡ Up before → Stands disk old w → IsUp disk before old.shown.views.items w
+  up_of : (old : Running D) (before : Stored D) (w : World) → old.server ≡ Up before → Refines disk old w → IsUp disk before old.shown.views.items w
   up_of old before w is s = subst (λ x. IsServer disk x old.shown.views.items w) is s.server
 
-  fits : (w : World) (commands : List Command) → w.up ≡ true → length commands ≤ 64 → (w.up && nat_le (length commands) 64) ≡ true
-  fits w commands up short = λ i. up i && le-leb (length commands) 64 short i
+  fits : (w : World) (commands : List Command) → w.up ≡ true → length commands ≤ max_batch → (w.up && nat_le (length commands) max_batch) ≡ true
+  fits w commands up short = λ i. up i && le-leb (length commands) max_batch short i
 
   -- a call that leaves what was meant
   stays_meant : (w : World) (registry_then : State) (before after : D) (afterwards : List Command) → registry_then ≡ registry w → LeavesOnly disk.moment disk.left_since before after (MeansState watches registry_then)
@@ -99,24 +99,24 @@ module _ {D : Type 0} (disk : disks.Ghosts D) where
 
   -- ---- commands
 
-  module _ (old new : Running D) (before after : Stored D) (commands : List Command) (replies : List Reply) (is_up : old.server ≡ Up before) (short : length commands ≤ 64) where
+  module _ (old new : Running D) (before after : Stored D) (commands : List Command) (replies : List Reply) (is_up : old.server ≡ Up before) (short : length commands ≤ max_batch) where
     pub batch_done : new.server ≡ Up after → new.shown.replies.items ≡ replies → new.shown.clients ≡ old.shown.clients
-        → new.shown.views.items ≡ old.shown.views.items ++ map summary (map (begun after.registry.incarnation) (range_with_len before.registry.next (after.registry.next - before.registry.next)))
-        → AreAnswered after.number after.room before.registry commands replies → (IsShort replies → ⊥)
+        → new.shown.views.items ≡ old.shown.views.items ++ map summary (map (new_history after.registry.incarnation) (range_with_len before.registry.next (after.registry.next - before.registry.next)))
+        → AreAnswered after.number after.room before.registry commands replies → (IsOutOfMemory replies → ⊥)
         → after.registry ≡ replay_on watches before.registry (accepted_of commands replies)
         → (disk.honest after.disk → disk.honest before.disk) → disk.failures after.disk ≡ disk.failures before.disk
         → after.failed ≡ false → after.closed ≡ false → after.number ≤ before.number + length commands
         → (disk.honest after.disk → (c : List ℕ) → disk.may_leave after.disk c → MeansState watches after.registry c)
         → (before.failed ≡ false → disk.honest after.disk → (c : List ℕ) → disk.may_leave after.disk c → IsNumberedTo (before.number + length commands) c)
-        → (disk.honest after.disk → LeavesOnly disk.moment disk.left_since before.disk after.disk (MeansBeginning watches before.registry (accepted_of commands replies)))
-        → Meets disk (batch commands) (Leaves disk) old new
+        → (disk.honest after.disk → LeavesOnly disk.moment disk.left_since before.disk after.disk (MeansPrefix watches before.registry (accepted_of commands replies)))
+        → Simulates disk (batch commands) (Leaves disk) old new
     batch_done server said clients views answered long led honest faults whole open_yet number means numbered leaves = record {
       honest = λ h. subst (λ x. disk.honest (disk_of_server disk x)) (sym is_up) (honest (subst (λ x. disk.honest (disk_of_server disk x)) server h));
       goes = λ h w reached s.
           let up = up_of old before w is_up s in
           let there : disk.honest after.disk = subst (λ x. disk.honest (disk_of_server disk x)) server h in
           let more : List Command = accepted_of commands replies in
-          let led_to : after.registry ≡ replay (w.kept ++ more) = led ∙ ap (λ r. replay_on watches r more) up.registry_is ∙ sym (replay_more fresh w.kept more) in
+          let led_to : after.registry ≡ replay (w.kept ++ more) = led ∙ ap (λ r. replay_on watches r more) up.registry_is ∙ sym (replay_more empty_registry w.kept more) in
           let high : after.number ≤ w.slot + length commands = omega (arith, number, up.number) in
           let v : World = record w {
             kept = w.kept ++ more;
@@ -125,7 +125,7 @@ module _ {D : Type 0} (disk : disks.Ghosts D) where
             histories = w.histories ++ begun_between (registry w) (replay (w.kept ++ more));
           } in
           let met : AreAnswered v.slot 0 (registry w) commands replies = subst (λ r. AreAnswered v.slot 0 r commands replies) up.registry_is (answered_more after.number after.room v.slot before.registry commands replies high answered) in
-          let same : (replay (w.kept ++ more)).incarnation ≡ (registry w).incarnation = ap (λ (r : State). r.incarnation) (replay_more fresh w.kept more) ∙ same_incarnation v.slot (registry w) commands replies met in
+          let same : (replay (w.kept ++ more)).incarnation ≡ (registry w).incarnation = ap (λ (r : State). r.incarnation) (replay_more empty_registry w.kept more) ∙ same_incarnation v.slot (registry w) commands replies met in
           let done : BatchDone w commands v = (replies, met, long, (omega arith, omega arith), refl) in (
             v,
             subst (λ b. MatchBool b (BatchDone w commands v ⊎ BatchCut w commands v) (v ≡ w)) (sym (fits w commands up.up short)) (inl done),
@@ -143,15 +143,15 @@ module _ {D : Type 0} (disk : disks.Ghosts D) where
                   };
                   faults = faults ∙ up.on.faults;
                 };
-                views_are = subst (λ vs. AreViews vs v) (sym (views ∙ (λ i. old.shown.views.items ++ map summary (map (begun (led_to i).incarnation) (range_with_len (up.registry_is i).next ((led_to i).next - (up.registry_is i).next))))))
+                views_are = subst (λ vs. AreViews vs v) (sym (views ∙ (λ i. old.shown.views.items ++ map summary (map (new_history (led_to i).incarnation) (range_with_len (up.registry_is i).next ((led_to i).next - (up.registry_is i).next))))))
                     (views_more old.shown.views.items w v (begun_between (registry w) (replay (w.kept ++ more))) same refl (all_begun_in (replay (w.kept ++ more)).incarnation _) up.views_are);
               });
               replies = said;
               clients = ap (λ r. r.items) clients ∙ s.clients;
             },
             moved old new before after.disk (KeepsBetween w (v.kept ++ v.pending)) is_up (ap (disk_of_server disk) server)
-                (weaker disk.moment disk.left_since before.disk after.disk (MeansBeginning watches before.registry more) (KeepsBetween w (v.kept ++ v.pending)) (leaves there)
-                (λ c m. between_more w (v.kept ++ v.pending) more (ap (λ p. (w.kept ++ more) ++ p) (pending_is_own w reached up.up) ∙ append-nil (w.kept ++ more)) c (subst (λ r. MeansBeginning watches r more c) up.registry_is m))),
+                (weaker disk.moment disk.left_since before.disk after.disk (MeansPrefix watches before.registry more) (KeepsBetween w (v.kept ++ v.pending)) (leaves there)
+                (λ c m. between_more w (v.kept ++ v.pending) more (ap (λ p. (w.kept ++ more) ++ p) (pending_is_own w reached up.up) ∙ append-nil (w.kept ++ more)) c (subst (λ r. MeansPrefix watches r more c) up.registry_is m))),
           );
     }
 
@@ -161,9 +161,9 @@ module _ {D : Type 0} (disk : disks.Ghosts D) where
     abbrev cut_to : World → ℕ → List Command → World
     cut_to w by pending = record (down w) { pending = pending; faults = disk.failures after.disk; slot = w.slot + by }
 
-    cut_stands : (w : World) (by : ℕ) (pending : List Command) → Stands disk old w
-        → ((c : List ℕ) → disk.may_leave after.disk c → MeansBeginning watches before.registry pending c)
-        → ((c : List ℕ) → disk.may_leave after.disk c → IsNumberedTo (before.number + by) c) → Stands disk new (cut_to w by pending)
+    cut_stands : (w : World) (by : ℕ) (pending : List Command) → Refines disk old w
+        → ((c : List ℕ) → disk.may_leave after.disk c → MeansPrefix watches before.registry pending c)
+        → ((c : List ℕ) → disk.may_leave after.disk c → IsNumberedTo (before.number + by) c) → Refines disk new (cut_to w by pending)
     cut_stands w by pending s means numbered =
         let up = up_of old before w is_up s in
         record {
@@ -172,7 +172,7 @@ module _ {D : Type 0} (disk : disks.Ghosts D) where
             none = gone;
             on = record {
               prefix = λ c left. record {
-                means = subst (λ r. MeansBeginning watches r pending c) up.registry_is (means c left);
+                means = subst (λ r. MeansPrefix watches r pending c) up.registry_is (means c left);
                 numbered = numbered_more (before.number + by) (w.slot + by) c (omega (arith, up.number)) (numbered c left);
               };
               faults = refl;
@@ -182,7 +182,7 @@ module _ {D : Type 0} (disk : disks.Ghosts D) where
           clients = lost ∙ ap (λ cs. map without_answer cs) s.clients;
         }
 
-    is_cut : (w : World) (by : ℕ) (pending : List Command) → Stands disk old w → Rose (disk.failures before.disk) (disk.failures after.disk) → disk.failures before.disk ≤ disk.failures after.disk
+    is_cut : (w : World) (by : ℕ) (pending : List Command) → Refines disk old w → Rose (disk.failures before.disk) (disk.failures after.disk) → disk.failures before.disk ≤ disk.failures after.disk
         → Cut by w pending (cut_to w by pending)
     is_cut w by pending s rose later =
         let faults = (up_of old before w is_up s).on.faults in
@@ -195,7 +195,7 @@ module _ {D : Type 0} (disk : disks.Ghosts D) where
     still_there h = subst (λ x. disk.honest (disk_of_server disk x)) server h
 
     -- only a failure of the device takes down a store that was whole
-    device : (w : World) (e : Refusal) → Stands disk old w → (e ≡ refusals.DeviceFailed) ⊎ (e ≡ refusals.NoMemory) ⊎ (e ≡ refusals.StoreFailed) → e ≢ refusals.NoMemory
+    device : (w : World) (e : Refusal) → Refines disk old w → (e ≡ refusals.DeviceFailed) ⊎ (e ≡ refusals.NoMemory) ⊎ (e ≡ refusals.StoreFailed) → e ≢ refusals.NoMemory
         → (e ≡ refusals.StoreFailed → (before.failed ≡ true) ⊎ (before.closed ≡ true)) → e ≡ refusals.DeviceFailed
     device w e s (inl d) memory closed = d
     device w e s (inr (inl m)) memory closed = absurd (memory m)
@@ -208,15 +208,15 @@ module _ {D : Type 0} (disk : disks.Ghosts D) where
         by (inl f) = absurd (true≢false (sym f ∙ up.whole))
         by (inr f) = absurd (true≢false (sym f ∙ up.open_yet))
 
-    pub batch_cut : CountsNow → (commands : List Command) (e : Refusal) → length commands ≤ 64
+    pub batch_cut : CountsNow → (commands : List Command) (e : Refusal) → length commands ≤ max_batch
         → (e ≡ refusals.DeviceFailed) ⊎ (e ≡ refusals.NoMemory) ⊎ (e ≡ refusals.StoreFailed) → e ≢ refusals.NoMemory → (e ≡ refusals.StoreFailed → (before.failed ≡ true) ⊎ (before.closed ≡ true))
         → (before.failed ≡ false → (replies : List Reply) × (AreAnswered after.number after.room before.registry commands replies
-        × (disk.honest after.disk → LeavesOnly disk.moment disk.left_since before.disk after.disk (MeansBeginning watches before.registry (accepted_of commands replies)))
+        × (disk.honest after.disk → LeavesOnly disk.moment disk.left_since before.disk after.disk (MeansPrefix watches before.registry (accepted_of commands replies)))
         × (e ≡ refusals.DeviceFailed → accepted_of commands replies ≡ [] → ⊥)))
         → (e ≡ refusals.DeviceFailed → Rose (disk.failures before.disk) (disk.failures after.disk)) → disk.failures before.disk ≤ disk.failures after.disk
         → after.number ≤ before.number + length commands
         → (before.failed ≡ false → disk.honest after.disk → (c : List ℕ) → disk.may_leave after.disk c → IsNumberedTo (before.number + length commands) c)
-        → Meets disk (batch commands) (Leaves disk) old new
+        → Simulates disk (batch commands) (Leaves disk) old new
     batch_cut law commands e short kinds memory closed flight rose later number numbered = record {
       honest = is_honest;
       goes = λ h w reached s.
@@ -232,10 +232,10 @@ module _ {D : Type 0} (disk : disks.Ghosts D) where
           let cut : BatchCut w commands v = (replies, met, f.1.2 d, is_cut w (length commands) pending s (rose d) later) in (
             v,
             subst (λ b. MatchBool b (BatchDone w commands v ⊎ BatchCut w commands v) (v ≡ w)) (sym (fits w commands up.up short)) (inr cut),
-            cut_stands w (length commands) pending s (λ c left. now law before.disk after.disk (MeansBeginning watches before.registry pending) there (f.1.1 there) c left) (numbered up.whole there),
+            cut_stands w (length commands) pending s (λ c left. now law before.disk after.disk (MeansPrefix watches before.registry pending) there (f.1.1 there) c left) (numbered up.whole there),
             moved old new before after.disk (KeepsBetween w (w.kept ++ pending)) is_up (ap (disk_of_server disk) server)
-                (weaker disk.moment disk.left_since before.disk after.disk (MeansBeginning watches before.registry pending) (KeepsBetween w (w.kept ++ pending)) (f.1.1 there)
-                (λ c m. between_more w (w.kept ++ pending) pending refl c (subst (λ r. MeansBeginning watches r pending c) up.registry_is m))),
+                (weaker disk.moment disk.left_since before.disk after.disk (MeansPrefix watches before.registry pending) (KeepsBetween w (w.kept ++ pending)) (f.1.1 there)
+                (λ c m. between_more w (w.kept ++ pending) pending refl c (subst (λ r. MeansPrefix watches r pending c) up.registry_is m))),
           );
     }
 
@@ -244,7 +244,7 @@ module _ {D : Type 0} (disk : disks.Ghosts D) where
         → (before.failed ≡ false → disk.honest after.disk → LeavesOnly disk.moment disk.left_since before.disk after.disk (MeansState watches before.registry))
         → (e ≡ refusals.DeviceFailed → Rose (disk.failures before.disk) (disk.failures after.disk)) → disk.failures before.disk ≤ disk.failures after.disk
         → (before.failed ≡ false → disk.honest after.disk → (c : List ℕ) → disk.may_leave after.disk c → IsNumberedTo (before.number + 1) c)
-        → Meets disk checkpointed (Switches disk) old new
+        → Simulates disk checkpointed (Switches disk) old new
     checkpoint_cut law e kinds memory counter closed leaves rose later numbered = record {
       honest = is_honest;
       goes = λ h w reached s.
@@ -284,7 +284,7 @@ module _ {D : Type 0} (disk : disks.Ghosts D) where
         → after.number ≡ before.number + 1 → after.registry ≡ before.registry
         → (disk.honest after.disk → (slot : Slot) × ((c : List ℕ) → disk.may_leave after.disk c → Means watches c slot after.number after.registry []))
         → (before.failed ≡ false → disk.honest before.disk → (c : List ℕ) → disk.may_leave before.disk c → IsCounted before c)
-        → (before.failed ≡ false → disk.honest after.disk → LeavesOnly disk.moment disk.left_since before.disk after.disk (MeansState watches before.registry)) → Meets disk checkpointed (Switches disk) old new
+        → (before.failed ≡ false → disk.honest after.disk → LeavesOnly disk.moment disk.left_since before.disk after.disk (MeansState watches before.registry)) → Simulates disk checkpointed (Switches disk) old new
     checkpoint_done honest faults whole open_yet number same means counted leaves = record {
       honest = λ h. subst (λ x. disk.honest (disk_of_server disk x)) (sym is_up) (honest (subst (λ x. disk.honest (disk_of_server disk x)) server h));
       goes = λ h w reached s.
@@ -329,15 +329,15 @@ module _ {D : Type 0} (disk : disks.Ghosts D) where
     }
 
     -- the counter is spent: nothing happens
-    pub checkpoint_spent : after ≡ before → limit ≤ before.number
+    pub checkpoint_spent : after ≡ before → max_counter ≤ before.number
         → (before.failed ≡ false → disk.honest before.disk → (c : List ℕ) → disk.may_leave before.disk c → IsCounted before c)
-        → (before.failed ≡ false → disk.honest after.disk → LeavesOnly disk.moment disk.left_since before.disk after.disk (MeansState watches before.registry)) → Meets disk checkpointed (Switches disk) old new
+        → (before.failed ≡ false → disk.honest after.disk → LeavesOnly disk.moment disk.left_since before.disk after.disk (MeansState watches before.registry)) → Simulates disk checkpointed (Switches disk) old new
     checkpoint_spent same spent counted leaves = record {
       honest = subst (λ x. disk.honest (disk_of_server disk x) → disk.honest (disk_of_server disk old.server)) (sym (server ∙ ap Up same ∙ sym is_up)) (λ h. h);
       goes = λ h w reached s.
           let up = up_of old before w is_up s in (
             w,
-            subst (λ b. MatchBool b (Checkpointed w w ⊎ Cut 1 w [] w) (w ≡ w)) (sym up.up) (inl (inr (le-leb limit w.slot (omega (arith, spent, up.number)), refl))),
+            subst (λ b. MatchBool b (Checkpointed w w ⊎ Cut 1 w [] w) (w ≡ w)) (sym up.up) (inl (inr (le-leb max_counter w.slot (omega (arith, spent, up.number)), refl))),
             record {
               server = subst (λ vs. IsServer disk new.server vs.items w) (sym views) (subst (λ x. IsServer disk x old.shown.views.items w) (sym (server ∙ ap Up same ∙ sym is_up)) s.server);
               replies = ap (λ r. r.items) said ∙ s.replies;
@@ -349,19 +349,19 @@ module _ {D : Type 0} (disk : disks.Ghosts D) where
               done = λ alive rose. absurd (omega (arith, rose));
               spent = λ alive stayed c left.
                   let is = counted_in w before up.registry_is (counted up.whole (subst (λ x. disk.honest (disk_of_server disk x)) (server ∙ ap Up same) h)) c (subst (λ x. disk.may_leave (disk_of_server disk x) c) is_up left) in
-                  (is.0, subst (λ n. limit ≤ n) (sym is.1) spent);
+                  (is.0, subst (λ n. max_counter ≤ n) (sym is.1) spent);
             },
           );
     }
 
-  pub too_long : OnlyNow disk → (world : Running D) (commands : List Command) → 64 < length commands → Meets disk (batch commands) (Leaves disk) world world
+  pub too_long : OnlyNow disk → (world : Running D) (commands : List Command) → max_batch < length commands → Simulates disk (batch commands) (Leaves disk) world world
   too_long only world commands long =
       nothing disk only world (batch commands)
-      (λ w reached s. subst (λ b. MatchBool b (BatchDone w commands w ⊎ BatchCut w commands w) (w ≡ w)) (sym (unfit w.up (nat_le (length commands) 64) (leb-not (length commands) long))) refl)
+      (λ w reached s. subst (λ b. MatchBool b (BatchDone w commands w ⊎ BatchCut w commands w) (w ≡ w)) (sym (unfit w.up (nat_le (length commands) max_batch) (leb-not (length commands) long))) refl)
     where
       unfit : (a b : Bool) → b ≡ false → (a && b) ≡ false
       unfit true b e = e
       unfit false b e = refl
 
-      leb-not : (n : ℕ) → 64 < n → nat_le n 64 ≡ false
-      leb-not n low = lt-leb n 64 low
+      leb-not : (n : ℕ) → max_batch < n → nat_le n max_batch ≡ false
+      leb-not n low = lt-leb n max_batch low

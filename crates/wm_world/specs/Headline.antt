@@ -7,7 +7,7 @@ use Rattle.wm_checkpoint.specs.Meanings.{Means}
 use Rattle.wm_checkpoint.specs.declared.layout.Slot.TheVariants.{A}
 use Rattle.wm_clock.specs.Clocks.{is_clock}
 use Rattle.wm_registry.specs.MachineLaws.{watches}
-use Rattle.wm_registry.specs.Registry.{fresh}
+use Rattle.wm_registry.specs.Registry.{empty_registry}
 use Rattle.wm_view.specs.Histories.{History, is_ready}
 use Rattle.wm_since.specs.Answers.{clock_of}
 use Rattle.wm_world.specs.declared.event.Event.{Event}
@@ -15,7 +15,7 @@ use Rattle.wm_world.specs.declared.world.World.{World as Running}
 use Rattle.wm_world.specs.Worlds.{World, nothing_yet}
 use Rattle.wm_world.specs.Steps.{Run, Step}
 use Rattle.wm_world.specs.Laws.{ClientHolds, IsAmong}
-use Rattle.wm_world.specs.Standings.{KeepsPrefix, Stands, disk_of}
+use Rattle.wm_world.specs.Refinement.{KeepsPrefix, Refines, disk_of_world}
 use Rattle.wm_world.specs.Passes.{Passes}
 
 -- between two events: a disk, and a world
@@ -26,10 +26,10 @@ pub record Moment (D : Type 0) : Type 0 where
 module _ {D : Type 0} (disk : disks.Ghosts D) where
   -- a disk as a format that succeeded left it
   pub record IsFormatted (d : D) : Type 0 where
-    pub formatted : Means watches (disk.seen d) A 1 fresh []
+    pub formatted : Means watches (disk.seen d) A 1 empty_registry []
     pub durable : Only (disk.seen d) (disk.may_leave d)
 
-  -- What holds between any two events: every content that a crash may leave means the replay of what is kept and a beginning of what
+  -- What holds between any two events: every content that a crash may leave means the replay of what is kept and a prefix of what
   -- is in flight; each client has exactly the matching files of its root in the view at its last clock; and the numbers of each clock
   -- are those that a clock's text may have.
   pub record Holds (m : Moment D) : Type 0 where
@@ -55,5 +55,5 @@ module _ {D : Type 0} (disk : disks.Ghosts D) where
       pub first : Holds (start d)
       pub last : World
       pub steps : Run (nothing_yet (disk.failures d)) events last
-      pub run : FoldsTo Goes (start d) events (record { disk = disk_of disk world; world = last })
-      pub stands : Stands disk world last
+      pub run : FoldsTo Goes (start d) events (record { disk = disk_of_world disk world; world = last })
+      pub stands : Refines disk world last

@@ -2,6 +2,7 @@
 use Rattle.std.specs.Prelude.{◌≡◌, ◌⊎◌, ℕ, ◌+◌, ◌≤◌, length, Bool, true, false, not, List, [], ◌∷◌, ◌++◌, Some, MatchOption}
 use Rattle.std.specs.List.{AllByRecursion, filter}
 use Rattle.wm_disk.specs.Contents.{Rose}
+use Rattle.wm_disk.specs.Parts.{IsPartOf}
 use Rattle.wm_names.specs.Paths.{Path}
 use Rattle.wm_names.specs.declared.entry.Entry.{Entry}
 use Rattle.wm_clock.specs.declared.clock_id.ClockId.{ClockId}
@@ -21,7 +22,7 @@ use Rattle.wm_world.specs.declared.connection.Connection.{Connection}
 use Rattle.wm_world.specs.declared.event.Event.{Event}
 use Rattle.wm_world.specs.declared.event.Event.TheVariants as events
 use Rattle.wm_world.specs.Worlds.{World, history_in, cannot_rise, live, registry, replay, wants}
-use Rattle.wm_world.specs.Steps.{Begins, BatchDone, IsReached, Leads, Run, Step, answer_about}
+use Rattle.wm_world.specs.Steps.{IsPrefix, BatchDone, IsReached, Leads, Run, Step, answer_about}
 
 -- ---- clients
 
@@ -32,7 +33,7 @@ MatchesAt hs passes files clock = (h : History) × (history_in hs clock.incarnat
 -- the clock is that of a root that was watched at the path, after some of the commands that are kept
 pub record IsClockAt (kept : List Command) (path : Path) (clock : ClockId) : Type 0 where
   pub part : List Command
-  pub begins : Begins part kept
+  pub begins : IsPrefix part kept
   pub root : Root
   pub there : root_at path (replay part) ≡ Some root
   pub number : root.number ≡ clock.root
@@ -90,12 +91,6 @@ InRange = (w : World) (h : History) → IsReached w → IsAmong h w.histories �
 abbrev pub PendingIsOwn : Type 0
 PendingIsOwn = (w : World) → IsReached w → w.up ≡ true → w.pending ≡ []
 
--- the first list is the second with some items left out
-abbrev pub IsPartOf : {A : Type 0} → List A → List A → Type 0
-IsPartOf [] ys = Unit {0}
-IsPartOf (x ∷ xs) [] = ⊥
-IsPartOf (x ∷ xs) (y ∷ ys) = ((x ≡ y) × IsPartOf xs ys) ⊎ IsPartOf (x ∷ xs) ys
-
 abbrev pub without_begins : List Command → List Command
 without_begins commands = filter (λ c. not (is_begin c)) commands
 
@@ -116,10 +111,10 @@ NothingInvented = (events : List Event) (w : World) → Leads events w → IsPar
 -- what is kept stays, and a batch that is done keeps what it accepted
 abbrev pub AcknowledgedStays : Type 0
 AcknowledgedStays = (old mid new : World) (commands : List Command) (events : List Event) → BatchDone old commands mid → Run mid events new
-    → Begins (old.kept ++ accepted_of commands mid.replies) new.kept
+    → IsPrefix (old.kept ++ accepted_of commands mid.replies) new.kept
 
 abbrev pub KeptStays : Type 0
-KeptStays = (old new : World) (events : List Event) → Run old events new → Begins old.kept new.kept
+KeptStays = (old new : World) (events : List Event) → Run old events new → IsPrefix old.kept new.kept
 
 -- by how much an event may raise the slot's number
 abbrev pub raise_by : Event → ℕ
@@ -138,9 +133,9 @@ SlotBound = (old new : World) (events : List Event) → Run old events new → n
 
 -- ---- restarts
 
--- A restart finds what was kept, a beginning of what was in flight, and one Begin more, which begins an incarnation. Where the server
+-- A restart finds what was kept, a prefix of what was in flight, and one Begin more, which begins an incarnation. Where the server
 -- isn't up after it, the same is kept without that Begin, and the device failed, or the incarnation or the slot's number is spent.
 abbrev pub RestartFinds : Type 0
-RestartFinds = (old new : World) → old.up ≡ false → Step old events.Open new → (part : List Command) × Begins part old.pending
+RestartFinds = (old new : World) → old.up ≡ false → Step old events.Open new → (part : List Command) × IsPrefix part old.pending
     × (((new.up ≡ true) × (changes (replay (old.kept ++ part)) Begin ≡ true) × (registry new ≡ replay (old.kept ++ part ++ Begin ∷ [])))
     ⊎ ((new.up ≡ false) × (new.kept ≡ old.kept ++ part) × (Rose old.faults new.faults ⊎ (cannot_rise old.slot ≡ true) ⊎ (changes (registry new) Begin ≡ false))))

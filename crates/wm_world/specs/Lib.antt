@@ -1,6 +1,6 @@
 pub mod Headline
 pub mod Laws
 pub mod Passes
-pub mod Standings
+pub mod Refinement
 pub mod Steps
 pub mod Worlds

@@ -3,22 +3,22 @@ use Rattle.std.specs.Prelude.{◌≡◌, ◌≤◌, ◌+◌, ◌⊎◌, ℕ, tru
 use Rattle.wm_disk.specs.Contents.{NoMore, Only}
 use Rattle.wm_disk.specs.Moments.{LeavesOnly}
 use Rattle.wm_disk.specs.declared.disk.Disk as disks
+use Rattle.wm_disk.specs.Counters.{max_counter}
 use Rattle.wm_checkpoint.specs.Meanings.{Means, MeansState}
 use Rattle.wm_checkpoint.specs.declared.layout.Slot.{Slot}
-use Rattle.wm_clock.specs.Clocks.{limit}
 use Rattle.wm_registry.specs.declared.command.Command.{Command}
 use Rattle.wm_registry.specs.MachineLaws.{watches}
 use Rattle.wm_world.specs.declared.event.Event.{Event}
 use Rattle.wm_world.specs.declared.event.Event.TheVariants as events
 use Rattle.wm_world.specs.Worlds.{World, registry, replay}
-use Rattle.wm_world.specs.Steps.{Begins}
+use Rattle.wm_world.specs.Steps.{IsPrefix}
 
--- A content that a crash within an event may leave: it means the replay of what was kept and a beginning of what was in flight, or of
+-- A content that a crash within an event may leave: it means the replay of what was kept and a prefix of what was in flight, or of
 -- what is kept and in flight afterwards.
 pub record KeepsBetween (w : World) (afterwards : List Command) (content : List ℕ) : Type 0 where
   pub found : List Command
-  pub stays : Begins w.kept found
-  pub known : Begins found (w.kept ++ w.pending) ⊎ Begins found afterwards
+  pub stays : IsPrefix w.kept found
+  pub known : IsPrefix found (w.kept ++ w.pending) ⊎ IsPrefix found afterwards
   pub means : MeansState watches (replay found) content
 
 -- from the disk d and the world w to the disk e and the world v
@@ -39,7 +39,7 @@ module _ {D : Type 0} (disk : disks.Ghosts D) where
     pub leaves : Leaves d w e v
     -- It is done where the server stays up and the bound rises, and else the number is spent.
     pub done : v.up ≡ true → v.slot ≡ w.slot + 1 → Raises d w e
-    pub spent : v.up ≡ true → v.slot ≡ w.slot → (c : List ℕ) → disk.may_leave d c → (m : MeansState watches (registry w) c) × (limit ≤ m.number)
+    pub spent : v.up ≡ true → v.slot ≡ w.slot → (c : List ℕ) → disk.may_leave d c → (m : MeansState watches (registry w) c) × (max_counter ≤ m.number)
 
   -- how many calls of a disk still pass before each fails, where failures are planned
   module _ (plan : D → Option ℕ) where

@@ -6,15 +6,16 @@ use Rattle.wm_disk.specs.Contents.{Rose}
 use Rattle.wm_names.specs.Paths.{Path}
 use Rattle.wm_expr.specs.Meanings.{is_path_only}
 use Rattle.wm_expr.specs.Views.{term}
+use Rattle.wm_registry.specs.Limits.{max_batch}
 use Rattle.wm_registry.specs.declared.command.Command.{Command}
 use Rattle.wm_registry.specs.declared.command.Command.TheVariants.{Begin}
 use Rattle.wm_registry.specs.declared.reply.Reply.{Reply}
 use Rattle.wm_registry.specs.Registry.{changes}
 use Rattle.wm_registry.specs.Roots.{root_at}
-use Rattle.wm_store.specs.Batches.{AreAnswered, IsShort, accepted_of}
+use Rattle.wm_store.specs.Batches.{AreAnswered, IsOutOfMemory, accepted_of}
 use Rattle.wm_view.specs.declared.op.Op.{Op}
 use Rattle.wm_view.specs.declared.op.Op.TheVariants as ops
-use Rattle.wm_view.specs.Histories.{History, after, is_ready}
+use Rattle.wm_view.specs.Histories.{History, after_operation, is_ready}
 use Rattle.wm_since.specs.declared.query.Answer.{Answer}
 use Rattle.wm_since.specs.Answers.{answer_to}
 use Rattle.wm_since.specs.Clients.{next_question, received}
@@ -31,17 +32,17 @@ MayRaise before later by = (before ≤ later) × (later ≤ before + by)
 abbrev pub down : World → World
 down w = record w { up = false; clients = map without_answer w.clients }
 
--- this is a beginning of those
-abbrev pub Begins : List Command → List Command → Type 0
-Begins part whole = (rest : List Command) × (part ++ rest ≡ whole)
+-- this is a prefix of those
+abbrev pub IsPrefix : List Command → List Command → Type 0
+IsPrefix part whole = (rest : List Command) × (part ++ rest ≡ whole)
 
 -- ---- commands
 
--- A batch that is done: each command is answered as the registry has it, and none for want of memory. The accepted ones are kept, and
+-- A batch that is done: each command is answered as the registry has it, and none when out of memory. The accepted ones are kept, and
 -- each root number that they gave away begins a history, also one that the same batch took back.
 abbrev pub BatchDone : World → List Command → World → Type 0
 BatchDone old commands new =
-    (replies : List Reply) × AreAnswered new.slot 0 (registry old) commands replies × (IsShort replies → ⊥)
+    (replies : List Reply) × AreAnswered new.slot 0 (registry old) commands replies × (IsOutOfMemory replies → ⊥)
     × MayRaise old.slot new.slot (length commands)
     × (new ≡ record old {
       kept = old.kept ++ accepted_of commands replies;
@@ -69,9 +70,9 @@ Checkpointed old new = (new ≡ record old { slot = old.slot + 1 }) ⊎ ((cannot
 
 -- ---- a start
 
--- what is kept turns out to be this: what was, and a beginning of what was in flight
+-- what is kept turns out to be this: what was, and a prefix of what was in flight
 abbrev pub Finds : World → List Command → Type 0
-Finds old found = (part : List Command) × Begins part old.pending × (found ≡ old.kept ++ part)
+Finds old found = (part : List Command) × IsPrefix part old.pending × (found ≡ old.kept ++ part)
 
 -- the Begin of a start, where the registry accepts it
 abbrev pub begin_on : List Command → List Command
@@ -105,7 +106,7 @@ OpenSpent old new = MayRaise old.slot new.slot 1
 abbrev pub OpenDone : World → World → Type 0
 OpenDone old new = Opened old new ⊎ OpenCutEarly old new ⊎ OpenCutLate old new ⊎ OpenSpent old new
 
--- a loss of power keeps what was kept, and a beginning of what was in flight
+-- a loss of power keeps what was kept, and a prefix of what was in flight
 abbrev pub Crashed : World → World → Type 0
 Crashed old new = (found : List Command) × Finds old found × (new ≡ record (down old) { kept = found; pending = [] })
 
@@ -114,7 +115,7 @@ Crashed old new = (found : List Command) × Finds old found × (new ≡ record (
 -- an operation on the history of a watched root; one that is refused changes nothing
 abbrev pub operated : Path → Op → World → World
 operated path op w =
-    option_map_or (λ root. record w { histories = at_first (is_of (registry w).incarnation root.number) (λ h. after h op) w.histories }) (root_at path (registry w)) w
+    option_map_or (λ root. record w { histories = at_first (is_of (registry w).incarnation root.number) (λ h. after_operation h op) w.histories }) (root_at path (registry w)) w
 
 -- ---- clients
 
@@ -150,9 +151,9 @@ with_client f n w = record w { clients = changed_at f n w.clients }
 
 -- ---- what needs the server up or down
 
--- at most 64 commands, while the server is up
+-- not too many commands, while the server is up
 abbrev pub batch : List Command → World → World → Type 0
-batch commands old new = MatchBool (old.up && nat_le (length commands) 64) (BatchDone old commands new ⊎ BatchCut old commands new) (new ≡ old)
+batch commands old new = MatchBool (old.up && nat_le (length commands) max_batch) (BatchDone old commands new ⊎ BatchCut old commands new) (new ≡ old)
 
 abbrev pub checkpointed : World → World → Type 0
 checkpointed old new = MatchBool old.up (Checkpointed old new ⊎ Cut 1 old [] new) (new ≡ old)

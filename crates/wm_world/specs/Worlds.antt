@@ -2,8 +2,8 @@
 use Rattle.std.specs.Prelude.{ℕ, ◌-◌, Bool, false, ◌&&◌, cond, List, [], ◌∷◌, map, nat_le, ◌==◌, Option, None}
 use Rattle.std.specs.List.{find, range_with_len}
 use Rattle.std.specs.Option.{option_map_or}
+use Rattle.wm_disk.specs.Counters.{max_counter}
 use Rattle.wm_checkpoint.specs.Machines.{replay_on}
-use Rattle.wm_clock.specs.Clocks.{limit}
 use Rattle.wm_names.specs.Paths.{Path}
 use Rattle.wm_names.specs.declared.entry.Entry.{Entry}
 use Rattle.wm_expr.specs.declared.expr.Expr.{Expr}
@@ -12,15 +12,15 @@ use Rattle.wm_expr.specs.Views.{term}
 use Rattle.wm_registry.specs.declared.command.Command.{Command}
 use Rattle.wm_registry.specs.declared.reply.Reply.{Reply}
 use Rattle.wm_registry.specs.MachineLaws.{watches}
-use Rattle.wm_registry.specs.Registry.{fresh}
+use Rattle.wm_registry.specs.Registry.{empty_registry}
 use Rattle.wm_registry.specs.Roots.{State, root_at}
-use Rattle.wm_view.specs.Histories.{History, begun}
+use Rattle.wm_view.specs.Histories.{History, new_history}
 use Rattle.wm_since.specs.Clients.{closed, new_client}
 use Rattle.wm_world.specs.declared.connection.Connection.{Connection}
 
 pub record World : Type 0 where
   pub kept : List Command  -- accepted and acknowledged, each Begin among them
-  pub pending : List Command  -- accepted and in flight when the device failed: a restart finds a beginning of them
+  pub pending : List Command  -- accepted and in flight when the device failed: a restart finds a prefix of them
   pub up : Bool  -- the server is up
   pub replies : List Reply  -- those of the last batch that was done
   pub faults : ℕ  -- how often the device has failed
@@ -36,7 +36,7 @@ nothing_yet faults = record { kept = []; pending = []; up = false; replies = [];
 
 -- the registry after these commands, from a new file on
 abbrev pub replay : List Command → State
-replay commands = replay_on watches fresh commands
+replay commands = replay_on watches empty_registry commands
 
 -- that of the server, and while it is down that of what is kept for certain
 abbrev pub registry : World → State
@@ -44,7 +44,7 @@ registry w = replay w.kept
 
 -- a counter that can't rise
 abbrev pub cannot_rise : ℕ → Bool
-cannot_rise n = nat_le limit n
+cannot_rise n = nat_le max_counter n
 
 -- ---- histories
 
@@ -60,11 +60,11 @@ live w path = option_map_or (λ root. history_in w.histories (registry w).incarn
 
 -- each number that the commands gave away begins a history
 abbrev pub begun_between : State → State → List History
-begun_between old new = map (begun new.incarnation) (range_with_len old.next (new.next - old.next))
+begun_between old new = map (new_history new.incarnation) (range_with_len old.next (new.next - old.next))
 
 -- a start begins one for each root
 abbrev pub begun_all : State → List History
-begun_all s = map (λ r. begun s.incarnation r.1.number) s.roots
+begun_all s = map (λ r. new_history s.incarnation r.1.number) s.roots
 
 -- ---- clients
 

@@ -3,7 +3,7 @@
 ghost use Rattle.std.specs.Prelude.{◌≡◌, OnOk, is_some, map};
 ghost use Rattle.wm_world.specs.Worlds.{connected, without_answer};
 ghost use Rattle.wm_world.specs.Steps.{receiving};
-ghost use Rattle.wm_world.specs.Standings.{asking_by};
+ghost use Rattle.wm_world.specs.Refinement.{asking_by};
 
 use crate::views::view_at;
 use std::alloc::Global;

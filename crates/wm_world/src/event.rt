@@ -11,7 +11,7 @@ use wm_view::{Listing, Pairs};
 pub enum Event {
     /// A start: the store is opened on the disk.
     Open,
-    /// A batch of at most 64 commands.
+    /// A batch of at most `MAX_BATCH` commands.
     Commands(Vec<Command>),
     /// The state goes into the other slot.
     Checkpoint,

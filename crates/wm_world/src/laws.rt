@@ -2,7 +2,10 @@
 //! Definitions: specs/Laws.antt.
 ghost use Rattle.wm_world.specs.Laws.{AcknowledgedStays, ClientsHold, InRange, KeptStays, NothingInvented, OneMoment, OneMomentOfAnswers, PendingIsOwn, RestartFinds, SlotBound};
 
+use wm_clock::clock_laws;
 use wm_registry::every_registry;
+use wm_since::every_client;
+use wm_view::every_operation;
 
 /// What holds of every run, whatever the events are.
 pub fn every_run()
@@ -20,5 +23,8 @@ pub fn every_run()
     ensures bound { SlotBound }
     ensures restart { RestartFinds }
 {
+    clock_laws();
+    every_client();
+    every_operation();
     every_registry();
 }

@@ -8,7 +8,7 @@
 //!   relation with one row for each kind of event (specs/Steps.antt), on plain lists of commands, histories
 //!   and clients (specs/Worlds.antt); no disk and no program stands in it.
 //! - A crash at any moment within an event, so within any write, leaves a content that means the registry
-//!   after what was acknowledged and a beginning of what is in flight (`Passes`, specs/Passes.antt).
+//!   after what was acknowledged and a prefix of what is in flight (`Passes`, specs/Passes.antt).
 //! - In each state of the run (`Holds`, specs/Headline.antt) every content that a crash may leave means the
 //!   registry after a prefix of the accepted commands that holds each acknowledged one, and each client has
 //!   exactly the matching files of its root in the view at its last clock.
@@ -28,7 +28,7 @@ mod connection;
 mod driving;
 mod event;
 mod laws;
-mod store;
+mod starting;
 mod views;
 mod world;
 

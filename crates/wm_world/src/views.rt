@@ -1,12 +1,13 @@
 //! Finds the view of a root among those of the world, and does an operation to it.
-//! Definitions: specs/Standings.antt, specs/Worlds.antt. Tests: session_tests/src/world/sweep.rt.
-ghost use Rattle.std.specs.Prelude.{◌≡◌, ◌≢◌, IfErr, OnOk, position, find, option_map};
+//! Definitions: specs/Refinement.antt, specs/Worlds.antt. Tests: session_tests/src/world/sweep.rt.
+ghost use Rattle.std.specs.Prelude.{◌≡◌, OnOk, position, find, option_map};
 ghost use Rattle.wm_view.specs.Steps.{step};
 ghost use Rattle.wm_world.specs.Worlds.{at_first};
-ghost use Rattle.wm_world.specs.Standings.{is_root, view_at as view_at_lem};
+ghost use Rattle.wm_world.specs.Refinement.{is_root, view_at as view_at_lem};
 
+use crate::starting::unless_memory;
 use std::alloc::Global;
-use wm_disk::{NoMemory, Refusal};
+use wm_disk::NoMemory;
 use wm_names::RootPath;
 use wm_registry::Registry;
 use wm_view::{Op, View};
@@ -16,16 +17,6 @@ fn place_of(views: &[View], number: u64) -> Option<usize>
     ensures { result ≡ position (is_root number) views.now }
 {
     views.iter().position(|view| view.root() == number)
-}
-
-/// Another refusal than want of memory changes nothing, and is no fault.
-fn unless_memory(done: Result<(), Refusal>) -> Result<(), NoMemory>
-    ensures { OnOk result (IfErr done (λ e. e ≢ Refusal.NoMemory)) }
-{
-    match done {
-        Err(Refusal::NoMemory) => Err(NoMemory),
-        _ => Ok(()),
-    }
 }
 
 /// Does the operation to the view of the root with the number. One that is refused changes nothing.
@@ -40,7 +31,10 @@ pub(crate) fn perform(
     let Some(place) = place_of(views, number) else {
         return Ok(());
     };
-    unless_memory(views[place].perform(alloc, op))
+    match views[place].perform(alloc, op) {
+        Ok(()) => Ok(()),
+        Err(refusal) => unless_memory(refusal),
+    }
 }
 
 /// The view of the root with the number.

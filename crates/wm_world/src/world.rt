@@ -1,26 +1,26 @@
 //! The world itself: one call for each kind of event, and each call is one row of `Step`.
-//! Definitions: specs/Steps.antt, specs/Standings.antt. Tests: session_tests/src/world.
+//! Definitions: specs/Steps.antt, specs/Refinement.antt. Tests: session_tests/src/world.
 ghost use Rattle.std.specs.Prelude.{◌≡◌, ◌++◌, ◌∷◌, [], cond, map, option_map, IfOk, OnOk};
 ghost use Rattle.wm_expr.specs.Meanings.{is_path_only};
 ghost use Rattle.wm_expr.specs.Views.{term};
 ghost use Rattle.wm_world.specs.Worlds.{connected, nothing_yet, without_answer};
 ghost use Rattle.wm_world.specs.Steps.{Crashed as IsCrashed, Step, asking, batch, checkpointed, opened, down, operated, receiving, with_client};
-ghost use Rattle.wm_world.specs.Standings.{Meets, Stands, disk_of, disk_of_server, clients_of, number_at as number_at_lem, registry_of, replies_of, views_of};
+ghost use Rattle.wm_world.specs.Refinement.{Simulates, Refines, disk_of_world, disk_of_server, clients_of, number_at as number_at_lem, registry_of, replies_of, views_of};
 ghost use Rattle.wm_world.specs.Passes.{Armed, Halted, Leaves, Passes, PowerLost, Switches};
 ghost use Rattle.wm_world.specs.Headline.{IsFormatted};
 
 use crate::connection::Connection;
 use crate::event::Event;
-use crate::{connection, store, views};
+use crate::{connection, starting, views};
 use std::alloc::Global;
 use wm_checkpoint::every_content;
 use wm_disk::{Crashed, NoMemory};
 use wm_expr::Expr;
 use wm_names::RootPath;
-use wm_registry::{Command, Registry, Reply, every_registry};
-use wm_since::Mirror;
-use wm_store::{MAX_BATCH, Store};
-use wm_view::{Op, View};
+use wm_registry::{Command, MAX_BATCH, Registry, Reply, every_registry};
+use wm_since::{Mirror, every_answer, every_client};
+use wm_store::Store;
+use wm_view::{Op, View, every_operation};
 
 /// A server that is up with its store, or down.
 #[derive(Drop)]
@@ -73,8 +73,8 @@ pub struct World<D: Crashed + Drop> {
 impl<D: Crashed + Drop> World<D> {
     /// One on a disk as a `format` that succeeded left it: down, with nothing accepted.
     pub(crate) fn new(alloc: Global, disk: D) -> World<D>
-        ensures disk { disk_of D.Disk result ≡ disk }
-        ensures stands { IsFormatted D.Disk disk → Stands D.Disk result (nothing_yet (D.failures disk)) }
+        ensures disk { disk_of_world D.Disk result ≡ disk }
+        ensures stands { IsFormatted D.Disk disk → Refines D.Disk result (nothing_yet (D.failures disk)) }
     {
         World {
             server: Server::Down(disk),
@@ -88,7 +88,7 @@ impl<D: Crashed + Drop> World<D> {
 
     /// One event more.
     pub(crate) fn step(mut self, alloc: Global, event: Event) -> Result<World<D>, NoMemory>
-        ensures { IfOk result (Meets D.Disk (λ w v. Step w event v) (Passes D.Disk D.plan event) self) }
+        ensures { IfOk result (Simulates D.Disk (λ w v. Step w event v) (Passes D.Disk D.plan event) self) }
     {
         match event {
             Event::Open => self.open(alloc),
@@ -162,8 +162,9 @@ impl<D: Crashed + Drop> World<D> {
 
     /// Does the operation to the view of the root at the path.
     fn operate(&mut self, alloc: Global, path: &RootPath, op: &Op) -> Result<(), NoMemory>
-        ensures { OnOk result (Meets D.Disk (λ w v. v ≡ cond w.up (operated path.now op.now w) w) (Leaves D.Disk) self.old self.new) }
+        ensures { OnOk result (Simulates D.Disk (λ w v. v ≡ cond w.up (operated path.now op.now w) w) (Leaves D.Disk) self.old self.new) }
     {
+        every_operation();
         let Some(number) = self.server.number_at(path) else {
             return Ok(());
         };
@@ -172,7 +173,7 @@ impl<D: Crashed + Drop> World<D> {
 
     /// A new client of the root at the path.
     fn connect(&mut self, alloc: Global, path: RootPath, test: Expr) -> Result<(), NoMemory>
-        ensures { OnOk result (Meets D.Disk (λ w v. v ≡ cond (is_path_only (term test)) (record w { clients = w.clients ++ connected path test ∷ [] }) w) (Leaves D.Disk) self.old self.new) }
+        ensures { OnOk result (Simulates D.Disk (λ w v. v ≡ cond (is_path_only (term test)) (record w { clients = w.clients ++ connected path test ∷ [] }) w) (Leaves D.Disk) self.old self.new) }
     {
         let Ok(mirror) = Mirror::new(alloc, path, test) else {
             return Ok(());
@@ -186,7 +187,7 @@ impl<D: Crashed + Drop> World<D> {
 
     /// The client with this number asks.
     fn ask(&mut self, alloc: Global, n: usize) -> Result<(), NoMemory>
-        ensures { OnOk result (Meets D.Disk (λ w v. v ≡ cond w.up (with_client (asking w) n w) w) (Leaves D.Disk) self.old self.new) }
+        ensures { OnOk result (Simulates D.Disk (λ w v. v ≡ cond w.up (with_client (asking w) n w) w) (Leaves D.Disk) self.old self.new) }
     {
         let Server::Up(store) = &self.server else {
             return Ok(());
@@ -194,6 +195,7 @@ impl<D: Crashed + Drop> World<D> {
         if n >= self.shown.clients.len() {
             return Ok(());
         }
+        every_answer();
         connection::ask(
             alloc,
             store.registry(),
@@ -204,17 +206,18 @@ impl<D: Crashed + Drop> World<D> {
 
     /// The answer on its way to the client with this number comes.
     fn receive(&mut self, alloc: Global, n: usize) -> Result<(), NoMemory>
-        ensures { OnOk result (Meets D.Disk (λ w v. v ≡ with_client receiving n w) (Leaves D.Disk) self.old self.new) }
+        ensures { OnOk result (Simulates D.Disk (λ w v. v ≡ with_client receiving n w) (Leaves D.Disk) self.old self.new) }
     {
         if n >= self.shown.clients.len() {
             return Ok(());
         }
+        every_client();
         connection::receive(alloc, &mut self.shown.clients[n])
     }
 
     /// The answer on its way to the client with this number is lost.
     fn lose(mut self, n: usize) -> World<D>
-        ensures { Meets D.Disk (λ w v. v ≡ with_client without_answer n w) (Leaves D.Disk) self result }
+        ensures { Simulates D.Disk (λ w v. v ≡ with_client without_answer n w) (Leaves D.Disk) self result }
     {
         if n >= self.shown.clients.len() {
             return self;
@@ -225,7 +228,7 @@ impl<D: Crashed + Drop> World<D> {
 
     /// So many calls of the disk pass, and then each fails.
     fn arm(&mut self, calls: u64)
-        ensures { Meets D.Disk (λ w v. v ≡ w) (Armed D.Disk D.plan calls) self.old self.new }
+        ensures { Simulates D.Disk (λ w v. v ≡ w) (Armed D.Disk D.plan calls) self.old self.new }
     {
         match &mut self.server {
             Server::Up(store) => store.arm(calls),
@@ -235,7 +238,7 @@ impl<D: Crashed + Drop> World<D> {
 
     /// A batch of commands.
     fn commands(self, alloc: Global, commands: Vec<Command>) -> Result<World<D>, NoMemory>
-        ensures { IfOk result (Meets D.Disk (batch commands.items) (Leaves D.Disk) self) }
+        ensures { IfOk result (Simulates D.Disk (batch commands.items) (Leaves D.Disk) self) }
     {
         if commands.len() > MAX_BATCH {
             return Ok(self);
@@ -251,10 +254,10 @@ impl<D: Crashed + Drop> World<D> {
         let next = store.registry().next_root();
         match store.commit_batch(alloc, commands) {
             Ok(replies) => {
-                store::unless_short(&replies)?;
+                starting::unless_out_of_memory(&replies)?;
                 let registry = store.registry();
                 let incarnation = registry.incarnation();
-                store::begin_views(
+                starting::begin_views(
                     alloc,
                     &mut shown.views,
                     incarnation,
@@ -268,7 +271,7 @@ impl<D: Crashed + Drop> World<D> {
                 })
             }
             Err(refusal) => {
-                store::unless_memory(refusal)?;
+                starting::unless_memory(refusal)?;
                 Ok(fallen(store.into_disk(), shown))
             }
         }
@@ -276,7 +279,7 @@ impl<D: Crashed + Drop> World<D> {
 
     /// The state goes into the other slot.
     fn checkpoint(self, alloc: Global) -> Result<World<D>, NoMemory>
-        ensures { IfOk result (Meets D.Disk checkpointed (Switches D.Disk) self) }
+        ensures { IfOk result (Simulates D.Disk checkpointed (Switches D.Disk) self) }
     {
         let World { server, shown } = self;
         let mut store = match server {
@@ -292,7 +295,7 @@ impl<D: Crashed + Drop> World<D> {
                 shown,
             }),
             Err(refusal) => {
-                if store::takes_down(refusal)? {
+                if starting::takes_down(refusal)? {
                     return Ok(fallen(store.into_disk(), shown));
                 }
                 Ok(World {
@@ -305,7 +308,7 @@ impl<D: Crashed + Drop> World<D> {
 
     /// A start.
     fn open(self, alloc: Global) -> Result<World<D>, NoMemory>
-        ensures { IfOk result (Meets D.Disk opened (Leaves D.Disk) self) }
+        ensures { IfOk result (Simulates D.Disk opened (Leaves D.Disk) self) }
     {
         let World { server, mut shown } = self;
         let disk = match server {
@@ -319,14 +322,14 @@ impl<D: Crashed + Drop> World<D> {
         every_registry();
         match Store::open(alloc, disk) {
             Ok(store) => {
-                shown.views = store::first_views(alloc, store.registry())?;
+                shown.views = starting::first_views(alloc, store.registry())?;
                 Ok(World {
                     server: Server::Up(store),
                     shown,
                 })
             }
             Err((refusal, disk)) => {
-                store::unless_memory(refusal)?;
+                starting::unless_memory(refusal)?;
                 Ok(World {
                     server: Server::Down(disk),
                     shown,
@@ -337,14 +340,14 @@ impl<D: Crashed + Drop> World<D> {
 
     /// A loss of power.
     fn crash(self) -> World<D>
-        ensures { Meets D.Disk IsCrashed (PowerLost D.Disk D.plan) self result }
+        ensures { Simulates D.Disk IsCrashed (PowerLost D.Disk D.plan) self result }
     {
         fallen(self.server.into_disk().crash(), self.shown)
     }
 
     /// A stop of the process.
     fn stop(self) -> World<D>
-        ensures { Meets D.Disk (λ w v. v ≡ down w) (Halted D.Disk D.plan) self result }
+        ensures { Simulates D.Disk (λ w v. v ≡ down w) (Halted D.Disk D.plan) self result }
     {
         fallen(self.server.into_disk().stop(), self.shown)
     }

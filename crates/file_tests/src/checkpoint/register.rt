@@ -1,5 +1,5 @@
 //! A register, the machine of these tests.
-ghost use Rattle.file_tests.specs.Registers.{alive_register, differs, idle_register};
+ghost use Rattle.file_tests.specs.Registers.{alive_register, changes_register, idle_register};
 ghost use Rattle.std.proofs.Common.{arith};
 
 use std::alloc::Global;
@@ -18,9 +18,9 @@ impl Machine for Register {
 
     ghost after = { λ s c. c };
 
-    ghost changes = { differs };
+    ghost changes = { changes_register };
 
-    ghost reply = { differs };
+    ghost reply = { changes_register };
 
     fn apply(_alloc: Global, state: &mut u64, command: &u64) -> Result<(bool, bool), NoMemory> {
         let differs = *state != *command;

@@ -1,7 +1,7 @@
 //! A switch, a machine whose commands aren't all bytes.
 ghost use Rattle.std.specs.Prelude.{ℕ, Bool, if◌then◌else◌};
 ghost use Rattle.std.proofs.Common.{arith};
-ghost use Rattle.file_tests.specs.Registers.{alive_register, differs, idle_register, position};
+ghost use Rattle.file_tests.specs.Registers.{alive_register, changes_register, idle_register, position};
 
 use crate::disks::{content_of, disk_of, overwrite};
 use std::alloc::Global;
@@ -22,9 +22,9 @@ impl Machine for Switch {
 
     ghost after = { λ s c. position c };
 
-    ghost changes = { λ s c. differs s (position c) };
+    ghost changes = { λ s c. changes_register s (position c) };
 
-    ghost reply = { λ s c. differs s (position c) };
+    ghost reply = { λ s c. changes_register s (position c) };
 
     fn apply(_alloc: Global, state: &mut u64, command: &bool) -> Result<(bool, bool), NoMemory> {
         let to = if *command { 1 } else { 0 };

@@ -170,7 +170,7 @@ fn cut(alloc: Global, fill: &[u8], run: Run) -> Result<(MemDisk, bool), Refusal>
     Ok((disk, is_empty && answered))
 }
 
-/// Whether a run leaves a beginning of the group, which still stands where it is written behind.
+/// Whether a run leaves a prefix of the group, which still stands where it is written behind.
 fn holds(alloc: Global, fill: &[u8], run: Run) -> Result<bool, Refusal> {
     let (begun, gone_on) = *FOUND.get(run.left).ok_or(Refusal::BadArguments)?;
     let (disk, answered) = cut(alloc, fill, run)?;

@@ -13,7 +13,7 @@ fn is_down(alloc: Global, store: &mut Kept) -> Result<bool, Refusal> {
     Ok(refused && store.checkpoint(alloc) == down && store.close() == down)
 }
 
-/// A batch of three, and what is watched after each beginning of it.
+/// A batch of three, and what is watched after each prefix of it.
 const BATCH: &[&str] = &["/a", "/b", "/c"];
 
 const FOUND: &[&str] = &["", "/a ", "/a /b ", "/a /b /c "];
@@ -61,7 +61,7 @@ const CHOICES: &[u64] = &[0, 1, 2, 3, 0x5555_5555_5555_5555, 0xaaaa_aaaa_aaaa_aa
 /// Where a call is cut: behind so many of its device calls, by a crash that leaves what the choice says.
 type Cut = (u64, u64);
 
-/// Whether a crash in the batch leaves at most so many of its commands, and a beginning of it.
+/// Whether a crash in the batch leaves at most so many of its commands, and a prefix of it.
 fn begins(
     alloc: Global,
     content: &[u8],

@@ -1,24 +1,25 @@
 //! Clocks and their texts.
 use std::alloc::Global;
 use std::test::Fail;
-use wm_clock::{ClockId, LIMIT, MAX_TEXT};
+use wm_clock::{ClockId, MAX_CLOCK_TEXT, MAX_DIGITS, put_number};
+use wm_disk::MAX_COUNTER;
 
 // Incarnation, root and tick, and their text.
 const TEXTS: &[(u64, u64, u64, &str)] = &[
     (1, 1, 1, "c:1:1:1"),
     (12, 340, 5600, "c:12:340:5600"),
-    (1, 1, LIMIT, "c:1:1:9223372036854775807"),
+    (1, 1, MAX_COUNTER, "c:1:1:9223372036854775807"),
     (
-        LIMIT,
-        LIMIT,
-        LIMIT,
+        MAX_COUNTER,
+        MAX_COUNTER,
+        MAX_COUNTER,
         "c:9223372036854775807:9223372036854775807:9223372036854775807",
     ),
 ];
 
 // Whether the clock's text is this, made and put.
 fn has_text(alloc: Global, clock: ClockId, want: &str) -> Result<bool, Fail> {
-    let mut out = Vec::with_capacity(alloc, MAX_TEXT)?;
+    let mut out = Vec::with_capacity(alloc, MAX_CLOCK_TEXT)?;
     clock.put(&mut out);
     Ok(clock.text(alloc)?.as_str() == want && out.as_slice() == want.as_bytes())
 }
@@ -38,7 +39,7 @@ fn has_a_text(rt: HostRuntime) -> Result<(), Fail> {
 
 #[test]
 fn puts_the_longest_text_behind_others(rt: HostRuntime) -> Result<(), Fail> {
-    let mut out = Vec::with_capacity(rt.alloc(), MAX_TEXT + 1)?;
+    let mut out = Vec::with_capacity(rt.alloc(), MAX_CLOCK_TEXT + 1)?;
     out.push(b'[')?;
     let clock = ClockId {
         incarnation: u64::MAX,
@@ -48,5 +49,14 @@ fn puts_the_longest_text_behind_others(rt: HostRuntime) -> Result<(), Fail> {
     clock.put(&mut out);
     let want = b"[c:18446744073709551615:18446744073709551615:18446744073709551615";
     assert!(rt; out.as_slice() == want.as_slice());
+    Ok(())
+}
+
+#[test]
+fn puts_the_longest_number_behind_others(rt: HostRuntime) -> Result<(), Fail> {
+    let mut out = Vec::with_capacity(rt.alloc(), MAX_DIGITS + 1)?;
+    out.push(b'[')?;
+    put_number(u64::MAX, &mut out);
+    assert!(rt; out.as_slice() == b"[18446744073709551615".as_slice());
     Ok(())
 }

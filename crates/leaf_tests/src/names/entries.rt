@@ -1,4 +1,4 @@
-//! Metadata compared part by part.
+//! Metadata compared part by part, and the letters of kinds.
 use std::test::Fail;
 use wm_names::{Kind, Meta};
 
@@ -37,6 +37,13 @@ const OTHERS: &[Meta] = &[
     },
 ];
 
+const LETTERS: &[(&str, Kind)] = &[
+    ("f", Kind::File),
+    ("d", Kind::Folder),
+    ("l", Kind::Link),
+    ("o", Kind::Other),
+];
+
 // Whether two are the same, as each of them says.
 fn are_same(first: &Meta, second: &Meta) -> (bool, bool) {
     (first.same(second), second.same(first))
@@ -48,6 +55,28 @@ fn is_the_same_where_each_part_is(rt: HostRuntime) -> Result<(), Fail> {
     for other in OTHERS {
         assert!(rt; other.same(other), "{other:?}");
         assert!(rt; are_same(&META, other) == (false, false), "{other:?}");
+    }
+    Ok(())
+}
+
+#[test]
+fn each_kind_has_one_letter(rt: HostRuntime) -> Result<(), Fail> {
+    for (letter, kind) in LETTERS {
+        assert_eq!(rt; kind.letter(), *letter);
+        assert_eq!(rt; Kind::from_letter(letter), Some(*kind));
+    }
+    for other in ["", "F", "ff", "x"] {
+        assert!(rt; Kind::from_letter(other).is_none(), "{other}");
+    }
+    Ok(())
+}
+
+#[test]
+fn each_kind_is_the_same_as_itself_alone(rt: HostRuntime) -> Result<(), Fail> {
+    for (i, (_, first)) in LETTERS.iter().enumerate() {
+        for (k, (_, second)) in LETTERS.iter().enumerate() {
+            assert!(rt; first.same(*second) == (i == k), "{first:?} {second:?}");
+        }
     }
     Ok(())
 }

@@ -5,8 +5,8 @@ use std::alloc::Global;
 use std::test::Fail;
 use wm_disk::MemDisk;
 use wm_names::RootPath;
-use wm_registry::{Command, Stdin, Trigger};
-use wm_store::{MAX_BATCH, Store};
+use wm_registry::{Command, MAX_BATCH, Stdin, Trigger};
+use wm_store::Store;
 
 /// A trigger that is made, made again, replaced and deleted, and a root that is watched no longer.
 const TRIGGERS: &[Row<'static>] = &[

@@ -5,7 +5,7 @@ use std::alloc::Global;
 use std::fs;
 use std::fs::{File, Files};
 use std::test::Fail;
-use wm_server::programs::watchmand;
+use wm_server::program::watchmand;
 use wm_server::system::Host;
 use wm_server::{Input, Output};
 

@@ -1,4 +1,4 @@
-//! Every beginning of a list of events of every kind, under choices of what a crash leaves.
+//! Every prefix of a list of events of every kind, under choices of what a crash leaves.
 use super::{driven, found, root, seen, shown, watch};
 use std::alloc::{AllocError, Global};
 use std::test::Fail;

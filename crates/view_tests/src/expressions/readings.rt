@@ -5,7 +5,7 @@ use std::alloc::Global;
 use std::process::Abort;
 use std::test::Fail;
 use wm_disk::Refusal;
-use wm_expr::Expr;
+use wm_expr::{Expr, texts_of};
 
 /// Why a JSON text is no expression; nothing where it is one.
 fn refusal(alloc: Global, text: &str) -> Result<Option<Refusal>, Fail> {
@@ -157,6 +157,39 @@ fn takes_terms_of_bounded_depth(rt: HostRuntime) -> Result<(), Fail> {
     for (levels, refused) in DEPTHS {
         let is_so = is_depth_taken_so(rt.alloc(), *levels, *refused)?;
         assert!(rt; is_so, "{levels} levels");
+    }
+    Ok(())
+}
+
+/// Whether these are the same texts in the same order.
+fn are_same(texts: &[&str], want: &[&str]) -> bool {
+    texts.len() == want.len() && texts.iter().zip(want).all(|(text, other)| *text == *other)
+}
+
+/// Whether the texts of the JSON array are as wanted; nothing where an item is no text.
+fn are_texts(alloc: Global, array: &str, want: Option<&[&str]>) -> Result<bool, Fail> {
+    let value = Value::from_str(alloc, array)?;
+    let Some(items) = value.as_array() else {
+        return Ok(false);
+    };
+    Ok(match (texts_of(alloc, items, Refusal::BadField), want) {
+        (Ok(texts), Some(want)) => are_same(&texts, want),
+        (Err(Refusal::BadField), None) => true,
+        _ => false,
+    })
+}
+
+const ARRAYS: &[(&str, Option<&[&str]>)] = &[
+    ("[]", Some(&[])),
+    ("[\"a\",\"\",\"b\"]", Some(&["a", "", "b"])),
+    ("[\"a\",1]", None),
+    ("[[\"a\"]]", None),
+];
+
+#[test]
+fn reads_the_texts_of_an_array(rt: HostRuntime) -> Result<(), Fail> {
+    for (array, want) in ARRAYS {
+        assert!(rt; are_texts(rt.alloc(), array, *want)?, "{array}");
     }
     Ok(())
 }

@@ -1,3 +1,5 @@
+//! A disk in memory: what it gives back, its planned failures, what a crash leaves, and its counts.
+
 use super::*;
 use crate::Refusal;
 use std::test::Fail;

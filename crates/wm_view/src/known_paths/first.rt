@@ -12,8 +12,7 @@ use crate::known::Known;
 use crate::known_paths::KnownPaths;
 use std::alloc::Global;
 use std::collections::{BTreeMap, BTreeSet};
-use wm_clock::LIMIT;
-use wm_disk::NoMemory;
+use wm_disk::{MAX_COUNTER, NoMemory};
 use wm_names::{Meta, RelPath};
 
 /// What is known of each path after a first listing: all came into being at tick 1.
@@ -56,7 +55,7 @@ fn first_places(alloc: Global, files: &[(RelPath, Meta)]) -> Result<Vec<(u64, Re
     let mut places = Vec::with_capacity(alloc, files.len())?;
     for entry in files {
         let path = entry.0.copy()?;
-        places.push((LIMIT - 1, path))?;
+        places.push((MAX_COUNTER - 1, path))?;
     }
     Ok(places)
 }

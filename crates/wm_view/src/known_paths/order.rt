@@ -3,18 +3,17 @@
 ghost use Rattle.std.specs.Prelude.{◌≡◌, [], ◌≤◌, ◌<◌, OnOk, OnErr, IfOk, is_some, true, false, Some, None, ◌≢◌, IfSome, ℕ, nat_lt, filter, not, ◌&&◌, fold};
 ghost use Rattle.std.specs.BTreeMap.{get};
 ghost use Rattle.std.specs.FinMap.{find, put};
+ghost use Rattle.wm_disk.specs.Counters.{max_counter};
 ghost use Rattle.wm_names.specs.Paths.{Path, path_cmp, same_path};
-ghost use Rattle.wm_clock.specs.Clocks.{limit};
 ghost use Rattle.wm_view.specs.Steps.{known_or, is_gone_for as is_gone_for_lem};
 ghost use Rattle.wm_view.specs.Summaries.{unknown as unknown_lem, by_last};
-ghost use Rattle.wm_view.specs.KnownPaths.{IsSound, HasRoom, HaveRoom, KeepsRoom, KeepsOtherRoom, AreAt, IsPlaced, IsAmongGone, IsUpTo, told, after_changes, is_wanted as is_wanted_lem, known_there as known_there_lem, listed as listed_lem};
+ghost use Rattle.wm_view.specs.KnownPaths.{IsSound, HasChangeRoom, HaveRoom, KeepsChangeRoom, KeepsOtherRoom, AreAt, IsPlaced, IsAmongGone, IsUpTo, told, after_changes, is_wanted as is_wanted_lem, known_there as known_there_lem, known_at};
 
 use crate::known::Known;
 use crate::known_paths::{KnownPaths, unknown};
 use std::alloc::Global;
 use std::collections::{BTreeMap, BTreeSet};
-use wm_clock::LIMIT;
-use wm_disk::NoMemory;
+use wm_disk::{MAX_COUNTER, NoMemory};
 use wm_names::{Kind, Meta, RelPath};
 
 /// Whether it changed after the tick, and exists where that is asked.
@@ -34,7 +33,7 @@ impl KnownPaths {
         if known.last == 0 {
             return None;
         }
-        if LIMIT.saturating_sub(known.last) != place.0 {
+        if MAX_COUNTER.saturating_sub(known.last) != place.0 {
             return None;
         }
         Some(known)
@@ -48,11 +47,11 @@ impl KnownPaths {
         existing: bool,
     ) -> Result<Vec<(RelPath, Known)>, NoMemory>
         requires { IsSound self.now }
-        ensures { IfOk result (λ v. v.items ≡ filter (is_wanted_lem tick existing) (listed_lem (told self.now) self.now.order.keys)) }
+        ensures { IfOk result (λ v. v.items ≡ filter (is_wanted_lem tick existing) (known_at (told self.now) self.now.order.keys)) }
     {
         let mut changed = Vec::new(alloc);
         for place in &self.order {
-            if LIMIT.saturating_sub(place.0) <= tick {
+            if MAX_COUNTER.saturating_sub(place.0) <= tick {
                 return Ok(changed);
             }
             if let Some(known) = self.known_there(place) {
@@ -72,7 +71,7 @@ impl KnownPaths {
         tick: u64,
     ) -> Result<Vec<(RelPath, Known)>, NoMemory>
         requires { IsSound self.now }
-        ensures { IfOk result (λ v. (n : ℕ) → n ≤ limit → IsUpTo n (told self.now) → v.items ≡ by_last (filter (λ e. nat_lt tick e.1.last) (told self.now)) n) }
+        ensures { IfOk result (λ v. (n : ℕ) → n ≤ max_counter → IsUpTo n (told self.now) → v.items ≡ by_last (filter (λ e. nat_lt tick e.1.last) (told self.now)) n) }
     {
         self.listed(alloc, tick, false)
     }
@@ -80,7 +79,7 @@ impl KnownPaths {
     /// What exists, in the same order.
     pub(crate) fn existing(&self, alloc: Global) -> Result<Vec<(RelPath, Known)>, NoMemory>
         requires { IsSound self.now }
-        ensures { IfOk result (λ v. (n : ℕ) → n ≤ limit → IsUpTo n (told self.now) → v.items ≡ by_last (filter (λ e. e.1.exists) (told self.now)) n) }
+        ensures { IfOk result (λ v. (n : ℕ) → n ≤ max_counter → IsUpTo n (told self.now) → v.items ≡ by_last (filter (λ e. e.1.exists) (told self.now)) n) }
     {
         self.listed(alloc, 0, true)
     }

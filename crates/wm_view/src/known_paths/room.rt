@@ -4,18 +4,17 @@
 ghost use Rattle.std.specs.Prelude.{◌≡◌, [], ◌≤◌, ◌<◌, OnOk, OnErr, IfOk, is_some, true, false, Some, None, ◌≢◌, IfSome, ℕ, nat_lt, filter, not, ◌&&◌, fold};
 ghost use Rattle.std.specs.BTreeMap.{get};
 ghost use Rattle.std.specs.FinMap.{find, put};
+ghost use Rattle.wm_disk.specs.Counters.{max_counter};
 ghost use Rattle.wm_names.specs.Paths.{Path, path_cmp, same_path};
-ghost use Rattle.wm_clock.specs.Clocks.{limit};
 ghost use Rattle.wm_view.specs.Steps.{known_or, is_gone_for as is_gone_for_lem};
 ghost use Rattle.wm_view.specs.Summaries.{unknown as unknown_lem, by_last};
-ghost use Rattle.wm_view.specs.KnownPaths.{IsSound, HasRoom, HaveRoom, KeepsRoom, KeepsOtherRoom, AreAt, IsPlaced, IsAmongGone, IsUpTo, told, after_changes, is_wanted as is_wanted_lem, known_there as known_there_lem, listed as listed_lem};
+ghost use Rattle.wm_view.specs.KnownPaths.{IsSound, HasChangeRoom, HaveRoom, KeepsChangeRoom, KeepsOtherRoom, AreAt, IsPlaced, IsAmongGone, IsUpTo, told, after_changes, is_wanted as is_wanted_lem, known_there as known_there_lem, known_at};
 
 use crate::known::Known;
 use crate::known_paths::{KnownPaths, unknown};
 use std::alloc::Global;
 use std::collections::{BTreeMap, BTreeSet};
-use wm_clock::LIMIT;
-use wm_disk::NoMemory;
+use wm_disk::{MAX_COUNTER, NoMemory};
 use wm_names::{Kind, Meta, RelPath};
 
 impl KnownPaths {
@@ -24,7 +23,7 @@ impl KnownPaths {
         requires { IsSound self.old }
         ensures same { told self.new ≡ told self.old }
         ensures sound { IsSound self.new }
-        ensures kept { KeepsRoom self.old self.new }
+        ensures kept { KeepsChangeRoom self.old self.new }
         ensures room { OnOk result (is_some (get path_cmp self.new.known path.now) ≡ true) }
     {
         if self.known.contains_key(path) {
@@ -38,15 +37,15 @@ impl KnownPaths {
     /// Room for the path's place at the tick.
     fn add_place(&mut self, alloc: Global, tick: u64, path: &RelPath) -> Result<(), NoMemory>
         requires sound { IsSound self.old }
-        requires tick { tick ≤ limit }
+        requires tick { tick ≤ max_counter }
         ensures same { told self.new ≡ told self.old }
         ensures sound { IsSound self.new }
-        ensures kept { KeepsRoom self.old self.new }
+        ensures kept { KeepsChangeRoom self.old self.new }
         ensures entries { self.new.known ≡ self.old.known }
         ensures room { OnOk result (IsPlaced self.new tick path.now) }
     {
         let path = path.copy()?;
-        self.order.insert((LIMIT - tick, path))?;
+        self.order.insert((MAX_COUNTER - tick, path))?;
         Ok(())
     }
 
@@ -55,7 +54,7 @@ impl KnownPaths {
         requires { IsSound self.old }
         ensures same { told self.new ≡ told self.old }
         ensures sound { IsSound self.new }
-        ensures kept { KeepsRoom self.old self.new }
+        ensures kept { KeepsChangeRoom self.old self.new }
         ensures entries { self.new.known ≡ self.old.known }
         ensures places { self.new.order ≡ self.old.order }
         ensures room { OnOk result (IsAmongGone self.new path.now) }
@@ -74,11 +73,11 @@ impl KnownPaths {
         exists: bool,
     ) -> Result<(), NoMemory>
         requires sound { IsSound self.old }
-        requires tick { tick ≤ limit }
+        requires tick { tick ≤ max_counter }
         ensures same { told self.new ≡ told self.old }
         ensures sound { IsSound self.new }
-        ensures kept { KeepsRoom self.old self.new }
-        ensures room { OnOk result (HasRoom self.new tick path.now exists) }
+        ensures kept { KeepsChangeRoom self.old self.new }
+        ensures room { OnOk result (HasChangeRoom self.new tick path.now exists) }
     {
         self.add_entry(alloc, path)?;
         self.add_place(alloc, tick, path)?;
@@ -95,7 +94,7 @@ impl KnownPaths {
         changes: &BTreeMap<RelPath, Known>,
     ) -> Result<(), NoMemory>
         requires sound { IsSound self.old }
-        requires tick { tick ≤ limit }
+        requires tick { tick ≤ max_counter }
         ensures same { told self.new ≡ told self.old }
         ensures sound { IsSound self.new }
         ensures room { OnOk result (HaveRoom self.new tick changes.now.entries) }

@@ -4,29 +4,28 @@
 ghost use Rattle.std.specs.Prelude.{◌≡◌, [], ◌≤◌, ◌<◌, OnOk, OnErr, IfOk, is_some, true, false, Some, None, ◌≢◌, IfSome, ℕ, nat_lt, filter, not, ◌&&◌, fold};
 ghost use Rattle.std.specs.BTreeMap.{get};
 ghost use Rattle.std.specs.FinMap.{find, put};
+ghost use Rattle.wm_disk.specs.Counters.{max_counter};
 ghost use Rattle.wm_names.specs.Paths.{Path, path_cmp, same_path};
-ghost use Rattle.wm_clock.specs.Clocks.{limit};
 ghost use Rattle.wm_view.specs.Steps.{known_or, is_gone_for as is_gone_for_lem};
 ghost use Rattle.wm_view.specs.Summaries.{unknown as unknown_lem, by_last};
-ghost use Rattle.wm_view.specs.KnownPaths.{IsSound, HasRoom, HaveRoom, KeepsRoom, KeepsOtherRoom, AreAt, IsPlaced, IsAmongGone, IsUpTo, told, after_changes, is_wanted as is_wanted_lem, known_there as known_there_lem, listed as listed_lem};
+ghost use Rattle.wm_view.specs.KnownPaths.{IsSound, HasChangeRoom, HaveRoom, KeepsChangeRoom, KeepsOtherRoom, AreAt, IsPlaced, IsAmongGone, IsUpTo, told, after_changes, is_wanted as is_wanted_lem, known_there as known_there_lem, known_at};
 
 use crate::known::Known;
 use crate::known_paths::{KnownPaths, unknown};
 use std::alloc::Global;
 use std::collections::{BTreeMap, BTreeSet};
-use wm_clock::LIMIT;
-use wm_disk::NoMemory;
+use wm_disk::{MAX_COUNTER, NoMemory};
 use wm_names::{Kind, Meta, RelPath};
 
 impl KnownPaths {
     /// Writes what is known of the path, for which there is room, and tells the tick of its last change before.
     fn write(&mut self, path: &RelPath, known: Known) -> u64
         requires sound { IsSound self.old }
-        requires room { HasRoom self.old known.last path.now known.exists }
-        requires tick { (0 < known.last) × (known.last ≤ limit) }
+        requires room { HasChangeRoom self.old known.last path.now known.exists }
+        requires tick { (0 < known.last) × (known.last ≤ max_counter) }
         ensures value { told self.new ≡ put path_cmp path.now known (told self.old) }
         ensures sound { IsSound self.new }
-        ensures kept { KeepsRoom self.old self.new }
+        ensures kept { KeepsChangeRoom self.old self.new }
     {
         match self.known.get_mut(path) {
             Some(place) => {
@@ -54,13 +53,13 @@ impl KnownPaths {
     /// Takes out a place that isn't that of the path's last change.
     fn drop_place(&mut self, last: u64, path: RelPath)
         requires sound { IsSound self.old }
-        requires tick { last ≤ limit }
+        requires tick { last ≤ max_counter }
         requires other { IfSome (find path_cmp path (told self.old)) (λ x. x.last ≢ last) }
         ensures same { told self.new ≡ told self.old }
         ensures sound { IsSound self.new }
         ensures kept { KeepsOtherRoom path self.old self.new }
     {
-        self.order.remove(&(LIMIT - last, path));
+        self.order.remove(&(MAX_COUNTER - last, path));
     }
 
     /// Takes out a path that has room only.
@@ -75,8 +74,8 @@ impl KnownPaths {
 
     fn settle_one(&mut self, path: RelPath, known: Known)
         requires sound { IsSound self.old }
-        requires room { HasRoom self.old known.last path known.exists }
-        requires tick { (0 < known.last) × (known.last ≤ limit) }
+        requires room { HasChangeRoom self.old known.last path known.exists }
+        requires tick { (0 < known.last) × (known.last ≤ max_counter) }
         ensures value { told self.new ≡ put path_cmp path known (told self.old) }
         ensures sound { IsSound self.new }
         ensures kept { KeepsOtherRoom path self.old self.new }
@@ -92,7 +91,7 @@ impl KnownPaths {
         requires sound { IsSound self.old }
         requires room { HaveRoom self.old tick changes.entries }
         requires at { AreAt tick changes.entries }
-        requires tick { (0 < tick) × (tick ≤ limit) }
+        requires tick { (0 < tick) × (tick ≤ max_counter) }
         ensures value { told self.new ≡ after_changes (told self.old) changes.entries }
         ensures sound { IsSound self.new }
     {
@@ -103,7 +102,7 @@ impl KnownPaths {
 
     fn take_back_one(&mut self, tick: u64, path: RelPath)
         requires sound { IsSound self.old }
-        requires tick { (0 < tick) × (tick ≤ limit) }
+        requires tick { (0 < tick) × (tick ≤ max_counter) }
         ensures same { told self.new ≡ told self.old }
         ensures sound { IsSound self.new }
     {
@@ -119,7 +118,7 @@ impl KnownPaths {
 
     pub(super) fn take_back(&mut self, tick: u64, changes: BTreeMap<RelPath, Known>)
         requires sound { IsSound self.old }
-        requires tick { (0 < tick) × (tick ≤ limit) }
+        requires tick { (0 < tick) × (tick ≤ max_counter) }
         ensures same { told self.new ≡ told self.old }
         ensures sound { IsSound self.new }
     {

@@ -1,7 +1,7 @@
 use Rattle.std.proofs.Common.{◌≡◌, ◌+◌, [], ◌∷◌, ◌++◌, take, sym, ap, ◌∙◌, arith}
 use Rattle.std.proofs.lemmas.List.{take_more, take_all}
 use Rattle.wm_journal.specs.Records.{taken}
-use Rattle.wm_journal.proofs.Laying.{taken-append}
+use Rattle.wm_journal.specs.laws.Records.{taken-append}
 use Rattle.file_tests.proofs.journal.append.Goals as goal
 
 pub loop-record-preserved : goal.loop-record-preserved

@@ -2,7 +2,7 @@ use Rattle.std.proofs.Common.{List, ℕ, subst, ◌∙◌}
 use Rattle.wm_checkpoint.specs.Machines.{meaning}
 use Rattle.wm_checkpoint.specs.Meanings.{IsDamaged, IsRetired}
 use Rattle.wm_checkpoint.specs.Found.{IsFound}
-use Rattle.wm_checkpoint.proofs.Deciding.{if_ok, same_err, found_whole, found_within, damaged_whole, too_short, retired_whole}
+use Rattle.wm_checkpoint.proofs.Deciding.{if_ok, same_err, found_whole, found_within, damaged_whole, too_short, retired_whole, decoded_reads, decoded_calls}
 use Rattle.wm_disk.specs.declared.refusal.Refusal.TheVariants.{Damaged as damaged}
 use Rattle.wm_checkpoint.proofs.read.find.Goals as goal
 
@@ -31,3 +31,9 @@ pub returns-in-Ok-clause-within : goal.returns-in-Ok-clause-within
 returns-in-Ok-clause-within g c =
     let m = meaning g.M.Machine g.M.State.Wire g.M.Command.Wire in
     if_ok c.decode.result (λ f found. found_within m c.deref.result.now f.slot f.number f.state f.end found) c.decode.ensures.found
+
+pub returns-in-Ok-clause-reads : goal.returns-in-Ok-clause-reads
+returns-in-Ok-clause-reads g c = λ h. decoded_reads g.D.Disk c.args.disk.now c.read_whole.new.disk c.in-Ok.bytes c.decode.result (c.in-Ok.ensures.reads h)
+
+pub returns-in-Ok-clause-device : goal.returns-in-Ok-clause-device
+returns-in-Ok-clause-device g c = decoded_calls g.D.Disk c.args.disk.now c.read_whole.new.disk c.in-Ok.bytes c.decode.result c.in-Ok.ensures.device c.decode.ensures.kinds

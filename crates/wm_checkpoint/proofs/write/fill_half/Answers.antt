@@ -2,7 +2,7 @@ use Rattle.std.proofs.Common.{ℕ, ◌+◌, List, subst, sym, ap, ◌∙◌, ari
 use Rattle.wm_disk.specs.Contents.{overwritten}
 use Rattle.wm_disk.specs.Moments.{started, goes_on, then_runs}
 use Rattle.wm_journal.specs.Areas.{SameOutside}
-use Rattle.wm_journal.proofs.Contents.{same_itself}
+use Rattle.wm_journal.specs.laws.Areas.{same_itself}
 use Rattle.wm_checkpoint.proofs.Halves.{step_in, on_ok, fill_done, fill_outside}
 use Rattle.wm_checkpoint.proofs.write.fill_half.Goals as goal
 
@@ -26,7 +26,7 @@ returns-clause-any_moment g c = λ h only.
     let place = c.args.place in
     let old = D.seen disk in
     let P = SameOutside (place + 1) 1310719 old in
-    let h1 = c.put_durably.ensures.honest h in
+    let h1 = c.put_durably.ensures.device.honest h in
     let h0 = c.write_at.ensures.honest h1 in
     let lies = c.requires.lies h0 in
     let none = λ (f : List ℕ) (left : D.may_leave disk f). subst P (sym (only f left)) (same_itself (place + 1) 1310719 old) in
@@ -41,7 +41,7 @@ returns-clause-filled g c = λ h.
     let old = D.seen c.args.disk.now in
     let place = c.args.place in
     let bytes = c.args.bytes.now in
-    let h1 = c.put_durably.ensures.honest h in
+    let h1 = c.put_durably.ensures.device.honest h in
     let w = c.in_ok-write_at.ensures.written h1 in
     on_ok c.put_durably.result (λ eq. fill_done place bytes old _ (eq ∙ ap (λ (x : List ℕ). overwritten x (place + 1) bytes) w) (c.requires.lies (c.write_at.ensures.honest h1)) c.requires.short) (c.put_durably.ensures.written h)
 
@@ -51,7 +51,7 @@ returns-clause-gate g c = λ h.
     let old = D.seen c.args.disk.now in
     let place = c.args.place in
     let bytes = c.args.bytes.now in
-    let h1 = c.put_durably.ensures.honest h in
+    let h1 = c.put_durably.ensures.device.honest h in
     let w = c.in_ok-write_at.ensures.written h1 in
     let P = SameOutside (place + 1) 1310719 old in
     on_ok c.put_durably.result (λ eq. subst P (sym (eq ∙ ap (λ (x : List ℕ). overwritten x (place + 1) bytes) w)) (fill_outside place bytes old (c.requires.lies (c.write_at.ensures.honest h1)) c.requires.short)) (c.put_durably.ensures.written h)

@@ -1,8 +1,8 @@
 use Rattle.std.proofs.Common.{inl, inr, ◌+◌, ◌≤◌, length, subst, sym, arith}
 use Rattle.wm_disk.specs.Moments.{then_runs}
 use Rattle.wm_journal.specs.Areas.{SameOutside}
-use Rattle.wm_journal.proofs.Contents.{same_itself}
-use Rattle.wm_journal.proofs.Opening.{weaker}
+use Rattle.wm_journal.specs.laws.Areas.{same_itself}
+use Rattle.wm_disk.specs.laws.Runs.{weaker}
 use Rattle.wm_checkpoint.specs.Halves.{IsShutting, IsSwitching}
 use Rattle.wm_checkpoint.proofs.Halves.{on_ok, shut_while_filled, filled_from, opening, opened}
 use Rattle.wm_checkpoint.proofs.write.switch_half.Goals as goal
@@ -14,8 +14,8 @@ returns-in_err-fill_half-clause-any_moment g c = λ h only.
     let place = c.args.place in
     let old = D.seen disk in
     let P = IsSwitching place c.args.bytes.now old in
-    let h1 = c.fill_half.ensures.honest h in
-    let h0 = c.close_gate.ensures.honest h1 in
+    let h1 = c.fill_half.ensures.device.honest h in
+    let h0 = c.close_gate.ensures.device.honest h1 in
     let first = weaker D.moment D.left_since disk c.close_gate.new.disk (IsShutting place old) P (c.close_gate.ensures.any_moment h1 only) (λ x s. inl s) in
     let mid = D.seen c.close_gate.new.disk in
     let closed = c.in_ok-close_gate.ensures.closed h1 in
@@ -29,9 +29,9 @@ returns-clause-any_moment g c = λ h only.
     let bytes = c.args.bytes.now in
     let old = D.seen disk in
     let P = IsSwitching place bytes old in
-    let h2 = c.put_durably.ensures.honest h in
-    let h1 = c.fill_half.ensures.honest h2 in
-    let lies = c.requires.lies (c.close_gate.ensures.honest h1) in
+    let h2 = c.put_durably.ensures.device.honest h in
+    let h1 = c.fill_half.ensures.device.honest h2 in
+    let lies = c.requires.lies (c.close_gate.ensures.device.honest h1) in
     let first = weaker D.moment D.left_since disk c.close_gate.new.disk (IsShutting place old) P (c.close_gate.ensures.any_moment h1 only) (λ x s. inl s) in
     let mid = D.seen c.close_gate.new.disk in
     let closed = c.in_ok-close_gate.ensures.closed h1 in
@@ -47,9 +47,9 @@ returns-clause-switched g c = λ h.
     let old = D.seen c.args.disk.now in
     let place = c.args.place in
     let bytes = c.args.bytes.now in
-    let h2 = c.put_durably.ensures.honest h in
-    let h1 = c.fill_half.ensures.honest h2 in
-    let lies = c.requires.lies (c.close_gate.ensures.honest h1) in
+    let h2 = c.put_durably.ensures.device.honest h in
+    let h1 = c.fill_half.ensures.device.honest h2 in
+    let lies = c.requires.lies (c.close_gate.ensures.device.honest h1) in
     let closed = c.in_ok-close_gate.ensures.closed h1 in
     let filled = filled_from place bytes old (D.seen c.close_gate.new.disk) (D.seen c.fill_half.new.disk) lies closed.0 (c.in_ok-fill_half.ensures.filled h2) in
     on_ok c.put_durably.result (λ eq. opened place bytes old (D.seen c.fill_half.new.disk) _ lies filled eq) (c.put_durably.ensures.written h)

@@ -10,13 +10,13 @@ loop-behind-smaller-in-Star c = star_shorter c.loop-behind.rest.now c.loop-behin
 pub loop-behind-preserved-in-Star : goal.loop-behind-preserved-in-Star
 loop-behind-preserved-in-Star c = star_step c.loop-behind.rest.now c.loop-behind.left.now c.in-Star.behind.now c.in-Star.stands.now (sym c.in-Star.ensures) ∙ c.loop-behind.invariant
 
-pub returns-in-End : goal.returns-in-End
-returns-in-End c = sym (at_once (fits_component c.loop-behind.rest.now) c.loop-behind.left.now (at_end c.loop-behind.rest.now c.loop-behind.left.now (sym c.in-End.ensures))) ∙ c.loop-behind.invariant
+pub returns-in-Done : goal.returns-in-Done
+returns-in-Done c = sym (at_once (fits_component c.loop-behind.rest.now) c.loop-behind.left.now (at_end c.loop-behind.rest.now c.loop-behind.left.now (sym c.in-Done.ensures))) ∙ c.loop-behind.invariant
 
 pub returns-then-is_empty : goal.returns-then-is_empty
-returns-then-is_empty c = sym (apart_end c.loop-behind.rest.now c.loop-behind.left.now (sym c.in-Apart.ensures) (sym c.if-is_empty.ensures)) ∙ c.loop-behind.invariant
+returns-then-is_empty c = sym (apart_end c.loop-behind.rest.now c.loop-behind.left.now (sym c.in-Mismatch.ensures) (sym c.if-is_empty.ensures)) ∙ c.loop-behind.invariant
 
 pub loop-behind-preserved : goal.loop-behind-preserved
 loop-behind-preserved c =
     ap (λ (s : List ℕ). behind_a_run (fits_component c.loop-behind.rest.now) s) (take_rest c.loop-behind.left.now 1)
-    ∙ (apart_step c.loop-behind.rest.now c.loop-behind.left.now (sym c.in-Apart.ensures) (sym c.if-is_empty.ensures) ∙ c.loop-behind.invariant)
+    ∙ (apart_step c.loop-behind.rest.now c.loop-behind.left.now (sym c.in-Mismatch.ensures) (sym c.if-is_empty.ensures) ∙ c.loop-behind.invariant)

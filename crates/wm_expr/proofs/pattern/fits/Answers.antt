@@ -4,13 +4,13 @@ use Rattle.wm_expr.specs.Globs.{parts_of}
 use Rattle.wm_expr.proofs.DeepRuns.{parts_differ, parts_end, parts_star}
 use Rattle.wm_expr.proofs.pattern.fits.Goals as goal
 
-pub returns-in-Deep : goal.returns-in-Deep
-returns-in-Deep c =
+pub returns-in-Star : goal.returns-in-Star
+returns-in-Star c =
     c.fits_behind_a_run.ensures
-    ∙ sym (parts_star (components c.args.pattern.now) (components c.args.text.now) (components c.in-Deep.behind.now) (parts_of (option_map (λ s. s.now) c.in-Deep.stands)) (sym c.in-Deep.ensures))
+    ∙ sym (parts_star (components c.args.pattern.now) (components c.args.text.now) (components c.in-Star.behind.now) (parts_of (option_map (λ s. s.now) c.in-Star.stands)) (sym c.in-Star.ensures))
 
-pub returns-in-Over : goal.returns-in-Over
-returns-in-Over c = sym (parts_end (components c.args.pattern.now) (components c.args.text.now) (sym c.in-Over.ensures))
+pub returns-in-Done : goal.returns-in-Done
+returns-in-Done c = sym (parts_end (components c.args.pattern.now) (components c.args.text.now) (sym c.in-Done.ensures))
 
-pub returns-in-Other : goal.returns-in-Other
-returns-in-Other c = sym (parts_differ (components c.args.pattern.now) (components c.args.text.now) (sym c.in-Other.ensures))
+pub returns-in-Mismatch : goal.returns-in-Mismatch
+returns-in-Mismatch c = sym (parts_differ (components c.args.pattern.now) (components c.args.text.now) (sym c.in-Mismatch.ensures))

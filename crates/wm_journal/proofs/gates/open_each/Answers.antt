@@ -4,7 +4,7 @@ use Rattle.wm_disk.specs.PointLaws.{length-overwritten}
 use Rattle.wm_journal.specs.Records.{taken}
 use Rattle.wm_journal.specs.Gates.{IsUnderGates, IsOpenTo}
 use Rattle.wm_journal.proofs.Laying.{length-gate_places}
-use Rattle.wm_journal.proofs.Contents.{same_twice}
+use Rattle.wm_journal.specs.laws.Areas.{same_twice}
 use Rattle.wm_journal.proofs.Opening.{crash_one, opened_one, written_outside}
 use Rattle.wm_journal.proofs.gates.open_each.Goals as goal
 
@@ -21,11 +21,11 @@ returns-in_err-write_at-clause-crash g c = λ held added before h is under.
     crash_one g.W.Wire held added c.args.offset c.args.len before c.args.gates.now i _ _ is lt (c.requires.inside i lt) lies (inv.crash held added before so_far is under) (c.write_at.ensures.crash h)
 
 pub returns-in_err-write_at-clause-any_moment : goal.returns-in_err-write_at-clause-any_moment
-returns-in_err-write_at-clause-any_moment g c = λ held added before h is under.
+returns-in_err-write_at-clause-any_moment g c = λ held added before is under h.
     let D = g.D.Disk in
     let inv = c.loop-place.invariant in
     let here = returns-in_err-write_at-clause-crash g c held added before h is under in
-    goes_on D.moment D.left_since c.args.disk.now c.loop-place.disk c.write_at.new.self (IsUnderGates g.W.Wire c.args.offset c.args.len before held added) _ (inv.any_moment held added before (c.write_at.ensures.honest h) is under) (c.write_at.ensures.time h) here
+    goes_on D.moment D.left_since c.args.disk.now c.loop-place.disk c.write_at.new.self (IsUnderGates g.W.Wire c.args.offset c.args.len before held added) _ (inv.any_moment held added before is under (c.write_at.ensures.honest h)) (c.write_at.ensures.time h) here
 
 pub loop-place-preserved : goal.loop-place-preserved
 loop-place-preserved g c =
@@ -53,13 +53,13 @@ loop-place-preserved g c =
           let at_first = under (D.seen c.args.disk.now) (g.met.D.Disk.reads_stand c.args.disk.now first) in
           let lies : c.args.offset + c.args.len ≤ length before = omega (arith, at_first.outside.size, c.requires.lies first) in
           crash_one W held added c.args.offset c.args.len before gates i _ _ is lt inside lies (inv.crash held added before so_far is under) (c.write_at.ensures.crash h);
-      any_moment = λ held added before h is under.
+      any_moment = λ held added before is under h.
           let so_far = c.write_at.ensures.honest h in
           let first = inv.honest so_far in
           let at_first = under (D.seen c.args.disk.now) (g.met.D.Disk.reads_stand c.args.disk.now first) in
           let lies : c.args.offset + c.args.len ≤ length before = omega (arith, at_first.outside.size, c.requires.lies first) in
           let here = crash_one W held added c.args.offset c.args.len before gates i _ _ is lt inside lies (inv.crash held added before so_far is under) (c.write_at.ensures.crash h) in
-          goes_on D.moment D.left_since c.args.disk.now c.loop-place.disk c.write_at.new.self (IsUnderGates W c.args.offset c.args.len before held added) _ (inv.any_moment held added before so_far is under) (c.write_at.ensures.time h) here;
+          goes_on D.moment D.left_since c.args.disk.now c.loop-place.disk c.write_at.new.self (IsUnderGates W c.args.offset c.args.len before held added) _ (inv.any_moment held added before is under so_far) (c.write_at.ensures.time h) here;
     }
 
 pub returns-clause-opened : goal.returns-clause-opened

@@ -2,10 +2,10 @@ use Rattle.std.proofs.Common.{cond, sym, ap, ◌∙◌, Ok, Err}
 use Rattle.wm_disk.specs.declared.refusal.Refusal.TheVariants.{NotReady, TooMany}
 use Rattle.wm_expr.specs.Meanings.{holds}
 use Rattle.wm_since.specs.Answers.{answer_by}
-use Rattle.wm_server.specs.Inquiries.{has_place, question_in}
-use Rattle.wm_server.specs.Watched.{unless}
+use Rattle.wm_server.specs.session.Inquiries.{has_place, question_in}
+use Rattle.wm_server.specs.session.Watched.{unless}
 use Rattle.wm_view.specs.Summaries.{summary}
-use Rattle.wm_server.proofs.HistoryLemmas.{begun_are, line_are}
+use Rattle.wm_server.proofs.lemmas.session.HistoryLemmas.{begun_are, line_are}
 use Rattle.wm_server.proofs.laws.every_line.Goals as goal
 
 pub returns-clause-operated : goal.returns-clause-operated

@@ -1,14 +1,13 @@
 use Rattle.std.proofs.Common.{◌≡◌, ◌∙◌, ⊎_elim, inl, inr, refl, sym, ap, subst, List, suc, ◌+◌, ◌++◌, ◌∷◌, length, take, drop, map, append-nil, append_assoc, arith, vec_len}
-use Rattle.std.specs.Prelude.{[], Option}
+use Rattle.std.specs.Prelude.{[]}
 use Rattle.std.proofs.lemmas.Iterator.Adapters.{YieldsList-from_skip, YieldsList-from_vec}
 use Rattle.std.proofs.lemmas.Iterator.Consumers.{YieldsList-turn, YieldsList-so_far, YieldsList-end}
 use Rattle.std.proofs.lemmas.List.{map-id, take-append-drop}
-use Rattle.std.proofs.lemmas.Result.{IfOk-weaker, on_ok_weaker, on_err_weaker}
-use Rattle.wm_registry.specs.Roots.{State}
+use Rattle.std.proofs.lemmas.Result.{IfErr-weaker, IfOk-weaker, on_err_weaker, on_ok_weaker}
 use Rattle.wm_registry.specs.declared.command.Command.{Command}
-use Rattle.wm_store.specs.UnderWay.{K, IsCut, IsDown, IsPast, IsWhole}
+use Rattle.wm_store.specs.UnderWay.{WentDown, IsWhole}
 use Rattle.wm_store.proofs.Batching.{calls_more, calls_then, down_then, whole_then}
-use Rattle.wm_store.proofs.Endings.{IsUnderWay, at_turn_behind, cut_at, cut_last, err_both, idle_yet, len_behind, one_more}
+use Rattle.wm_store.proofs.Endings.{IsUnderWay, at_turn_behind, cut_at, cut_last, idle_yet, len_behind, one_more}
 use Rattle.wm_store.proofs.batch.run.Goals as goal
 
 pub loop-command-init : goal.loop-command-init
@@ -25,7 +24,7 @@ loop-command-preserved g c =
     let all = c.args.commands.items in
     let first = take (vec_len c.args.batch.replies) all in
     subst (λ (done : List Command). IsUnderWay g.D.Disk c.args.keeper.now all done c.take.new.keeper c.take.new.self) (append_assoc first l.yielded (c.in-Some.command ∷ []))
-    (one_more g.D.Disk c.args.keeper.now all (first ++ l.yielded) l.keeper c.take.new.keeper l.batch c.take.new.self c.in-Some.command l.invariant m.ready m.len m.room m.past m.so_far m.slot m.idle m.calls m.whole)
+    (one_more g.D.Disk c.args.keeper.now all (first ++ l.yielded) l.keeper c.take.new.keeper l.batch c.take.new.self c.in-Some.command l.invariant m.met m.keeper.calls m.keeper.whole)
 
 pub take-requires : goal.take-requires
 take-requires g c =
@@ -74,10 +73,12 @@ returns-in_default g c =
     let len = len_behind n all seen c.requires.idle.within in
     record {
       done = tt;
-      cut = cut_at D start all done l.keeper new l.batch command (drop (suc (length seen)) behind) c.take.new.self.before u (at_turn_behind n all seen command (sym (map-id seen) ∙ front) turn.0 turn.1) (m.cut start done u.past) m.asked.0 m.asked.1 m.asked.2;
-      calls = calls_more D (length done + 1) (length all) start new (omega (arith, turn.0, len.0, len.1)) (calls_then D (length done) 1 start l.keeper new u.calls m.calls);
-      whole = tt;
-      down = down_then D start l.keeper new u.whole m.down;
+      cut = cut_at D start all done l.keeper new l.batch command (drop (suc (length seen)) behind) c.take.new.self.before u (at_turn_behind n all seen command (sym (map-id seen) ∙ front) turn.0 turn.1) (m.cut.cut start done u.past) m.cut.open_yet m.cut.plain m.cut.accepted;
+      keeper = record {
+        calls = calls_more D (length done + 1) (length all) start new (omega (arith, turn.0, len.0, len.1)) (calls_then D (length done) 1 start l.keeper new u.calls m.keeper.calls);
+        whole = tt;
+        down = down_then D start l.keeper new u.whole m.keeper.down;
+      };
     }
 
 pub finish-requires : goal.finish-requires
@@ -109,11 +110,10 @@ returns g c =
     let u : IsUnderWay D start all all old l.batch = subst (λ (cs : List Command). IsUnderWay D start all cs old l.batch) ended l.invariant in
     record {
       done = IfOk-weaker r _ _ (λ replies h. h start all u.past u.so_far u.idle u.slot) f.done;
-      cut = err_both r
-          (λ (before : Option State) (h : (s : K D) (cs : List Command) → IsPast D s cs old l.batch → IsCut D s cs l.batch.replies.items new before) (some : l.batch.group.items ≡ [] → ⊥).
-          cut_last D start all all old new l.batch before u refl (h start all u.past) some)
-          f.cut f.asked;
-      calls = calls_more D (length all + 0) (length all) start new (omega arith) (calls_then D (length all) 0 start old new u.calls f.calls);
-      whole = on_ok_weaker r (λ (w : IsWhole D old new). whole_then D start old new u.whole w) f.whole;
-      down = on_err_weaker r (λ (w : IsDown D old new). down_then D start old new u.whole w) f.down;
+      cut = IfErr-weaker r _ _ (λ before h. cut_last D start all all old new l.batch before u refl (h.cut start all u.past) h.some) f.cut;
+      keeper = record {
+        calls = calls_more D (length all + 0) (length all) start new (omega arith) (calls_then D (length all) 0 start old new u.calls f.keeper.calls);
+        whole = on_ok_weaker r (λ (w : IsWhole D old new). whole_then D start old new u.whole w) f.keeper.whole;
+        down = on_err_weaker r (λ (w : WentDown D old new). down_then D start old new u.whole w) f.keeper.down;
+      };
     }

@@ -4,7 +4,7 @@ use Rattle.wm_registry.specs.Roots.{State}
 use Rattle.wm_registry.specs.MachineLaws.{watches}
 use Rattle.wm_checkpoint.specs.Meanings.{MeansState}
 use Rattle.wm_checkpoint.specs.Kept.{disk_of}
-use Rattle.wm_checkpoint.proofs.Numbering.{kept_numbered}
+use Rattle.wm_checkpoint.specs.laws.Uncalled.{kept_numbered}
 use Rattle.wm_store.proofs.Stores.{up, means_up}
 use Rattle.wm_store.proofs.store.begin.Goals as goal
 
@@ -12,58 +12,61 @@ pub begin_in-requires : goal.begin_in-requires
 begin_in-requires g c = c.requires
 
 pub invariant_of-result : goal.invariant_of-result
-invariant_of-result g c = up g.D.Disk c.begin_in.new.keeper c.in-Ok.ensures.kept c.in-Ok.ensures.begun.1 false
+invariant_of-result g c = up g.D.Disk c.begin_in.new.keeper c.in-Ok.ensures.calls.kept c.in-Ok.ensures.calls.works false
 
 pub returns-in-Ok : goal.returns-in-Ok
 returns-in-Ok g c =
+    let D = g.D.Disk in
+    let new = c.begin_in.new.keeper in
     let k = c.in-Ok.ensures in
     record {
-      begun = k.begun.0;
-      changed = k.changed;
-      any_moment = k.any_moment;
-      means = λ h x left. means_up g.D.Disk c.begin_in.new.keeper k.kept k.begun.1 h x left;
-      up = (k.begun.1, refl);
-      cut = tt;
+      begun = record {
+        registry = k.begun.state;
+        changed = k.begun.changed;
+        number = k.calls.calls.most;
+        stays = k.begun.stays;
+        moves = k.begun.moves;
+        any_moment = k.any_moment;
+      };
+      works = record {
+        up = k.calls.works;
+        open_yet = refl;
+        means = λ h x left. means_up D new k.calls.kept k.calls.works h x left;
+        numbered = λ h x left. kept_numbered D watches new (k.calls.kept.kept k.calls.works h) x left;
+      };
       unbegun = tt;
-      exhausted = tt;
-      still = tt;
-      same = tt;
-      number = k.calls.most;
-      stays = k.stays;
-      moves = k.moves;
-      numbered = (λ h x left. kept_numbered g.D.Disk watches c.begin_in.new.keeper (k.kept.kept k.begun.1 h) x left, tt);
-      honest = (k.honest, tt);
-      later = (k.later, tt);
-      whole = k.whole;
-      failed = tt;
-      stood = tt;
+      calls = record {
+        honest = (k.calls.device.honest, tt);
+        failures_grow = (k.calls.device.failures_grow, tt);
+        no_failure = k.calls.device.no_failure;
+        failed = tt;
+        failures_kept = tt;
+      };
       kinds = tt;
     }
 
 pub returns-in-Err : goal.returns-in-Err
 returns-in-Err g c =
     let D = g.D.Disk in
+    let new = c.begin_in.new.keeper in
     let k = c.in-Err.ensures in
     let there = c.into_disk.ensures in
     rw there (record {
       begun = tt;
-      changed = tt;
-      any_moment = tt;
-      means = tt;
-      up = tt;
-      cut = k.any_moment;
-      unbegun = λ h no x left. let u = k.unbegun no in subst (λ (t : State). MeansState watches t x) u.0 (means_up D c.begin_in.new.keeper k.kept u.1 h x left);
-      exhausted = λ e. (k.exhausted (ap (λ x. Err x) e)).0;
-      still = λ h no. k.still no h;
-      same = λ e. ap (λ y. disk_of y) (k.exhausted (ap (λ x. Err x) e)).1;
-      number = tt;
-      stays = tt;
-      moves = tt;
-      numbered = (tt, λ h n le all x left. k.calls.numbered h n le all x left);
-      honest = (tt, k.honest);
-      later = (tt, k.later);
-      whole = tt;
-      failed = λ e. k.failed (ap (λ x. Err x) e);
-      stood = λ no. (k.unbegun no).2;
+      works = tt;
+      unbegun = record {
+        cut = k.any_moment;
+        unbegun = λ h no x left. subst (λ (t : State). MeansState watches t x) (k.unbegun no).state (means_up D new k.calls.kept (k.calls.unfailed no) h x left);
+        still = λ no. (k.unbegun no).any_moment;
+        exhausted = λ e. let x = k.exhausted (ap (λ y. Err y) e) in (x.0, ap (λ y. disk_of y) x.1);
+        numbered = λ h n le all x left. k.calls.calls.numbered h n le all x left;
+      };
+      calls = record {
+        honest = (tt, k.calls.device.honest);
+        failures_grow = (tt, k.calls.device.failures_grow);
+        no_failure = tt;
+        failed = λ e. k.calls.device.failed (ap (λ y. Err y) e);
+        failures_kept = k.calls.device.failures_kept;
+      };
       kinds = k.kinds;
     })

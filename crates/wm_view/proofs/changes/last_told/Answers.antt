@@ -1,8 +1,8 @@
 use Rattle.std.proofs.Common.{◌+◌, drop, cond, Some, unwrap_or, sym, ap, ◌∙◌}
 use Rattle.std.specs.BTreeMap.{get, is_at}
 use Rattle.wm_names.specs.Paths.{path_cmp}
-use Rattle.wm_view.specs.Laws.{last_told}
-use Rattle.wm_view.proofs.Lists.{drop_here}
+use Rattle.wm_view.specs.HistoryLaws.{last_told}
+use Rattle.wm_view.specs.laws.Lists.{drop_here}
 use Rattle.wm_view.proofs.Plans.{told_turn}
 use Rattle.wm_view.proofs.changes.last_told.Goals as goal
 

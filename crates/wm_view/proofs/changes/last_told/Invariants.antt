@@ -2,7 +2,7 @@ use Rattle.std.proofs.Common.{◌≡◌, drop, Option, unwrap_or}
 use Rattle.std.specs.BTreeMap.{get}
 use Rattle.wm_names.specs.Paths.{Path, path_cmp}
 use Rattle.wm_names.specs.declared.entry.Meta.{Meta}
-use Rattle.wm_view.specs.Laws.{last_told}
+use Rattle.wm_view.specs.HistoryLaws.{last_told}
 use Rattle.wm_view.proofs.changes.last_told.Given as goal
 
 abbrev pub invariant-loop-pair : goal.invariant-loop-pair

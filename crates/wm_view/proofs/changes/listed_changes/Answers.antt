@@ -7,7 +7,7 @@ use Rattle.wm_names.specs.declared.entry.Meta.{Meta}
 use Rattle.wm_view.specs.KnownPaths.{told}
 use Rattle.wm_view.specs.Changes.{listed_change}
 use Rattle.wm_view.specs.Steps.{known_or}
-use Rattle.wm_view.proofs.Lists.{drop_here}
+use Rattle.wm_view.specs.laws.Lists.{drop_here}
 use Rattle.wm_view.proofs.Plans.{change_turn, same_turn}
 use Rattle.wm_view.proofs.Recrawls.{drop_sorted}
 use Rattle.wm_view.proofs.changes.listed_changes.Goals as goal

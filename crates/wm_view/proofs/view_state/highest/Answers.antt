@@ -1,5 +1,5 @@
 use Rattle.std.proofs.Common.{◌+◌, drop, fold, max, ap, sym, ◌∙◌}
-use Rattle.wm_view.proofs.Lists.{drop_here}
+use Rattle.wm_view.specs.laws.Lists.{drop_here}
 use Rattle.wm_view.proofs.view_state.highest.Goals as goal
 
 pub loop-entry-preserved : goal.loop-entry-preserved

@@ -2,8 +2,6 @@ use Rattle.std.proofs.Common.{◌≡◌, ◌∙◌, sym, subst, List, length, ma
 use Rattle.std.proofs.lemmas.Iterator.Adapters.{YieldsList-from_vec}
 use Rattle.std.proofs.lemmas.Iterator.Consumers.{YieldsList-end}
 use Rattle.std.proofs.lemmas.List.{map-id}
-use Rattle.wm_clock.proofs.Texts.{one_text}
-use Rattle.wm_view.proofs.TickLaws.{tick_in_range}
 use Rattle.wm_world.specs.declared.event.Event.{Event}
 use Rattle.wm_world.specs.Headline.{IsDriven}
 use Rattle.wm_world.proofs.Steps.{driven_more, driven_none}
@@ -15,7 +13,7 @@ loop-event-init g c =
     let there = c.new-world.ensures.disk in
     record {
       honest = λ h. subst g.D.Disk.honest there h;
-      driven = λ h. driven_none g.D.Disk c.every_registry.ensures.rises c.every_registry.ensures.in_order tick_in_range g.D.Crashed.plan c.args.disk c.new-world.result h there (c.new-world.ensures.stands (c.requires.formatted (subst g.D.Disk.honest there h)));
+      driven = λ h. driven_none g.D.Disk c.every_registry.ensures.rises c.every_registry.ensures.in_order c.every_operation.ensures.in_range c.every_client.ensures g.D.Crashed.plan c.args.disk c.new-world.result h there (c.new-world.ensures.stands (c.requires.formatted (subst g.D.Disk.honest there h)));
     }
 
 pub loop-event-preserved : goal.loop-event-preserved
@@ -24,7 +22,7 @@ loop-event-preserved g c =
     let m = c.in_ok-world.ensures in
     record {
       honest = λ h. l.invariant.honest (m.honest h);
-      driven = λ h. driven_more g.D.Disk c.every_registry.ensures.rises c.every_registry.ensures.in_order tick_in_range g.D.Crashed.plan c.args.disk l.yielded c.in-Some.event l.world c.in_ok-world.world h (l.invariant.driven (m.honest h)) m;
+      driven = λ h. driven_more g.D.Disk c.every_registry.ensures.rises c.every_registry.ensures.in_order c.every_operation.ensures.in_range c.every_client.ensures g.D.Crashed.plan c.args.disk l.yielded c.in-Some.event l.world c.in_ok-world.world h (l.invariant.driven (m.honest h)) m;
     }
 
 pub returns : goal.returns
@@ -39,13 +37,13 @@ returns g c =
     record {
       run = λ h. subst (λ (es : List Event). IsDriven D g.D.Crashed.plan c.args.disk es l.world) ended (l.invariant.driven h);
       honest = l.invariant.honest;
-      one_moment = one_moment c.every_registry.ensures.rises c.every_registry.ensures.in_order tick_in_range one_text;
-      answers = one_moment_of_answers c.every_registry.ensures.rises c.every_registry.ensures.in_order tick_in_range one_text;
+      one_moment = one_moment c.every_registry.ensures.rises c.every_registry.ensures.in_order c.every_operation.ensures.in_range c.clock_laws.ensures.one_text;
+      answers = one_moment_of_answers c.every_registry.ensures.rises c.every_registry.ensures.in_order c.every_operation.ensures.in_range c.clock_laws.ensures.one_text;
       memory = tt;
     }
 
 pub returns-in_err-world-clause-one_moment : goal.returns-in_err-world-clause-one_moment
-returns-in_err-world-clause-one_moment g c = one_moment c.every_registry.ensures.rises c.every_registry.ensures.in_order tick_in_range one_text
+returns-in_err-world-clause-one_moment g c = one_moment c.every_registry.ensures.rises c.every_registry.ensures.in_order c.every_operation.ensures.in_range c.clock_laws.ensures.one_text
 
 pub returns-in_err-world-clause-answers : goal.returns-in_err-world-clause-answers
-returns-in_err-world-clause-answers g c = one_moment_of_answers c.every_registry.ensures.rises c.every_registry.ensures.in_order tick_in_range one_text
+returns-in_err-world-clause-answers g c = one_moment_of_answers c.every_registry.ensures.rises c.every_registry.ensures.in_order c.every_operation.ensures.in_range c.clock_laws.ensures.one_text

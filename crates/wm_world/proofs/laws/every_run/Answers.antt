@@ -1,5 +1,3 @@
-use Rattle.wm_clock.proofs.Texts.{one_text}
-use Rattle.wm_view.proofs.TickLaws.{tick_in_range}
 use Rattle.wm_world.proofs.Bounds.{slot_bound}
 use Rattle.wm_world.proofs.Kept.{acknowledged_stays, kept_stays, nothing_invented, restart_finds}
 use Rattle.wm_world.proofs.Moments.{in_range, one_moment, one_moment_of_answers}
@@ -8,16 +6,16 @@ use Rattle.wm_world.proofs.Reached.{pending_is_own}
 use Rattle.wm_world.proofs.laws.every_run.Goals as goal
 
 pub returns-clause-clients : goal.returns-clause-clients
-returns-clause-clients c = clients_hold
+returns-clause-clients c = clients_hold c.every_client.ensures
 
 pub returns-clause-one_moment : goal.returns-clause-one_moment
-returns-clause-one_moment c = one_moment c.every_registry.ensures.rises c.every_registry.ensures.in_order tick_in_range one_text
+returns-clause-one_moment c = one_moment c.every_registry.ensures.rises c.every_registry.ensures.in_order c.every_operation.ensures.in_range c.clock_laws.ensures.one_text
 
 pub returns-clause-answers : goal.returns-clause-answers
-returns-clause-answers c = one_moment_of_answers c.every_registry.ensures.rises c.every_registry.ensures.in_order tick_in_range one_text
+returns-clause-answers c = one_moment_of_answers c.every_registry.ensures.rises c.every_registry.ensures.in_order c.every_operation.ensures.in_range c.clock_laws.ensures.one_text
 
 pub returns-clause-in_range : goal.returns-clause-in_range
-returns-clause-in_range c = in_range c.every_registry.ensures.rises c.every_registry.ensures.in_order tick_in_range
+returns-clause-in_range c = in_range c.every_registry.ensures.rises c.every_registry.ensures.in_order c.every_operation.ensures.in_range
 
 pub returns-clause-invented : goal.returns-clause-invented
 returns-clause-invented c = nothing_invented

@@ -22,8 +22,8 @@ returns-clause-kept g c =
           };
     }
 
-pub returns-clause-any_moment : goal.returns-clause-any_moment
-returns-clause-any_moment g c = λ alive h.
+pub returns-clause-crash : goal.returns-clause-crash
+returns-clause-crash g c = λ alive h.
     let D = g.D.Disk in
     let m = meaning g.M.Machine g.M.State.Wire g.M.Command.Wire in
     let self = c.args.self.now in

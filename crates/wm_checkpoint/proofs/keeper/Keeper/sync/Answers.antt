@@ -1,6 +1,7 @@
 use Rattle.std.proofs.Common.{refl}
 use Rattle.wm_checkpoint.specs.Machines.{meaning}
-use Rattle.wm_checkpoint.proofs.Keeping.{kept_means, call_leaves, still_means, still_at_rest}
+use Rattle.wm_checkpoint.proofs.Keeping.{call_leaves, still_means, still_at_rest}
+use Rattle.wm_checkpoint.specs.laws.Uncalled.{kept_means}
 use Rattle.wm_checkpoint.proofs.keeper.Keeper.sync.Goals as goal
 
 pub returns-in-Ok-clause-kept : goal.returns-in-Ok-clause-kept
@@ -22,21 +23,21 @@ returns-in-Ok-clause-kept g c =
           };
     }
 
-pub returns-in-Ok-clause-any_moment : goal.returns-in-Ok-clause-any_moment
-returns-in-Ok-clause-any_moment g c = λ alive h.
+pub returns-in-Ok-clause-crash : goal.returns-in-Ok-clause-crash
+returns-in-Ok-clause-crash g c = λ alive h.
     let D = g.D.Disk in
     let m = meaning g.M.Machine g.M.State.Wire g.M.Command.Wire in
     let self = c.args.self.now in
     let before = c.sync.ensures.honest h in
     call_leaves D m self (c.requires.kept.kept alive before) c.sync.new.self (λ f left. g.met.D.Disk.only_now self.region.disk f before left) (c.sync.ensures.crash h) (c.sync.ensures.time h)
 
-pub returns-in-Err-clause-any_moment : goal.returns-in-Err-clause-any_moment
-returns-in-Err-clause-any_moment g c = λ alive h.
+pub returns-in-Err-clause-crash : goal.returns-in-Err-clause-crash
+returns-in-Err-clause-crash g c = λ alive h.
     let D = g.D.Disk in
     let m = meaning g.M.Machine g.M.State.Wire g.M.Command.Wire in
     let self = c.args.self.now in
     let before = c.sync.ensures.honest h in
     call_leaves D m self (c.requires.kept.kept alive before) c.sync.new.self (λ f left. g.met.D.Disk.only_now self.region.disk f before left) (c.sync.ensures.crash h) (c.sync.ensures.time h)
 
-pub returns-in-Ok-clause-means : goal.returns-in-Ok-clause-means
-returns-in-Ok-clause-means g c = λ h x left. kept_means g.D.Disk (meaning g.M.Machine g.M.State.Wire g.M.Command.Wire) _ ((returns-in-Ok-clause-kept g c).kept c.if-self.false h) x left
+pub returns-in-Ok-clause-synced : goal.returns-in-Ok-clause-synced
+returns-in-Ok-clause-synced g c = (c.if-self.false, λ h x left. kept_means g.D.Disk (meaning g.M.Machine g.M.State.Wire g.M.Command.Wire) _ ((returns-in-Ok-clause-kept g c).kept c.if-self.false h) x left)

@@ -1,7 +1,8 @@
-use Rattle.std.proofs.Common.{◌≡◌, ◌≤◌, ◌+◌, List, ℕ, length, get_or, subst, sym, ap, ◌∙◌, arith}
+use Rattle.std.proofs.Common.{◌≡◌, ◌≤◌, ◌+◌, List, ℕ, length, get_or, refl, subst, sym, ap, ◌∙◌, arith}
 use Rattle.wm_disk.specs.Contents.{Only, overwritten}
 use Rattle.wm_journal.specs.Records.{taken, gate_places, group}
-use Rattle.wm_journal.proofs.Laying.{length-group, gates_below, taken-append}
+use Rattle.wm_journal.proofs.Laying.{length-group, gates_below}
+use Rattle.wm_journal.specs.laws.Records.{taken-append}
 use Rattle.wm_journal.proofs.Appending.{written_leaves, synced_leaves, group_outside, group_stages}
 use Rattle.wm_journal.proofs.region.Region.append_closed.Goals as goal
 
@@ -63,16 +64,21 @@ returns-clause-staged g c = λ held h rest.
       durable = subst (λ (x : List ℕ). Only x (D.may_leave c.sync.new.self)) (sym (c.sync.ensures.seen h)) (c.in_ok-sync.ensures.durable h);
     }
 
-pub returns-clause-outside : goal.returns-clause-outside
-returns-clause-outside g c = λ h.
+pub returns-clause-place : goal.returns-clause-place
+returns-clause-place g c =
     let D = g.D.Disk in
     let W = g.W.Wire in
     let self = c.args.self.now in
     let bytes = c.deref.result.now in
     let size : length bytes ≡ taken W.spelling c.args.records.now = ap length (c.deref.ensures.value ∙ c.in_ok-group.ensures.bytes) ∙ length-group W.spelling c.args.records.now in
     let within : self.end + 1 + length bytes ≤ self.len = omega (arith, size, c.requires.fits, self.within) in
-    let written = c.sync.ensures.honest h in
-    group_outside D W self bytes (D.seen c.sync.new.self) within (c.requires.lies (c.write_at.ensures.honest written)) (c.sync.ensures.seen h ∙ c.in_ok-write_at.ensures.written written)
+    let seen = D.seen c.sync.new.self in
+    record {
+      place = (refl, refl);
+      outside = λ h.
+          let written = c.sync.ensures.honest h in
+          group_outside D W self bytes seen within (c.requires.lies (c.write_at.ensures.honest written)) (c.sync.ensures.seen h ∙ c.in_ok-write_at.ensures.written written);
+    }
 
 pub returns-clause-any_moment : goal.returns-clause-any_moment
 returns-clause-any_moment g c = λ held h rest.

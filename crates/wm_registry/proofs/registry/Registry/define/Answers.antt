@@ -1,6 +1,7 @@
 use Rattle.std.proofs.Common.{◌≡◌, ◌≤◌, ◌<◌, ◌^◌, ℕ, true, List, length, Result, Ok, Err, OnErr, sym, ap, subst, ◌∙◌, arith}
 use Rattle.wm_disk.specs.declared.refusal.NoMemory.{NoMemory}
 use Rattle.wm_wire.specs.Spelling.{list_spelling}
+use Rattle.wm_registry.specs.Limits.{max_triggers}
 use Rattle.wm_registry.specs.declared.command.Command.TheVariants as commands
 use Rattle.wm_registry.specs.declared.root.Root.{Root}
 use Rattle.wm_registry.specs.Registry.{is_change, reply_to}
@@ -16,7 +17,7 @@ accepted : (s old : State) (path : List ℕ) (copy trigger : Definition) → s �
 accepted s old path copy trigger same is h = ap (λ (t : Definition). is_change (reply_to s (commands.Trigger path t))) is ∙ ap (λ (st : State). is_change (reply_to st (commands.Trigger path trigger))) same ∙ h
 
 -- and it leaves the triggers within their limits
-fits : (c : goal.After-define-arg-1) → (length (defined c.in_ok-trigger.trigger c.in-Some.root.now.triggers) ≤ 64) × (length (list_spelling trigger_spelling (defined c.in_ok-trigger.trigger c.in-Some.root.now.triggers)) < 2 ^ 32)
+fits : (c : goal.After-define-arg-1) → (length (defined c.in_ok-trigger.trigger c.in-Some.root.now.triggers) ≤ max_triggers) × (length (list_spelling trigger_spelling (defined c.in_ok-trigger.trigger c.in-Some.root.now.triggers)) < 2 ^ 32)
 fits c =
     let s : State = record { incarnation = c.self.inside.incarnation; next = c.self.inside.next; roots = c.self.inside.roots.entries } in
     let may = accepted s c.args.self.now c.args.path.now c.in_ok-trigger.trigger c.args.trigger.now c.self.view_is c.in_ok-trigger.ensures c.requires in

@@ -1,12 +1,12 @@
 -- A new registry is within the limits.
 use Rattle.std.proofs.Common.{◌≡◌, ℕ, List, [], length, refl, arith}
 use Rattle.std.specs.List.{IsDistinct}
-use Rattle.wm_registry.specs.Registry.{fresh}
+use Rattle.wm_registry.specs.Registry.{empty_registry}
 use Rattle.wm_registry.specs.Spelling.{IsState, state_spelling}
 use Rattle.wm_registry.specs.declared.root.Root.{Root}
 use Rattle.wm_registry.proofs.registry.Registry.new.Goals as goal
 
-fresh_fits : IsState fresh
+fresh_fits : IsState empty_registry
 unfolding IsDistinct
 fresh_fits = record {
   incarnation = omega arith;

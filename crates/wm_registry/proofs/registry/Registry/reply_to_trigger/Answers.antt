@@ -33,8 +33,8 @@ returns-in-Some c =
     (some_passes (is_named t.name) root.triggers c.in-Some.place place)
     new
 
-pub returns-then-triggers-ge-MAX_TRIGGERS : goal.returns-then-triggers-ge-MAX_TRIGGERS
-returns-then-triggers-ge-MAX_TRIGGERS c =
+pub returns-then-triggers : goal.returns-then-triggers
+returns-then-triggers c =
     let t = c.args.trigger.now in
     let root = c.args.root.now in
     let place = same_place c.name.result.now t.name c.as_slice-triggers.result.now root.triggers None c.name.ensures c.as_slice-triggers.ensures.value c.in-None.ensures in
@@ -43,8 +43,8 @@ returns-then-triggers-ge-MAX_TRIGGERS c =
     (none_passes (is_named t.name) root.triggers place)
     (omega (arith, ap (λ (l : List Definition). length l) c.as_slice-triggers.ensures.value))
 
-pub returns-else-triggers-ge-MAX_TRIGGERS : goal.returns-else-triggers-ge-MAX_TRIGGERS
-returns-else-triggers-ge-MAX_TRIGGERS c =
+pub returns-else-triggers : goal.returns-else-triggers
+returns-else-triggers c =
     let s = c.args.self.now in
     let path = c.args.path.now in
     let t = c.args.trigger.now in

@@ -1,42 +1,43 @@
 use Rattle.std.proofs.Common.{◌≤◌, length, sym, ap, subst, ◌∙◌, arith}
-use Rattle.wm_wire.specs.Spelling.{Begins, NoneBegins}
+use Rattle.wm_wire.specs.Spelling.{BeginsWith, NoneBegins}
 use Rattle.wm_registry.specs.Spelling.{AreRoots, IsState}
 use Rattle.wm_registry.proofs.States.{PartsFit, parts_spelling, state_of, no_parts, no_state, is_state}
 use Rattle.wm_registry.proofs.wire.RegistryWire.take.Goals as goal
-use Rattle.wm_registry.proofs.wire.RegistryWire.take.Goals.{then-incarnation-gt-LAST-via-then-incarnation-gt-LAST, then-incarnation-gt-LAST-via-else-incarnation-gt-LAST+then-next-eq0, then-incarnation-gt-LAST-via-else-incarnation-gt-LAST+else-next-eq0+then-next-gt-LAST, then-incarnation-gt-LAST-via-else-incarnation-gt-LAST+else-next-eq0+else-next-gt-LAST+then-size-gt-MAX_SIZE}
+use Rattle.wm_registry.proofs.wire.RegistryWire.take.Goals.{then-incarnation-gt-MAX_COUNTER-via-then-incarnation-gt-MAX_COUNTER, then-incarnation-gt-MAX_COUNTER-via-else-incarnation-gt-MAX_COUNTER+then-next-eq0, then-incarnation-gt-MAX_COUNTER-via-else-incarnation-gt-MAX_COUNTER+else-next-eq0+then-next-gt-MAX_COUNTER, then-incarnation-gt-MAX_COUNTER-via-else-incarnation-gt-MAX_COUNTER+else-next-eq0+else-next-gt-MAX_COUNTER+then-size-gt-MAX_STATE_BYTES}
+use Rattle.wm_checkpoint.specs.Layout.{max_state_bytes}
 
 pub returns-in_default : goal.returns-in_default
 returns-in_default c =
     let none : NoneBegins PartsFit parts_spelling c.args.bytes.now = rw c.in_default.is at c.in_ok-parts.ensures in
     no_parts c.args.bytes.now none
 
-pub returns-then-incarnation-gt-LAST : goal.returns-then-incarnation-gt-LAST
-returns-then-incarnation-gt-LAST c =
-    let begins : Begins PartsFit parts_spelling c.args.bytes.now c.in-Some.parts c.in-Some.size = rw c.in-Some.is at c.in_ok-parts.ensures in
+pub returns-then-incarnation-gt-MAX_COUNTER : goal.returns-then-incarnation-gt-MAX_COUNTER
+returns-then-incarnation-gt-MAX_COUNTER c =
+    let begins : BeginsWith PartsFit parts_spelling c.args.bytes.now c.in-Some.parts c.in-Some.size = rw c.in-Some.is at c.in_ok-parts.ensures in
     let first = c.into_parts-incarnation.ensures.value in
     let second = c.into_parts-next.ensures.value ∙ ap (λ p. p.1) first in
     let incarnation = ap (λ p. p.0) first in
     let next = ap (λ p. p.0) second in
-    let wrong : IsState (state_of c.in-Some.parts) → ⊥ = λ h. elim c.then-incarnation-gt-LAST.branch [
-      | then-incarnation-gt-LAST-via-then-incarnation-gt-LAST w ↦ omega (arith, h.incarnation, incarnation, w.if-incarnation-gt-LAST.true)
-      | then-incarnation-gt-LAST-via-else-incarnation-gt-LAST+then-next-eq0 w ↦ omega (arith, h.some, next, w.if-next-eq0.true)
-      | then-incarnation-gt-LAST-via-else-incarnation-gt-LAST+else-next-eq0+then-next-gt-LAST w ↦ omega (arith, h.next, next, w.if-next-gt-LAST.true)
-      | then-incarnation-gt-LAST-via-else-incarnation-gt-LAST+else-next-eq0+else-next-gt-LAST+then-size-gt-MAX_SIZE w ↦
-          let short : length (parts_spelling c.in-Some.parts) ≤ 1048563 = h.short in
-          omega (arith, short, begins.whole, w.if-size-gt-MAX_SIZE.true)
+    let wrong : IsState (state_of c.in-Some.parts) → ⊥ = λ h. elim c.then-incarnation-gt-MAX_COUNTER.branch [
+      | then-incarnation-gt-MAX_COUNTER-via-then-incarnation-gt-MAX_COUNTER w ↦ omega (arith, h.incarnation, incarnation, w.if-incarnation-gt-MAX_COUNTER.true)
+      | then-incarnation-gt-MAX_COUNTER-via-else-incarnation-gt-MAX_COUNTER+then-next-eq0 w ↦ omega (arith, h.some, next, w.if-next-eq0.true)
+      | then-incarnation-gt-MAX_COUNTER-via-else-incarnation-gt-MAX_COUNTER+else-next-eq0+then-next-gt-MAX_COUNTER w ↦ omega (arith, h.next, next, w.if-next-gt-MAX_COUNTER.true)
+      | then-incarnation-gt-MAX_COUNTER-via-else-incarnation-gt-MAX_COUNTER+else-next-eq0+else-next-gt-MAX_COUNTER+then-size-gt-MAX_STATE_BYTES w ↦
+          let short : length (parts_spelling c.in-Some.parts) ≤ max_state_bytes = h.short in
+          omega (arith, short, begins.whole, w.if-size-gt-MAX_STATE_BYTES.true)
     ] in
     no_state c.args.bytes.now c.in-Some.parts c.in-Some.size begins wrong
 
 pub returns-in_default-2 : goal.returns-in_default-2
 returns-in_default-2 c =
-    let begins : Begins PartsFit parts_spelling c.args.bytes.now c.in-Some.parts c.in-Some.size = rw c.in-Some.is at c.in_ok-parts.ensures in
+    let begins : BeginsWith PartsFit parts_spelling c.args.bytes.now c.in-Some.parts c.in-Some.size = rw c.in-Some.is at c.in_ok-parts.ensures in
     let second = c.into_parts-next.ensures.value ∙ ap (λ p. p.1) c.into_parts-incarnation.ensures.value in
     let wrong : IsState (state_of c.in-Some.parts) → ⊥ = λ h. (rw c.in_default-2.is at c.in_ok-roots.ensures.none) (subst (λ p. AreRoots p.0 p.1) (sym second) h.apart) in
     no_state c.args.bytes.now c.in-Some.parts c.in-Some.size begins wrong
 
 pub returns : goal.returns
 returns c =
-    let begins : Begins PartsFit parts_spelling c.args.bytes.now c.in-Some.parts c.in-Some.size = rw c.in-Some.is at c.in_ok-parts.ensures in
+    let begins : BeginsWith PartsFit parts_spelling c.args.bytes.now c.in-Some.parts c.in-Some.size = rw c.in-Some.is at c.in_ok-parts.ensures in
     let first = c.into_parts-incarnation.ensures.value in
     let second = c.into_parts-next.ensures.value ∙ ap (λ p. p.1) first in
     let made = rw c.in-Some-2.is at c.in_ok-roots.ensures.some in
@@ -45,10 +46,10 @@ returns c =
       incarnation_is = ap (λ p. p.0) first;
       next_is = ap (λ p. p.0) second;
       roots_are = made.0 ∙ ap (λ p. p.1) second;
-      last = omega (arith, c.if-incarnation-gt-LAST.false);
+      last = omega (arith, c.if-incarnation-gt-MAX_COUNTER.false);
       some = omega (arith, c.if-next-eq0.false);
-      below = omega (arith, c.if-next-gt-LAST.false);
-      short = omega (arith, c.if-size-gt-MAX_SIZE.false);
+      below = omega (arith, c.if-next-gt-MAX_COUNTER.false);
+      short = omega (arith, c.if-size-gt-MAX_STATE_BYTES.false);
       apart = subst (λ p. AreRoots p.0 p.1) second made.1;
     })
 

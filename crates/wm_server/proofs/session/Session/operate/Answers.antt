@@ -1,4 +1,4 @@
-use Rattle.wm_server.proofs.SessionLemmas.{operation_refused}
+use Rattle.wm_server.proofs.lemmas.session.SessionLemmas.{operation_refused}
 use Rattle.wm_server.proofs.session.Session.operate.Goals as goal
 
 pub returns-in-Err-clause-met : goal.returns-in-Err-clause-met

@@ -28,17 +28,20 @@ returns-in-Begin g c =
     let D = g.D.Disk in
     let old = c.args.keeper.now in
     record {
-      ready = c.requires.ready;
-      same = (refl, refl);
-      room = record { replies = omega arith; group = omega arith };
-      open_yet = λ e. absurd cc;
+      goes_on = record {
+        ready = c.requires.ready;
+        same = (refl, refl);
+        room = record { replies = omega arith; group = omega arith };
+        past = λ start done p. p;
+      };
+      asked = λ e. absurd cc;
       refused = λ r e. inl (ap is_begin c.in-Begin.is, same_inside BadArguments r e, refl, refl);
-      past = λ start done p. p;
       cut = tt;
-      asked = tt;
-      calls = calls_none D 1 old old refl;
-      whole = whole_none D old old refl c.requires.ready.kept c.requires.ready.whole;
-      down = tt;
+      keeper = record {
+        calls = calls_none D 1 old old refl;
+        whole = whole_none D old old refl c.requires.ready.kept c.requires.ready.whole;
+        down = tt;
+      };
     }
 
 pub returns-in-Some : goal.returns-in-Some
@@ -48,10 +51,13 @@ returns-in-Some g c =
     let other = not_begin c.args.command.now c.in_default.not-Begin in
     let is = c.in-Some.is in
     record {
-      ready = c.requires.ready;
-      same = (refl, refl);
-      room = record { replies = omega arith; group = omega arith };
-      open_yet = λ e. absurd cc;
+      goes_on = record {
+        ready = c.requires.ready;
+        same = (refl, refl);
+        room = record { replies = omega arith; group = omega arith };
+        past = λ start done p. p;
+      };
+      asked = λ e. absurd cc;
       refused = λ r e.
           let this = same_inside c.in-Some.refusal r e in
           ⊎_elim
@@ -61,12 +67,12 @@ returns-in-Some g c =
           (λ h. inr (inr (other, this ∙ same_inside Exhausted c.in-Some.refusal (sym h ∙ is), h, (λ _. refl), inr (h, refl, refl))))
           w)
           c.requires.refused;
-      past = λ start done p. p;
       cut = tt;
-      asked = tt;
-      calls = calls_none D 1 old old refl;
-      whole = whole_none D old old refl c.requires.ready.kept c.requires.ready.whole;
-      down = tt;
+      keeper = record {
+        calls = calls_none D 1 old old refl;
+        whole = whole_none D old old refl c.requires.ready.kept c.requires.ready.whole;
+        down = tt;
+      };
     }
 
 pub returns-then-not-is_change : goal.returns-then-not-is_change
@@ -77,17 +83,20 @@ returns-then-not-is_change g c =
     let idle : is_change (reply_to c.args.self.now.next c.args.command.now) ≡ false = ap is_change (sym c.reply_to.ensures.reply) ∙ sym c.if-not-is_change.ensures in
     let asked : c.args.self.now ≡ record c.args.self.now { next = c.reply_to.new.self } = ap (λ (n : State). record c.args.self.now { next = n }) (sym c.reply_to.ensures.same) in
     record {
-      ready = subst (λ (b : Batch). IsReady D old b) asked c.requires.ready;
-      same = (c.reply_to.ensures.same, refl);
-      room = record { replies = omega arith; group = omega arith };
-      open_yet = λ e. (none, none, not_begin c.args.command.now c.in_default.not-Begin, inl (refl, refl), λ h. let clash : true ≡ false = sym h ∙ idle in absurd cc);
+      goes_on = record {
+        ready = subst (λ (b : Batch). IsReady D old b) asked c.requires.ready;
+        same = (c.reply_to.ensures.same, refl);
+        room = record { replies = omega arith; group = omega arith };
+        past = λ start done p. subst (λ (b : Batch). IsPast D start done old b) asked p;
+      };
+      asked = λ e. record { open_yet = none; was_open = none; plain = not_begin c.args.command.now c.in_default.not-Begin; spared = inl (refl, refl); fits = λ h. let clash : true ≡ false = sym h ∙ idle in absurd cc };
       refused = λ r e. absurd cc;
-      past = λ start done p. subst (λ (b : Batch). IsPast D start done old b) asked p;
       cut = tt;
-      asked = tt;
-      calls = calls_none D 1 old old refl;
-      whole = whole_none D old old refl c.requires.ready.kept c.requires.ready.whole;
-      down = tt;
+      keeper = record {
+        calls = calls_none D 1 old old refl;
+        whole = whole_none D old old refl c.requires.ready.kept c.requires.ready.whole;
+        down = tt;
+      };
     }
 
 pub returns-then-self-size : goal.returns-then-self-size
@@ -98,17 +107,20 @@ returns-then-self-size g c =
     let command = c.args.command.now in
     let none = c.in_default-refused.is in
     record {
-      ready = c.requires.ready;
-      same = (refl, refl);
-      room = record { replies = omega arith; group = omega arith };
-      open_yet = λ e. (none, none, not_begin command c.in_default.not-Begin, inl (refl, refl), λ h. omega (arith, taken_append a.group.items (command ∷ []), c.requires.ready.size, c.size.ensures.exact, c.room.ensures, c.if-self-size.true));
+      goes_on = record {
+        ready = c.requires.ready;
+        same = (refl, refl);
+        room = record { replies = omega arith; group = omega arith };
+        past = λ start done p. p;
+      };
+      asked = λ e. record { open_yet = none; was_open = none; plain = not_begin command c.in_default.not-Begin; spared = inl (refl, refl); fits = λ h. omega (arith, taken_append a.group.items (command ∷ []), c.requires.ready.size, c.size.ensures.exact, c.room.ensures, c.if-self-size.true) };
       refused = λ r e. absurd cc;
-      past = λ start done p. p;
       cut = tt;
-      asked = tt;
-      calls = calls_none D 1 old old refl;
-      whole = whole_none D old old refl c.requires.ready.kept c.requires.ready.whole;
-      down = tt;
+      keeper = record {
+        calls = calls_none D 1 old old refl;
+        whole = whole_none D old old refl c.requires.ready.kept c.requires.ready.whole;
+        down = tt;
+      };
     }
 
 pub returns-in-Ok : goal.returns-in-Ok
@@ -126,19 +138,22 @@ returns-in-Ok g c =
     let asked : c.args.self.now ≡ record c.args.self.now { next = c.reply_to.new.self } = ap (λ (n : State). record c.args.self.now { next = n }) (sym c.reply_to.ensures.same) in
     let over : room_left old < taken command_spelling (a.group.items ++ (command ∷ [])) = omega (arith, taken_append a.group.items (command ∷ []), c.requires.ready.size, c.size.ensures.exact, c.room.ensures, c.if-self-size.false) in
     record {
-      ready = m.ready;
-      same = (m.same.0 ∙ c.reply_to.ensures.same, m.same.1);
-      room = record { replies = m.room.replies; group = m.room.group };
-      open_yet = λ e. (
-        e,
-        none,
-        other,
-        inr (accepted, over),
-        λ h. ⊎_elim
+      goes_on = record {
+        ready = m.goes_on.ready;
+        same = (m.goes_on.same.0 ∙ c.reply_to.ensures.same, m.goes_on.same.1);
+        room = record { replies = m.goes_on.room.replies; group = m.goes_on.room.group };
+        past = λ start done p. m.goes_on.past start done (subst (λ (x : Batch). IsPast D start done old x) asked p);
+      };
+      asked = λ e. record {
+        open_yet = e;
+        was_open = none;
+        plain = other;
+        spared = inr (accepted, over);
+        fits = λ h. ⊎_elim
             (λ x. fits_alone b.group.items command x.1 c.size.ensures.fits (room_left new) x.2)
             (λ w. ⊎_elim (λ x. let clash = sym x.0 ∙ e in absurd cc) (λ x. let clash = sym x.0 ∙ e in absurd cc) w)
-            m.made,
-      );
+            m.made;
+      };
       refused = λ r e. ⊎_elim
           (λ x. let clash = sym x.0 ∙ e in absurd cc)
           (λ w. ⊎_elim
@@ -146,32 +161,31 @@ returns-in-Ok g c =
           (λ x. inr (inr (other, same_inside Exhausted r (sym x.0 ∙ e), x.0, x.3, inl (none, accepted, (x.2, omega (arith, over, x.4.room, taken_append a.group.items (command ∷ []))), x.1, x.4))))
           w)
           m.made;
-      past = λ start done p. m.past start done (subst (λ (x : Batch). IsPast D start done old x) asked p);
       cut = tt;
-      asked = tt;
-      calls = m.calls;
-      whole = m.whole;
-      down = tt;
+      keeper = record {
+        calls = m.keeper.calls;
+        whole = m.keeper.whole;
+        down = tt;
+      };
     }
 
 pub returns-in-Err : goal.returns-in-Err
 returns-in-Err g c =
     let D = g.D.Disk in
     let m = c.in-Err.ensures in
+    let none = c.in_default-refused.is in
     let accepted : is_change (reply_to c.args.self.now.next c.args.command.now) ≡ true = ap is_change (sym c.reply_to.ensures.reply) ∙ sym c.if-not-is_change.ensures in
     let asked : c.args.self.now ≡ record c.args.self.now { next = c.reply_to.new.self } = ap (λ (n : State). record c.args.self.now { next = n }) (sym c.reply_to.ensures.same) in
     record {
-      ready = tt;
-      same = tt;
-      room = tt;
-      open_yet = tt;
+      goes_on = tt;
+      asked = tt;
       refused = tt;
-      past = tt;
-      cut = λ start done p. m.cut start done (subst (λ (b : Batch). IsPast D start done c.args.keeper.now b) asked p);
-      asked = (c.in_default-refused.is, not_begin c.args.command.now c.in_default.not-Begin, accepted);
-      calls = m.calls;
-      whole = tt;
-      down = m.down;
+      cut = record { cut = λ start done p. m.cut start done (subst (λ (b : Batch). IsPast D start done c.args.keeper.now b) asked p); open_yet = none; plain = not_begin c.args.command.now c.in_default.not-Begin; accepted = accepted };
+      keeper = record {
+        calls = m.keeper.calls;
+        whole = tt;
+        down = m.keeper.down;
+      };
     }
 
 pub overflow_add-self : goal.overflow_add-self

@@ -1,7 +1,7 @@
 use Rattle.std.proofs.Common.{◌≡◌, ⊎_elim, inl, inr, refl, sym, ◌∙◌, ap, subst, arith, ℕ, true, false, List, [], ◌∷◌, length, vec_len, ◌==◌, eqb-true}
 use Rattle.std.proofs.lemmas.Result.{on_ok_weaker, on_err_weaker}
 use Rattle.wm_registry.specs.declared.command.Command.{Command}
-use Rattle.wm_store.specs.UnderWay.{K, KeepsRoom, IsRoomMade, IsSpared, IsPast, IsCut, IsWhole, IsDown}
+use Rattle.wm_store.specs.UnderWay.{IsUnmoved, IsCut, IsCutBehind, WentDown, IsRoomMade, IsSpared, IsWhole}
 use Rattle.wm_store.specs.declared.batch.Batch.{Batch}
 use Rattle.wm_store.proofs.Batching.{calls_then, calls_more, whole_then, down_then, keeps_room, made_later}
 use Rattle.wm_store.proofs.batch.Batch.make_room.Goals as goal
@@ -24,12 +24,12 @@ switch-requires g c =
     }
 
 pub returns-then-is_empty : goal.returns-then-is_empty
-returns-then-is_empty g c = let s = c.switch.ensures in record { ready = s.ready; same = s.same; room = s.room; made = s.made; past = s.past; cut = s.cut; calls = s.calls; whole = s.whole; down = s.down }
+returns-then-is_empty g c = let s = c.switch.ensures in record { goes_on = s.goes_on; made = s.made; cut = s.cut; keeper = s.keeper }
 
 pub returns-in_default : goal.returns-in_default
 returns-in_default g c =
     let m = c.in_default.ensures in
-    record { ready = tt; same = tt; room = tt; made = tt; past = tt; cut = m.cut; calls = calls_more g.D.Disk 0 1 _ _ (omega arith) m.calls; whole = tt; down = m.down }
+    record { goes_on = tt; made = tt; cut = m.cut; keeper = record { calls = calls_more g.D.Disk 0 1 _ _ (omega arith) m.keeper.calls; whole = tt; down = m.keeper.down } }
 
 some_group : (a : Batch) → false ≡ (vec_len a.group == 0) → a.group.items ≡ [] → ⊥
 some_group a h none = not_empty (vec_len a.group) h (a.group.ok.0 ∙ ap length none)
@@ -38,25 +38,24 @@ pub returns-in-Some : goal.returns-in-Some
 returns-in-Some g c =
     let m = c.in-Ok.ensures in
     record {
-      ready = m.ready;
-      same = m.same;
-      room = m.room;
+      goes_on = m.goes_on;
       made = ⊎_elim
           (λ h. let clash = sym h.0 ∙ c.in-Some.is in absurd cc)
           (λ h. inr (inl (h, λ none. absurd (some_group c.args.self.now c.if-is_empty.ensures none))))
           m.made;
-      past = m.past;
       cut = tt;
-      calls = calls_more g.D.Disk 0 1 _ _ (omega arith) m.calls;
-      whole = m.whole;
-      down = tt;
+      keeper = record {
+        calls = calls_more g.D.Disk 0 1 _ _ (omega arith) m.keeper.calls;
+        whole = m.keeper.whole;
+        down = tt;
+      };
     }
 
 pub switch-requires-in-None : goal.switch-requires-in-None
 switch-requires-in-None g c =
     let m = c.in-Ok.ensures in
     record {
-      ready = m.ready;
+      ready = m.goes_on.ready;
       open_yet = c.in-None.is;
       none = ⊎_elim (λ h. h.1) (λ h. let clash = sym h ∙ c.in-None.is in absurd cc) m.made;
     }
@@ -76,14 +75,20 @@ returns-in-None g c =
     let some : a.group.items ≡ [] → ⊥ = some_group a c.if-is_empty.ensures in
     let made : (b.group.items ≡ []) × IsSpared D old a.group.items mid [] = ⊎_elim (λ h. (h.1, h.2)) (λ h. let clash = sym h ∙ c.in-None.is in absurd cc) m.made in
     record {
-      ready = s.ready;
-      same = on_ok_weaker r (λ (x : (e.next ≡ b.next) × (e.replies ≡ b.replies)). (x.0 ∙ m.same.0, x.1 ∙ m.same.1)) s.same;
-      room = on_ok_weaker r (λ (x : KeepsRoom b e). keeps_room a b e m.room x) s.room;
+      goes_on = on_ok_weaker r
+          (λ (x : IsUnmoved D mid b new e). record {
+            ready = x.ready;
+            same = (x.same.0 ∙ m.goes_on.same.0, x.same.1 ∙ m.goes_on.same.1);
+            room = keeps_room a b e m.goes_on.room x.room;
+            past = λ start done p. x.past start done (m.goes_on.past start done p);
+          })
+          s.goes_on;
       made = on_ok_weaker r (λ (x : IsRoomMade D mid b new e). made_later D old mid new a b e made.1 made.0 x some) s.made;
-      past = on_ok_weaker r (λ (f : (start : K D) (done : List Command) → IsPast D start done mid b → IsPast D start done new e). λ start done p. f start done (m.past start done p)) s.past;
-      cut = on_err_weaker r (λ (f : (start : K D) (done : List Command) → IsPast D start done mid b → IsCut D start done b.replies.items new e.before). λ start done p.
-          subst (λ v. IsCut D start done v.items new e.before) m.same.1 (f start done (m.past start done p))) s.cut;
-      calls = calls_then D 0 1 old mid new m.calls s.calls;
-      whole = on_ok_weaker r (λ (w : IsWhole D mid new). whole_then D old mid new m.whole w) s.whole;
-      down = on_err_weaker r (λ (w : IsDown D mid new). down_then D old mid new m.whole w) s.down;
+      cut = on_err_weaker r (λ (f : IsCutBehind D mid b new e.before). λ start done p.
+          subst (λ v. IsCut D start done v.items new e.before) m.goes_on.same.1 (f start done (m.goes_on.past start done p))) s.cut;
+      keeper = record {
+        calls = calls_then D 0 1 old mid new m.keeper.calls s.keeper.calls;
+        whole = on_ok_weaker r (λ (w : IsWhole D mid new). whole_then D old mid new m.keeper.whole w) s.keeper.whole;
+        down = on_err_weaker r (λ (w : WentDown D mid new). down_then D old mid new m.keeper.whole w) s.keeper.down;
+      };
     }

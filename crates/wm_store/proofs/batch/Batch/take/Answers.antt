@@ -18,18 +18,19 @@ returns g c =
     let mid : Batch = record b { next = next } in
     let m = c.in-Ok.ensures in
     let p = c.push.ensures in
-    let t = taken_answered D command old a new b reply next c.in-Ok.refusal c.requires.refused m.same.0 m.open_yet m.refused c.answer-reply.ensures.refused c.answer-reply.ensures.asked in
+    let t = taken_answered D command old a new b reply next c.in-Ok.refusal c.requires.refused m.goes_on.same.0 m.asked m.refused c.answer-reply.ensures.refused c.answer-reply.ensures.asked in
     record {
-      ready = ready_taken D command old a new b mid e reply next t m.ready m.same.0 refl refl refl p;
-      len = omega (arith, p.len, ap (λ v. vec_len v) m.same.1);
-      room = keeps_room a b e m.room (record { replies = p.room.replies; group = p.room.group });
-      past = λ start done q. past_taken D start done new b mid e command reply (m.past start done q) refl refl refl refl p;
-      so_far = λ start done q f. so_far_taken D start done command old a new b mid e reply next t q c.requires.ready m.same.1 refl refl refl p f;
-      slot = λ start done q was. slot_taken D start done command old a new b mid e reply next t q m.same.1 refl refl p was;
-      idle = (reply, p.replies ∙ ap (λ v. v.items ++ (reply ∷ [])) m.same.1, t.idle);
+      met = record {
+        ready = ready_taken D command old a new b mid e reply next t m.goes_on.ready m.goes_on.same.0 refl refl refl p;
+        reply = reply;
+        replies = p.replies ∙ ap (λ v. v.items ++ (reply ∷ [])) m.goes_on.same.1;
+        len = omega (arith, p.len, ap (λ v. vec_len v) m.goes_on.same.1);
+        room = keeps_room a b e m.goes_on.room (record { replies = p.room.replies; group = p.room.group });
+        idle = t.idle;
+        past = λ start done q. past_taken D start done new b mid e command reply (m.goes_on.past start done q) refl refl refl refl p;
+        so_far = λ start done q f. so_far_taken D start done command old a new b mid e reply next t q c.requires.ready m.goes_on.same.1 refl refl refl p f;
+        slot = λ start done q was. slot_taken D start done command old a new b mid e reply next t q m.goes_on.same.1 refl refl p was;
+      };
       cut = tt;
-      asked = tt;
-      calls = m.calls;
-      whole = m.whole;
-      down = tt;
+      keeper = record { calls = m.keeper.calls; whole = m.keeper.whole; down = tt };
     }

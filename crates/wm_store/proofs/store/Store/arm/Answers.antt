@@ -6,6 +6,6 @@ pub invariant_of-self : goal.invariant_of-self
 invariant_of-self g c =
     let k = c.arm.ensures in
     let i = c.self.inside in
-    inside_after g.D.Disk g.met.D.Disk.counts_now i.keeper c.arm.new.self i.before i.closed i.closed c.self.invariant k.kept k.state.0
-    (λ down. (k.state.1 ∙ down, λ h. (k.honest h, k.crash h)))
-    k.any_moment
+    inside_after g.D.Disk g.met.D.Disk.counts_now i.keeper c.arm.new.self i.before i.closed i.closed c.self.invariant k.kept k.same.0.state
+    (λ down. (k.flag ∙ down, λ h. (k.device.0 h, (k.reads h).crash)))
+    k.crash

@@ -1,21 +1,24 @@
-use Rattle.std.proofs.Common.{◌≡◌, ◌⊎◌, ⊎_elim, inl, inr, refl, sym, ◌∙◌, ap, subst, arith, ℕ, ◌+◌, length, take, List, [], true, false, vec_len}
-use Rattle.std.specs.Prelude.{Option, None}
+use Rattle.std.proofs.Common.{◌≡◌, ◌⊎◌, inl, inr, refl, sym, ap, subst, arith, ℕ, ◌+◌, length, take, List, [], true, false, vec_len}
+use Rattle.std.specs.Prelude.{Option, None, Ok, Err}
 use Rattle.std.specs.Option.{unwrap_or}
 use Rattle.std.proofs.lemmas.List.{take_all}
+use Rattle.wm_disk.specs.declared.refusal.Refusal.TheVariants.{NoMemory, StoreFailed}
 use Rattle.wm_journal.specs.Records.{taken}
 use Rattle.wm_registry.specs.Roots.{State}
 use Rattle.wm_registry.specs.MachineLaws.{watches}
 use Rattle.wm_registry.specs.Commands.{command_spelling}
 use Rattle.wm_registry.specs.declared.command.Command.{Command}
-use Rattle.wm_checkpoint.specs.Meanings.{MeansBeginning, MeansState}
-use Rattle.wm_checkpoint.specs.Kept.{disk_of, state_of, has_failed, number_of}
+use Rattle.wm_checkpoint.specs.Meanings.{MeansPrefix, MeansState}
+use Rattle.wm_checkpoint.specs.Kept.{disk_of, state_of, has_failed, slot_number_of}
 use Rattle.wm_checkpoint.specs.Machines.{replay_on}
-use Rattle.wm_checkpoint.proofs.Numbering.{kept_numbered, numbered_more}
+use Rattle.wm_checkpoint.specs.laws.Uncalled.{kept_numbered}
+use Rattle.wm_checkpoint.specs.laws.Numbering.{numbered_more}
 use Rattle.wm_store.specs.Batches.{accepted_of}
 use Rattle.wm_store.specs.UnderWay.{AreIdle, AreMet, IsNew}
-use Rattle.wm_store.proofs.Replying.{short_replies}
+use Rattle.wm_store.proofs.Replying.{out_of_memory_replies}
 use Rattle.wm_store.proofs.Runs.{stood, unbegun}
-use Rattle.wm_store.proofs.Stores.{IsInside, fallen, left_now, means_up, up}
+use Rattle.wm_store.proofs.Stores.{IsInside, fallen, means_up, not_over, stored, uncalled, up}
+use Rattle.wm_disk.specs.laws.Runs.{left_after_run}
 use Rattle.wm_store.proofs.Endings.{cut_batch, cut_registry, done_batch, done_idle, done_registry, done_slot, none_met, registry_is, still_met}
 use Rattle.wm_store.proofs.store.Store.commit_batch.Goals as goal
 use Rattle.wm_store.proofs.store.Store.commit_batch.Goals.{then-self-via-then-self, then-self-via-else-self+then-has_failed}
@@ -47,7 +50,7 @@ invariant_of-self g c =
     let new = c.run.new.keeper in
     let none : i.before ≡ None = c.self.invariant.1 (sym c.if-has_failed.ensures) in
     let m = c.in-Ok-run.ensures in
-    subst (λ (b : Option State). IsInside D new b i.closed) (sym none) (up D new m.whole.kept m.whole.up i.closed)
+    subst (λ (b : Option State). IsInside D new b i.closed) (sym none) (up D new m.keeper.whole.kept m.keeper.whole.up i.closed)
 
 pub invariant_of-self-in-Err : goal.invariant_of-self-in-Err
 invariant_of-self-in-Err g c =
@@ -56,9 +59,9 @@ invariant_of-self-in-Err g c =
     let old = i.keeper in
     let new = c.run.new.keeper in
     let m = c.in-Err.ensures in
-    let accepted : List _ = accepted_of c.args.commands.items m.cut.0 in
-    fallen D new m.down.kept m.down.down c.in-Err.before i.closed (state_of old) m.cut.2.was accepted
-    (λ h x left. left_now D g.met.D.Disk.counts_now (disk_of old) (disk_of new) (MeansBeginning watches (state_of old) accepted) h (m.cut.2.run h) x left)
+    let accepted : List _ = accepted_of c.args.commands.items m.cut.replies in
+    fallen D new m.keeper.down.kept m.keeper.down.down c.in-Err.before i.closed (state_of old) m.cut.cut.was accepted
+    (λ h x left. left_after_run D g.met.D.Disk.counts_now (disk_of old) (disk_of new) (MeansPrefix watches (state_of old) accepted) h (m.cut.cut.run h) x left)
 
 pub returns-then-self : goal.returns-then-self
 returns-then-self g c =
@@ -70,22 +73,12 @@ returns-then-self g c =
       | then-self-via-else-self+then-has_failed w ↦ inl (sym w.if-has_failed.ensures)
     ] in
     rw (← c.self.view_is) (record {
-      answered = tt;
-      registry = tt;
-      means = λ h. tt;
-      idle = tt;
-      slot = tt;
-      cut = λ alive. (short_replies commands, none_met D i.keeper i.before i.closed (c.self.invariant.1 alive) g.met.D.Disk.only_now c.self.invariant.0 alive commands, λ e. absurd cc);
+      committed = tt;
+      cut = λ alive. (out_of_memory_replies commands, none_met D i.keeper i.before i.closed (c.self.invariant.1 alive) g.met.D.Disk.only_now c.self.invariant.0 alive commands, λ e. absurd cc);
       unchanged = refl;
-      memory = λ e. absurd cc;
-      down = λ e. (why, refl);
-      stays_down = λ e. refl;
+      numbered = λ alive h x left. numbered_more (slot_number_of i.keeper) (slot_number_of i.keeper + length commands) x (omega arith) (kept_numbered D watches i.keeper (c.self.invariant.0.kept alive h) x left);
       number = (omega arith, omega arith);
-      numbered = λ alive h x left. numbered_more (number_of i.keeper) (number_of i.keeper + length commands) x (omega arith) (kept_numbered D watches i.keeper (c.self.invariant.0.kept alive h) x left);
-      honest = λ h. h;
-      later = omega arith;
-      whole = tt;
-      failed = λ e. absurd cc;
+      calls = uncalled D (Err StoreFailed) (stored D i.keeper i.before i.closed) (λ e. absurd cc) tt (λ e. why) (λ over. refl);
       kinds = inr (inr refl);
     })
 
@@ -96,22 +89,12 @@ returns-in_default g c =
     let commands = c.args.commands.items in
     let alive : has_failed i.keeper ≡ false = sym c.if-has_failed.ensures in
     rw (← c.self.view_is) (record {
-      answered = tt;
-      registry = tt;
-      means = λ h. tt;
-      idle = tt;
-      slot = tt;
-      cut = λ _. (short_replies commands, none_met D i.keeper i.before i.closed (c.self.invariant.1 alive) g.met.D.Disk.only_now c.self.invariant.0 alive commands, λ e. absurd cc);
+      committed = tt;
+      cut = λ _. (out_of_memory_replies commands, none_met D i.keeper i.before i.closed (c.self.invariant.1 alive) g.met.D.Disk.only_now c.self.invariant.0 alive commands, λ e. absurd cc);
       unchanged = refl;
-      memory = λ e. refl;
-      down = λ e. absurd cc;
-      stays_down = λ e. ⊎_elim (λ down. let clash : true ≡ false = sym down ∙ alive in absurd cc) (λ shut. let clash : true ≡ false = sym shut ∙ c.if-self.false in absurd cc) e;
+      numbered = λ alive h x left. numbered_more (slot_number_of i.keeper) (slot_number_of i.keeper + length commands) x (omega arith) (kept_numbered D watches i.keeper (c.self.invariant.0.kept alive h) x left);
       number = (omega arith, omega arith);
-      numbered = λ alive h x left. numbered_more (number_of i.keeper) (number_of i.keeper + length commands) x (omega arith) (kept_numbered D watches i.keeper (c.self.invariant.0.kept alive h) x left);
-      honest = λ h. h;
-      later = omega arith;
-      whole = tt;
-      failed = λ e. absurd cc;
+      calls = uncalled D (Err NoMemory) (stored D i.keeper i.before i.closed) (λ e. absurd cc) tt (λ e. absurd cc) (λ over. absurd (not_over D i.keeper i.before i.closed alive c.if-self.false over));
       kinds = inr (inl refl);
     })
 
@@ -122,22 +105,12 @@ returns-in_default-new g c =
     let commands = c.args.commands.items in
     let alive : has_failed i.keeper ≡ false = sym c.if-has_failed.ensures in
     rw (← c.self.view_is) (record {
-      answered = tt;
-      registry = tt;
-      means = λ h. tt;
-      idle = tt;
-      slot = tt;
-      cut = λ _. (short_replies commands, none_met D i.keeper i.before i.closed (c.self.invariant.1 alive) g.met.D.Disk.only_now c.self.invariant.0 alive commands, λ e. absurd cc);
+      committed = tt;
+      cut = λ _. (out_of_memory_replies commands, none_met D i.keeper i.before i.closed (c.self.invariant.1 alive) g.met.D.Disk.only_now c.self.invariant.0 alive commands, λ e. absurd cc);
       unchanged = refl;
-      memory = λ e. refl;
-      down = λ e. absurd cc;
-      stays_down = λ e. ⊎_elim (λ down. let clash : true ≡ false = sym down ∙ alive in absurd cc) (λ shut. let clash : true ≡ false = sym shut ∙ c.if-self.false in absurd cc) e;
+      numbered = λ alive h x left. numbered_more (slot_number_of i.keeper) (slot_number_of i.keeper + length commands) x (omega arith) (kept_numbered D watches i.keeper (c.self.invariant.0.kept alive h) x left);
       number = (omega arith, omega arith);
-      numbered = λ alive h x left. numbered_more (number_of i.keeper) (number_of i.keeper + length commands) x (omega arith) (kept_numbered D watches i.keeper (c.self.invariant.0.kept alive h) x left);
-      honest = λ h. h;
-      later = omega arith;
-      whole = tt;
-      failed = λ e. absurd cc;
+      calls = uncalled D (Err NoMemory) (stored D i.keeper i.before i.closed) (λ e. absurd cc) tt (λ e. absurd cc) (λ over. absurd (not_over D i.keeper i.before i.closed alive c.if-self.false over));
       kinds = inr (inl refl);
     })
 
@@ -157,22 +130,19 @@ returns-then-len g c =
     let met : AreMet (state_of k) all replies.items = subst (λ (cs : List Command). AreMet (state_of k) cs replies.items) each idle.met in
     let accepted : accepted_of all replies.items ≡ [] = subst (λ (cs : List Command). accepted_of cs replies.items ≡ []) each idle.none in
     rw (← c.self.view_is) (record {
-      answered = still_met D k i.before i.closed none g.met.D.Disk.only_now c.self.invariant.0 alive all replies.items (subst (λ (s : State). AreMet s all replies.items) (sym (registry_is D k i.before i.closed none)) met);
-      registry = ap (λ (l : List Command). replay_on watches (unwrap_or i.before (state_of k)) l) (sym accepted);
-      means = λ h x left. c.self.invariant.2.means alive h x left;
-      idle = λ e. inl refl;
-      slot = inr (λ fits. (refl, omega (arith, ap (λ (l : List Command). taken command_spelling l) accepted)));
+      committed = record {
+        batch = still_met D k i.before i.closed none g.met.D.Disk.only_now c.self.invariant.0 alive all replies.items (subst (λ (s : State). AreMet s all replies.items) (sym (registry_is D k i.before i.closed none)) met);
+        registry = ap (λ (l : List Command). replay_on watches (unwrap_or i.before (state_of k)) l) (sym accepted);
+        open_yet = c.if-self.false;
+        means = λ h x left. c.self.invariant.2.means alive h x left;
+        idle = λ e. inl refl;
+        slot = inr (λ fits. (refl, omega (arith, ap (λ (l : List Command). taken command_spelling l) accepted)));
+      };
       cut = tt;
       unchanged = tt;
-      memory = λ e. absurd cc;
-      down = λ e. absurd cc;
-      stays_down = λ e. ⊎_elim (λ down. let clash : true ≡ false = sym down ∙ alive in absurd cc) (λ shut. let clash : true ≡ false = sym shut ∙ c.if-self.false in absurd cc) e;
+      numbered = λ _ h x left. numbered_more (slot_number_of k) (slot_number_of k + length all) x (omega arith) (kept_numbered D watches k (c.self.invariant.0.kept alive h) x left);
       number = (omega arith, omega arith);
-      numbered = λ _ h x left. numbered_more (number_of k) (number_of k + length all) x (omega arith) (kept_numbered D watches k (c.self.invariant.0.kept alive h) x left);
-      honest = λ h. h;
-      later = omega arith;
-      whole = (refl, alive, c.if-self.false);
-      failed = λ e. absurd cc;
+      calls = uncalled D (Ok c.in-Ok.replies) (stored D k i.before i.closed) (λ e. absurd cc) alive (λ e. absurd cc) (λ over. absurd (not_over D k i.before i.closed alive c.if-self.false over));
       kinds = tt;
     })
 
@@ -188,22 +158,26 @@ returns-in-Ok-run g c =
     let none : i.before ≡ None = c.self.invariant.1 alive in
     let m = c.in-Ok-run.ensures in
     rw (← c.self.view_is) (record {
-      answered = done_batch D old i.before i.closed none new commands replies m.done;
-      registry = done_registry D old i.before i.closed none new commands replies m.done;
-      means = λ h x left. subst (λ (b : Option State). MeansState watches (unwrap_or b (state_of new)) x) (sym none) (means_up D new m.whole.kept m.whole.up h x left);
-      idle = λ e. done_idle D old i.before i.closed none new commands replies m.done e;
-      slot = done_slot D old i.before i.closed none new commands replies m.done;
+      committed = record {
+        batch = done_batch D old i.before i.closed none new commands replies m.done;
+        registry = done_registry D old i.before i.closed none new commands replies m.done;
+        open_yet = c.if-self.false;
+        means = λ h x left. subst (λ (b : Option State). MeansState watches (unwrap_or b (state_of new)) x) (sym none) (means_up D new m.keeper.whole.kept m.keeper.whole.up h x left);
+        idle = λ e. done_idle D old i.before i.closed none new commands replies m.done e;
+        slot = done_slot D old i.before i.closed none new commands replies m.done;
+      };
       cut = tt;
       unchanged = tt;
-      memory = λ e. absurd cc;
-      down = λ e. absurd cc;
-      stays_down = λ e. ⊎_elim (λ down. let clash : true ≡ false = sym down ∙ alive in absurd cc) (λ shut. let clash : true ≡ false = sym shut ∙ c.if-self.false in absurd cc) e;
-      number = (m.calls.least, m.calls.most);
-      numbered = λ _ h x left. m.calls.numbered h (number_of old) (omega arith) (kept_numbered D watches old (c.self.invariant.0.kept alive (m.calls.honest h))) x left;
-      honest = m.calls.honest;
-      later = m.calls.later;
-      whole = (m.whole.count, m.whole.up, c.if-self.false);
-      failed = λ e. absurd cc;
+      numbered = λ _ h x left. m.keeper.calls.numbered h (slot_number_of old) (omega arith) (kept_numbered D watches old (c.self.invariant.0.kept alive (m.keeper.calls.honest h))) x left;
+      number = (m.keeper.calls.least, m.keeper.calls.most);
+      calls = record {
+        device = record { honest = m.keeper.calls.honest; failures_grow = m.keeper.calls.later; no_failure = m.keeper.whole.count; failed = λ e. absurd cc; failures_kept = tt };
+        works = m.keeper.whole.up;
+        failed = λ e. absurd cc;
+        memory = λ e. absurd cc;
+        down = λ e. absurd cc;
+        stays_down = λ over. absurd (not_over D old i.before i.closed alive c.if-self.false over);
+      };
       kinds = tt;
     })
 
@@ -219,21 +193,18 @@ returns-in-Err g c =
     let m = c.in-Err.ensures in
     let was = c.in-Err.before in
     rw (← c.self.view_is) (record {
-      answered = tt;
-      registry = tt;
-      means = λ h. tt;
-      idle = tt;
-      slot = tt;
-      cut = λ _. (m.cut.0, cut_batch D old i.before i.closed none new commands m.cut.0 was m.cut.2 m.cut.1, λ _ e. m.cut.3 e);
-      unchanged = cut_registry D old i.before i.closed none new commands m.cut.0 was m.cut.2;
-      memory = λ e. absurd cc;
-      down = λ e. absurd cc;
-      stays_down = λ e. ⊎_elim (λ down. let clash : true ≡ false = sym down ∙ alive in absurd cc) (λ shut. let clash : true ≡ false = sym shut ∙ c.if-self.false in absurd cc) e;
-      number = (m.calls.least, m.calls.most);
-      numbered = λ _ h x left. m.calls.numbered h (number_of old) (omega arith) (kept_numbered D watches old (c.self.invariant.0.kept alive (m.calls.honest h))) x left;
-      honest = m.calls.honest;
-      later = m.calls.later;
-      whole = tt;
-      failed = λ e. (m.down.rose, m.down.down);
+      committed = tt;
+      cut = λ _. (m.cut.replies, cut_batch D old i.before i.closed none new commands m.cut.replies was m.cut.cut m.cut.met, λ _ e. m.cut.some e);
+      unchanged = cut_registry D old i.before i.closed none new commands m.cut.replies was m.cut.cut;
+      numbered = λ _ h x left. m.keeper.calls.numbered h (slot_number_of old) (omega arith) (kept_numbered D watches old (c.self.invariant.0.kept alive (m.keeper.calls.honest h))) x left;
+      number = (m.keeper.calls.least, m.keeper.calls.most);
+      calls = record {
+        device = record { honest = m.keeper.calls.honest; failures_grow = m.keeper.calls.later; no_failure = tt; failed = λ e. m.keeper.down.rose; failures_kept = λ no. absurd (no refl) };
+        works = tt;
+        failed = λ e. m.keeper.down.down;
+        memory = λ e. absurd cc;
+        down = λ e. absurd cc;
+        stays_down = λ over. absurd (not_over D old i.before i.closed alive c.if-self.false over);
+      };
       kinds = inl refl;
     })

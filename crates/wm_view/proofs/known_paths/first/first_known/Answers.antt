@@ -1,6 +1,7 @@
 use Rattle.std.proofs.Common.{◌+◌, ◌++◌, ◌∷◌, [], true, drop, sym, ap, ◌∙◌, append_assoc, append-nil}
 use Rattle.wm_view.specs.Changes.{first_known}
-use Rattle.wm_view.proofs.Lists.{all_dropped, drop_here}
+use Rattle.wm_view.proofs.Lists.{all_dropped}
+use Rattle.wm_view.specs.laws.Lists.{drop_here}
 use Rattle.wm_view.proofs.known_paths.first.first_known.Goals as goal
 
 pub loop-entry-preserved : goal.loop-entry-preserved

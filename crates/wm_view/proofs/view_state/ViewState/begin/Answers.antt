@@ -1,7 +1,7 @@
 use Rattle.std.proofs.Common.{eqb-true, ◌≡◌, ◌≤◌, ◌||◌, ◌&&◌, ◌==◌, [], suc, Some, true, false, cond, not, None, nat_lt, arith, sym, ap, subst, ◌∙◌}
 use Rattle.std.specs.FinMap.{find}
-use Rattle.wm_clock.specs.Clocks.{limit}
 use Rattle.wm_disk.specs.declared.refusal.Refusal.TheVariants.{BadClock, Exhausted, NotReady}
+use Rattle.wm_disk.specs.Counters.{max_counter}
 use Rattle.wm_names.specs.Entries.{is_whole}
 use Rattle.wm_names.specs.Paths.{Path, path_cmp}
 use Rattle.wm_view.specs.Changes.{first_known}
@@ -13,7 +13,7 @@ use Rattle.wm_view.specs.declared.op.Op.TheVariants.{Recrawl}
 use Rattle.wm_view.specs.declared.known.Known.{Known}
 use Rattle.wm_view.proofs.InOrder.{told_low}
 use Rattle.wm_view.proofs.Firsts.{first_next, first_there, nothing_told}
-use Rattle.wm_view.proofs.Paths.{both-first, both-second}
+use Rattle.wm_disk.specs.laws.Tests.{both_first, both_second}
 use Rattle.wm_view.proofs.Rooms.{sorted_from}
 use Rattle.wm_view.proofs.view_state.ViewState.begin.Goals as goal
 
@@ -25,8 +25,8 @@ returns-clause-moved c =
     let m = c.args.moment in
     let found = c.args.listing.now in
     let first : (is_whole found.subtree && (b == 0)) ≡ true = sym c.is_first.ensures ∙ c.if-not-is_first.false in
-    let whole : is_whole found.subtree ≡ true = both-first (is_whole found.subtree) (b == 0) first in
-    let zero : b ≡ 0 = eqb-true b 0 (both-second (is_whole found.subtree) (b == 0) first) in
+    let whole : is_whole found.subtree ≡ true = both_first (is_whole found.subtree) (b == 0) first in
+    let zero : b ≡ 0 = eqb-true b 0 (both_second (is_whole found.subtree) (b == 0) first) in
     let begins : nat_lt 0 old.tick ≡ false = ap (nat_lt 0) c.requires.begins in
     let files = recrawled_in s b found.subtree found.files in
     let low = λ (p : Path) (x : Known) (e : find path_cmp p (told old.paths) ≡ Some x). told_low p x old.paths.known.entries (sorted_from old.paths.known.entries c.requires.kept.sound.ordered) e in
@@ -43,7 +43,7 @@ pub returns-clause-kept : goal.returns-clause-kept
 returns-clause-kept c =
     let m = c.args.moment in
     let files = c.files.result.now in
-    let low : 1 ≤ limit = omega arith in
+    let low : 1 ≤ max_counter = omega arith in
     record {
       sound = c.in_ok-self.ensures.sound;
       low = low;

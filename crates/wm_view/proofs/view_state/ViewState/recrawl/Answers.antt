@@ -6,7 +6,7 @@ use Rattle.wm_view.specs.Changes.{said}
 use Rattle.wm_view.specs.Histories.{refuse_if}
 use Rattle.wm_view.specs.KnownPaths.{told}
 use Rattle.wm_view.specs.Steps.{grown_in, next_in, recrawled_in, refused_in, spent_in}
-use Rattle.wm_view.specs.ViewStates.{summary_of, Ends}
+use Rattle.wm_view.specs.ViewStates.{summary_of, IsDoneOrRefused}
 use Rattle.wm_view.specs.declared.op.Op.TheVariants.{Recrawl}
 use Rattle.wm_view.proofs.Plans.{moved_from, told_at}
 use Rattle.wm_view.proofs.Recrawls.{recrawl_plan, recrawled_sorted}
@@ -34,5 +34,5 @@ returns-clause-moved c =
     let high : nat_lt old.tick b ≡ false = le-ltb old.tick b c.if-self-begun_at.false in
     let allowed : refused_in s (Recrawl m b found) ≡ refuse_if (spent_in s files) Exhausted None = λ i. cond (ready i) (refuse_if (low i || high i) BadClock (refuse_if (spent_in s files) Exhausted None)) (refused_in (record s { ready = false }) (Recrawl m b found)) in
     moved_from s (Recrawl m b found) _ c.next.result (summary_of c.next.new.self) allowed
-    (subst (λ done. Ends (refuse_if (spent_in s files) Exhausted None) done s c.next.result (summary_of c.next.new.self)) (sym (ap (λ r. cond r (next_in s m files) (grown_in s m files)) ready))
+    (subst (λ done. IsDoneOrRefused (refuse_if (spent_in s files) Exhausted None) done s c.next.result (summary_of c.next.new.self)) (sym (ap (λ r. cond r (next_in s m files) (grown_in s m files)) ready))
     (c.next.ensures.moved m files (recrawled_sorted s b found sorted) plan))

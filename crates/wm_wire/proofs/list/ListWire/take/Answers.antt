@@ -1,6 +1,6 @@
 use Rattle.std.proofs.Common.{rules, ◌≡◌, ◌⊎◌, ◌≤◌, ◌^◌, ◌<◌, drop, arith}
 use Rattle.std.proofs.lemmas.List.{take_rest}
-use Rattle.wm_wire.specs.Spelling.{Begins, NoneBegins}
+use Rattle.wm_wire.specs.Spelling.{BeginsWith, NoneBegins}
 use Rattle.wm_wire.specs.declared.list.NotPushed.TheVariants.{Full, TooLong}
 use Rattle.wm_wire.proofs.Lists.{no_item, item_refused}
 use Rattle.wm_wire.proofs.list.ListWire.take.Goals as goal
@@ -17,7 +17,7 @@ pub returns-in-Err-Full : goal.returns-in-Err-Full
 returns-in-Err-Full g c =
     let W = g.W.Wire in
     let inv = c.loop.invariant in
-    let begins : Begins W.fits W.spelling (drop c.loop.at c.args.bytes.now) c.in-Some-2.value c.in-Some-2.size = rw take_rest at (rw c.in-Some-2.is at c.in_ok-value.ensures) in
+    let begins : BeginsWith W.fits W.spelling (drop c.loop.at c.args.bytes.now) c.in-Some-2.value c.in-Some-2.size = rw take_rest at (rw c.in-Some-2.is at c.in_ok-value.ensures) in
     let small : c.in-Some.count < 2 ^ 32 = omega (arith, c.if-count-from.false, c.from.ensures, g.MAX.fits) in
     let within : c.in-Some.count ≤ g.row.MAX = omega (arith, c.if-count-from.false, c.from.ensures) in
     let which : (c.in-Err-Full.field-0 ≡ Full) ⊎ (c.in-Err-Full.field-0 ≡ TooLong) = search rules in

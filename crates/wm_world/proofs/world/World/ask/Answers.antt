@@ -1,6 +1,6 @@
 use Rattle.std.proofs.Common.{◌∙◌, refl, arith}
 use Rattle.std.proofs.lemmas.Result.{on_ok_weaker}
-use Rattle.wm_world.specs.Standings.{asking_by}
+use Rattle.wm_world.specs.Refinement.{asking_by}
 use Rattle.wm_world.specs.Steps.{asking, with_client}
 use Rattle.wm_world.proofs.Calls.{ask_none, ask_one, while_down}
 use Rattle.wm_world.proofs.world.World.ask.Goals as goal
@@ -14,6 +14,6 @@ returns-then-n-len g c = ask_none g.D.Disk g.met.D.Disk.only_now c.args.self.now
 pub returns : goal.returns
 returns g c =
     on_ok_weaker c.ask.result
-    (λ e. ask_one g.D.Disk g.met.D.Disk.only_now c.args.self.now _ c.args.n c.ask.new.client c.index_mut.result.now c.in-Up.store c.in-Up.is refl refl refl (omega (arith, c.if-n-len.false, c.len.ensures)) refl c.index_mut.ensures.value
+    (λ e. ask_one g.D.Disk g.met.D.Disk.only_now c.every_answer.ensures c.args.self.now _ c.args.n c.ask.new.client c.index_mut.result.now c.in-Up.store c.in-Up.is refl refl refl (omega (arith, c.if-n-len.false, c.len.ensures)) refl c.index_mut.ensures.value
     (e ∙ (λ i. asking_by (c.registry.ensures.value i) (c.deref.ensures.value i) c.index_mut.result.now)))
     c.ask.ensures

@@ -1,8 +1,8 @@
 use Rattle.std.proofs.Common.{◌≡◌, ◌-◌, ◌++◌, map, sym, ap, ◌∙◌, refl, subst, arith}
 use Rattle.std.specs.List.{range_with_len}
 use Rattle.wm_registry.specs.Roots.{State}
-use Rattle.wm_store.specs.Batches.{IsShort}
-use Rattle.wm_view.specs.Histories.{begun}
+use Rattle.wm_store.specs.Batches.{IsOutOfMemory}
+use Rattle.wm_view.specs.Histories.{new_history}
 use Rattle.wm_view.specs.Summaries.{summary}
 use Rattle.std.specs.Prelude.{Err}
 use Rattle.wm_world.specs.declared.world.Server.TheVariants.{Down}
@@ -22,18 +22,18 @@ returns-in_ok-begin_views-in-Ok g c =
     let incarnation : c.incarnation-incarnation.result ≡ c.commit_batch.new.self.registry.incarnation = c.incarnation-incarnation.ensures ∙ ap (λ (x : State). x.incarnation) c.registry-registry.ensures.value in
     batch_done g.D.Disk c.args.self _ c.in-Up.store c.commit_batch.new.self c.args.commands.items c.in-Ok.replies.items c.in-Up.is (omega (arith, c.if-len-gt-MAX_BATCH.false, c.len.ensures))
     refl refl refl
-    (c.in_ok-begin_views-in-Ok.ensures ∙ (λ i. c.args.self.shown.views.items ++ map summary (map (begun (incarnation i)) (range_with_len (from i) (to i - from i)))))
-    r.answered.answered (λ is. c.in_ok-unless_short-in-Ok.ensures (subst IsShort (sym c.deref.ensures.value) is)) r.registry e.honest r.whole.0 r.whole.1 r.whole.2 e.number.1 r.means
-    e.numbered r.answered.any_moment
+    (c.in_ok-begin_views-in-Ok.ensures ∙ (λ i. c.args.self.shown.views.items ++ map summary (map (new_history (incarnation i)) (range_with_len (from i) (to i - from i)))))
+    r.committed.batch.answered (λ is. c.in_ok-unless_out_of_memory-in-Ok.ensures (subst IsOutOfMemory (sym c.deref.ensures.value) is)) r.committed.registry e.calls.device.honest r.calls.device.no_failure r.calls.works r.committed.open_yet e.number.1 r.committed.means
+    e.numbered r.committed.batch.any_moment
 
 pub returns-in_ok-unless_memory-in-Err : goal.returns-in_ok-unless_memory-in-Err
 returns-in_ok-unless_memory-in-Err g c =
     let e = c.commit_batch.ensures in
     let r = c.in-Err.ensures in
-    batch_cut g.D.Disk c.args.self _ c.in-Up.store c.commit_batch.new.self c.in-Up.is (c.fallen.ensures.down ∙ ap Down c.into_disk.ensures.value) c.fallen.ensures.views c.fallen.ensures.replies c.fallen.ensures.clients e.honest
+    batch_cut g.D.Disk c.args.self _ c.in-Up.store c.commit_batch.new.self c.in-Up.is (c.fallen.ensures.down ∙ ap Down c.into_disk.ensures.value) c.fallen.ensures.views c.fallen.ensures.replies c.fallen.ensures.clients e.calls.device.honest
     g.met.D.Disk.counts_now c.args.commands.items c.in-Err.refusal (omega (arith, c.if-len-gt-MAX_BATCH.false, c.len.ensures))
-    r.kinds c.in_ok-unless_memory-in-Err.ensures (λ is. (r.down (ap Err is)).0)
-    (λ whole. let f = r.cut whole in (f.0, (f.1.answered, f.1.any_moment, f.2))) (λ is. (r.failed (ap Err is)).0) e.later e.number.1
+    r.kinds c.in_ok-unless_memory-in-Err.ensures (λ is. (r.calls.down (ap Err is)).0)
+    (λ whole. let f = r.cut whole in (f.0, (f.1.answered, f.1.any_moment, f.2))) (λ is. r.calls.device.failed (ap Err is)) e.calls.device.failures_grow e.number.1
     e.numbered
 
 pub returns-in-Down : goal.returns-in-Down

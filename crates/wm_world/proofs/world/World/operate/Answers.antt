@@ -14,5 +14,5 @@ pub returns : goal.returns
 returns g c =
     let old = c.args.self.now in
     on_ok_weaker c.perform.result
-    (λ e. operate_some g.D.Disk g.met.D.Disk.only_now old _ c.args.path.now c.args.op.now c.in-Some.number (sym c.number_at.ensures ∙ c.in-Some.is) refl refl refl e)
+    (λ e. operate_some g.D.Disk g.met.D.Disk.only_now c.every_operation.ensures.a_function old _ c.args.path.now c.args.op.now c.in-Some.number (sym c.number_at.ensures ∙ c.in-Some.is) refl refl refl e)
     c.perform.ensures

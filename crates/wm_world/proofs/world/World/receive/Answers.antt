@@ -10,5 +10,5 @@ returns-then-n-len g c = nothing g.D.Disk g.met.D.Disk.only_now c.args.self.now 
 pub returns : goal.returns
 returns g c =
     on_ok_weaker c.receive.result
-    (λ e. receive_one g.D.Disk g.met.D.Disk.only_now c.args.self.now _ c.args.n c.receive.new.client c.index_mut.result.now refl refl refl (omega (arith, c.if-n-len.false, c.len.ensures)) refl c.index_mut.ensures.value e)
+    (λ e. receive_one g.D.Disk g.met.D.Disk.only_now c.every_client.ensures c.args.self.now _ c.args.n c.receive.new.client c.index_mut.result.now refl refl refl (omega (arith, c.if-n-len.false, c.len.ensures)) refl c.index_mut.ensures.value e)
     c.receive.ensures

@@ -1,0 +1,49 @@
+//! Times the journal, the store, views and `match`: which of them, and how often, its words say.
+//! The journal and the store are timed beside the same writes and syncs by hand (by_hand.rt).
+//! Tests stand beside what they test: words.rt, memory.rt, and a tests.rt in three of the folders.
+#![tactic(auto)]
+
+mod by_hand;
+mod journal;
+mod matching;
+mod measured;
+mod memory;
+mod paths;
+mod sharing;
+mod store;
+mod viewing;
+mod words;
+
+use crate::words::{Task, USAGE, tasks};
+use anyhow::Result;
+use std::env;
+use std::process::ExitCode;
+
+/// Tells times and memory on standard error, and what is the same in each run on standard output.
+fn bench(rt: &HostRuntime, task: &Task<'_>) -> Result<()> {
+    match task {
+        Task::Journal(file, rounds) => journal::bench(rt, file, *rounds),
+        Task::Store(file, rounds) => store::bench(rt, file, *rounds),
+        Task::Match(rounds) => matching::bench(rt, *rounds),
+        Task::View(files) => viewing::bench(rt, *files),
+        Task::Memory(files) => sharing::bench(rt, *files),
+    }
+}
+
+fn main(rt: HostRuntime) -> Result<ExitCode> {
+    let alloc = rt.alloc();
+    let Ok(args) = env::args(&rt) else {
+        rt.eprintln(USAGE)?;
+        return Ok(ExitCode::from(2));
+    };
+    let args: Vec<String> = args.skip(1).collect(alloc)?;
+    let args: Vec<&str> = args.iter().map(|word| word.as_str()).collect(alloc)?;
+    let Some(tasks) = tasks(alloc, &args)? else {
+        rt.eprintln(USAGE)?;
+        return Ok(ExitCode::from(2));
+    };
+    for task in &tasks {
+        bench(&rt, task)?;
+    }
+    Ok(ExitCode::from(0))
+}

@@ -1,0 +1,83 @@
+//! The times of one pattern.
+
+use super::shapes::{Shape, expression, file};
+use crate::measured::median;
+use anyhow::{Result, ensure};
+use std::alloc::Global;
+use std::fmt;
+use std::time::{Clock, Duration, Instant};
+use wm_expr::Expr;
+use wm_names::Entry;
+
+/// How many calls make one time.
+const CALLS: u32 = 16;
+
+/// What a call took, by the middle of all times.
+#[derive(Drop)]
+pub struct Measured {
+    name: &'static str,
+    /// Bytes of the pattern.
+    pattern: usize,
+    /// Bytes of the path.
+    path: usize,
+    /// Picoseconds a call.
+    picoseconds: u128,
+}
+
+/// The time of some calls. An error where one of them holds, or the clock failed.
+fn timed(clock: &impl Clock, expr: &Expr, entry: &Entry) -> Result<Duration> {
+    let mut fits = 0u32;
+    let start = Instant::now(clock)?;
+    for _ in 0..CALLS {
+        if expr.holds(entry) {
+            fits = fits.saturating_add(1);
+        }
+    }
+    let time = start.elapsed(clock)?;
+    ensure!(fits == 0, "a pattern fits");
+    Ok(time)
+}
+
+/// What a call takes for the shape's pattern and path of this length, by so many times. An error where the
+/// pattern fits the path, where it doesn't fit the path that ends as it does, where the clock failed, or for
+/// running out of memory.
+pub fn measure(
+    alloc: Global,
+    clock: &impl Clock,
+    shape: &Shape,
+    len: usize,
+    rounds: u32,
+) -> Result<Measured> {
+    let pattern = shape.pattern(alloc, len)?;
+    let path = shape.path(alloc, len, 'a')?;
+    let expr = expression(alloc, &pattern)?;
+    let entry = file(alloc, &path)?;
+    let fitting = file(alloc, &shape.path(alloc, len, 'b')?)?;
+    ensure!(expr.holds(&fitting), "a pattern that fits nothing");
+    let mut times = Vec::new(alloc);
+    for _ in 0..rounds {
+        let time = timed(clock, &expr, &entry)?;
+        times.push(time.as_nanos().saturating_mul(1_000) / u128::from(CALLS))?;
+    }
+    Ok(Measured {
+        name: shape.name,
+        pattern: pattern.len(),
+        path: path.len(),
+        picoseconds: median(&mut times),
+    })
+}
+
+impl fmt::Display for Measured {
+    fn fmt<W: fmt::Write>(&self, f: &mut fmt::Formatter<W>) -> fmt::Result {
+        let product = (self.pattern as u128).saturating_mul(self.path as u128);
+        write!(
+            f,
+            "{}: {} bytes on a path of {}: {} ns, {} ps a byte of the pattern times the path",
+            self.name,
+            self.pattern,
+            self.path,
+            self.picoseconds / 1_000,
+            self.picoseconds / product.max(1)
+        )
+    }
+}

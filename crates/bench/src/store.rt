@@ -1,0 +1,100 @@
+//! Times a store against the same writes and syncs by hand, on real files; and what single commands cost the
+//! processor, on disks in memory.
+
+mod area;
+mod batches;
+mod processor;
+mod rounds;
+#[cfg(test)]
+mod tests;
+
+use crate::measured::Medians;
+use anyhow::{Context, Result, ensure};
+use batches::SIZES;
+use processor::{REGISTRIES, measured_costs};
+use rounds::Sides;
+use std::fmt;
+use wm_disk::MemDisk;
+use wm_file::{FileDisk, Unknown};
+
+/// The nanoseconds of a second.
+const SECOND: u128 = 1_000_000_000;
+
+/// What the batches of one size took, as it is told.
+#[derive(Drop)]
+struct Speeds(Medians);
+
+impl Speeds {
+    /// How many commands a second these nanoseconds a batch are.
+    fn a_second(&self, time: u128) -> u128 {
+        u128::from(self.0.size).saturating_mul(SECOND) / time.max(1)
+    }
+}
+
+impl fmt::Display for Speeds {
+    fn fmt<W: fmt::Write>(&self, f: &mut fmt::Formatter<W>) -> fmt::Result {
+        write!(
+            f,
+            "{} batches of {}: {} commands a second through the store, {} by hand: {} percent of the time",
+            self.0.groups,
+            self.0.size,
+            self.a_second(self.0.layer),
+            self.a_second(self.0.by_hand),
+            self.0.percent()
+        )
+    }
+}
+
+/// A new file. An error where one is there already, or the device failed.
+fn made(rt: &HostRuntime, file: &str) -> Result<FileDisk<Unknown>> {
+    FileDisk::<Unknown>::create(rt, file).context(format_args!("making {file}"))
+}
+
+/// Tells on standard error what single commands cost the processor, on disks in memory.
+fn bench_processor(rt: &HostRuntime, rounds: u32) -> Result<()> {
+    let alloc = rt.alloc();
+    for registry in REGISTRIES {
+        let sides = Sides::made(alloc, MemDisk::new(alloc, 0), MemDisk::new(alloc, 0))?;
+        rt.eprintln(&measured_costs(alloc, rt, sides, registry, rounds)?)?;
+    }
+    Ok(())
+}
+
+/// Measures on two new files, tells the speeds on standard error, and what a start finds on standard output.
+fn bench_files(rt: &HostRuntime, file: &str, rounds: u32) -> Result<()> {
+    let alloc = rt.alloc();
+    let disk = made(rt, file)?;
+    let by_hand = format!(in alloc; "{file}.by_hand")?;
+    let by_hand = made(rt, by_hand.as_str())?;
+    let mut sides = Sides::made(alloc, disk, by_hand)?;
+    let mut batches = 0u64;
+    let mut accepted = 0u64;
+    let mut roots = 0u64;
+    for size in SIZES {
+        let measured = sides.measured(alloc, rt, size, rounds)?;
+        batches = batches.saturating_add(measured.groups as u64);
+        accepted = accepted.saturating_add(measured.items());
+        rt.eprintln(&Speeds(measured))?;
+        // After an odd number of rounds the last watches stand.
+        if rounds % 2 == 1 {
+            roots = roots.saturating_add(u64::from(size));
+        }
+    }
+    let found = sides.start_again(alloc)?;
+    ensure!(
+        found.roots as u64 == roots && found.incarnation == 2,
+        "{} roots and incarnation {} in place of {roots} and 2",
+        found.roots,
+        found.incarnation
+    );
+    println!(rt;
+        "{batches} batches, {accepted} commands accepted: the next start has incarnation 2 and {roots} roots"
+    )?;
+    Ok(())
+}
+
+/// Measures on two new files, and then over disks in memory.
+pub fn bench(rt: &HostRuntime, file: &str, rounds: u32) -> Result<()> {
+    bench_files(rt, file, rounds)?;
+    bench_processor(rt, rounds)
+}

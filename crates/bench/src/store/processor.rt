@@ -1,0 +1,111 @@
+//! What single commands cost the processor, over registries of several sizes.
+
+use super::rounds::Sides;
+use crate::measured::median;
+use anyhow::{Result, ensure};
+use std::alloc::Global;
+use std::time::{Clock, CpuClock, Duration};
+use std::{fmt, io};
+use wm_disk::Disk;
+use wm_names::RootPath;
+use wm_registry::{Command, Stdin, Trigger};
+
+/// How many roots a registry has, and how many triggers each of them.
+pub const REGISTRIES: [(u32, u32); 2] = [(1, 0), (25, 64)];
+
+/// The words of each trigger's command.
+const WORDS: [&str; 16] = ["w"; 16];
+
+/// A clock that shows the processor time of the thread, so that it stands still while a device works.
+#[derive(Clone, Copy)]
+pub struct Processor<'a, C> {
+    pub clock: &'a C,
+}
+
+impl<C: Clock + CpuClock> Clock for Processor<'_, C> {
+    fn monotonic(&self) -> io::Result<Duration> {
+        self.clock.thread_cpu_time()
+    }
+
+    fn since_1970(&self) -> io::Result<Duration> {
+        self.clock.since_1970()
+    }
+
+    fn sleep(&self, duration: Duration) {
+        self.clock.sleep(duration);
+    }
+}
+
+/// Nanoseconds of processor time, the middle of all that were measured.
+#[derive(Drop)]
+pub struct Costs {
+    roots: u32,
+    triggers: u32,
+    idle: u128,
+    store: u128,
+    by_hand: u128,
+}
+
+impl fmt::Display for Costs {
+    fn fmt<W: fmt::Write>(&self, f: &mut fmt::Formatter<W>) -> fmt::Result {
+        write!(
+            f,
+            "{} roots of {} triggers: {} ns of the processor for a watch that changes nothing, {} for an accepted command, {} for its writes and syncs by hand",
+            self.roots, self.triggers, self.idle, self.store, self.by_hand
+        )
+    }
+}
+
+/// The path of a root, of those that stand while commands are measured.
+fn standing(alloc: Global, number: u32) -> Result<RootPath> {
+    let path = format!(in alloc; "/home/user/standing-{number}")?;
+    Ok(RootPath::read(alloc, path.as_str())?)
+}
+
+/// Watches a root and gives it triggers, each by a batch of its own.
+fn set_up<D: Disk + Drop>(
+    alloc: Global,
+    sides: &mut Sides<D>,
+    number: u32,
+    triggers: u32,
+) -> Result<()> {
+    let path = standing(alloc, number)?;
+    sides.accepts(alloc, Command::Watch(path.copy(alloc)?))?;
+    for trigger in 0..triggers {
+        let name = format!(in alloc; "t{trigger}")?;
+        let trigger = Trigger::new(alloc, name.as_str(), &WORDS, None, false, Stdin::DevNull)?;
+        sides.accepts(alloc, Command::Trigger(path.copy(alloc)?, trigger))?;
+    }
+    Ok(())
+}
+
+/// What single commands cost over so many roots with so many triggers each. An error where a command wasn't
+/// answered as it has to be, where the clock failed, or when out of memory.
+pub fn measured_costs<D: Disk + Drop>(
+    alloc: Global,
+    clock: &(impl Clock + CpuClock),
+    sides: Sides<D>,
+    registry: (u32, u32),
+    rounds: u32,
+) -> Result<Costs> {
+    let (roots, triggers) = registry;
+    let processor = Processor { clock };
+    let mut sides = sides;
+    for number in 0..roots {
+        set_up(alloc, &mut sides, number, triggers)?;
+    }
+    let mut idle = Vec::new(alloc);
+    for _ in 0..rounds {
+        let path = standing(alloc, roots.saturating_sub(1))?;
+        let time = sides.changes_nothing(alloc, &processor, Command::Watch(path))?;
+        idle.push(time.as_nanos())?;
+    }
+    let accepted = sides.measured(alloc, &processor, 1, rounds)?;
+    Ok(Costs {
+        roots,
+        triggers,
+        idle: median(&mut idle),
+        store: accepted.layer,
+        by_hand: accepted.by_hand,
+    })
+}

@@ -1,0 +1,120 @@
+//! The program's words: one or more tasks, one behind the other.
+
+use std::alloc::{AllocError, Global};
+
+/// What wrong words are answered.
+pub const USAGE: &str =
+    "usage: bench (journal FILE ROUNDS | store FILE ROUNDS | match ROUNDS | view FILES | memory FILES)..";
+
+/// What is measured.
+#[derive(Drop)]
+pub enum Task<'a> {
+    /// A journal on a file that must not be there yet, and how many groups of each size: 1 to 2^32 - 1.
+    Journal(&'a str, u32),
+    /// A store on a file that must not be there yet, nor that with `.by_hand` behind its name, and how
+    /// many batches of each size: 1 to 2^32 - 1.
+    Store(&'a str, u32),
+    /// `match` on hard patterns, so many times of each: 1 to 2^32 - 1.
+    Match(u32),
+    /// A view of so many files, and what is asked of it: 1,000 to 100,000,000.
+    View(u64),
+    /// The memory of two views of so many files: 1,000 to 100,000,000.
+    Memory(u64),
+}
+
+/// The number of files that a word is.
+fn files(word: &str) -> Option<u64> {
+    match word.parse::<u64>() {
+        Ok(files) if 1_000 <= files && files <= 100_000_000 => Some(files),
+        _ => None,
+    }
+}
+
+/// The number of rounds that a word is.
+fn rounds(word: &str) -> Option<u32> {
+    match word.parse::<u32>() {
+        Ok(rounds) if 0 < rounds => Some(rounds),
+        _ => None,
+    }
+}
+
+impl<'a> Task<'a> {
+    /// The task that these words name, all of them.
+    fn read(words: &[&'a str]) -> Option<Task<'a>> {
+        match words {
+            [word, file, number] => match *word {
+                "journal" => Some(Task::Journal(*file, rounds(number)?)),
+                "store" => Some(Task::Store(*file, rounds(number)?)),
+                _ => None,
+            },
+            [word, number] => match *word {
+                "match" => Some(Task::Match(rounds(number)?)),
+                "view" => Some(Task::View(files(number)?)),
+                "memory" => Some(Task::Memory(files(number)?)),
+                _ => None,
+            },
+            _ => None,
+        }
+    }
+}
+
+/// The tasks that the words name, of which the program's own name is none; `None` where there is none, or one
+/// of them isn't known or has no number in range.
+pub fn tasks<'a>(alloc: Global, words: &[&'a str]) -> Result<Option<Vec<Task<'a>>>, AllocError> {
+    let mut tasks = Vec::new(alloc);
+    // the words since the last task; no task begins another
+    let mut open = Vec::new(alloc);
+    for word in words {
+        open.push(*word)?;
+        if let Some(task) = Task::read(&open) {
+            tasks.push(task)?;
+            open.clear();
+        }
+    }
+    if tasks.is_empty() || !open.is_empty() {
+        return Ok(None);
+    }
+    Ok(Some(tasks))
+}
+
+#[cfg(test)]
+mod tests {
+    use super::*;
+    use std::test::Fail;
+
+    /// Words, and how many tasks they name.
+    const NAMED: &[(&[&str], Option<usize>)] = &[
+        (&["match", "1"], Some(1)),
+        (&["view", "1000", "memory", "100000000"], Some(2)),
+        (
+            &["journal", "match", "1", "store", "f", "2", "match", "3"],
+            Some(3),
+        ),
+        (&[], None),
+        (&["match"], None),
+        (&["match", "0"], None),
+        (&["journal", "f"], None),
+        (&["journal", "f", "0"], None),
+        (&["store", "f", "4294967296"], None),
+        (&["view", "999"], None),
+        (&["memory", "100000001"], None),
+        (&["view", "1000", "match"], None),
+        (&["list", "1000"], None),
+    ];
+
+    /// How many tasks the words name.
+    fn count(alloc: Global, words: &[&str]) -> Result<Option<usize>, Fail> {
+        match tasks(alloc, words)? {
+            Some(tasks) => Ok(Some(tasks.len())),
+            None => Ok(None),
+        }
+    }
+
+    #[test]
+    fn reads_tasks(rt: HostRuntime) -> Result<(), Fail> {
+        for (words, wanted) in NAMED {
+            assert_eq!(rt; count(rt.alloc(), words)?, *wanted);
+        }
+        Ok(())
+    }
+}

@@ -1,0 +1,30 @@
+//! What stands behind an open slot's gate.
+//! Definitions: specs/Meanings.antt. Tests: file_tests/src/checkpoint/files.rt.
+ghost use Rattle.std.specs.Prelude.{◌≡◌, ◌≤◌, length, IfOk};
+ghost use Rattle.wm_checkpoint.specs.Layout.{max_slot_text};
+ghost use Rattle.wm_checkpoint.specs.Machines.{meaning};
+ghost use Rattle.wm_checkpoint.specs.Meanings.{IsSlotBytes};
+
+use crate::machine::Machine;
+use std::alloc::Global;
+use wm_disk::NoMemory;
+use wm_wire::Wire;
+
+/// The number, the length of the state's spelling and the spelling, in one vector of at most 1,048,575
+/// bytes.
+pub(crate) fn slot_bytes<M: Machine>(
+    alloc: Global,
+    number: u64,
+    state: &M::State,
+) -> Result<Vec<u8>, NoMemory>
+    ensures text { IfOk result (λ v. IsSlotBytes (meaning M.Machine M.State.Wire M.Command.Wire) number state.now v.items) }
+    ensures short { IfOk result (λ v. length v.items ≤ max_slot_text) }
+{
+    let mut bytes = Vec::new(alloc);
+    let size = state.size() as u32;
+    bytes.reserve(size as usize + 12)?;
+    bytes.extend_from_slice(&number.to_be_bytes())?;
+    bytes.extend_from_slice(&size.to_be_bytes())?;
+    state.put(&mut bytes)?;
+    Ok(bytes)
+}

@@ -1,0 +1,3 @@
+pub mod FileDisks
+pub mod FileEvents
+pub mod FileLaws

@@ -1,0 +1,6 @@
+pub mod EachLemmas
+pub mod KeptLemmas
+pub mod ListedLemmas
+pub mod ReplyTexts
+pub mod Texts
+pub mod TriggerLemmas

@@ -1,0 +1,14 @@
+pub mod AgeOutLines
+pub mod AnswerTexts
+pub mod Arguments
+pub mod ClockLines
+pub mod Expressions
+pub mod KeptExpressions
+pub mod Keys
+pub mod Lines
+pub mod ListingLines
+pub mod Metadata
+pub mod PairLines
+pub mod QueryLines
+pub mod Replies
+pub mod TriggerLines

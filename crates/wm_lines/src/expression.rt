@@ -1,0 +1,57 @@
+//! Expressions as lines have them. Contracts see the terms of `wm_expr`, spelled in specs/Expressions.
+//! Tests: session_tests/src/lines/expressions.rt.
+ghost use Rattle.std.specs.Prelude.{◌≡◌, ◌≢◌, Some, None, IfOk, IfErr};
+ghost use Rattle.serde_json.specs.View.{view};
+ghost use Rattle.wm_expr.specs.Readings.{expression_of};
+ghost use Rattle.wm_expr.specs.Terms.{Always};
+ghost use Rattle.wm_expr.specs.Views.{term};
+
+use serde_json::Value;
+use std::alloc::Global;
+use std::marker::Model;
+use wm_disk::Refusal;
+use wm_expr::Expr;
+
+/// An expression that a line has. Contracts see its term.
+#[derive(Drop)]
+pub struct Expression {
+    expr: Expr,
+}
+
+impl Model for Expression {
+    ghost use Rattle.wm_expr.specs.Terms.{Term};
+    ghost use Rattle.wm_expr.specs.Views.{term};
+    ghost use Rattle.std.specs.Coded.{codes};
+    ghost use Rattle.wm_lines.specs.Expressions.{term_code};
+
+    ghost Value = { Term };
+
+    ghost coded = { term_code (Prim.hlevel codes) };
+
+    ghost view = { λ e. term e.expr };
+}
+
+impl Expression {
+    /// The expression that the JSON value is. `BadExpression` where it is none, and `NoMemory`.
+    pub fn read(alloc: Global, value: &Value) -> Result<Expression, Refusal>
+        ensures ok { IfOk result (λ e. expression_of (view value.now) ≡ Some e) }
+        ensures refused { IfErr result (λ e. e ≢ Refusal.NoMemory → (e ≡ Refusal.BadExpression) × (expression_of (view value.now) ≡ None)) }
+    {
+        let expr = Expr::read(alloc, value)?;
+        Ok(Expression { expr })
+    }
+
+    /// The expression that holds of each file.
+    pub fn always() -> Expression
+        ensures { result ≡ Always }
+    {
+        Expression { expr: Expr::True }
+    }
+
+    /// The expression for a question.
+    pub fn into_expr(self) -> Expr
+        ensures { term result ≡ self }
+    {
+        self.expr
+    }
+}

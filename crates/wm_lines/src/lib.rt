@@ -1,0 +1,29 @@
+//! Request lines as values: what a line asks, and the bytes of each reply.
+//!
+//! A line is a [`Request`] or is refused (`request_of_line` of specs/Lines.antt). Of each reply [`reply`]
+//! writes the bytes that specs/Replies.antt has. Nothing here keeps a state: what a line does to one is
+//! defined where it is met, in the crate above.
+//!
+//! Tests: session_tests/src/requests (what is read), session_tests/src/lines (what is replied).
+#![tactic(auto)]
+
+mod age_out;
+mod arguments;
+mod expression;
+mod kept_expression;
+mod keys;
+mod listing;
+mod metadata;
+mod pairs;
+mod progress;
+mod query;
+pub mod reply;
+mod request;
+mod since;
+mod triggers;
+
+pub use expression::Expression;
+pub use kept_expression::have_expressions;
+pub use progress::Progress;
+pub use query::Inquiry;
+pub use request::{MAX_LINE, Request};

@@ -1,0 +1,4 @@
+pub mod LocalLemmas
+pub mod OperationLemmas
+pub mod StartLemmas
+pub mod WatchedLemmas

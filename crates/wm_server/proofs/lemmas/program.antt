@@ -1,0 +1,3 @@
+mod OneWordLemmas
+pub mod ProgramLemmas
+pub mod WordLemmas

@@ -1,0 +1,6 @@
+pub mod HistoryLemmas
+pub mod InputLemmas
+pub mod Inquiring
+pub mod PlainLemmas
+pub mod RunLemmas
+pub mod SessionLemmas

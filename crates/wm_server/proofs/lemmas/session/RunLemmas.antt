@@ -1,0 +1,325 @@
+-- Runs that go on, line by line.
+use Rattle.std.proofs.Common.{◌≡◌, ◌≢◌, ℕ, ◌+◌, ◌<◌, ◌≤◌, List, [], ◌∷◌, ◌++◌, length, take, Bool, true, false, cond, Option, Some, None, Result, Ok, Err, refl, sym, ap, ◌∙◌, arith, inl, inr, append_assoc, subst, codes}
+use Rattle.std.proofs.lemmas.List.{append-nil, length-append, take_all, length-take-le}
+use Rattle.std.proofs.lemmas.Bool.{cases_lt}
+use Rattle.std.proofs.lemmas.Bool.Decides.{nat_tests}
+use Rattle.std.specs.Prelude.{◌==◌, ◌&&◌, nat_le, OnErr}
+use Rattle.std.specs.Io.BufRead.{take_through, drop_through, ends_with_byte}
+use Rattle.std.specs.Io.KnownBytes.{Appends}
+use Rattle.serde_json.proofs.OnLiterals.{serde_json_on_literals}
+use Rattle.wm_disk.specs.declared.refusal.Refusal.TheVariants as refusals
+use Rattle.wm_disk.specs.Counters.{max_counter}
+use Rattle.wm_server.specs.session.Inputs.{lines_of, in_front, max_kept}
+use Rattle.wm_registry.specs.declared.command.Command.{Command}
+use Rattle.wm_server.specs.session.Asked.{asked_by, asked_in}
+use Rattle.wm_lines.specs.Lines.{value_of_line, max_line, request_of_line, request_of_text}
+use Rattle.wm_lines.specs.Replies.{line_text, refusal_reply, reply_bytes}
+use Rattle.wm_server.specs.session.Sessions.{SessionState, Outcome, line_met, met_or_refused}
+use Rattle.wm_server.specs.session.Faults.{FrontState, Way, Defined, Device, Memory, Spent, HasCause, Lasts, RepliesTo, faults_of, refusal_or, state_or}
+use Rattle.wm_server.specs.session.Runs.{RunsLines, HandlesPrefix, Served, ServedCleanly, Serves, Untold, output_of, state_after, faults_in}
+use Rattle.wm_server.specs.declared.session.input.LineRead.{LineRead}
+use Rattle.wm_server.specs.declared.session.input.LineRead.TheVariants as reads
+use Rattle.wm_server.specs.session.Reading.{ReadsLine, IsReadOf}
+
+-- ---- the lines of an input
+
+-- the first line of an input, and the lines of the rest
+lines_of-first : (x : ℕ) (xs : List ℕ) → lines_of (x ∷ xs) ≡ take_through 10 (x ∷ xs) ∷ lines_of (drop_through 10 (x ∷ xs))
+lines_of-first x [] = by_byte (x == 10)
+  where
+    by_byte : (b : Bool) → cond b ((x ∷ []) ∷ []) ((x ∷ []) ∷ []) ≡ cond b (x ∷ []) (x ∷ []) ∷ lines_of (cond b [] [])
+    by_byte true = refl
+    by_byte false = refl
+lines_of-first x (y ∷ ys) = by_byte (x == 10) (lines_of-first y ys)
+  where
+    by_byte : (b : Bool) → lines_of (y ∷ ys) ≡ take_through 10 (y ∷ ys) ∷ lines_of (drop_through 10 (y ∷ ys))
+        → cond b ((x ∷ []) ∷ lines_of (y ∷ ys)) (in_front x (lines_of (y ∷ ys))) ≡ cond b (x ∷ []) (x ∷ take_through 10 (y ∷ ys)) ∷ lines_of (cond b (y ∷ ys) (drop_through 10 (y ∷ ys)))
+    by_byte true e = refl
+    by_byte false e = ap (in_front x) e
+
+lines_of-next : (xs : List ℕ) → xs ≢ [] → lines_of xs ≡ take_through 10 xs ∷ lines_of (drop_through 10 xs)
+lines_of-next [] ne = absurd (ne refl)
+lines_of-next (x ∷ xs) ne = lines_of-first x xs
+
+-- ---- a line that is longer than a line may be
+
+over : (n m : ℕ) (b : Bool) → m < n → (b && nat_le n m) ≡ false
+over n m true h = grind (arith, nat_tests)
+over n m false h = refl
+
+no_text : (line : List ℕ) → max_line < length line → value_of_line line ≡ None
+unfolding value_of_line
+no_text line h = rw (over (length line) max_line (ends_with_byte 10 line) h) refl
+
+-- what is kept of a line is met as the line
+same_text : (kept whole : List ℕ) → kept ≡ take max_kept whole → value_of_line kept ≡ value_of_line whole
+same_text kept whole e =
+    elim (cases_lt max_line (length whole)) [
+      | inl long ↦
+          let enough : length (take max_kept whole) ≡ max_kept = length-take-le max_kept whole (omega arith) in
+          let longer : max_line < length kept = omega (arith, ap length e, enough) in
+          no_text kept longer ∙ sym (no_text whole long)
+      | inr short ↦ ap value_of_line (e ∙ take_all max_kept whole (omega arith))
+    ]
+
+same_met : (s : SessionState) (moment : ℕ) (kept whole : List ℕ) → kept ≡ take max_kept whole → line_met s moment kept ≡ line_met s moment whole
+same_met s moment kept whole e = ap (λ t. met_or_refused s moment (request_of_text t)) (same_text kept whole e)
+
+answers_kept : (way : Way) (old new : FrontState) (moment : ℕ) (kept whole bytes : List ℕ) → kept ≡ take max_kept whole → RepliesTo way old moment kept bytes new → RepliesTo way old moment whole bytes new
+answers_kept way old new moment kept whole bytes e a =
+    let same = same_met old.state moment kept whole e in
+    record {
+      cause = subst (λ (o : Outcome). HasCause way o.accepts old new) same a.cause;
+      bytes_are = a.bytes_are ∙ ap (λ (o : Outcome). reply_bytes (refusal_or way o.reply)) same;
+      state_is = a.state_is ∙ ap (λ (o : Outcome). state_or way o.state old.state) same;
+    }
+
+pub stands_kept : (old new : FrontState) (moment n : ℕ) (kept whole : List ℕ) (held holds : Option (List ℕ)) → kept ≡ take max_kept whole → Serves old moment kept n held holds new → Serves old moment whole n held holds new
+stands_kept old new moment n kept whole held holds e s =
+    record { way = s.way; bytes = s.bytes; faults_are = s.faults_are; appends = s.appends; answers = answers_kept s.way old new moment kept whole s.bytes e s.answers }
+
+-- and asks for the same
+pub same_request : (kept whole : List ℕ) → kept ≡ take max_kept whole → request_of_line kept ≡ request_of_line whole
+same_request kept whole e = ap request_of_text (same_text kept whole e)
+
+pub untold_kept : (old new : FrontState) (moment : ℕ) (kept whole : List ℕ) → kept ≡ take max_kept whole → Untold old moment kept new → Untold old moment whole new
+untold_kept old new moment kept whole e u = record { way = u.way; bytes = u.bytes; answers = answers_kept u.way old new moment kept whole u.bytes e u.answers }
+
+pub no_memory_line : codes "{\"error\":\"16 NoMemory\",\"version\":\"w1\"}\n" ≡ line_text (refusal_reply refusals.NoMemory)
+unfolding line_text serde_json_on_literals
+no_memory_line = refl
+
+stood : (old new : FrontState) → new ≡ old → Lasts old new
+stood old new same = record { failures = omega (arith, ap (λ (s : FrontState). s.failures) same); number = omega (arith, ap (λ (s : FrontState). s.number) same) }
+
+answered_no_memory : (old new : FrontState) (moment : ℕ) (line : List ℕ) → new ≡ old → RepliesTo Memory old moment line (reply_bytes (Err refusals.NoMemory)) new
+answered_no_memory old new moment line same =
+    record { cause = (stood old new same, ap (λ (s : FrontState). s.failures) same); bytes_are = refl; state_is = ap (λ (s : FrontState). s.state) same }
+
+-- a line that was answered with out of memory, with nothing changed
+pub no_memory : (old new : FrontState) (moment n : ℕ) (line : List ℕ) (held holds : Option (List ℕ)) → new ≡ old → n ≡ 1 → Appends held holds (reply_bytes (Err refusals.NoMemory)) → Serves old moment line n held holds new
+no_memory old new moment n line held holds same one appends =
+    record { way = Memory; bytes = reply_bytes (Err refusals.NoMemory); faults_are = one; appends = appends; answers = answered_no_memory old new moment line same }
+
+-- not even that was told
+pub untold_no_memory : (old new : FrontState) (moment : ℕ) (line : List ℕ) → new ≡ old → Untold old moment line new
+untold_no_memory old new moment line same = record { way = Memory; bytes = reply_bytes (Err refusals.NoMemory); answers = answered_no_memory old new moment line same }
+
+-- ---- what two steps appended
+
+pub appends-then : (a b c : Option (List ℕ)) (x y : List ℕ) → Appends a b x → Appends b c y → Appends a c (x ++ y)
+appends-then None b c x y p q = tt
+appends-then (Some a) None c x y p q = absurd p
+appends-then (Some a) (Some b) None x y p q = absurd q
+appends-then (Some a) (Some b) (Some c) x y p q = q ∙ ap (λ (t : List ℕ). t ++ y) p ∙ append_assoc a x y
+
+appends-none : (a : Option (List ℕ)) → Appends a a []
+appends-none None = tt
+appends-none (Some a) = sym (append-nil a)
+
+-- ---- a run without faults is the defined one
+
+lasts : (way : Way) (accepts : Bool) (old new : FrontState) → HasCause way accepts old new → Lasts old new
+lasts Defined accepts old new c = c
+lasts Device accepts old new c = c.2
+lasts Memory accepts old new c = c.0
+lasts Spent accepts old new c = c.1
+
+-- no line takes the slot's number back
+rises : (old : FrontState) (moment : ℕ → ℕ) (k : ℕ) (lines : List (List ℕ)) (ways : List Way) (bytes : List ℕ) (new : FrontState) → RunsLines old moment k lines ways bytes new → old.number ≤ new.number
+rises old moment k [] [] bytes new r = omega (arith, ap (λ (s : FrontState). s.number) r.1)
+rises old moment k [] (way ∷ ways) bytes new r = absurd r
+rises old moment k (line ∷ lines) [] bytes new r = absurd r
+rises old moment k (line ∷ lines) (way ∷ ways) bytes new r =
+    let here : Lasts old r.2 = lasts way (line_met old.state (moment k) line).accepts old r.2 r.4.cause in
+    omega (arith, here.number, rises r.2 moment (k + 1) lines ways r.1 new r.5)
+
+-- without a fault, and where the number isn't spent, a line was answered as it is defined
+no_faults : (way : Way) (accepts : Bool) (old new : FrontState) → faults_of way ≡ 0 → HasCause way accepts old new → new.number < max_counter → way ≡ Defined
+no_faults Defined accepts old new e c below = refl
+no_faults Device accepts old new e c below = absurd (omega arith)
+no_faults Memory accepts old new e c below = absurd (omega arith)
+no_faults Spent accepts old new e c below = absurd (omega (arith, c.3, below))
+
+clean_line : (way : Way) (old next : FrontState) (moment : ℕ) (line prefix : List ℕ) → way ≡ Defined → RepliesTo way old moment line prefix next
+    → (prefix ≡ reply_bytes (line_met old.state moment line).reply) × (next.state ≡ (line_met old.state moment line).state)
+clean_line way old next moment line prefix e a = (
+  a.bytes_are ∙ ap (λ (w : Way). reply_bytes (refusal_or w (line_met old.state moment line).reply)) e,
+  a.state_is ∙ ap (λ (w : Way). state_or w (line_met old.state moment line).state old.state) e,
+)
+
+clean : (old : FrontState) (moment : ℕ → ℕ) (k : ℕ) (lines : List (List ℕ)) (ways : List Way) (bytes : List ℕ) (new : FrontState) → faults_in ways ≡ 0 → new.number < max_counter → RunsLines old moment k lines ways bytes new
+    → (bytes ≡ output_of old.state moment k lines) × (new.state ≡ state_after old.state moment k lines)
+clean old moment k [] [] bytes new none below r = (r.0, ap (λ (s : FrontState). s.state) r.1)
+clean old moment k [] (way ∷ ways) bytes new none below r = absurd r
+clean old moment k (line ∷ lines) [] bytes new none below r = absurd r
+clean old moment k (line ∷ lines) (way ∷ ways) bytes new none below r =
+    let next : r.2.number < max_counter = omega (arith, below, rises r.2 moment (k + 1) lines ways r.1 new r.5) in
+    let here = clean_line way old r.2 (moment k) line r.0 (no_faults way (line_met old.state (moment k) line).accepts old r.2 (omega arith) r.4.cause next) r.4 in
+    let rest = clean r.2 moment (k + 1) lines ways r.1 new (omega arith) below r.5 in
+    let met = line_met old.state (moment k) line in (
+      r.3 ∙ ap (λ (t : List ℕ). t ++ r.1) here.0 ∙ ap (λ (t : List ℕ). reply_bytes met.reply ++ t) (rest.0 ∙ ap (λ (s : SessionState). output_of s moment (k + 1) lines) here.1),
+      rest.1 ∙ ap (λ (s : SessionState). state_after s moment (k + 1) lines) here.1,
+    )
+
+-- ---- the loop
+
+-- what holds in any case holds of an error
+pub on_err : {T E P : Type 0} (r : Result T E) → P → OnErr r P
+on_err (Ok t) p = tt
+on_err (Err e) p = p
+
+-- a run of one line more
+run_more : (old : FrontState) (moment : ℕ → ℕ) (k : ℕ) (met : List (List ℕ)) (ways : List Way) (bytes : List ℕ) (now : FrontState) (line : List ℕ) (way : Way) (prefix : List ℕ) (next : FrontState)
+    → RunsLines old moment k met ways bytes now → RepliesTo way now (moment (k + length met)) line prefix next
+    → RunsLines old moment k (met ++ line ∷ []) (ways ++ way ∷ []) (bytes ++ prefix) next
+run_more old moment k [] [] bytes now line way prefix next r a =
+    let at_k : RepliesTo way now (moment k) line prefix next = subst (λ (m : ℕ). RepliesTo way now (moment m) line prefix next) (omega arith) a in
+    let from_old : RepliesTo way old (moment k) line prefix next = subst (λ (s : FrontState). RepliesTo way s (moment k) line prefix next) r.1 at_k in
+    (prefix, [], next, ap (λ (t : List ℕ). t ++ prefix) r.0 ∙ sym (append-nil prefix), from_old, (refl, refl))
+run_more old moment k [] (w ∷ ways) bytes now line way prefix next r a = absurd r
+run_more old moment k (l ∷ met) [] bytes now line way prefix next r a = absurd r
+run_more old moment k (l ∷ met) (w ∷ ways) bytes now line way prefix next r a =
+    let later : RepliesTo way now (moment (k + 1 + length met)) line prefix next = subst (λ (m : ℕ). RepliesTo way now (moment m) line prefix next) (omega arith) a in
+    (r.0, r.1 ++ prefix, r.2, ap (λ (t : List ℕ). t ++ prefix) r.3 ∙ append_assoc r.0 r.1 prefix, r.4, run_more r.2 moment (k + 1) met ways r.1 now line way prefix next r.5 later)
+
+-- the lines of the input in front of the rest were met
+pub record Underway (old : FrontState) (moment : ℕ → ℕ) (input : List ℕ) (asked : List Command) (ways : List Way) (now : FrontState) (place : ℕ) (rest written : List ℕ) : Type 0 where
+  pub met : List (List ℕ)
+  pub asked_is : asked ≡ asked_in met
+  pub lines : lines_of input ≡ met ++ lines_of rest
+  pub place_is : place ≡ length met
+  pub run : RunsLines old moment 0 met ways written now
+
+-- what lines ask for, and then more lines
+pub asked_behind : (first second : List (List ℕ)) → asked_in (first ++ second) ≡ asked_in first ++ asked_in second
+asked_behind [] second = refl
+asked_behind (line ∷ first) second = ap (λ (l : List Command). asked_by (request_of_line line) ++ l) (asked_behind first second) ∙ sym (append_assoc (asked_by (request_of_line line)) (asked_in first) (asked_in second))
+
+-- one line more is asked
+asked_next : (met : List (List ℕ)) (line : List ℕ) → asked_in (met ++ line ∷ []) ≡ asked_in met ++ asked_by (request_of_line line)
+asked_next met line = asked_behind met (line ∷ []) ∙ ap (λ (l : List Command). asked_in met ++ l) (append-nil (asked_by (request_of_line line)))
+
+one_more : (old : FrontState) (moment : ℕ → ℕ) (input : List ℕ) (asked : List Command) (ways : List Way) (now next : FrontState) (place : ℕ) (rest written prefix : List ℕ) (way : Way)
+    → Underway old moment input asked ways now place rest written → rest ≢ [] → RepliesTo way now (moment place) (take_through 10 rest) prefix next
+    → Underway old moment input (asked ++ asked_by (request_of_line (take_through 10 rest))) (ways ++ way ∷ []) next (place + 1) (drop_through 10 rest) (written ++ prefix)
+one_more old moment input asked ways now next place rest written prefix way u ne a =
+    let line : List ℕ = take_through 10 rest in
+    let here : RepliesTo way now (moment (0 + length u.met)) line prefix next = subst (λ (m : ℕ). RepliesTo way now (moment m) line prefix next) (omega (arith, u.place_is)) a in
+    record {
+      met = u.met ++ line ∷ [];
+      asked_is = ap (λ (l : List Command). l ++ asked_by (request_of_line line)) u.asked_is ∙ sym (asked_next u.met line);
+      lines = u.lines ∙ ap (λ (ls : List (List ℕ)). u.met ++ ls) (lines_of-next rest ne) ∙ sym (append_assoc u.met (line ∷ []) (lines_of (drop_through 10 rest)));
+      place_is = omega (arith, u.place_is, length-append u.met (line ∷ []));
+      run = run_more old moment 0 u.met ways written now line way prefix next u.run here;
+    }
+
+-- a run that is underway is cut
+cut : (old : FrontState) (moment : ℕ → ℕ) (input : List ℕ) (asked : List Command) (ways : List Way) (now : FrontState) (place : ℕ) (rest written : List ℕ) → Underway old moment input asked ways now place rest written → HandlesPrefix old moment input asked now
+cut old moment input asked ways now place rest written u = record { met = u.met; more = lines_of rest; lines = u.lines; asked_is = u.asked_is; ways = ways; bytes = written; run = u.run }
+
+sum-one : (ways : List Way) (way : Way) → faults_in (ways ++ way ∷ []) ≡ faults_in ways + faults_of way
+sum-one [] way = omega arith
+sum-one (w ∷ ways) way = omega (arith, sum-one ways way)
+
+-- one turn
+pub record Loop (old : FrontState) (moment : ℕ → ℕ) (input : List ℕ) (asked : List Command) (held : Option (List ℕ)) (faults : ℕ) (now : FrontState) (place : ℕ) (left holds : Option (List ℕ)) : Type 0 where
+  pub ways : List Way
+  pub rest : List ℕ
+  pub written : List ℕ
+  pub faults_are : faults ≡ faults_in ways
+  pub left_is : left ≡ Some rest
+  pub appends : Appends held holds written
+  pub underway : Underway old moment input asked ways now place rest written
+
+pub begins : (old : FrontState) (moment : ℕ → ℕ) (input : List ℕ) (held left : Option (List ℕ)) (place : ℕ) → place ≡ 0 → left ≡ Some input → Loop old moment input [] held 0 old place left held
+begins old moment input held left place first e = record {
+  ways = [];
+  rest = input;
+  written = [];
+  faults_are = refl;
+  left_is = e;
+  appends = appends-none held;
+  underway = record { met = []; asked_is = refl; lines = refl; place_is = first; run = (refl, refl) };
+}
+
+-- what was read of a line that is there, and the rest
+some_line : (reading : LineRead) (kept rest : List ℕ) (left' : Option (List ℕ)) → reading ≢ reads.End → ReadsLine rest reading kept left'
+    → (rest ≢ []) × IsReadOf reading kept (take_through 10 rest) × (left' ≡ Some (drop_through 10 rest))
+some_line reads.Kept kept rest left' more r = r
+some_line reads.Lost kept rest left' more r = (r.0, tt, r.1)
+some_line reads.End kept rest left' more r = absurd (more refl)
+
+pub turns : (old : FrontState) (moment now_moment : ℕ → ℕ) (input : List ℕ) (asked : List Command) (held : Option (List ℕ)) (faults : ℕ) (now next : FrontState) (place place' m n : ℕ) (left left' holds holds' : Option (List ℕ)) (reading : LineRead) (kept : List ℕ)
+    → Loop old moment input asked held faults now place left holds
+    → reading ≢ reads.End → ((rest : List ℕ) → left ≡ Some rest → ReadsLine rest reading kept left')
+    → now_moment ≡ moment → m ≡ now_moment place → place' ≡ place + 1
+    → ((whole : List ℕ) → IsReadOf reading kept whole → Serves now m whole n holds holds' next)
+    → (Leads : List Command → Type 0) → ((whole : List ℕ) → IsReadOf reading kept whole → Leads (asked ++ asked_by (request_of_line whole)))
+    → (next_asked : List Command) × Loop old moment input next_asked held (faults + n) next place' left' holds' × Leads next_asked
+turns old moment now_moment input asked held faults now next place place' m n left left' holds holds' reading kept l more read same m_is place_is serves Leads leads =
+    let r = some_line reading kept l.rest left' more (read l.rest l.left_is) in
+    let s = serves (take_through 10 l.rest) r.1 in
+    let m_at : m ≡ moment place = m_is ∙ ap (λ (f : ℕ → ℕ). f place) same in
+    let a : RepliesTo s.way now (moment place) (take_through 10 l.rest) s.bytes next = rw (← m_at) s.answers in (
+      asked ++ asked_by (request_of_line (take_through 10 l.rest)),
+      record {
+        ways = l.ways ++ s.way ∷ [];
+        rest = drop_through 10 l.rest;
+        written = l.written ++ s.bytes;
+        faults_are = omega (arith, l.faults_are, s.faults_are, sum-one l.ways s.way);
+        left_is = r.2;
+        appends = appends-then held holds holds' l.written s.bytes l.appends s.appends;
+        underway = rw place_is (one_more old moment input asked l.ways now next place l.rest l.written s.bytes s.way l.underway r.0 a);
+      },
+      leads (take_through 10 l.rest) r.1,
+    )
+
+pub ends : (old : FrontState) (moment : ℕ → ℕ) (input : List ℕ) (asked : List Command) (held : Option (List ℕ)) (faults : ℕ) (now : FrontState) (place : ℕ) (left holds : Option (List ℕ)) (reading : LineRead) (kept : List ℕ) (left' : Option (List ℕ))
+    → Loop old moment input asked held faults now place left holds → reading ≡ reads.End → ((rest : List ℕ) → left ≡ Some rest → ReadsLine rest reading kept left')
+    → Served old moment 0 input faults held holds now
+ends old moment input asked held faults now place left holds reading kept left' l end read =
+    let none : l.rest ≡ [] = rw end at (read l.rest l.left_is) in
+    let all : lines_of input ≡ l.underway.met = l.underway.lines ∙ ap (λ (t : List ℕ). l.underway.met ++ lines_of t) none ∙ append-nil l.underway.met in
+    record {
+      ways = l.ways;
+      bytes = l.written;
+      run = subst (λ (ls : List (List ℕ)). RunsLines old moment 0 ls l.ways l.written now) (sym all) l.underway.run;
+      faults_are = l.faults_are;
+      appends = l.appends;
+    }
+
+-- a prefix of the lines was met
+pub breaks : (old : FrontState) (moment : ℕ → ℕ) (input : List ℕ) (asked : List Command) (held : Option (List ℕ)) (faults : ℕ) (now : FrontState) (place : ℕ) (left holds : Option (List ℕ)) → Loop old moment input asked held faults now place left holds → HandlesPrefix old moment input asked now
+breaks old moment input asked held faults now place left holds l = cut old moment input asked l.ways now place l.rest l.written l.underway
+
+-- the writer failed
+pub breaks_untold : (old : FrontState) (moment now_moment : ℕ → ℕ) (input : List ℕ) (asked : List Command) (held : Option (List ℕ)) (faults : ℕ) (now next : FrontState) (place m : ℕ) (left left' holds : Option (List ℕ)) (reading : LineRead) (kept : List ℕ)
+    → Loop old moment input asked held faults now place left holds
+    → reading ≢ reads.End → ((rest : List ℕ) → left ≡ Some rest → ReadsLine rest reading kept left')
+    → now_moment ≡ moment → m ≡ now_moment place
+    → ((whole : List ℕ) → IsReadOf reading kept whole → Untold now m whole next)
+    → (Leads : List Command → Type 0) → ((whole : List ℕ) → IsReadOf reading kept whole → Leads (asked ++ asked_by (request_of_line whole)))
+    → (next_asked : List Command) × HandlesPrefix old moment input next_asked next × Leads next_asked
+breaks_untold old moment now_moment input asked held faults now next place m left left' holds reading kept l more read same m_is untold Leads leads =
+    let r = some_line reading kept l.rest left' more (read l.rest l.left_is) in
+    let u = untold (take_through 10 l.rest) r.1 in
+    let m_at : m ≡ moment place = m_is ∙ ap (λ (f : ℕ → ℕ). f place) same in
+    let a : RepliesTo u.way now (moment place) (take_through 10 l.rest) u.bytes next = rw (← m_at) u.answers in
+    let here = asked ++ asked_by (request_of_line (take_through 10 l.rest)) in (
+      here,
+      cut old moment input here (l.ways ++ u.way ∷ []) next (place + 1) (drop_through 10 l.rest) (l.written ++ u.bytes) (one_more old moment input asked l.ways now next place l.rest l.written u.bytes u.way l.underway r.0 a),
+      leads (take_through 10 l.rest) r.1,
+    )
+
+pub cleanly : (old : FrontState) (moment : ℕ → ℕ) (input : List ℕ) (held : Option (List ℕ)) (faults : ℕ) (now : FrontState) (holds : Option (List ℕ))
+    → Served old moment 0 input faults held holds now → faults ≡ 0 → now.number < max_counter → ServedCleanly old.state moment 0 input held holds now.state
+cleanly old moment input held faults now holds s none below =
+    let c = clean old moment 0 (lines_of input) s.ways s.bytes now (sym s.faults_are ∙ none) below s.run in
+    record { appends = subst (λ (t : List ℕ). Appends held holds t) c.0 s.appends; state_is = c.1 }
+
+pub few_faults : (way : Way) → faults_of way ≤ 1
+few_faults Defined = omega arith
+few_faults Device = omega arith
+few_faults Memory = omega arith
+few_faults Spent = omega arith

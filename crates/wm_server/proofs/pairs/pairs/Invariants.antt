@@ -1,8 +1,0 @@
-use Rattle.std.proofs.Common.{◌≡◌, drop}
-use Rattle.serde_json.specs.View.{items_view}
-use Rattle.wm_server.specs.PairLines.{by_text, each, pair_of}
-use Rattle.wm_server.proofs.EachLemmas.{put_before}
-use Rattle.wm_server.proofs.pairs.pairs.Given as goal
-
-abbrev pub invariant-loop-item : goal.invariant-loop-item
-invariant-loop-item l = each pair_of (items_view l.item-items) ≡ put_before (by_text l.pairs.items) (each pair_of (items_view (drop l.item-index l.item-items)))

@@ -1,0 +1,20 @@
+use Rattle.std.proofs.Common.{subst}
+use Rattle.wm_server.specs.session.Asked.{asked_by}
+use Rattle.wm_server.proofs.lemmas.session.RunLemmas.{on_err, same_request, stands_kept, untold_kept}
+use Rattle.wm_server.proofs.session.run.serve_line.Goals as goal
+
+pub returns-in_ok-faults-in-Kept-clause-served : goal.returns-in_ok-faults-in-Kept-clause-served
+returns-in_ok-faults-in-Kept-clause-served g c = λ whole stands.
+    stands_kept _ _ _ _ c.args.line.now whole _ _ (rw c.in-Kept.is at stands) c.in_ok-faults-in-Kept.ensures.served
+
+pub returns-in_err-faults-in-Kept-clause-untold : goal.returns-in_err-faults-in-Kept-clause-untold
+returns-in_err-faults-in-Kept-clause-untold g c =
+    on_err c.from_residual.result (λ whole stands. untold_kept _ _ _ c.args.line.now whole (rw c.in-Kept.is at stands) c.in_err-faults-in-Kept.ensures.untold)
+
+pub returns-in_ok-faults-in-Kept-clause-asked : goal.returns-in_ok-faults-in-Kept-clause-asked
+returns-in_ok-faults-in-Kept-clause-asked g c = λ whole stands.
+    subst (λ request. g.F.Front.leads_to c.args.session.now.front (asked_by request) c.answer_kept.new.session.front) (same_request c.args.line.now whole (rw c.in-Kept.is at stands)) c.answer_kept.ensures.later
+
+pub returns-in_err-faults-in-Kept-clause-asked : goal.returns-in_err-faults-in-Kept-clause-asked
+returns-in_err-faults-in-Kept-clause-asked g c = λ whole stands.
+    subst (λ request. g.F.Front.leads_to c.args.session.now.front (asked_by request) c.answer_kept.new.session.front) (same_request c.args.line.now whole (rw c.in-Kept.is at stands)) c.answer_kept.ensures.later

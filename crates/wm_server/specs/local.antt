@@ -1,0 +1,4 @@
+pub mod LocalLaws
+pub mod Locals
+pub mod Stores
+pub mod ViewChanges

@@ -1,0 +1,4 @@
+pub mod Endings
+pub mod Programs
+pub mod Systems
+pub mod Words

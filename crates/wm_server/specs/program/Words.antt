@@ -1,0 +1,131 @@
+-- What the command-line words of `watchmand` ask for. A word is a text, as the list of its bytes.
+use Rattle.std.specs.Prelude.{ℕ, Bool, true, false, List, [], ◌∷◌, Option, Some, None, codes}
+use Rattle.std.specs.Prelude.{◌==◌, ◌||◌, if◌then◌else◌, is_some, option_map, slice_get}
+use Rattle.std.specs.Option.{option_map_or}
+use Rattle.std.specs.Str.{bytes_eq, chars}
+use Rattle.std.specs.String.{string_bytes}
+use Rattle.clap.specs.Words.{App, Row, Rule, Text, first_of, new_app, new_rule, with_rule}
+use Rattle.clap.specs.Words.{with_subcommand}
+use Rattle.clap.specs.declared.builder.ArgAction.TheVariants.{Set}
+use Rattle.clap.specs.declared.error.ErrorKind.{ErrorKind}
+use Rattle.clap.specs.declared.error.ErrorKind.TheVariants as kind
+use Rattle.wm_server.specs.declared.program.words.Words.{Words}
+use Rattle.wm_server.specs.declared.program.words.Words.TheVariants as words
+
+-- ---- what may be asked
+
+pub data Asked : Type 0 where
+  -- `format` with this FILE
+  format : Text → Asked
+  -- `lines` with this FILE
+  lines : Text → Asked
+  -- a text is shown, and the program ends with this status
+  shown : ℕ → Asked
+
+-- help or the version
+abbrev pub shown_as_asked : Asked
+shown_as_asked = shown 0
+
+abbrev pub fault : Asked
+fault = shown 2
+
+-- what a `Words` of the code says, but for the text that it shows
+abbrev pub asked_of : Words → Asked
+asked_of (words.Format file) = format (string_bytes file)
+asked_of (words.Lines file) = lines (string_bytes file)
+asked_of (words.Shown text status) = shown status
+
+-- ---- one word
+
+-- `--`, after which no word is a flag
+abbrev pub ends_flags : Text → Bool
+ends_flags word = bytes_eq word (codes "--")
+
+-- the character that follows a hyphen (45) at the head of the word
+abbrev pub flag_of : Text → Option ℕ
+flag_of [] = None
+flag_of (byte ∷ rest) = if byte == 45 then slice_get (chars rest) 0 else None
+
+-- a hyphen with something after it; so `-` and the empty word are no flags
+abbrev pub is_flag : Text → Bool
+is_flag word = is_some (flag_of word)
+
+-- `--help` or `--version`, or `-h` (104) or `-V` (86) with anything after it
+abbrev pub asks_to_tell : Text → Bool
+asks_to_tell word = (bytes_eq word (codes "--help") || bytes_eq word (codes "--version"))
+    || option_map_or (λ character. character == 104 || character == 86) (flag_of word) false
+
+-- ---- all the words: the first one that has no place decides between what is told and a fault
+
+abbrev pub asked_by_stray : Text → Asked
+asked_by_stray word = if asks_to_tell word then shown_as_asked else fault
+
+-- after `--`: exactly one FILE, whatever it looks like
+abbrev pub asked_after_dashes : (Text → Asked) → List Text → Asked
+asked_after_dashes with_file [] = fault
+asked_after_dashes with_file (file ∷ []) = with_file file
+asked_after_dashes with_file (file ∷ more ∷ rest) = fault
+
+-- after FILE: nothing, or `--` as the last word
+abbrev pub asked_after_file : Asked → List Text → Asked
+asked_after_file done [] = done
+asked_after_file done (word ∷ []) = if ends_flags word then done else asked_by_stray word
+asked_after_file done (word ∷ more ∷ rest) =
+    if ends_flags word then fault else asked_by_stray word
+
+-- after `format` or `lines`: exactly one FILE, which is no flag unless `--` stands before it
+abbrev pub asked_after_command : (Text → Asked) → List Text → Asked
+asked_after_command with_file [] = fault
+asked_after_command with_file (word ∷ rest) =
+    if ends_flags word then asked_after_dashes with_file rest
+    else (if is_flag word then asked_by_stray word else asked_after_file (with_file word) rest)
+
+-- the program's name is not among the words
+abbrev pub asked : List Text → Asked
+asked [] = fault
+asked (word ∷ rest) = if bytes_eq word (codes "format") then asked_after_command format rest
+    else (if bytes_eq word (codes "lines") then asked_after_command lines rest
+    else asked_by_stray word)
+
+-- ---- the command line as clap is told of it
+
+abbrev pub file_rule : Rule
+file_rule = record (new_rule (codes "FILE")) { action = Some Set; required = true }
+
+-- a command with FILE
+abbrev pub file_app : Text → App
+file_app name = with_rule (new_app name) file_rule
+
+-- the program's command, with no command below it yet
+abbrev pub bare_app : App
+bare_app = record {
+  top = record (new_app (codes "watchmand")).top {
+    no_binary_name = true;
+    disable_help_subcommand = true;
+    subcommand_required = true;
+    has_version = true;
+    propagate_version = true;
+  };
+  subs = [];
+}
+
+abbrev pub watchmand_app : App
+watchmand_app = with_subcommand
+    (with_subcommand bare_app (file_app (codes "format")).top)
+    (file_app (codes "lines")).top
+
+-- ---- what clap answers
+
+-- what is asked by the subcommand that was met, with the entries of its matches
+abbrev pub asked_by : Option (Text × List Row) → Option Asked
+asked_by None = None
+asked_by (Some met) =
+    option_map (λ file. if bytes_eq met.0 (codes "format") then format file else lines file)
+    (first_of (codes "FILE") met.1)
+
+-- what an error of this kind shows; running out of memory is never shown
+abbrev pub shown_for : ErrorKind → Option Asked
+shown_for kind.OutOfMemory = None
+shown_for kind.DisplayHelp = Some shown_as_asked
+shown_for kind.DisplayVersion = Some shown_as_asked
+shown_for other = Some fault

@@ -1,0 +1,10 @@
+pub mod Asked
+pub mod Faults
+pub mod Inputs
+pub mod Inquiries
+pub mod Pages
+pub mod Reading
+pub mod Runs
+pub mod Sessions
+pub mod Streams
+pub mod Watched

@@ -1,0 +1,94 @@
+-- How a line was met: as it is defined, or by a fault, which comes where its cause comes.
+use Rattle.std.specs.Prelude.{◌≡◌, ◌≤◌, ℕ, List, Bool, true, false, Result, Err}
+use Rattle.wm_disk.specs.Contents.{Rose}
+use Rattle.wm_disk.specs.declared.refusal.Refusal.{Refusal}
+use Rattle.wm_disk.specs.declared.refusal.Refusal.TheVariants.{DeviceFailed, Exhausted, NoMemory}
+use Rattle.wm_disk.specs.Counters.{max_counter}
+use Rattle.wm_names.specs.Paths.{Path}
+use Rattle.wm_lines.specs.declared.progress.Progress.{Progress}
+use Rattle.wm_view.specs.declared.op.Op.{Op}
+use Rattle.wm_registry.specs.declared.command.Command.{Command}
+use Rattle.wm_registry.specs.declared.reply.Reply.{Reply}
+use Rattle.wm_registry.specs.declared.reply.Reply.TheVariants as reply
+use Rattle.wm_registry.specs.Registry.{is_change}
+use Rattle.wm_lines.specs.Replies.{reply_bytes}
+use Rattle.wm_server.specs.session.Sessions.{SessionState, line_met, operation_met, reply_to_command, state_after_command, view_of}
+use Rattle.wm_server.specs.session.Watched.{progress_after, view_after}
+
+-- the state of a session, how often the device under it has failed, and the number of the slot in use
+pub record FrontState : Type 0 where
+  pub state : SessionState
+  pub failures : ℕ
+  pub number : ℕ
+
+-- How a line was met: as it is defined; or the device failed, and then the store has failed; or memory ran out, and then nothing
+-- changed; or the slot's number was spent, and then nothing changed.
+pub data Way : Type 0 where
+  Defined : Way
+  Device : Way
+  Memory : Way
+  Spent : Way
+
+-- no number is taken back
+pub record Lasts (old new : FrontState) : Type 0 where
+  pub failures : old.failures ≤ new.failures
+  pub number : old.number ≤ new.number
+
+-- the way has its cause; the device is asked only for a command that is to be accepted
+abbrev pub HasCause : Way → Bool → FrontState → FrontState → Type 0
+HasCause Defined accepts old new = Lasts old new
+HasCause Device accepts old new = (accepts ≡ true) × (old.state.has_failed ≡ false) × Lasts old new × Rose old.failures new.failures
+HasCause Memory accepts old new = Lasts old new × (new.failures ≡ old.failures)
+HasCause Spent accepts old new = (accepts ≡ true) × Lasts old new × (new.failures ≡ old.failures) × (max_counter ≤ new.number)
+
+-- what is told in place of what is defined, and the state after it
+abbrev pub refusal_or : {A : Type 0} → Way → Result A Refusal → Result A Refusal
+refusal_or Defined defined = defined
+refusal_or Device defined = Err DeviceFailed
+refusal_or Memory defined = Err NoMemory
+refusal_or Spent defined = Err Exhausted
+
+abbrev pub reply_or : Way → Reply → Reply
+reply_or Defined defined = defined
+reply_or Device defined = reply.Refused DeviceFailed
+reply_or Memory defined = reply.Refused NoMemory
+reply_or Spent defined = reply.Refused Exhausted
+
+abbrev pub state_or : Way → SessionState → SessionState → SessionState
+state_or Defined defined old = defined
+state_or Device defined old = record old { has_failed = true }
+state_or Memory defined old = old
+state_or Spent defined old = old
+
+-- a front met a command
+pub record Submits (old : FrontState) (command : Command) (result : Reply) (new : FrontState) : Type 0 where
+  pub way : Way
+  pub cause : HasCause way (is_change (reply_to_command old.state command)) old new
+  pub reply_is : result ≡ reply_or way (reply_to_command old.state command)
+  pub state_is : new.state ≡ state_or way (state_after_command old.state command) old.state
+
+-- the line was answered with these bytes
+pub record RepliesTo (way : Way) (old : FrontState) (moment : ℕ) (line bytes : List ℕ) (new : FrontState) : Type 0 where
+  pub cause : HasCause way (line_met old.state moment line).accepts old new
+  pub bytes_are : bytes ≡ reply_bytes (refusal_or way (line_met old.state moment line).reply)
+  pub state_is : new.state ≡ state_or way (line_met old.state moment line).state old.state
+
+-- one for a fault
+abbrev pub faults_of : Way → ℕ
+faults_of Defined = 0
+faults_of Device = 1
+faults_of Memory = 1
+faults_of Spent = 0
+
+-- a refusal that comes where its cause comes, and not by what is defined
+abbrev pub is_fault : Refusal → Bool
+is_fault DeviceFailed = true
+is_fault NoMemory = true
+is_fault _ = false
+
+-- a front did an operation on a root's view
+pub record Operates (old : FrontState) (root : Path) (o : Op) (result : Result Progress Refusal) (new : FrontState) : Type 0 where
+  pub way : Way
+  pub cause : HasCause way false old new
+  pub reply_is : result ≡ refusal_or way (progress_after (view_after (view_of old.state root) o))
+  pub state_is : new.state ≡ state_or way (operation_met old.state root o (view_after (view_of old.state root) o)).state old.state

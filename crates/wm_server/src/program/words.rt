@@ -1,0 +1,128 @@
+//! What the command-line words ask of `watchmand`. Their definitions are in specs/program/Words.
+//! Tests: session_tests/src/programs/words.rt.
+ghost use Rattle.std.specs.Prelude.{◌≡◌, IfOk, Some, false, is_some, map, true};
+ghost use Rattle.clap.specs.Values.{kind_of};
+ghost use Rattle.clap.specs.declared.builder.Command.TheViews.{out-Command};
+ghost use Rattle.clap.specs.Words.{app_of, rule_of, subcommand_rows_of};
+ghost use Rattle.wm_server.specs.program.Words.{asked, asked_by, asked_of, file_app, file_rule, shown_for};
+ghost use Rattle.wm_server.specs.program.Words.{watchmand_app};
+
+use clap::error::ErrorKind;
+use clap::{Arg, ArgAction, ArgMatches, Command, Error};
+use std::alloc::Global;
+use wm_disk::NoMemory;
+use wm_lines::reply::VERSION;
+
+/// What the words of `watchmand` ask for.
+#[derive(Drop)]
+pub enum Words {
+    /// `format FILE`
+    Format { file: String },
+    /// `lines FILE`
+    Lines { file: String },
+    /// A text is to be shown, and the program ends with the status: help or the version (0) on
+    /// standard output, a fault (2) on standard error.
+    Shown { text: String, status: u8 },
+}
+
+impl Words {
+    /// What the words ask for; the program's own name is not among them.
+    ///
+    /// The words are `format FILE` or `lines FILE`. A FILE that begins with a hyphen and isn't just
+    /// `-` needs a word `--` before it. `--help` and `-h` ask for help, `--version` and `-V` for the
+    /// version, where each word before them has its place. All else is a fault. `Err` comes only where memory runs out.
+    pub fn read<'a>(alloc: Global, words: &'a [&'a str]) -> Result<Words, NoMemory>
+        ensures { IfOk result (λ r. asked_of r ≡ asked (map (λ word. word.now) words.entry.now)) }
+    {
+        let command = watchmand(alloc)?;
+        match command.try_get_matches_from(words) {
+            Ok(matches) => chosen(alloc, &matches),
+            Err(error) => shown(alloc, &error),
+        }
+    }
+}
+
+const STATUSES: &str = "Exit status:
+  0  the input was answered to its end, or the file was made
+  1  refused, or the input or the output failed; standard error says why
+  2  the words aren't understood";
+
+// The command of the program, with a command for each thing that it does.
+fn watchmand<'a>(alloc: Global) -> Result<Command<'a>, NoMemory>
+    ensures { IfOk result (λ c. app_of c ≡ watchmand_app) }
+{
+    let format = file_command(
+        alloc,
+        "format",
+        "Makes a state file; FILE must not be there yet",
+    )?;
+    let lines = file_command(
+        alloc,
+        "lines",
+        "Answers request lines from standard input over a state file",
+    )?;
+    let command = Command::new(alloc, "watchmand")
+        .about("A file watch server whose answers can be trusted")
+        .after_help(STATUSES)
+        .version(VERSION)
+        .propagate_version(true)
+        .no_binary_name(true)
+        .disable_help_subcommand(true)
+        .subcommand_required(true)
+        .bin_name("watchmand")?
+        .subcommand(format)?
+        .subcommand(lines)?;
+    Ok(command)
+}
+
+// A command that takes one FILE.
+fn file_command<'a>(alloc: Global, name: &'a str, about: &'a str) -> Result<Command<'a>, NoMemory>
+    ensures app { IfOk result (λ c. app_of c ≡ file_app name.entry.now) }
+    ensures local { IfOk result (λ c. (out-Command c).has_globals ≡ false) }
+{
+    let file = file_argument(alloc);
+    let command = Command::new(alloc, name).about(about).arg(file)?;
+    Ok(command)
+}
+
+// FILE, which each command needs.
+fn file_argument<'a>(alloc: Global) -> Arg<'a>
+    ensures rule { rule_of result ≡ file_rule }
+    ensures local { result.global ≡ false }
+{
+    Arg::new(alloc, "FILE")
+        .help("The path of the state file")
+        .action(ArgAction::Set)
+        .required(true)
+}
+
+// What the matches of the program's command ask for: it met `format` or `lines`, with a FILE.
+fn chosen(alloc: Global, matches: &ArgMatches<'_>) -> Result<Words, NoMemory>
+    requires { is_some (asked_by (subcommand_rows_of matches.now)) ≡ true }
+    ensures { IfOk result (λ r. asked_by (subcommand_rows_of matches.now) ≡ Some (asked_of r)) }
+{
+    let Some((name, inner)) = matches.subcommand() else {
+        unreachable!()
+    };
+    let Some(file) = inner.get_str("FILE") else {
+        unreachable!()
+    };
+    let file = String::from_str(alloc, file)?;
+    if name == "format" {
+        Ok(Words::Format { file })
+    } else {
+        Ok(Words::Lines { file })
+    }
+}
+
+// What is shown for an error of the parse. Running out of memory is no fault of the words: it is an `Err`.
+fn shown(alloc: Global, error: &Error) -> Result<Words, NoMemory>
+    ensures { IfOk result (λ r. shown_for (kind_of error.now) ≡ Some (asked_of r)) }
+{
+    if error.kind() == ErrorKind::OutOfMemory {
+        return Err(NoMemory);
+    }
+    let status = if error.use_stderr() { 2 } else { 0 };
+    let text = error.to_string(alloc)?;
+    Ok(Words::Shown { text, status })
+}

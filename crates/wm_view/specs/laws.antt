@@ -1,0 +1,6 @@
+-- Public laws: lemmas on the definitions, for the proofs of this crate and of those above. A reader of definitions may skip them.
+pub mod PathSets
+pub mod LastChanges
+pub mod Tagged
+pub mod Made
+pub mod Lists

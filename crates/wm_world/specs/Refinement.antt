@@ -1,0 +1,129 @@
+-- How a world that runs stands to the definition.
+use Rattle.std.specs.Prelude.{◌≡◌, ◌≤◌, ◌<◌, ℕ, Bool, true, false, cond, List, [], ◌++◌, map, ◌==◌, Option, Some, None, option_map}
+use Rattle.std.specs.List.{AllByRecursion, find}
+use Rattle.std.specs.Option.{option_map_or}
+use Rattle.wm_disk.specs.declared.disk.Disk as disks
+use Rattle.wm_checkpoint.specs.Meanings.{MeansPrefix}
+use Rattle.wm_checkpoint.specs.Numbers.{IsNumberedTo}
+use Rattle.wm_names.specs.Paths.{Path}
+use Rattle.wm_disk.specs.declared.refusal.Refusal.TheVariants.{NoMemory}
+use Rattle.wm_registry.specs.declared.reply.Reply.{Reply}
+use Rattle.wm_registry.specs.declared.reply.Reply.TheVariants.{Refused}
+use Rattle.wm_registry.specs.MachineLaws.{watches}
+use Rattle.wm_registry.specs.Roots.{State, root_at}
+use Rattle.wm_store.specs.Stored.{Stored}
+use Rattle.wm_view.specs.Histories.{History}
+use Rattle.wm_view.specs.Summaries.{Summary, summary}
+use Rattle.wm_since.specs.declared.query.Answer.{Answer}
+use Rattle.wm_since.specs.Answers.{answer_by}
+use Rattle.wm_since.specs.Clients.{next_question}
+use Rattle.wm_world.specs.declared.connection.Connection.{Connection}
+use Rattle.wm_world.specs.declared.world.World.{World as Running}
+use Rattle.wm_world.specs.declared.world.Server.{Server}
+use Rattle.wm_world.specs.declared.world.Server.TheVariants.{Up, Down}
+use Rattle.wm_world.specs.Worlds.{World, registry, wants}
+use Rattle.wm_world.specs.Steps.{IsReached, with_answer}
+
+-- ---- by what the views show alone
+
+-- the view of the root with the number
+abbrev pub is_root : ℕ → Summary → Bool
+is_root number view = view.root == number
+
+abbrev pub view_at : State → List Summary → Path → Option Summary
+view_at s views path = option_map_or (λ root. find (is_root root.number) views) (root_at path s) None
+
+abbrev pub answer_by_view : Connection → Option Summary → Option Answer
+answer_by_view c None = None
+answer_by_view c (Some view) = cond view.ready (Some (answer_by (wants c) view (next_question c.mirror))) None
+
+abbrev pub asking_by : State → List Summary → Connection → Connection
+asking_by s views c = cond c.mirror.asked c (with_answer c (answer_by_view c (view_at s views c.mirror.root)))
+
+-- memory ran out for the command with this reply
+abbrev pub is_out_of_memory : Reply → Bool
+is_out_of_memory (Refused NoMemory) = true
+is_out_of_memory _ = false
+
+-- ---- contents
+
+-- The content means the replay of what is kept and a prefix of what is in flight.
+pub record KeepsPrefix (w : World) (content : List ℕ) : Type 0 where
+  pub means : MeansPrefix watches (registry w) w.pending content
+  pub numbered : IsNumberedTo w.slot content
+
+-- ---- a world that runs
+
+-- The views are those of the histories of this incarnation, in their order.
+pub record AreViews (views : List Summary) (w : World) : Type 0 where
+  pub past : List History
+  pub present : List History
+  pub all : w.histories ≡ past ++ present
+  pub over : AllByRecursion (λ h. h.incarnation < (registry w).incarnation) past
+  pub now : AllByRecursion (λ h. h.incarnation ≡ (registry w).incarnation) present
+  pub shown : views ≡ map summary present
+
+-- the number of the root that is watched at the path, while the server is up
+abbrev pub number_at : {D : Type 0} → Server D → Path → Option ℕ
+number_at (Up store) path = option_map (λ root. root.number) (root_at path store.registry)
+number_at (Down d) path = None
+
+-- what a world that runs shows: its registry while it is up, the last replies, its views, and its clients
+abbrev pub server_registry : {D : Type 0} → Server D → Option State
+server_registry (Up store) = Some store.registry
+server_registry (Down d) = None
+
+abbrev pub registry_of : {D : Type 0} → Running D → Option State
+registry_of world = server_registry world.server
+
+abbrev pub replies_of : {D : Type 0} → Running D → List Reply
+replies_of world = world.shown.replies.items
+
+abbrev pub views_of : {D : Type 0} → Running D → List Summary
+views_of world = world.shown.views.items
+
+abbrev pub clients_of : {D : Type 0} → Running D → List Connection
+clients_of world = world.shown.clients.items
+
+module _ {D : Type 0} (disk : disks.Ghosts D) where
+  -- Every content that a crash may leave keeps the prefix, and the device has failed so often.
+  pub record IsOn (d : D) (w : World) : Type 0 where
+    pub prefix : (c : List ℕ) → disk.may_leave d c → KeepsPrefix w c
+    pub faults : disk.failures d ≡ w.faults
+
+  pub record IsUp (store : Stored D) (views : List Summary) (w : World) : Type 0 where
+    pub up : w.up ≡ true
+    pub whole : store.failed ≡ false
+    pub open_yet : store.closed ≡ false
+    pub registry_is : store.registry ≡ registry w
+    pub number : store.number ≤ w.slot
+    pub on : IsOn store.disk w
+    pub views_are : AreViews views w
+
+  pub record IsDown (d : D) (views : List Summary) (w : World) : Type 0 where
+    pub down : w.up ≡ false
+    pub none : views ≡ []
+    pub on : IsOn d w
+
+  abbrev pub IsServer : Server D → List Summary → World → Type 0
+  IsServer (Up store) views w = IsUp store views w
+  IsServer (Down d) views w = IsDown d views w
+
+  abbrev pub disk_of_server : Server D → D
+  disk_of_server (Up store) = store.disk
+  disk_of_server (Down d) = d
+
+  abbrev pub disk_of_world : Running D → D
+  disk_of_world world = disk_of_server world.server
+
+  -- The world that runs is as this one: its registry, last replies, views, clients and answers on their way.
+  pub record Refines (world : Running D) (w : World) : Type 0 where
+    pub server : IsServer world.server (views_of world) w
+    pub replies : replies_of world ≡ w.replies
+    pub clients : clients_of world ≡ w.clients
+
+  -- A call takes the world that runs from any standing to one that this row leads to, and its disk so. It is honest afterwards only where
+  -- it was before.
+  pub record Simulates (row : World → World → Type 0) (way : D → World → D → World → Type 0) (old new : Running D) : Type 0 where
+    pub honest : disk.honest (disk_of_world new) → disk.honest (disk_of_world old)
+    pub goes : disk.honest (disk_of_world new) → (w : World) → IsReached w → Refines old w → (v : World) × row w v × Refines new v × way (disk_of_world old) w (disk_of_world new) v
