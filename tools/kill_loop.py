@@ -1,7 +1,7 @@
 #!/usr/bin/env python3
 """Kills `watchmand lines` (SIGKILL) in the midst of watches and triggers, again and again, and shows that no
 command that was answered is ever lost: each start finds the watches and triggers after the answered commands
-and a beginning of those that were in flight, and nothing else.
+and a prefix of those that were in flight, and nothing else.
 
 Usage: tools/kill_loop.py PROGRAM [KILLS [SEED]]
 """

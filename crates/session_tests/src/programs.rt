@@ -1,4 +1,4 @@
-//! The program as its mains call it: its words, its files, and its calls from end to end.
+//! The program as its main calls it: its words, its files, and its calls from end to end.
 mod calls;
 mod files;
 mod owners;

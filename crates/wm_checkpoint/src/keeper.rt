@@ -40,8 +40,8 @@ impl<D: Disk + Drop, M: Machine> Keeper<D, M> {
 
     /// Makes a file that means the first state, in slot A with number 1, over whatever the disk holds. A
     /// crash inside it acknowledges nothing, and it is run again. `13 DeviceFailed` where a write or a sync
-    /// failed: the disk may then mean anything or nothing, an older state too. `16 NoMemory` for want of
-    /// memory, with no call of the disk.
+    /// failed: the disk may then mean anything or nothing, an older state too. `16 NoMemory` where
+    /// memory ran out, with no call of the disk.
     pub fn format(alloc: Global, disk: &mut D, first: &M::State) -> Result<(), Refusal>
         ensures formatted { D.honest disk.new → OnOk result (Means (meaning M.Machine M.State.Wire M.Command.Wire) (D.seen disk.new) A 1 first.now []) }
         // Slot B and the rest of the header are zeros.
@@ -155,8 +155,8 @@ impl<D: Disk + Drop, M: Machine> Keeper<D, M> {
 
     /// Puts the state into the other slot, under the next number, with an empty journal: a reading of that
     /// slot's gate, four writes, or three where the gate reads closed, and three syncs. `12 StoreFailed` as in
-    /// [`Keeper::commit`]; `15 Exhausted` where the number is 2^63 - 1 or more and `16 NoMemory` for want
-    /// of memory, with no call of the disk and nothing changed; `13 DeviceFailed` where the device
+    /// [`Keeper::commit`]; `15 Exhausted` where the number is 2^63 - 1 or more and `16 NoMemory` where
+    /// memory ran out, with no call of the disk and nothing changed; `13 DeviceFailed` where the device
     /// failed, and then the disk means the same state.
     pub fn checkpoint(&mut self, alloc: Global) -> Result<(), Refusal>
         requires kept { Keeps (meaning M.Machine M.State.Wire M.Command.Wire) self.old }

@@ -25,8 +25,8 @@ pub trait Machine {
     /// The reply to a command.
     ghost reply: { Self.State → Self.Command → Self.Reply };
 
-    /// Applies a command, and tells the reply and whether the state changed. Its error is running out of memory,
-    /// and then the state is as it was.
+    /// Applies a command, and tells the reply and whether the state changed. It fails only where memory ran
+    /// out, and then the state is as it was.
     fn apply(
         alloc: Global,
         state: &mut Self::State,
@@ -35,7 +35,7 @@ pub trait Machine {
         ensures ok { IfOk result (λ r. (r.0 ≡ reply state.old command.now) × (r.1 ≡ changes state.old command.now) × (state.new ≡ after state.old command.now)) }
         ensures err { OnErr result (state.new ≡ state.old) };
 
-    /// An equal state, or no memory.
+    /// An equal state, or `NoMemory`.
     fn copy(alloc: Global, state: &Self::State) -> Result<Self::State, NoMemory>
         ensures { IfOk result (λ s. s ≡ state.now) };
 

@@ -12,7 +12,7 @@ use thiserror::Error;
 #[error("the device failed")]
 pub struct DeviceFailed;
 
-/// A growth was refused.
+/// Memory ran out.
 #[derive(Clone, Copy, Debug, PartialEq, Eq, Error)]
 #[error("out of memory")]
 pub struct NoMemory;
@@ -63,7 +63,7 @@ pub enum Refusal {
     Damaged,
     /// A counter stands at 2^63 - 1.
     Exhausted,
-    /// A growth was refused.
+    /// Memory ran out.
     NoMemory,
     /// More of something than its limit allows.
     TooMany,

@@ -48,7 +48,7 @@ impl<D: Disk> Region<D> {
     }
 
     /// Goes to the area of the same length at another place, or the same, of which it is known that it has
-    /// records up to `end`, where its closed gate stands. The disk has no call.
+    /// records up to `end`, where its closed gate stands. It makes no call of the disk.
     pub fn go_to(&mut self, offset: u64, end: u64)
         requires within { end < len_of self.old }
         requires small { offset + len_of self.old < 2 ^ 62 }

@@ -76,8 +76,8 @@ fn all_have_expressions(alloc: Global, triggers: &[Trigger]) -> Result<bool, NoM
     Ok(true)
 }
 
-/// Whether each text that is kept with a trigger of the registry is an expression. An `Err` is want of
-/// memory.
+/// Whether each text that is kept with a trigger of the registry is an expression. An `Err` means that
+/// memory ran out.
 pub fn have_expressions(alloc: Global, registry: &Registry) -> Result<bool, NoMemory>
     ensures { IfOk result (λ b. b ≡ have_expressions_lem registry.now) }
 {

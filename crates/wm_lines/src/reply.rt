@@ -36,7 +36,7 @@ pub fn put_refusal(refusal: Refusal, out: &mut Vec<u8>)
     out.extend_from_slice(b"\",\"version\":\"w1\"}\n").unwrap();
 }
 
-/// Appends a reply and a newline. A refused growth leaves the bytes as they were.
+/// Appends a reply and a newline. Where memory runs out the bytes stay as they were.
 #[tactic(auto, unfolding(crate::specs::Replies::line_text))]
 fn put_line(alloc: Global, value: &Value, out: &mut Vec<u8>) -> Result<(), NoMemory>
     requires { has_float (view value.now) ≡ false }
@@ -94,7 +94,7 @@ fn version(alloc: Global) -> Result<Value, AllocError>
     json!(in alloc; {"version": VERSION})
 }
 
-/// Appends the reply to `version`. An `Err` means out of memory, and appends nothing.
+/// Appends the reply to `version`. An `Err` means that memory ran out; nothing is appended then.
 pub fn put_version(alloc: Global, out: &mut Vec<u8>) -> Result<(), NoMemory>
     ensures ok { OnOk result (out.new.items ≡ out.old.items ++ line_text version_reply) }
     ensures err { OnErr result (out.new.items ≡ out.old.items) }
@@ -146,7 +146,7 @@ fn command(alloc: Global, command: &Command, reply: Reply) -> Result<Value, Allo
 }
 
 /// The line for a command that met this reply of the registry. A refusal is told by [`put_refusal`]. An
-/// `Err` is running out of memory.
+/// `Err` means that memory ran out.
 #[tactic(auto, unfolding(crate::specs::Replies::line_text))]
 pub fn line_to(alloc: Global, to: &Command, reply: Reply) -> Result<Vec<u8>, NoMemory>
     ensures { IfOk result (λ line. line.items ≡ line_text (command_reply to.now reply)) }
@@ -238,7 +238,7 @@ fn trigger_list(alloc: Global, triggers: &[Trigger]) -> Result<Value, NoMemory>
     Ok(json!(in alloc; {"triggers": list, "version": VERSION})?)
 }
 
-/// Appends the reply to `trigger-list`. An `Err` means out of memory, and appends nothing.
+/// Appends the reply to `trigger-list`. An `Err` means that memory ran out; nothing is appended then.
 pub fn put_triggers(alloc: Global, triggers: &[Trigger], out: &mut Vec<u8>) -> Result<(), NoMemory>
     ensures ok { OnOk result (out.new.items ≡ out.old.items ++ line_text (triggers_reply triggers.now)) }
     ensures err { OnErr result (out.new.items ≡ out.old.items) }
@@ -264,7 +264,7 @@ fn watch_list(alloc: Global, roots: &IndexMap<RootPath, Root>) -> Result<Value, 
     json!(in alloc; {"roots": list, "version": VERSION})
 }
 
-/// Appends the reply to `watch-list`. An `Err` means out of memory, and appends nothing.
+/// Appends the reply to `watch-list`. An `Err` means that memory ran out; nothing is appended then.
 pub fn put_watch_list(
     alloc: Global,
     roots: &IndexMap<RootPath, Root>,
@@ -280,7 +280,7 @@ pub fn put_watch_list(
 /// The most bytes of a question's reply before its files.
 const HEAD_ROOM: usize = 96;
 
-/// Appends the beginning of a question's reply, up to its files, for which there is room.
+/// Appends the first part of a question's reply, up to its files, for which there is room.
 fn put_head(clock: ClockId, out: &mut Vec<u8>)
     requires { vec_len out.old + HEAD_ROOM ≤ vec_capacity out.old }
     ensures value { out.new.items ≡ out.old.items ++ answer_head clock }
@@ -320,7 +320,7 @@ fn put_parts(
     Ok(())
 }
 
-/// Appends the reply to `query` and `since`. An `Err` means out of memory, and appends nothing.
+/// Appends the reply to `query` and `since`. An `Err` means that memory ran out; nothing is appended then.
 #[tactic(auto, using(crate::proofs::ReplyTexts::answer_line))]
 pub fn put_answer(
     alloc: Global,

@@ -10,8 +10,8 @@ use std::alloc::Global;
 use wm_disk::NoMemory;
 use wm_names::RootPath;
 
-/// Puts a root behind the others, where none is at its path, and tells whether it did. Its error is want of
-/// memory for a root that isn't there yet.
+/// Puts a root behind the others, where none is at its path, and tells whether it did. It fails where memory
+/// ran out for a root that isn't there yet.
 pub(crate) fn put_new(
     alloc: Global,
     roots: &mut IndexMap<RootPath, Root>,

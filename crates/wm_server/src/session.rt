@@ -238,8 +238,8 @@ impl<F: Front> Session<F> {
     }
 
     /// Answers a line, which comes with its newline: appends the reply and a newline, and tells how many
-    /// faults were met: none or one. The room of a refusal is made before anything changes: an `Err` is
-    /// running out of memory for it, comes only where `out` has no such room yet, and changes nothing.
+    /// faults were met: none or one. The room of a refusal is made before anything changes: an `Err`
+    /// means that none was found, comes only where `out` has no such room yet, and changes nothing.
     pub fn line(
         &mut self,
         alloc: Global,

@@ -183,7 +183,7 @@ impl Batch {
         }
     }
 
-    /// Commits the group in the midst of the batch; or refuses the rest of the batch when out of memory.
+    /// Commits the group in the midst of the batch; or refuses the rest of the batch where memory ran out.
     fn commit_so_far<D: Disk + Drop>(
         &mut self,
         alloc: Global,
@@ -291,7 +291,7 @@ fn refuse_for_memory(reply: Reply) -> Reply
     }
 }
 
-/// Turns the replies from a place on into refusals when out of memory, but those to a `Begin`.
+/// Turns the replies from a place on into `16 NoMemory`, but those to a `Begin`.
 fn refuse_from(replies: &mut Vec<Reply>, first: usize)
     requires { first ≤ vec_len replies.old }
     ensures { replies.new.items ≡ take first replies.old.items ++ map refused_for_memory (drop first replies.old.items) }

@@ -93,8 +93,8 @@ impl<D: Disk + Drop> Store<D> {
     /// Meets the commands in their order, and answers them when all that it accepted are durable: each as
     /// the registry has it, but a `Begin` is refused `3 BadArguments`, since opening alone begins an
     /// incarnation. `16 NoMemory` is the reply to a command for which memory ran out, to those
-    /// behind one for which a checkpoint was, and to all of a group whose commit was; `15 Exhausted` to
-    /// all commands from the first on that needs a checkpoint where the slot's number stands at 2^63 - 1.
+    /// behind one whose checkpoint found none, and to all of a group whose commit found none; `15 Exhausted`
+    /// to all commands from the first on that needs a checkpoint where the slot's number stands at 2^63 - 1.
     /// The commands are written in groups, each as large as the journal's room; where the next one
     /// doesn't fit, the state goes into the other slot first. The registry is copied once a command is to
     /// be accepted, and not before. A batch of which none is accepted makes no call of the disk, unless a

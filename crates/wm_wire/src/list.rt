@@ -21,7 +21,7 @@ pub enum NotPushed {
     /// With the value, the list's spelling would have 2^32 bytes or more.
     #[error("the list would be too long to spell")]
     TooLong,
-    /// A growth was refused.
+    /// Memory ran out.
     #[error("out of memory")]
     NoMemory,
 }

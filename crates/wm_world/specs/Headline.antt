@@ -19,7 +19,7 @@ use Rattle.wm_world.specs.Refinement.{KeepsPrefix, Refines, disk_of_world}
 use Rattle.wm_world.specs.Passes.{Passes}
 
 -- between two events: a disk, and a world
-pub record Moment (D : Type 0) : Type 0 where
+pub record Instant (D : Type 0) : Type 0 where
   pub disk : D
   pub world : World
 
@@ -32,20 +32,20 @@ module _ {D : Type 0} (disk : disks.Ghosts D) where
   -- What holds between any two events: every content that a crash may leave means the replay of what is kept and a prefix of what
   -- is in flight; each client has exactly the matching files of its root in the view at its last clock; and the numbers of each clock
   -- are those that a clock's text may have.
-  pub record Holds (m : Moment D) : Type 0 where
+  pub record Holds (m : Instant D) : Type 0 where
     pub honest : disk.honest m.disk
     pub prefix : (c : List ℕ) → disk.may_leave m.disk c → KeepsPrefix m.world c
     pub clients : AllByRecursion (ClientHolds m.world) m.world.clients
     pub clocks : (h : History) → IsAmong h m.world.histories → is_ready h ≡ true → is_clock (clock_of h) ≡ true
     pub faults : disk.failures m.disk ≡ m.world.faults
 
-  abbrev pub start : D → Moment D
+  abbrev pub start : D → Instant D
   start d = record { disk = d; world = nothing_yet (disk.failures d) }
 
   -- how many calls of a disk still pass before each fails, where failures are planned
   module _ (plan : D → Option ℕ) where
     -- from one moment to the next
-    pub record Goes (old : Moment D) (event : Event) (new : Moment D) : Type 0 where
+    pub record Goes (old : Instant D) (event : Event) (new : Instant D) : Type 0 where
       pub step : Step old.world event new.world
       pub passes : Passes disk plan event old.disk old.world new.disk new.world
       pub holds : Holds new

@@ -122,7 +122,7 @@ module _ {D : Type 0} (disk : disks.Ghosts D) where
     pub replies : replies_of world ≡ w.replies
     pub clients : clients_of world ≡ w.clients
 
-  -- A call takes the world that runs from any standing to one that this row leads to, and its disk so. It is honest afterwards only where
+  -- A call takes the world that runs from any state to one that this row leads to, and its disk so. It is honest afterwards only where
   -- it was before.
   pub record Simulates (row : World → World → Type 0) (way : D → World → D → World → Type 0) (old new : Running D) : Type 0 where
     pub honest : disk.honest (disk_of_world new) → disk.honest (disk_of_world old)

@@ -38,7 +38,7 @@ IsPrefix part whole = (rest : List Command) × (part ++ rest ≡ whole)
 
 -- ---- commands
 
--- A batch that is done: each command is answered as the registry has it, and none when out of memory. The accepted ones are kept, and
+-- A batch that is done: each command is answered as the registry has it, and none `16`. The accepted ones are kept, and
 -- each root number that they gave away begins a history, also one that the same batch took back.
 abbrev pub BatchDone : World → List Command → World → Type 0
 BatchDone old commands new =

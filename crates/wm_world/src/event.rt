@@ -25,7 +25,7 @@ pub enum Event {
     Observe(RootPath, u64, Pairs),
     /// At this moment a reading of the root at the path ended, which began at this tick and found this.
     Recrawl(RootPath, u64, u64, Listing),
-    /// At this time, what was deleted so long ago below the root at the path may be forgotten.
+    /// At this moment, what was deleted so long ago below the root at the path may be forgotten.
     AgeOut(RootPath, u64, u64),
     /// A new client of the root at the path, with the next number from 0, who wants the files that match.
     Client(RootPath, Expr),

@@ -38,7 +38,7 @@ pub(crate) fn unless_out_of_memory(replies: &[Reply]) -> Result<(), NoMemory>
     Ok(())
 }
 
-/// `NoMemory`, where the refusal is for that.
+/// `NoMemory`, where the refusal is that one.
 pub(crate) fn unless_memory(refusal: Refusal) -> Result<(), NoMemory>
     ensures { OnOk result (refusal ≢ no_memory) }
 {

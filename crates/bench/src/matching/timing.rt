@@ -39,8 +39,8 @@ fn timed(clock: &impl Clock, expr: &Expr, entry: &Entry) -> Result<Duration> {
 }
 
 /// What a call takes for the shape's pattern and path of this length, by so many times. An error where the
-/// pattern fits the path, where it doesn't fit the path that ends as it does, where the clock failed, or for
-/// running out of memory.
+/// pattern fits the path, where it doesn't fit the path that ends as it does, where the clock failed, or where
+/// memory ran out.
 pub fn measure(
     alloc: Global,
     clock: &impl Clock,

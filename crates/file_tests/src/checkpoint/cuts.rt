@@ -113,7 +113,7 @@ fn finds_the_state_after_a_cut_checkpoint_into_a_used_slot(rt: HostRuntime) -> R
 /// sync, a write for each of the three gates, and a sync.
 const COUNTS: &[(usize, usize)] = &[(0, 0), (0, 0), (0, 0), (0, 1), (0, 2), (0, 3), (3, 3)];
 
-/// How many commands of the group `20`, `21`, `22` are found after a cut. None where no beginning of it is, or
+/// How many commands of the group `20`, `21`, `22` are found after a cut. None where no prefix of it is, or
 /// the commit was answered otherwise than it has to be.
 fn counted(alloc: Global, content: &[u8], cut: Cut, state: u64) -> Result<Option<usize>, Refusal> {
     let mut kept = armed(alloc, content, cut)?;
@@ -155,12 +155,12 @@ fn assert_begins(rt: &impl Abort, alloc: Global, before: &[Call], state: u64) ->
 }
 
 #[test]
-fn finds_a_beginning_of_a_cut_group(rt: HostRuntime) -> Result<(), Fail> {
+fn finds_a_prefix_of_a_cut_group(rt: HostRuntime) -> Result<(), Fail> {
     assert_begins(&rt, rt.alloc(), UNUSED, 6)
 }
 
 #[test]
-fn finds_a_beginning_of_a_cut_group_in_a_used_journal(rt: HostRuntime) -> Result<(), Fail> {
+fn finds_a_prefix_of_a_cut_group_in_a_used_journal(rt: HostRuntime) -> Result<(), Fail> {
     assert_begins(&rt, rt.alloc(), USED_TWICE, 12)
 }
 

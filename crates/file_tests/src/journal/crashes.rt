@@ -205,7 +205,7 @@ fn try_choice(
 }
 
 #[test]
-fn holds_a_beginning_after_each_crash(rt: HostRuntime) -> Result<(), Fail> {
+fn holds_a_prefix_after_each_crash(rt: HostRuntime) -> Result<(), Fail> {
     for fill in FILLS {
         for (choice, kept) in CHOICES {
             try_choice(&rt, rt.alloc(), fill, *choice, *kept)?;

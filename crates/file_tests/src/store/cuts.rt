@@ -48,7 +48,7 @@ const STOPS: &[(u64, &str)] = &[
 
 /// A write and a sync, a write for each of the three gates, and a sync.
 #[test]
-fn finds_a_beginning_of_a_cut_batch(rt: HostRuntime) -> Result<(), Fail> {
+fn finds_a_prefix_of_a_cut_batch(rt: HostRuntime) -> Result<(), Fail> {
     for (passing, found) in STOPS {
         assert!(rt; leaves(rt.alloc(), *passing, found)?, "after {passing}");
     }
@@ -81,7 +81,7 @@ fn begins(
 const CRASHES: &[(u64, usize)] = &[(0, 0), (1, 0), (2, 0), (3, 1), (4, 2), (5, 3)];
 
 #[test]
-fn finds_a_beginning_after_a_crash(rt: HostRuntime) -> Result<(), Fail> {
+fn finds_a_prefix_after_a_crash(rt: HostRuntime) -> Result<(), Fail> {
     let alloc = rt.alloc();
     let content = content_of(alloc, formatted(alloc)?)?;
     for (passing, most) in CRASHES {

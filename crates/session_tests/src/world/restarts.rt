@@ -49,7 +49,7 @@ fn finds_a_cut_batch_after_a_stop(rt: HostRuntime) -> Result<(), Fail> {
 }
 
 #[test]
-fn finds_a_beginning_after_a_crash(rt: HostRuntime) -> Result<(), Fail> {
+fn finds_a_prefix_after_a_crash(rt: HostRuntime) -> Result<(), Fail> {
     let text = restarted(rt.alloc(), Event::Crash)?;
     assert!(rt; text.as_str() == "2 /r; b.c at c:2:1:1");
     Ok(())

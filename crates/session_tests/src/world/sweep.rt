@@ -49,7 +49,7 @@ const AFTER: &[(&str, &str)] = &[
     ("3", "; a.c at c:1:1:1"),
 ];
 
-/// The batch is cut behind its first gate, one byte at the beginning of a journal: a crash leaves it open
+/// The batch is cut behind its first gate, one byte at the start of a journal: a crash leaves it open
 /// where the choice leaves what a read gives, or the open gate itself. Every choice does with this byte
 /// what one of these does.
 const FOUND: &[(u64, &str)] = &[

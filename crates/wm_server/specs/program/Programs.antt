@@ -28,7 +28,7 @@ use Rattle.wm_server.specs.session.Watched.{first_views}
 abbrev pub line_number : ℕ → ℕ
 line_number k = k + 1
 
--- the line was answered as it is defined; or when out of memory `NoMemory`, or where the slot's number is spent `Exhausted`, and then
+-- the line was answered as it is defined; or `NoMemory` where memory ran out, or `Exhausted` where the slot's number is spent, and then
 -- nothing changed
 abbrev pub IsQuiet : Way → Type 0
 IsQuiet Defined = Unit {0}

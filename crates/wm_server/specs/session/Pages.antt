@@ -8,7 +8,7 @@ use Rattle.wm_server.specs.session.Faults.{FrontState, Way, Defined, HasCause, r
 use Rattle.wm_lines.specs.Replies.{line_text, query_reply, reply_bytes}
 use Rattle.wm_server.specs.session.Sessions.{Outcome}
 
--- a front's standing and the bytes written so far
+-- a front's state and the bytes written so far
 pub record Page : Type 0 where
   pub front_state : FrontState
   pub bytes : List ℕ

@@ -69,6 +69,6 @@ pub trait Front {
     /// A front leads to itself, whatever was asked for: a command may be refused.
     ghost stays: { (a : Self) (asked : List commands.Command) → leads_to a asked a };
 
-    /// What leads on leads on.
+    /// `leads_to` is transitive; what was asked for is added up.
     ghost goes_on: { (a b c : Self) (first second : List commands.Command) → leads_to a first b → leads_to b second c → leads_to a (first ++ second) c };
 }

@@ -46,7 +46,7 @@ impl<R: BufRead> Input<R> {
 #[derive(Clone, Copy, Debug, PartialEq, Eq)]
 pub(crate) enum LineRead {
     /// The line was kept, with its newline if it has one; of one that is longer than a line may be,
-    /// its front.
+    /// its first part.
     Kept,
     /// The line was skipped, since no room was found for it.
     Lost,
@@ -117,7 +117,7 @@ fn take_part<R: BufRead>(reader: &mut R, line: &mut Vec<u8>, is_lost: &mut bool)
 }
 
 /// Reads the next line into `line`, with its newline if it has one. Of a line that is longer than a
-/// line may be the front is kept, and the rest is skipped. An `Err` is a call of the reader that failed, or
+/// line may be the first part is kept, and the rest is skipped. An `Err` is a call of the reader that failed, or
 /// comes of a reader that was interrupted for ever.
 fn line_off<R: BufRead>(reader: &mut R, line: &mut Vec<u8>) -> io::Result<LineRead>
     ensures { IfOk result (λ read. (rest : List ℕ) → R.remaining reader.old ≡ Some rest → ReadsLine rest read line.new.items (R.remaining reader.new)) }

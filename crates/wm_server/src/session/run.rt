@@ -23,7 +23,7 @@ use wm_disk::{NoMemory, Refusal};
 
 /// Tells the moments of lines, as a reader tells its bytes.
 pub trait Moments {
-    /// The moment of each line, counted from 0.
+    /// The moment of each line; the first line has the index 0.
     ghost moment: { Self → ℕ → ℕ };
 
     /// Which line comes next.
@@ -37,7 +37,7 @@ pub trait Moments {
         ensures place { place self.new ≡ place self.old + 1 };
 }
 
-/// Line k, counted from 1, has the moment k.
+/// Each line's moment is its number, counted from 1.
 #[derive(Drop)]
 pub struct LineNumbers {
     told: u64,
@@ -69,10 +69,10 @@ impl LineNumbers {
     }
 }
 
-/// The line of a refusal when out of memory.
+/// The line of the refusal `16 NoMemory`.
 const NO_MEMORY: &str = "{\"error\":\"16 NoMemory\",\"version\":\"w1\"}\n";
 
-/// Answers a line with out of memory, which is one fault.
+/// Answers a line with `16 NoMemory`, which is one fault.
 fn answer_no_memory<W: Write>(writer: &mut Output<W>) -> io::Result<u64>
     ensures told { IfOk result (λ n. (n ≡ 1) × Appends (W.contents (writer_of writer.old)) (W.contents (writer_of writer.new)) (reply_bytes (Err Refusal.NoMemory))) }
     ensures failed { OnErr result (writer_failed writer.new ≡ true) }
