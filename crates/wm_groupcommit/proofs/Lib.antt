@@ -1,0 +1,10 @@
+pub mod Answering
+pub mod Counted
+pub mod Merging
+pub mod Delivering
+pub mod Locking
+pub mod Settling
+pub mod Comparing
+pub mod Refusing
+pub mod Submitting
+pub mod Crossing

@@ -1,0 +1,25 @@
+use Rattle.std.proofs.Common.{Some, [], ◌∷◌, ◌++◌, refl, sym, ap, ◌∙◌, subst}
+use Rattle.wm_groupcommit.specs.Counting.{IsCounted}
+use Rattle.wm_groupcommit.specs.ReplyQueues.{IsLater}
+use Rattle.wm_groupcommit.specs.LockedState.{AllLater}
+use Rattle.wm_groupcommit.proofs.Locking.{AllLater-push}
+use Rattle.wm_groupcommit.proofs.Counted.{counted_seat}
+use Rattle.wm_groupcommit.proofs.locked.LockedDesk.seat.Goals as goal
+
+pub invariant_of-self-then-is_err-2 : goal.invariant_of-self-then-is_err-2
+invariant_of-self-then-is_err-2 g c = rw (c.reserve.ensures.items, c.reserve-2.ensures.items) c.self.invariant
+
+pub invariant_of-self-in_default : goal.invariant_of-self-in_default
+invariant_of-self-in_default g c = rw (c.reserve.ensures.items, c.reserve-2.ensures.items) c.self.invariant
+
+pub invariant_of-self-2 : goal.invariant_of-self-2
+invariant_of-self-2 g c =
+    let base = c.self.inside.book.base in
+    let list = c.self.inside.book.list in
+    let end = c.in-Ok.end in
+    let vs = c.push_reserved.ensures.items ∙ ap (λ l. l ++ end ∷ []) c.reserve.ensures.items in
+    let ks = c.push_reserved-2.ensures.items ∙ ap (λ l. l ++ 0 ∷ []) c.reserve-2.ensures.items in
+    let is = subst (λ v. IsLater v (Some base) list) (sym c.in-Ok.ensures.0) (tt, (list, refl)) in (
+      subst (λ l. AllLater l (Some base) list) (sym vs) (AllLater-push c.self.inside.ends.items end (Some base) list is c.self.invariant.0),
+      subst (λ l. IsCounted l list) (sym ks) (counted_seat c.self.inside.counts.items list c.self.invariant.1),
+    )

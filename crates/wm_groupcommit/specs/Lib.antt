@@ -1,0 +1,9 @@
+pub mod Books
+pub mod BookState
+pub mod Commits
+pub mod Counting
+pub mod CallQueues
+pub mod ReplyQueues
+pub mod LockedState
+pub mod Submits
+pub mod Seats

@@ -1,0 +1,19 @@
+-- What a contract sees of the locked book with the flusher's ends.
+use Rattle.std.specs.Prelude.{ℕ, Bool, List, [], ◌∷◌, Option}
+use Rattle.wm_registry.specs.Roots.{State}
+use Rattle.wm_groupcommit.specs.declared.queued.Call.{Call}
+use Rattle.wm_groupcommit.specs.declared.locked.deliveries.ReplyView.{ReplyView}
+use Rattle.wm_groupcommit.specs.BookState.{BookState}
+use Rattle.wm_groupcommit.specs.ReplyQueues.{IsLater}
+
+-- the book, what the flusher's end to each seat knows, each seat's last count, and whether the flusher's place is taken
+pub record LockedState (D : Type 0) : Type 0 where
+  pub book : BookState D
+  pub ends : List ReplyView
+  pub counts : List ℕ
+  pub has_flusher : Bool
+
+-- each seat's list is a prefix of the one list
+abbrev pub AllLater : List ReplyView → Option State → List Call → Type 0
+AllLater [] base list = Unit {0}
+AllLater (v ∷ vs) base list = IsLater v base list × AllLater vs base list

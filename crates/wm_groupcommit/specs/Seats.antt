@@ -1,0 +1,95 @@
+-- What contracts say of a seat: whose it is, what it has submitted, and how a submit is answered.
+use Rattle.std.specs.Prelude.{◌≡◌, ◌≤◌, ◌+◌, ◌⊎◌, ℕ, true, Some, List, [], ◌∷◌, ◌++◌, length, max, slice_get}
+use Rattle.crossbeam_queue.specs.SegTies.{IsSegPassOf}
+use Rattle.wm_disk.specs.declared.refusal.Refusal.{Refusal}
+use Rattle.wm_disk.specs.declared.refusal.Refusal.TheVariants.{NotWatched, BadTrigger, Full, TooMany}
+use Rattle.wm_registry.specs.declared.command.Command.{Command}
+use Rattle.wm_registry.specs.declared.reply.Reply.{Reply}
+use Rattle.wm_registry.specs.declared.reply.Reply.TheVariants.{Refused}
+use Rattle.wm_registry.specs.Registry.{is_change, reply_to}
+use Rattle.wm_registry.specs.Roots.{State}
+use Rattle.wm_groupcommit.specs.declared.desk.Desk.{Desk}
+use Rattle.wm_groupcommit.specs.declared.desk.Flusher.{Flusher}
+use Rattle.wm_groupcommit.specs.declared.queued.Call.{Call}
+use Rattle.wm_groupcommit.specs.declared.receipt.Receipt.{Receipt}
+use Rattle.wm_groupcommit.specs.declared.seat.Seat.{Seat}
+use Rattle.wm_groupcommit.specs.Books.{answer, state_at}
+use Rattle.wm_groupcommit.specs.CallQueues.{call_view}
+use Rattle.wm_groupcommit.specs.ReplyQueues.{newcomer, IsLater}
+use Rattle.wm_groupcommit.specs.Submits.{Turned, shown, standing_for, mark_of}
+
+module _ {D : Type 0} where
+  -- the seat is one of this desk
+  abbrev pub IsSeatOf : Desk D → Seat → Type 0
+  IsSeatOf desk seat = IsSegPassOf desk.queue seat.pass
+
+  abbrev pub IsFlusherOf : Desk D → Flusher → Type 0
+  IsFlusherOf desk flusher = IsSegPassOf desk.queue flusher.pass
+
+-- the calls that the seat has put into the queue
+abbrev pub pushed_calls : Seat → List Call
+pushed_calls seat = seat.pass.me.view.client.pushed
+
+-- the calls that the flusher has taken from the queue
+abbrev pub popped_calls : Flusher → List Call
+popped_calls flusher = flusher.pass.me.view.client.popped
+
+-- the accepted commands that the flusher had when it last answered this seat
+abbrev pub known_list : Seat → List Call
+known_list seat = seat.replies.list
+
+-- nothing was submitted from the seat yet
+abbrev pub IsNewSeat : Seat → Type 0
+IsNewSeat seat = (seat.pass.me.view.client ≡ call_view [] []) × (seat.replies ≡ newcomer) × (seat.calls ≡ 0) × (seat.seen ≡ 0)
+
+-- the call that a submit from the seat makes
+abbrev pub call_from : Seat → Command → Call
+call_from seat command = record { seat = seat.number; count = seat.calls + 1; command = command }
+
+-- the seat has put this call into the queue, and no other
+abbrev pub HasPushed : Seat → Seat → Call → Type 0
+HasPushed old new call = new.pass.me.view.client ≡ call_view (pushed_calls old ++ call ∷ []) old.pass.me.view.client.popped
+
+-- It has seen as many commands as it had, or as a receipt tells of, and is the same seat else.
+pub record HasLearnt (old new : Seat) (mark : ℕ) : Type 0 where
+  pub seen : new.seen ≡ max old.seen mark
+  pub number : new.number ≡ old.number
+  pub calls : new.calls ≡ old.calls
+  pub pass : new.pass ≡ old.pass
+  pub replies : new.replies ≡ old.replies
+
+-- It is the same seat, and the list that it then knows begins with what it knew.
+pub record IsSameSeat (old new : Seat) : Type 0 where
+  pub number : new.number ≡ old.number
+  pub later : IsLater old.replies new.replies.base new.replies.list
+
+-- The reply is the registry's after the first `at` commands of the list that the seat then knows, and the receipt tells so.
+pub record IsAnswered (old new : Seat) (command : Command) (reply : Reply) (receipt : Receipt) : Type 0 where
+  pub base : State
+  pub at : ℕ
+  pub found : new.replies.base ≡ Some base
+  pub later : (old.seen ≤ at) × (at ≤ length (known_list new))
+  pub right : reply ≡ reply_to (state_at base (known_list new) at) command
+  pub stands : is_change reply ≡ true → slice_get (known_list new) at ≡ Some (call_from old command)
+  pub standing : shown receipt ≡ standing_for reply at command
+  pub call : (receipt.seat ≡ old.number) × (receipt.count ≡ old.calls + 1)
+  pub seen : new.seen ≡ mark_of (shown receipt)
+  pub calls : new.calls ≡ old.calls + 1
+  pub taken : new.replies.got ≡ old.replies.got ++ answer (call_from old command) at reply ∷ []
+
+-- Nothing is told of; and no answer was taken, when out of memory, or one that is this refusal or doesn't fit.
+pub record IsTurned (old new : Seat) (command : Command) (e : Refusal) : Type 0 where
+  pub seen : new.seen ≡ old.seen
+  pub why : Turned old.replies new.replies old.seen (call_from old command) e
+
+-- a refusal that the registry alone gives
+abbrev pub IsOfRegistry : Refusal → Type 0
+IsOfRegistry e = (e ≡ NotWatched) ⊎ (e ≡ BadTrigger) ⊎ (e ≡ Full) ⊎ (e ≡ TooMany)
+
+-- The registry refuses the command so after a prefix of the list that the seat then knows, not before what it had seen.
+pub record IsRefusedAfter (old new : Seat) (command : Command) (e : Refusal) : Type 0 where
+  pub base : State
+  pub at : ℕ
+  pub found : new.replies.base ≡ Some base
+  pub later : (old.seen ≤ at) × (at ≤ length (known_list new))
+  pub refused : reply_to (state_at base (known_list new) at) command ≡ Refused e

@@ -1,0 +1,209 @@
+//! The desk: a queue of calls, and the store with its list of accepted commands under a lock.
+//! Definitions: specs/Seats.antt, specs/Submits.antt. Tests: desk_tests.
+ghost use Rattle.std.specs.Prelude.{◌≡◌, ◌≤◌, List, ◌++◌, length, true, IfOk, IfErr, OnOk};
+ghost use Rattle.wm_disk.specs.declared.refusal.Refusal.TheVariants.{NoMemory as no_memory, BadArguments as bad_arguments};
+ghost use Rattle.wm_store.specs.Batches.{is_begin};
+ghost use Rattle.wm_groupcommit.specs.declared.queued.Call.{Call as Calls};
+ghost use Rattle.wm_groupcommit.specs.ReplyQueues.{IsLater, Took};
+ghost use Rattle.wm_groupcommit.specs.Seats.{IsSameSeat, HasPushed, IsAnswered, IsFlusherOf, IsNewSeat, IsOfRegistry, IsRefusedAfter, IsSeatOf, IsTurned, call_from, popped_calls};
+ghost use Rattle.wm_groupcommit.specs.Submits.{Submitted, Turned};
+
+use crate::book::Book;
+use crate::locked::{
+    CallPass, CallQueue, Delivery, LockedDesk, ReplyReceiver, Room, new_pass, pop, push,
+};
+use crate::queued::Call;
+use crate::receipt::Receipt;
+use crate::same_commands::copied;
+use crate::seat::{Seat, settle};
+use std::alloc::Global;
+use std::sync::{Mutex, Wait};
+use std::thread::Parker;
+use wm_disk::{Disk, NoMemory, Refusal};
+use wm_registry::{Command, Reply};
+use wm_store::Store;
+
+/// A store that many threads share. Each submits from a seat of its own, and one, the flusher's, commits what
+/// was submitted, in batches. A seat and a flusher are of the desk that gave them.
+pub struct Desk<D: Disk + Drop> {
+    queue: CallQueue,
+    locked: Mutex<LockedDesk<D>>,
+    // where the flusher's thread sleeps
+    sleeper: Parker,
+    alloc: Global,
+}
+
+/// The place of the one who commits.
+#[derive(Drop)]
+pub struct Flusher {
+    pass: CallPass,
+}
+
+impl<D: Disk + Drop> Desk<D> {
+    /// A desk over the store. `16 NoMemory` hands the store back.
+    pub fn new(alloc: Global, store: Store<D>) -> Result<Desk<D>, (Refusal, Store<D>)>
+        ensures { IfErr result (λ e. (e.0 ≡ no_memory) × (e.1 ≡ store)) }
+    {
+        let book = Book::open(alloc, store)?;
+        let Ok((queue, pass)) = CallQueue::with_rule(alloc) else {
+            return Err((Refusal::NoMemory, book.into_store()));
+        };
+        drop(pass);
+        Ok(Desk {
+            queue,
+            locked: Mutex::new(LockedDesk::new(alloc, book)),
+            sleeper: Parker::new(),
+            alloc,
+        })
+    }
+
+    /// The store, as the last flush left it.
+    pub fn into_store(self) -> Store<D> {
+        let Desk {
+            queue,
+            locked,
+            sleeper: _,
+            alloc: _,
+        } = self;
+        queue.destroy();
+        locked.into_inner().into_store()
+    }
+
+    /// Closes the store, and wakes the flusher's thread. What was submitted and isn't committed by then is
+    /// answered `12 StoreFailed` at the next flush. It is refused as [`Store::close`] is.
+    pub fn close<R: Wait>(&self, rt: &R) -> Result<(), Refusal> {
+        let closed = self.locked.lock(rt).close();
+        self.sleeper.unpark();
+        closed
+    }
+
+    /// A new seat. `18 NoPlace` where 64 were given, and `16 NoMemory` when out of memory.
+    pub fn seat<R: Wait>(&self, rt: &R) -> Result<Seat, Refusal>
+        ensures { IfOk result (λ seat. IsSeatOf self.now seat × IsNewSeat seat) }
+    {
+        let made = self.locked.lock(rt).seat(self.alloc);
+        let (number, replies) = made?;
+        Ok(Seat {
+            number,
+            calls: 0,
+            seen: 0,
+            pass: new_pass(&self.queue),
+            replies,
+        })
+    }
+
+    /// The flusher, once; `18 NoPlace` from then on.
+    pub fn flusher<R: Wait>(&self, rt: &R) -> Result<Flusher, Refusal>
+        ensures { IfOk result (λ flusher. IsFlusherOf self.now flusher) }
+    {
+        let made = self.locked.lock(rt).flusher();
+        made?;
+        Ok(Flusher {
+            pass: new_pass(&self.queue),
+        })
+    }
+
+    /// Puts a command into the queue, wakes the flusher's thread, and sleeps until the answer is there. A
+    /// command that the registry accepts, or that changes nothing, has a receipt. Of the refusals `5`, `10`,
+    /// `11` and `17` are the registry's, after a prefix of the list that is no shorter than what this seat
+    /// had seen; `3 BadArguments` comes to a `Begin` alone. `13 DeviceFailed`, `15 Exhausted` and `16 NoMemory`
+    /// are what the flush answered; `16` comes also where there is no room for the call, which then isn't made.
+    /// `12 StoreFailed` comes once the store has failed or is closed.
+    pub fn submit<R: Wait>(
+        &self,
+        rt: &R,
+        seat: &mut Seat,
+        command: Command,
+    ) -> Result<(Reply, Receipt), Refusal>
+        requires { IsSeatOf self.now seat.old }
+        ensures seat { IsSeatOf self.now seat.new }
+        ensures continues { IsSameSeat seat.old seat.new }
+        ensures answered { IfOk result (λ r. IsAnswered seat.old seat.new command r.0 r.1) }
+        ensures pushed { OnOk result (HasPushed seat.old seat.new (call_from seat.old command)) }
+        ensures turned { IfErr result (λ e. IsTurned seat.old seat.new command e) }
+        ensures refused { IfErr result (λ e. IsOfRegistry e → IsRefusedAfter seat.old seat.new command e) }
+        ensures begin { IfErr result (λ e. e ≡ bad_arguments → is_begin command ≡ true) }
+    {
+        if seat.calls == u64::MAX {
+            return Err(Refusal::NoMemory);
+        }
+        let Ok(copy) = copied(self.alloc, &command) else {
+            return Err(Refusal::NoMemory);
+        };
+        let count = seat.calls + 1;
+        let put = Call {
+            seat: seat.number,
+            count,
+            command: copy,
+        };
+        if push(rt, &self.queue, &mut seat.pass, put).is_err() {
+            return Err(Refusal::NoMemory);
+        }
+        seat.calls = count;
+        self.sleeper.unpark();
+        let mine = Call {
+            seat: seat.number,
+            count,
+            command,
+        };
+        receive(rt, &mut seat.replies, &mut seat.seen, mine)
+    }
+
+    /// Takes up to 64 calls from the queue, in one step, commits their commands, and tells how many it has
+    /// answered. `16 NoMemory` where there is no room for that many, and then nothing was taken.
+    pub fn flush_once<R: Wait>(&self, rt: &R, flusher: &mut Flusher) -> Result<usize, Refusal>
+        requires { IsFlusherOf self.now flusher.old }
+        ensures flusher { IsFlusherOf self.now flusher.new }
+        ensures popped { IfOk result (λ n. (xs : List Calls) × (n ≤ length xs) × (popped_calls flusher.new ≡ popped_calls flusher.old ++ xs)) }
+        ensures err { IfErr result (λ e. (e ≡ no_memory) × (popped_calls flusher.new ≡ popped_calls flusher.old)) }
+    {
+        let Ok(room) = Room::new(self.alloc) else {
+            return Err(Refusal::NoMemory);
+        };
+        let Ok(popped) = pop(rt, self.alloc, &self.queue, &mut flusher.pass) else {
+            return Err(Refusal::NoMemory);
+        };
+        Ok(self.locked.lock(rt).answer(rt, self.alloc, popped, room))
+    }
+
+    /// Sleeps until a command was submitted, or the desk closed, since the last sleep. The flusher's thread
+    /// calls it once a flush has answered none, and so takes no processor while the desk is idle.
+    pub fn wait_for_calls<R: Wait>(&self, rt: &R, _flusher: &mut Flusher)
+        ensures { _flusher.new ≡ _flusher.old }
+    {
+        self.sleeper.park(rt);
+    }
+
+    /// The receipt's command, found at its number in the list; none for one that changed nothing.
+    pub fn stands<R: Wait>(&self, rt: &R, receipt: &Receipt) -> Result<Option<Command>, NoMemory> {
+        self.locked.lock(rt).find(self.alloc, receipt)
+    }
+}
+
+/// Waits for the answer to the call.
+fn receive<R: Wait>(
+    rt: &R,
+    replies: &mut ReplyReceiver,
+    seen: &mut u64,
+    call: Call,
+) -> Result<(Reply, Receipt), Refusal>
+    ensures later { IsLater replies.old replies.new.base replies.new.list }
+    ensures ok { IfOk result (λ r. Submitted replies.old replies.new seen.old seen.new call r.0 r.1) }
+    ensures err { IfErr result (λ e. (seen.new ≡ seen.old) × Turned replies.old replies.new seen.old call e) }
+{
+    let delivery = wait_for(rt, replies);
+    settle(seen, call, delivery.answer())
+}
+
+/// Waits for an answer.
+fn wait_for<R: Wait>(rt: &R, replies: &mut ReplyReceiver) -> Delivery
+    ensures { Took replies.old result replies.new }
+{
+    for _ in rt.forever() {
+        if let Some(delivery) = replies.take(rt) {
+            return delivery;
+        }
+        replies.sleep(rt);
+    }
+    unreachable!()
+}

@@ -1,0 +1,10 @@
+//! The registry that the desk found, and the commands accepted since.
+
+use crate::queued::Call;
+use wm_registry::Registry;
+
+#[derive(Drop)]
+pub struct History {
+    pub base: Registry,
+    pub entries: Vec<Call>,
+}

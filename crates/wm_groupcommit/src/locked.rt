@@ -1,0 +1,234 @@
+//! What lies under the lock: the book, and the flusher's ends of the reply queues.
+ghost use Rattle.std.specs.Prelude.{◌≡◌, ◌≤◌, ◌<◌, ◌⊎◌, ◌+◌, ◌++◌, ◌∷◌, ℕ, true, false, Some, None, List, [], length, vec_capacity, vec_len, IfOk, IfErr, IfSome, OnOk};
+ghost use Rattle.wm_disk.specs.declared.refusal.Refusal.TheVariants.{NoMemory as no_memory, NoPlace as no_place};
+ghost use Rattle.wm_store.specs.Calls.{CallsStore};
+ghost use Rattle.wm_groupcommit.specs.Books.{Right, AllRight};
+ghost use Rattle.wm_groupcommit.specs.Commits.{IsCommit};
+ghost use Rattle.wm_groupcommit.specs.Counting.{newer_of, kept_newer, counts_after, counts_with};
+ghost use Rattle.wm_groupcommit.specs.Submits.{StandsInBook};
+ghost use Rattle.wm_groupcommit.specs.ReplyQueues.{reply_view, newcomer};
+ghost use Rattle.wm_groupcommit.specs.LockedState.{AllLater};
+
+mod call_queue;
+mod call_rule;
+mod deliveries;
+mod reply_ends;
+
+use crate::book::Book;
+use crate::queued::{Answer, Call};
+use crate::receipt::Receipt;
+pub use call_queue::{CallPass, CallQueue, PoppedCalls, new_pass, pop, push};
+pub use deliveries::Delivery;
+pub use reply_ends::ReplyReceiver;
+use reply_ends::{ReplySender, reply_queue};
+use std::alloc::Global;
+use std::marker::Model;
+use std::sync::Wait;
+use wm_disk::{Disk, NoMemory, Refusal};
+use wm_registry::Command;
+use wm_store::Store;
+
+/// The most seats of a desk.
+const SEATS: usize = 64;
+
+/// The book, the flusher's end of each seat's reply queue, and the count of each seat's last call that the
+/// book has met.
+#[derive(Drop)]
+pub struct LockedDesk<D: Disk + Drop> {
+    book: Book<D>,
+    ends: Vec<ReplySender>,
+    counts: Vec<u64>,
+    has_flusher: bool,
+}
+
+impl<D: Disk + Drop> Model for LockedDesk<D> {
+    ghost use Rattle.std.specs.Prelude.{Some};
+    ghost use Rattle.wm_groupcommit.specs.LockedState.{LockedState, AllLater};
+    ghost use Rattle.wm_groupcommit.specs.Counting.{IsCounted};
+
+    ghost Value = { LockedState D };
+
+    ghost view = { λ s. record { book = s.book; ends = s.ends.items; counts = s.counts.items; has_flusher = s.has_flusher } };
+
+    ghost invariant = { λ s. AllLater s.ends.items (Some s.book.base) s.book.list × IsCounted s.counts.items s.book.list };
+}
+
+impl<D: Disk + Drop> LockedDesk<D> {
+    pub fn new(alloc: Global, book: Book<D>) -> LockedDesk<D>
+        requires { book.list ≡ [] }
+        ensures { (result.book ≡ book) × (result.ends ≡ []) × (result.counts ≡ []) × (result.has_flusher ≡ false) }
+    {
+        LockedDesk {
+            book,
+            ends: Vec::new(alloc),
+            counts: Vec::new(alloc),
+            has_flusher: false,
+        }
+    }
+
+    /// A new seat's number and its end of its reply queue.
+    pub fn seat(&mut self, alloc: Global) -> Result<(u64, ReplyReceiver), Refusal>
+        ensures ok { IfOk result (λ r. (r.0 ≡ length self.old.ends) × (r.1 ≡ newcomer) × (self.new.ends ≡ self.old.ends ++ reply_view true None [] [] ∷ [])) }
+        ensures free { IfOk result (λ _. length self.old.ends < 64) }
+        ensures err { IfErr result (λ e. (self.new.ends ≡ self.old.ends) × (((e ≡ no_place) × (64 ≤ length self.old.ends)) ⊎ (e ≡ no_memory))) }
+        ensures book { (self.new.book ≡ self.old.book) × (self.new.has_flusher ≡ self.old.has_flusher) }
+    {
+        if self.ends.len() >= SEATS {
+            return Err(Refusal::NoPlace);
+        }
+        if self.ends.reserve(1).is_err() {
+            return Err(Refusal::NoMemory);
+        }
+        if self.counts.reserve(1).is_err() {
+            return Err(Refusal::NoMemory);
+        }
+        let Ok((end, replies)) = reply_queue(alloc) else {
+            return Err(Refusal::NoMemory);
+        };
+        let number = self.ends.len() as u64;
+        self.ends.push_reserved(end);
+        self.counts.push_reserved(0);
+        Ok((number, replies))
+    }
+
+    /// The flusher's place, once.
+    pub fn flusher(&mut self) -> Result<(), Refusal>
+        ensures book { (self.new.book ≡ self.old.book) × (self.new.ends ≡ self.old.ends) × (self.new.has_flusher ≡ true) }
+        ensures err { IfErr result (λ e. (e ≡ no_place) × (self.old.has_flusher ≡ true)) }
+        ensures ok { IfOk result (λ _. self.old.has_flusher ≡ false) }
+    {
+        if self.has_flusher {
+            return Err(Refusal::NoPlace);
+        }
+        self.has_flusher = true;
+        Ok(())
+    }
+
+    /// The receipt's command, found at its number in the book.
+    pub fn find(&self, alloc: Global, receipt: &Receipt) -> Result<Option<Command>, NoMemory>
+        ensures { IfOk result (λ r. IfSome r (λ c. StandsInBook receipt.now self.now.book.list c)) }
+    {
+        self.book.find(alloc, receipt)
+    }
+
+    /// Closes the store: from then on each call is answered `12`, or `16` where there is no room.
+    pub fn close(&mut self) -> Result<(), Refusal>
+        ensures list { (self.new.book.base ≡ self.old.book.base) × (self.new.book.list ≡ self.old.book.list) × (self.new.ends ≡ self.old.ends) }
+        ensures closed { OnOk result (self.new.book.store.closed ≡ true) }
+        ensures calls { CallsStore D.Disk self.old.book.store self.new.book.store result }
+    {
+        self.book.close()
+    }
+
+    pub fn into_store(self) -> Store<D>
+        ensures { result ≡ self.book.store }
+    {
+        let LockedDesk {
+            book,
+            ends: _,
+            counts: _,
+            has_flusher: _,
+        } = self;
+        book.into_store()
+    }
+
+    /// Commits the popped calls, and hands each answer to its seat. A call that isn't newer than its seat's
+    /// last, of which no run makes one, is left out. Tells how many it has answered.
+    pub fn answer<R: Wait>(
+        &mut self,
+        rt: &R,
+        alloc: Global,
+        popped: PoppedCalls,
+        room: Room,
+    ) -> usize
+        requires few { length popped.calls.items ≤ 64 }
+        ensures commits { (answers : List Answer) × IsCommit D.Disk self.old.book self.new.book (newer_of self.old.counts popped.calls.items) answers × AllRight self.new.book.base self.new.book.list answers × (result ≡ length answers) }
+        ensures counts { self.new.counts ≡ counts_after self.old.counts popped.calls.items }
+    {
+        let Room {
+            mut calls,
+            mut answers,
+        } = room;
+        keep_newer(&mut self.counts, popped.calls(), &mut calls);
+        self.book.commit(alloc, calls, &mut answers);
+        let count = answers.len();
+        deliver_all(rt, &self.book, &mut self.ends, answers);
+        count
+    }
+}
+
+/// Room for a popped list and its answers.
+#[derive(Drop)]
+pub struct Room {
+    calls: Vec<Call>,
+    answers: Vec<Answer>,
+    ghost empty: { (calls.items ≡ []) × (answers.items ≡ []) },
+    ghost size: { (64 ≤ vec_capacity calls) × (64 ≤ vec_capacity answers) },
+}
+
+impl Room {
+    pub fn new(alloc: Global) -> Result<Room, NoMemory> {
+        let calls = Vec::with_capacity(alloc, 64)?;
+        let answers = Vec::with_capacity(alloc, 64)?;
+        Ok(Room { calls, answers })
+    }
+}
+
+/// Keeps those of the calls that are newer than their seat's last.
+fn keep_newer(counts: &mut Vec<u64>, calls: Vec<Call>, kept: &mut Vec<Call>)
+    requires { (kept.old.items ≡ []) × (length calls.items ≤ vec_capacity kept.old) }
+    ensures kept { kept.new.items ≡ newer_of counts.old.items calls.items }
+    ensures counts { counts.new.items ≡ counts_after counts.old.items calls.items }
+{
+    for call in calls {
+        keep(counts, call, kept);
+    }
+}
+
+/// Keeps the call, where it is newer than its seat's last.
+fn keep(counts: &mut Vec<u64>, call: Call, kept: &mut Vec<Call>)
+    requires { length kept.old.items + 1 ≤ vec_capacity kept.old }
+    ensures kept { kept.new.items ≡ kept.old.items ++ kept_newer counts.old.items call }
+    ensures counts { counts.new.items ≡ counts_with counts.old.items call }
+    ensures room { (vec_capacity kept.new ≡ vec_capacity kept.old) × (vec_len kept.new ≤ vec_len kept.old + 1) }
+{
+    let at = call.seat as usize;
+    if at < counts.len() && counts[at] < call.count {
+        counts[at] = call.count;
+        kept.push_reserved(call);
+    }
+}
+
+fn deliver_all<R: Wait, D: Disk + Drop>(
+    rt: &R,
+    book: &Book<D>,
+    ends: &mut Vec<ReplySender>,
+    answers: Vec<Answer>,
+)
+    requires later { AllLater ends.old.items (Some book.now.base) book.now.list }
+    requires right { AllRight book.now.base book.now.list answers.items }
+    ensures { AllLater ends.new.items (Some book.now.base) book.now.list }
+{
+    for answer in answers {
+        deliver(rt, book, ends, answer);
+    }
+}
+
+fn deliver<R: Wait, D: Disk + Drop>(
+    rt: &R,
+    book: &Book<D>,
+    ends: &mut Vec<ReplySender>,
+    answer: Answer,
+)
+    requires later { AllLater ends.old.items (Some book.now.base) book.now.list }
+    requires right { Right book.now.base book.now.list answer }
+    ensures { AllLater ends.new.items (Some book.now.base) book.now.list }
+{
+    let at = answer.call.seat as usize;
+    if at < ends.len() {
+        let seen = book.seen();
+        let told = Delivery { answer, seen };
+        let end = &mut ends[at];
+        end.hand(rt, told);
+    }
+}

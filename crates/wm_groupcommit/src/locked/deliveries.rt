@@ -1,0 +1,87 @@
+//! The rule of a seat's reply queue.
+
+use crate::history::History;
+use crate::queued::{Answer, Call};
+use crossbeam_queue::protocol::{Lesson, Outcome, Protocol, Split};
+use crossbeam_queue::{Pass, RuledArrayQueue};
+use std::collections::LinkedList;
+use std::snapshot::Snapshot;
+use wm_registry::Registry;
+
+/// An answer, and the book as it was when it was handed over. The counter alone makes it.
+#[derive(Drop)]
+pub struct Delivery {
+    pub(super) answer: Answer,
+    pub(super) seen: Snapshot<History>,
+}
+
+impl Delivery {
+    ghost use Rattle.std.specs.Prelude.{◌≡◌};
+
+    /// The answer.
+    pub fn answer(self) -> Answer
+        ensures { result ≡ self.answer }
+    {
+        let Delivery { answer, seen: _ } = self;
+        answer
+    }
+}
+
+/// What an end of a reply queue knows: whether it is the flusher's, the registry that the desk found, the
+/// list of accepted commands, and the answers that it has. No value of it is made.
+pub struct ReplyView {
+    pub writes: bool,
+    pub base: Option<Registry>,
+    pub list: LinkedList<Call>,
+    pub got: LinkedList<Answer>,
+}
+
+pub struct Replies;
+
+impl Protocol<Delivery, ReplyView> for Replies {
+    ghost use Rattle.std.specs.Prelude.{true, None, []};
+    ghost use Rattle.wm_groupcommit.specs.ReplyQueues.{reply_view, Replying};
+
+    ghost holds = { Replying };
+
+    ghost first = { reply_view true None [] [] };
+}
+
+pub struct Roles;
+
+impl Split<ReplyView> for Roles {
+    ghost use Rattle.wm_groupcommit.specs.ReplyQueues.{newcomer};
+
+    ghost left = { λ v. v };
+
+    ghost right = { λ v. newcomer };
+}
+
+pub struct Gives;
+
+impl Outcome<Delivery, ReplyView> for Gives {
+    ghost use Rattle.wm_groupcommit.specs.ReplyQueues.{Gave};
+
+    ghost then = { Gave };
+}
+
+impl Lesson<Delivery, ReplyView> for Gives {
+    ghost fact = { λ v items. Unit {0} };
+}
+
+pub struct Gets;
+
+impl Outcome<Delivery, ReplyView> for Gets {
+    ghost use Rattle.wm_groupcommit.specs.ReplyQueues.{Took};
+
+    ghost then = { Took };
+}
+
+impl Lesson<Delivery, ReplyView> for Gets {
+    ghost fact = { λ v items. Unit {0} };
+}
+
+/// A reply queue.
+pub type ReplyQueue = RuledArrayQueue<Delivery, ReplyView, Replies>;
+
+pub type ReplyPass = Pass<Delivery, ReplyView>;

@@ -1,0 +1,108 @@
+//! The flusher's end of a reply queue, and the seat's, which sleeps while it waits.
+//! Definitions: specs/ReplyQueues.antt. Tests: desk_tests.
+ghost use Rattle.std.specs.Prelude.{◌≡◌, ◌⊎◌, true, Some, None, [], ◌∷◌, ◌++◌, IfOk, IfSome, IfNone};
+ghost use Rattle.std.specs.Arc.{arc_value};
+ghost use Rattle.crossbeam_queue.specs.Passes.{view, IsPassOf};
+ghost use Rattle.wm_groupcommit.specs.Books.{Right};
+ghost use Rattle.wm_groupcommit.specs.ReplyQueues.{reply_view, newcomer, IsLater, base_of, list_of, Took};
+
+use super::deliveries::{Delivery, Gets, Gives, ReplyPass, ReplyQueue, ReplyView, Roles};
+use std::alloc::{AllocError, Global};
+use std::marker::Model;
+use std::sync::{Arc, Wait};
+use std::thread::Parker;
+
+/// The flusher's end. Contracts see what this end knows.
+#[derive(Drop)]
+pub struct ReplySender {
+    queue: Arc<ReplyQueue, Global>,
+    pass: ReplyPass,
+    // where the seat's thread sleeps
+    sleeper: Arc<Parker, Global>,
+}
+
+impl Model for ReplySender {
+    ghost use Rattle.std.specs.Prelude.{◌≡◌, true};
+    ghost use Rattle.std.specs.Arc.{arc_value};
+    ghost use Rattle.crossbeam_queue.specs.Passes.{IsPassOf};
+    ghost use Rattle.wm_groupcommit.specs.declared.locked.deliveries.ReplyView.{ReplyView};
+
+    ghost Value = { ReplyView };
+
+    ghost view = { λ e. e.pass.me.0.client };
+
+    ghost invariant = { λ e. IsPassOf (arc_value e.queue) e.pass × (e.pass.me.0.client.writes ≡ true) };
+}
+
+/// The seat's end. Contracts see what this end knows.
+#[derive(Drop)]
+pub struct ReplyReceiver {
+    queue: Arc<ReplyQueue, Global>,
+    pass: ReplyPass,
+    sleeper: Arc<Parker, Global>,
+}
+
+impl Model for ReplyReceiver {
+    ghost use Rattle.std.specs.Arc.{arc_value};
+    ghost use Rattle.crossbeam_queue.specs.Passes.{IsPassOf};
+    ghost use Rattle.wm_groupcommit.specs.declared.locked.deliveries.ReplyView.{ReplyView};
+
+    ghost Value = { ReplyView };
+
+    ghost view = { λ e. e.pass.me.0.client };
+
+    ghost invariant = { λ e. IsPassOf (arc_value e.queue) e.pass };
+}
+
+/// The two ends of a new reply queue.
+pub(super) fn reply_queue(alloc: Global) -> Result<(ReplySender, ReplyReceiver), AllocError>
+    ensures { IfOk result (λ r. (r.0 ≡ reply_view true None [] []) × (r.1 ≡ newcomer)) }
+{
+    let (queue, mut pass) = ReplyQueue::ruled(alloc, 1)?;
+    let mine = queue.another::<Roles>(&mut pass);
+    let queue = Arc::new(alloc, queue)?;
+    let theirs = Arc::try_clone(&queue)?;
+    let sleeper = Arc::new(alloc, Parker::new())?;
+    let woken = Arc::try_clone(&sleeper)?;
+    Ok((
+        ReplySender {
+            queue,
+            pass,
+            sleeper: woken,
+        },
+        ReplyReceiver {
+            queue: theirs,
+            pass: mine,
+            sleeper,
+        },
+    ))
+}
+
+impl ReplySender {
+    /// Hands an answer over, and wakes the seat's thread. Where the queue is full the answer is lost.
+    pub(super) fn hand<R: Wait>(&mut self, rt: &R, delivery: Delivery)
+        requires later { IsLater self.old (base_of delivery) (list_of delivery) }
+        requires right { Right delivery.seen.value.base (list_of delivery) delivery.answer }
+        ensures { (self.new ≡ self.old) ⊎ (self.new ≡ reply_view true (base_of delivery) (list_of delivery) self.old.got) }
+    {
+        let queue: &ReplyQueue = &self.queue;
+        let _ = queue.push_as::<Gives, R>(rt, &mut self.pass, delivery);
+        self.sleeper.unpark();
+    }
+}
+
+impl ReplyReceiver {
+    /// Takes an answer, if one is there.
+    pub fn take<R: Wait>(&mut self, rt: &R) -> Option<Delivery>
+        ensures some { IfSome result (λ x. Took self.old x self.new) }
+        ensures none { IfNone result (self.new ≡ self.old) }
+    {
+        let queue: &ReplyQueue = &self.queue;
+        queue.pop_as::<Gets, R>(rt, &mut self.pass)
+    }
+
+    /// Sleeps until an answer was handed over since the last sleep.
+    pub fn sleep<R: Wait>(&self, rt: &R) {
+        self.sleeper.park(rt);
+    }
+}
