@@ -1,0 +1,5 @@
+pub mod Apart
+pub mod Folding
+pub mod Looking
+pub mod Once
+pub mod Staying

@@ -1,0 +1,4 @@
+pub mod Folds
+pub mod SessionLists
+pub mod Subscribers
+pub mod SubscriptionNames

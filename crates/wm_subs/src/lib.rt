@@ -1,0 +1,23 @@
+//! Subscriptions: what a client is told of a root unasked, each time since its own last clock.
+//!
+//! A [`Subscription`] is told an answer of `wm_since` where it is the first, is fresh or lists a
+//! file (specs/Subscribers.antt). A client that applies what it is told holds exactly the matching
+//! files of the view, after each call on a view that is ready (specs/Folds.antt);
+//! [`every_subscription`] has that over whole runs. [`Subscriptions`] has those of one session, in
+//! the order of subscribing (specs/SessionLists.antt).
+#![tactic(auto)]
+
+mod laws;
+mod subscribed;
+mod subscription;
+mod subscription_name;
+mod subscriptions;
+
+pub use laws::every_subscription;
+pub use subscribed::Subscribed;
+pub use subscription::Subscription;
+pub use subscription_name::{MAX_SUBSCRIPTION_NAME, SubscriptionName};
+pub use subscriptions::{MAX_SUBSCRIPTIONS, Subscriptions};
+
+#[cfg(test)]
+mod tests;

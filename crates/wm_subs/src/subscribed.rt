@@ -1,0 +1,12 @@
+//! A subscription of a session, with its root and its fields.
+use crate::subscription::Subscription;
+use wm_names::RootPath;
+use wm_since::Fields;
+
+/// A subscription of a session: on which root, what is told of each file, and what is told next.
+#[derive(Drop)]
+pub struct Subscribed<T> {
+    pub root: RootPath,
+    pub fields: Fields,
+    pub subscription: Subscription<T>,
+}
