@@ -1,0 +1,25 @@
+-- What contracts see of the starters.
+use Rattle.std.specs.Prelude.{ℕ, List}
+use Rattle.wm_triggers.specs.declared.mem_starter.MemStarter.{MemStarter}
+use Rattle.wm_triggers.specs.declared.mem_starter.StartedRun.{StartedRun}
+use Rattle.wm_triggers.specs.declared.program_starter.ProgramStarter.{ProgramStarter}
+
+-- how many of the next starts are to fail
+abbrev pub starts_to_fail : MemStarter → ℕ
+starts_to_fail starter = starter.to_fail
+
+-- how often a start has failed
+abbrev pub failed_starts : MemStarter → ℕ
+failed_starts starter = starter.failures
+
+-- the runs that were started, in their order
+abbrev pub started_runs : MemStarter → List StartedRun
+started_runs starter = starter.runs.items
+
+-- how often a start of a program has failed
+abbrev pub failed_programs : {L : Type 0} → ProgramStarter L → ℕ
+failed_programs starter = starter.failures
+
+-- what its programs are started by
+abbrev pub launcher_of : {L : Type 0} → ProgramStarter L → L
+launcher_of starter = starter.launcher

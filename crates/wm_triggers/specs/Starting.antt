@@ -1,0 +1,62 @@
+-- How the program of a run is started, and how its starts are counted.
+use Rattle.std.specs.Prelude.{◌≡◌, ◌≢◌, ◌≤◌, ℕ, List, [], ◌∷◌, ◌++◌, map, drop, Option, Some, None, Result, IfErr, OnOk, IsErrOf, if◌then◌else◌}
+use Rattle.std.specs.List.{flat_map}
+use Rattle.std.specs.Process.{command_args, command_dir, command_program}
+use Rattle.std.specs.declared.process.command.Command.{Command}
+use Rattle.wm_disk.specs.Contents.{Rose}
+use Rattle.wm_disk.specs.declared.refusal.Refusal.{Refusal}
+use Rattle.wm_disk.specs.declared.refusal.Refusal.TheVariants.{DeviceFailed, NoMemory}
+use Rattle.wm_names.specs.Paths.{Path}
+use Rattle.wm_registry.specs.declared.stdin.Stdin.{Stdin}
+use Rattle.wm_registry.specs.declared.stdin.Stdin.TheVariants.{DevNull, NamePerLine}
+use Rattle.wm_registry.specs.Triggers.{Definition}
+use Rattle.wm_since.specs.declared.listed.Listed.{Listed}
+use Rattle.wm_since.specs.declared.query.Answer.{Answer}
+
+-- ---- what is started
+
+-- the paths of files, in their order
+abbrev pub file_paths : List Listed → List Path
+file_paths files = map (λ file. file.entry.path) files
+
+-- the program is the first word, and an empty text where there is none
+abbrev pub program_in : List (List ℕ) → List ℕ
+program_in [] = []
+program_in (word ∷ words) = word
+
+-- its words: those behind the first, and behind them the path of each file where the trigger appends the files
+abbrev pub words_for : Definition → Answer → List (List ℕ)
+words_for t run = drop 1 t.command ++ (if t.append_files then file_paths run.files else [])
+
+-- each path and a newline
+abbrev pub path_lines : List Path → List ℕ
+path_lines paths = flat_map (λ path. path ++ 10 ∷ []) paths
+
+-- what it reads; with none it reads `/dev/null`
+abbrev pub input_for : Stdin → Answer → Option (List ℕ)
+input_for DevNull run = None
+input_for NamePerLine run = Some (path_lines (file_paths run.files))
+
+-- a program as it is started: its name, its words, its working folder, and what it reads
+pub record Launch : Type 0 where
+  pub program : List ℕ
+  pub words : List (List ℕ)
+  pub folder : Option (List ℕ)
+  pub input : Option (List ℕ)
+
+-- that of a run of the trigger of a root
+abbrev pub launch_for : Path → Definition → Answer → Launch
+launch_for root t run = record { program = program_in t.command; words = words_for t run; folder = Some root; input = input_for t.stdin run }
+
+-- that of a command, where its program reads this
+abbrev pub launch_by : {A : Type 0} → Command A → Option (List ℕ) → Launch
+launch_by command input = record { program = command_program command; words = command_args command; folder = command_dir command; input = input }
+
+-- ---- how starts are counted
+
+-- The count of failures at a start: it doesn't fall, it stands where the run was started, it rose where the start failed, and else it stands.
+pub record CountsStart (before now : ℕ) (result : Result (Unit {0}) Refusal) : Type 0 where
+  pub later : before ≤ now
+  pub started : OnOk result (now ≡ before)
+  pub failed : IsErrOf result DeviceFailed → Rose before now
+  pub short : IfErr result (λ e. e ≢ DeviceFailed → (e ≡ NoMemory) × (now ≡ before))

@@ -1,0 +1,59 @@
+//! What starts the program of a command, and waits for its end.
+//! Definitions: specs/Starting.antt. Tests: trigger_tests/src/programs.rt.
+ghost use Rattle.std.specs.Prelude.{OnOk, option_map};
+ghost use Rattle.wm_triggers.specs.Starting.{Launch, launch_by};
+
+use std::io;
+use std::io::Write;
+use std::process::{Child, Command, OpenProcess, Processes, Stdio};
+
+/// Starts programs. No contract can say what a program of the system does, so that one tells
+/// nothing of it: code over any `Launcher` is proved of all.
+pub trait Launcher {
+    /// A program that was started so, and has ended, led from one state to the other.
+    ghost has_ended: { Self → Launch → Self → Type 0 };
+
+    /// Starts the command's program, which reads the input, or `/dev/null` where there is none, and
+    /// waits for its end, however it ends. An `Err` where no program was started.
+    fn launch(&mut self, command: Command, input: Option<Vec<u8>>) -> io::Result<()>
+        ensures { OnOk result (has_ended self.old (launch_by command (option_map (λ i. i.items) input)) self.new) };
+}
+
+/// Starts programs by the system. Their standard output and error are those of this process, and
+/// they have none of its other open files.
+#[derive(Drop)]
+pub struct SystemLauncher<R> {
+    processes: R,
+}
+
+impl<R: Processes> SystemLauncher<R> {
+    /// A launcher by these processes of the system.
+    pub fn new(processes: R) -> SystemLauncher<R> {
+        SystemLauncher { processes }
+    }
+}
+
+/// Writes the input and waits for the program's end. A program may end without having read it all,
+/// and how it ends isn't looked at.
+fn finish<P: OpenProcess + Drop>(mut child: Child<P>, input: Option<Vec<u8>>) {
+    if let (Some(mut stdin), Some(bytes)) = (child.stdin.take(), input) {
+        let _written = stdin.write_all(&bytes);
+    }
+    let _ended = child.wait();
+}
+
+impl<R: Processes> Launcher for SystemLauncher<R> {
+    ghost has_ended = { λ old launch new. Unit {0} };
+
+    fn launch(&mut self, mut command: Command, input: Option<Vec<u8>>) -> io::Result<()> {
+        let stdin = if input.is_some() {
+            Stdio::piped()
+        } else {
+            Stdio::null()
+        };
+        command.stdin(stdin);
+        let child = command.spawn(&self.processes)?;
+        finish(child, input);
+        Ok(())
+    }
+}

@@ -1,0 +1,26 @@
+//! Runs of triggers: which run is due by what is there, and how its program is started.
+//!
+//! A [`TriggerRun`] keeps the clock of the last run that was started. A [`Run`] is the answer since
+//! that clock, where it lists a file (specs/Due.antt); [`TriggerRun::due`] says so of every history
+//! of the root. A [`Starter`] starts the program of a run and waits for its end: [`ProgramStarter`]
+//! by a [`Launcher`], as that of the system, with the words and the input that specs/Starting.antt
+//! has, and [`MemStarter`] in memory, for tests.
+//!
+//! Tests: trigger_tests/src.
+#![tactic(auto)]
+
+mod launcher;
+mod mem_starter;
+mod program_starter;
+mod run;
+mod starter;
+mod starting;
+mod trigger_run;
+
+pub use launcher::{Launcher, SystemLauncher};
+pub use mem_starter::{MemStarter, StartedRun};
+pub use program_starter::ProgramStarter;
+pub use run::Run;
+pub use starter::Starter;
+pub use starting::{run_command, run_input};
+pub use trigger_run::TriggerRun;

@@ -1,0 +1,82 @@
+//! The starter of real programs: it makes the command and the input of each run.
+//! Definitions: specs/Starters.antt, specs/Starting.antt. Tests: trigger_tests/src/programs.rt.
+ghost use Rattle.std.specs.Prelude.{◌≡◌, IsTrue};
+ghost use Rattle.wm_triggers.specs.Starters.{failed_programs, launcher_of};
+ghost use Rattle.wm_triggers.specs.Starting.{launch_for};
+
+use crate::launcher::Launcher;
+use crate::run::Run;
+use crate::starter::Starter;
+use crate::starting::{run_command, run_input};
+use std::alloc::Global;
+use std::io;
+use std::io::ErrorKind;
+use wm_disk::{MAX_COUNTER, Refusal};
+use wm_names::RootPath;
+use wm_registry::Trigger;
+
+/// Starts the programs of runs by a launcher.
+#[derive(Drop)]
+pub struct ProgramStarter<L> {
+    launcher: L,
+    failures: u64,
+}
+
+/// Whether it was memory of this process that ran out, and not that of the system.
+fn is_memory(error: &io::Error) -> bool {
+    error.kind() == ErrorKind::OutOfMemory && error.raw_os_error().is_none()
+}
+
+impl<L: Launcher> ProgramStarter<L> {
+    /// A starter by this launcher, of which no start has failed.
+    pub fn new(launcher: L) -> ProgramStarter<L>
+        ensures launcher { launcher_of result ≡ launcher }
+        ensures failures { failed_programs result ≡ 0 }
+    {
+        ProgramStarter {
+            launcher,
+            failures: 0,
+        }
+    }
+
+    /// How often a start has failed.
+    pub fn failures(&self) -> u64
+        ensures { result ≡ failed_programs self.now }
+    {
+        self.failures
+    }
+
+    /// What its programs are started by.
+    pub fn launcher(&self) -> &L
+        ensures { result.now ≡ launcher_of self.now }
+    {
+        &self.launcher
+    }
+}
+
+impl<L: Launcher> Starter for ProgramStarter<L> {
+    ghost failures = { failed_programs };
+
+    ghost has_run = { λ old root trigger run new. L.has_ended (launcher_of old) (launch_for root trigger run) (launcher_of new) };
+
+    fn run(
+        &mut self,
+        alloc: Global,
+        root: &RootPath,
+        trigger: &Trigger,
+        run: &Run,
+    ) -> Result<(), Refusal> {
+        let command = run_command(alloc, root, trigger, run)?;
+        let input = run_input(alloc, trigger.stdin(), run)?;
+        match self.launcher.launch(command, input) {
+            Ok(()) => Ok(()),
+            Err(error) if is_memory(&error) => Err(Refusal::NoMemory),
+            Err(_) => {
+                if self.failures < MAX_COUNTER {
+                    self.failures += 1;
+                }
+                Err(Refusal::DeviceFailed)
+            }
+        }
+    }
+}

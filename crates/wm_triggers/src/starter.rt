@@ -1,0 +1,35 @@
+//! What starts the programs of runs.
+//! Definitions: specs/Starting.antt. Tests: trigger_tests/src/starters.rt.
+ghost use Rattle.std.specs.Prelude.{ℕ, OnOk};
+ghost use Rattle.wm_names.specs.Paths.{Path};
+ghost use Rattle.wm_registry.specs.Triggers.{Definition};
+ghost use Rattle.wm_since.specs.declared.query.Answer.{Answer};
+ghost use Rattle.wm_triggers.specs.Starting.{CountsStart};
+
+use crate::run::Run;
+use std::alloc::Global;
+use wm_disk::Refusal;
+use wm_names::RootPath;
+use wm_registry::Trigger;
+
+/// Starts the programs of runs, one after another, and counts how often a start has failed.
+pub trait Starter {
+    /// How often a start has failed.
+    ghost failures: { Self → ℕ };
+
+    /// A run of this trigger of the root led from one state of the starter to the other.
+    ghost has_run: { Self → Path → Definition → Answer → Self → Type 0 };
+
+    /// Starts the trigger's program for the run's files, and waits for its end, however it ends.
+    /// `DeviceFailed` where it couldn't be started, which is counted, and `NoMemory`; then no
+    /// program ran.
+    fn run(
+        &mut self,
+        alloc: Global,
+        root: &RootPath,
+        trigger: &Trigger,
+        run: &Run,
+    ) -> Result<(), Refusal>
+        ensures ran { OnOk result (has_run self.old root.now trigger.now run.now self.new) }
+        ensures count { CountsStart (failures self.old) (failures self.new) result };
+}

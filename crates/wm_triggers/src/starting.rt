@@ -1,0 +1,117 @@
+//! The command of a run, and what its program reads.
+//! Definitions: specs/Starting.antt. Tests: trigger_tests/src/commands.rt.
+ghost use Rattle.std.specs.Prelude.{◌≡◌, ◌++◌, ℕ, List, Some, None, false, map, drop, option_map, IfOk, OnOk};
+ghost use Rattle.std.specs.Process.{SameDir, SameEnv, clears_env, command_args, command_dir, command_program, command_var};
+ghost use Rattle.wm_triggers.specs.Starting.{input_for, path_lines, file_paths, program_in, words_for};
+
+use crate::run::Run;
+use std::alloc::Global;
+use std::process::Command;
+use wm_disk::NoMemory;
+use wm_names::RootPath;
+use wm_registry::{Stdin, Trigger, Word};
+use wm_since::Listed;
+
+/// The first word of a command, and an empty text where there is none.
+fn program(words: &[Word]) -> &str
+    ensures { result.now ≡ program_in words.now }
+{
+    match words {
+        [program, ..] => program.as_str(),
+        [] => "",
+    }
+}
+
+/// The words behind the first.
+fn behind_program(words: &[Word]) -> &[Word]
+    ensures { result.now ≡ drop 1 words.now }
+{
+    match words {
+        [_, rest @ ..] => rest,
+        [] => words,
+    }
+}
+
+/// The texts of words.
+fn texts(alloc: Global, words: &[Word]) -> Result<Vec<&str>, NoMemory>
+    ensures { IfOk result (λ texts. map (λ t. t.now) texts.items ≡ words.now) }
+{
+    let mut texts = Vec::new(alloc);
+    for word in words {
+        texts.push(word.as_str())?;
+    }
+    Ok(texts)
+}
+
+/// The paths of files.
+fn paths(alloc: Global, files: &[Listed]) -> Result<Vec<&str>, NoMemory>
+    ensures { IfOk result (λ paths. map (λ p. p.now) paths.items ≡ file_paths files.now) }
+{
+    let mut paths = Vec::new(alloc);
+    for file in files {
+        paths.push(file.entry.path.as_str())?;
+    }
+    Ok(paths)
+}
+
+/// Adds words to a command.
+fn add_words(command: &mut Command, words: &[&str]) -> Result<(), NoMemory>
+    ensures words { OnOk result (command_args command.new ≡ command_args command.old ++ map (λ w. w.now) words.now) }
+    ensures program { OnOk result (command_program command.new ≡ command_program command.old) }
+    ensures environment { OnOk result (SameEnv command.old command.new) }
+    ensures folder { OnOk result (SameDir command.old command.new) }
+{
+    command.args(words)?;
+    Ok(())
+}
+
+/// The command that starts the program of a run: in the root as its working folder and with the
+/// environment of this process, the trigger's words, and behind them the paths of the files where
+/// the trigger appends them. Its streams aren't set.
+pub fn run_command(
+    alloc: Global,
+    root: &RootPath,
+    trigger: &Trigger,
+    run: &Run,
+) -> Result<Command, NoMemory>
+    ensures program { IfOk result (λ c. command_program c ≡ program_in trigger.now.command) }
+    ensures words { IfOk result (λ c. command_args c ≡ words_for trigger.now run.now) }
+    ensures folder { IfOk result (λ c. command_dir c ≡ Some root.now) }
+    ensures environment { IfOk result (λ c. (clears_env c ≡ false) × ((name : List ℕ) → command_var c name ≡ None)) }
+{
+    let words = trigger.command();
+    let mut command = Command::new(alloc, program(words))?;
+    command.current_dir(root.as_str())?;
+    let rest = texts(alloc, behind_program(words))?;
+    add_words(&mut command, &rest)?;
+    if trigger.append_files() {
+        let paths = paths(alloc, run.files())?;
+        add_words(&mut command, &paths)?;
+    }
+    Ok(command)
+}
+
+/// The path of each file, and a newline behind it.
+fn path_lines(alloc: Global, files: &[Listed]) -> Result<Vec<u8>, NoMemory>
+    ensures { IfOk result (λ lines. lines.items ≡ path_lines (file_paths files.now)) }
+{
+    let mut lines = Vec::new(alloc);
+    for file in files {
+        lines.extend_from_slice(file.entry.path.as_str().as_bytes())?;
+        lines.push(b'\n')?;
+    }
+    Ok(lines)
+}
+
+/// What the program of a run reads, and `None` where it reads `/dev/null`.
+pub fn run_input(alloc: Global, stdin: Stdin, run: &Run) -> Result<Option<Vec<u8>>, NoMemory>
+    ensures { IfOk result (λ input. option_map (λ i. i.items) input ≡ input_for stdin run.now) }
+{
+    match stdin {
+        Stdin::DevNull => Ok(None),
+        Stdin::NamePerLine => {
+            let lines = path_lines(alloc, run.files())?;
+            Ok(Some(lines))
+        }
+    }
+}
