@@ -7,7 +7,7 @@ BENCH := crates/bench/out/bench
 FILES ?= 100000
 SOURCES := crates.txt $(shell find crates -name out -prune -o -type f \( -name '*.rt' -o -name '*.antt' \) -print)
 
-.PHONY: help clean uninstall test lint build run install bench bench-journal bench-store bench-view bench-match session examples kill state-file file-calls
+.PHONY: help clean uninstall test lint build run install bench bench-journal bench-store bench-desk bench-view bench-match session examples kill state-file file-calls
 
 help:
 	@echo "make test          the whole gate: each proof from nothing, edits that must be refused, tests, programs (rt; an hour on two cores)"
@@ -20,7 +20,8 @@ help:
 	@echo "make state-file    a file with two owners, a format that fails, a killed one; make file-calls: its calls (strace)"
 	@echo "make kill          kills the built program again and again, and looks for what it answered (python3)"
 	@echo "make bench         a million lines beside Python's json (python3, GNU time)"
-	@echo "make bench-journal, bench-store, bench-view, bench-match     times by the program bench (rt; bench-store also sqlite3, if installed)"
+	@echo "make bench-journal, bench-store, bench-desk, bench-view, bench-match     times by the program bench (rt; bench-store also sqlite3, if installed;"
+	@echo "                   bench-desk python3)"
 	@echo "make clean         removes what was built and proved"
 
 test:
@@ -85,6 +86,10 @@ bench-journal: $(BENCH)
 
 bench-store: $(BENCH)
 	bench/store.sh $(BENCH)
+
+# Commands from many threads through a desk, and through SQLite beside it.
+bench-desk: $(BENCH)
+	bench/desk.sh $(BENCH)
 
 # How long a view of FILES files takes for what is done to it and asked of it, and its memory; also of a tenth.
 bench-view: $(BENCH)

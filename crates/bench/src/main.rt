@@ -1,9 +1,10 @@
-//! Times the journal, the store, views and `match`: which of them, and how often, its words say.
+//! Times the journal, the store, the desk, views and `match`: which of them, and how often, its words say.
 //! The journal and the store are timed beside the same writes and syncs by hand (by_hand.rt).
 //! Tests stand beside what they test: words.rt, memory.rt, and a tests.rt in three of the folders.
 #![tactic(auto)]
 
 mod by_hand;
+mod desk;
 mod journal;
 mod matching;
 mod measured;
@@ -18,12 +19,16 @@ use crate::words::{Task, USAGE, tasks};
 use anyhow::Result;
 use std::env;
 use std::process::ExitCode;
+use std::sync::Wait;
+use std::thread::Threads;
 
-/// Tells times and memory on standard error, and what is the same in each run on standard output.
-fn bench(rt: &HostRuntime, task: &Task<'_>) -> Result<()> {
+/// Tells times and memory on standard error, and what is the same in each run on standard output. Threads are the
+/// host's.
+fn bench<R: Threads + Wait + Sync>(rt: &HostRuntime, host: &R, task: &Task<'_>) -> Result<()> {
     match task {
         Task::Journal(file, rounds) => journal::bench(rt, file, *rounds),
         Task::Store(file, rounds) => store::bench(rt, file, *rounds),
+        Task::Desk(file, rounds) => desk::bench(rt, host, file, *rounds),
         Task::Match(rounds) => matching::bench(rt, *rounds),
         Task::View(files) => viewing::bench(rt, *files),
         Task::Memory(files) => sharing::bench(rt, *files),
@@ -43,7 +48,7 @@ fn main(rt: HostRuntime) -> Result<ExitCode> {
         return Ok(ExitCode::from(2));
     };
     for task in &tasks {
-        bench(&rt, task)?;
+        bench(&rt, &rt, task)?;
     }
     Ok(ExitCode::from(0))
 }

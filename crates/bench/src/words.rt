@@ -4,7 +4,7 @@ use std::alloc::{AllocError, Global};
 
 /// What wrong words are answered.
 pub const USAGE: &str =
-    "usage: bench (journal FILE ROUNDS | store FILE ROUNDS | match ROUNDS | view FILES | memory FILES)..";
+    "usage: bench (journal FILE ROUNDS | store FILE ROUNDS | desk FILE ROUNDS | match ROUNDS | view FILES | memory FILES)..";
 
 /// What is measured.
 #[derive(Drop)]
@@ -14,6 +14,9 @@ pub enum Task<'a> {
     /// A store on a file that must not be there yet, nor that with `.by_hand` behind its name, and how
     /// many batches of each size: 1 to 2^32 - 1.
     Store(&'a str, u32),
+    /// A desk on files that must not be there yet, of this name with `.sync`, `.1`, `.8` and `.31` behind it, and how many
+    /// commands from each thread: 1 to 2^32 - 1.
+    Desk(&'a str, u32),
     /// `match` on hard patterns, so many times of each: 1 to 2^32 - 1.
     Match(u32),
     /// A view of so many files, and what is asked of it: 1,000 to 100,000,000.
@@ -45,6 +48,7 @@ impl<'a> Task<'a> {
             [word, file, number] => match *word {
                 "journal" => Some(Task::Journal(*file, rounds(number)?)),
                 "store" => Some(Task::Store(*file, rounds(number)?)),
+                "desk" => Some(Task::Desk(*file, rounds(number)?)),
                 _ => None,
             },
             [word, number] => match *word {
@@ -95,6 +99,8 @@ mod tests {
         (&["match", "0"], None),
         (&["journal", "f"], None),
         (&["journal", "f", "0"], None),
+        (&["desk", "f", "1"], Some(1)),
+        (&["desk", "f", "0"], None),
         (&["store", "f", "4294967296"], None),
         (&["view", "999"], None),
         (&["memory", "100000001"], None),
