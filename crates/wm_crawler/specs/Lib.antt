@@ -1,0 +1,4 @@
+pub mod Crawls
+pub mod Levels
+pub mod MemTrees
+pub mod Trees

@@ -1,0 +1,56 @@
+-- What a tree of files holds that stays as it is.
+use Rattle.std.specs.Prelude.{◌≡◌, ◌⊎◌, ℕ, ◌+◌, Bool, ◌==◌, not, ◌&&◌, List, [], ◌∷◌, ◌++◌, Option, Some, None}
+use Rattle.std.specs.List.{list_all, count_by}
+use Rattle.wm_names.specs.Paths.{Path, is_rel_path}
+use Rattle.wm_names.specs.Entries.{same_kind}
+use Rattle.wm_names.specs.declared.entry.Kind.TheVariants.{Folder}
+use Rattle.wm_names.specs.declared.entry.Meta.{Meta}
+use Rattle.wm_names.specs.declared.subtree.Subtree.{Subtree}
+use Rattle.wm_names.specs.declared.subtree.Subtree.TheVariants.{Whole, Below}
+
+-- what a folder holds: the names that are text, and how many names are not
+pub record Held : Type 0 where
+  pub names : List Path
+  pub others : ℕ
+
+-- what reading the root or a folder in it gives: nothing where it can't be read, `Some None` where no folder is there;
+-- and what asking for a path's metadata gives: nothing where it can't be told, `Some None` where nothing is there
+pub record Content : Type 0 where
+  pub held : Subtree → Option (Option Held)
+  pub meta : Path → Option (Option Meta)
+
+-- the path of a name in a folder
+abbrev pub join : Subtree → Path → Path
+join Whole name = name
+join (Below folder) name = folder ++ 47 ∷ name
+
+-- the name is one part of a path, and its path keeps the rules
+abbrev pub is_fit : Subtree → Path → Bool
+is_fit folder name = list_all (λ b. not (b == 47)) name && is_rel_path (join folder name)
+
+-- the names of a folder, and how many more it has
+abbrev pub names_held : Option (Option Held) → List Path
+names_held (Some (Some held)) = held.names
+names_held (Some None) = []
+names_held None = []
+
+abbrev pub others_held : Option (Option Held) → ℕ
+others_held (Some (Some held)) = held.others
+others_held (Some None) = 0
+others_held None = 0
+
+-- how many names of a folder are no paths: those that aren't text, and those that don't fit
+abbrev pub unfit_in : Subtree → Option (Option Held) → ℕ
+unfit_in folder held = others_held held + count_by (λ name. not (is_fit folder name)) (names_held held)
+
+abbrev pub is_folder : Meta → Bool
+is_folder meta = same_kind meta.kind Folder
+
+-- x is an element
+abbrev pub Among : {A : Type 0} → A → List A → Type 0
+Among x [] = ⊥
+Among x (y ∷ ys) = (x ≡ y) ⊎ Among x ys
+
+-- for a tree that stays as no content says: of nothing is anything told
+abbrev pub nothing_known : Content
+nothing_known = record { held = λ _. None; meta = λ _. None }

@@ -1,0 +1,90 @@
+//! What a folder holds.
+//! Definitions: specs/Trees.antt. Tests: crawler_tests/src/crawls.rt.
+ghost use Rattle.std.specs.Prelude.{◌≡◌, ◌+◌, ◌-◌, ◌*◌, ◌^◌, ◌++◌, ◌∷◌, [], min, map, string_bytes, IfOk, OnOk, OnErr};
+ghost use Rattle.wm_crawler.specs.Trees.{Held};
+
+use std::alloc::Global;
+use std::marker::Model;
+use wm_disk::NoMemory;
+
+/// What a folder holds: the names that are text, and how many names aren't.
+#[derive(Drop)]
+pub struct Dir {
+    names: Vec<String>,
+    others: u64,
+}
+
+impl Model for Dir {
+    ghost use Rattle.std.specs.Prelude.{map, string_bytes as bytes_of_string};
+    ghost use Rattle.wm_crawler.specs.Trees.{Held as HeldHere};
+
+    ghost Value = { HeldHere };
+
+    ghost view = { λ d. record { names = map bytes_of_string d.names.items; others = d.others } };
+}
+
+impl Dir {
+    /// An empty folder.
+    pub fn new(alloc: Global) -> Dir
+        ensures { result ≡ record { names = []; others = 0 } }
+    {
+        Dir {
+            names: Vec::new(alloc),
+            others: 0,
+        }
+    }
+
+    /// Adds a name. Without memory nothing is changed.
+    pub fn add(&mut self, name: String) -> Result<(), NoMemory>
+        ensures ok { OnOk result (self.new ≡ record self.old { names = self.old.names ++ string_bytes name ∷ [] }) }
+        ensures err { OnErr result (self.new ≡ self.old) }
+    {
+        self.names.push(name)?;
+        Ok(())
+    }
+
+    /// Counts a name that isn't text, up to 2^64 - 1 of them.
+    pub fn add_other(&mut self)
+        ensures { self.new ≡ record self.old { others = min (self.old.others + 1) (2 ^ 64 - 1) } }
+    {
+        self.others = self.others.saturating_add(1);
+    }
+
+    /// How many names aren't text.
+    pub fn others(&self) -> u64
+        ensures { result ≡ self.now.others }
+    {
+        self.others
+    }
+
+    /// The names that are text.
+    pub(crate) fn names(&self) -> &[String]
+        ensures { map string_bytes result.now ≡ self.now.names }
+    {
+        &self.names
+    }
+
+    /// The same names and count again.
+    pub fn copy(&self, alloc: Global) -> Result<Dir, NoMemory>
+        ensures { IfOk result (λ d. d ≡ self.now) }
+    {
+        let names = copied(alloc, &self.names)?;
+        Ok(Dir {
+            names,
+            others: self.others,
+        })
+    }
+}
+
+/// The same names again.
+#[tactic(auto, using(crate::proofs::Steps::one_more))]
+fn copied(alloc: Global, names: &[String]) -> Result<Vec<String>, NoMemory>
+    ensures { IfOk result (λ v. map string_bytes v.items ≡ map string_bytes names.now) }
+{
+    let mut copies = Vec::with_capacity(alloc, names.len())?;
+    for name in names {
+        let name = String::from_str(alloc, name)?;
+        copies.push(name)?;
+    }
+    Ok(copies)
+}

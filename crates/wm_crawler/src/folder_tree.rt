@@ -1,0 +1,165 @@
+//! The real tree: a folder of the file system. No contract can say what it holds.
+//! Tests: crawler_tests/src/folders.rt, and tools/crawl_tree.sh.
+ghost use Rattle.std.specs.Prelude.{◌≡◌, ◌≢◌, ⊤, ◌<◌, ◌^◌, Some, None, IfErr};
+ghost use Rattle.wm_disk.specs.declared.refusal.Refusal.TheVariants.{DeviceFailed, NoMemory as no_memory};
+
+use crate::dir::Dir;
+use crate::tree::Tree;
+use std::alloc::Global;
+use std::fs::{Files, Metadata};
+use std::io::{Error, ErrorKind, Read};
+use std::os::unix::fs::MetadataExt;
+use wm_disk::{NoMemory, Refusal};
+use wm_names::{Kind, Meta, RelPath, RootPath, Subtree};
+
+/// A folder of the file system, with what stands below it. Other programs may change it at any time, so a
+/// crawl of it promises nothing of what it lists; that it lists what is there is tested.
+#[derive(Drop)]
+pub struct FolderTree<F> {
+    files: F,
+    root: RootPath,
+}
+
+/// The greatest size, and the greatest time, that a line can tell.
+const MOST: u64 = 0x7fff_ffff_ffff_ffff;
+
+fn kind_of(found: &Metadata) -> Kind {
+    if found.is_file() {
+        Kind::File
+    } else if found.is_dir() {
+        Kind::Folder
+    } else if found.is_symlink() {
+        Kind::Link
+    } else {
+        Kind::Other
+    }
+}
+
+/// In milliseconds since 1970, and 0 where it was before.
+fn moment(seconds: i64, nanoseconds: i64) -> u64
+    ensures { result < 2 ^ 63 }
+{
+    let Ok(seconds) = u64::try_from(seconds) else {
+        return 0;
+    };
+    let Ok(nanoseconds) = u64::try_from(nanoseconds) else {
+        return 0;
+    };
+    let all = seconds
+        .saturating_mul(1_000)
+        .saturating_add(nanoseconds / 1_000_000);
+    all.min(MOST)
+}
+
+fn meta_of(found: &Metadata) -> Meta
+    ensures { (result.size < 2 ^ 63) × (result.mtime_ms < 2 ^ 63) }
+{
+    Meta {
+        kind: kind_of(found),
+        size: found.len().min(MOST),
+        mtime_ms: moment(found.mtime(), found.mtime_nsec()),
+    }
+}
+
+/// Whether nothing is there: no such name, or a file or a link where the path goes on.
+fn is_missing(error: &Error) -> bool {
+    matches!(
+        error.kind(),
+        ErrorKind::NotFound
+            | ErrorKind::NotADirectory
+            | ErrorKind::FilesystemLoop
+            | ErrorKind::InvalidFilename
+    )
+}
+
+/// Adds what was read of a folder: names, each ended by a zero byte.
+fn add_names(alloc: Global, dir: &mut Dir, names: &[u8]) -> Result<(), NoMemory> {
+    for name in names.split(|byte| *byte == 0) {
+        if name.is_empty() || name == b".".as_slice() || name == b"..".as_slice() {
+            continue;
+        }
+        match str::from_utf8(name) {
+            Ok(name) => {
+                let name = String::from_str(alloc, name)?;
+                dir.add(name)?;
+            }
+            Err(_) => dir.add_other(),
+        }
+    }
+    Ok(())
+}
+
+/// Reads names to their end.
+fn read_names(alloc: Global, names: &mut impl Read) -> Result<Dir, Refusal>
+    ensures { IfErr result (λ e. e ≢ no_memory → e ≡ DeviceFailed) }
+{
+    let mut dir = Dir::new(alloc);
+    let mut buffer = [0u8; 8192];
+    for _ in 0..u64::MAX {
+        match names.read(&mut buffer) {
+            Ok(0) => break,
+            Ok(n) => add_names(alloc, &mut dir, &buffer[..n])?,
+            Err(e) if e.kind() == ErrorKind::Interrupted => {}
+            Err(_) => return Err(Refusal::DeviceFailed),
+        }
+    }
+    Ok(dir)
+}
+
+impl<F: Files + Drop> FolderTree<F> {
+    /// The tree of the folder at a path. Nothing is read yet. A link that the root's path ends in is
+    /// followed; one inside the tree never is.
+    pub fn new(files: F, root: RootPath) -> FolderTree<F> {
+        FolderTree { files, root }
+    }
+
+    /// The text of a place's path. That of the root ends with a slash, so that a link is followed.
+    fn path_of(&self, alloc: Global, place: &str) -> Result<String, NoMemory> {
+        let root = self.root.as_str();
+        let mut text = String::with_capacity(alloc, root.len() + place.len() + 1)?;
+        text.push_str(root)?;
+        text.push('/')?;
+        text.push_str(place)?;
+        Ok(text)
+    }
+
+    fn meta_at(&self, alloc: Global, place: &str) -> Result<Option<Meta>, Refusal>
+        ensures { IfErr result (λ e. e ≢ no_memory → e ≡ DeviceFailed) }
+    {
+        let path = self.path_of(alloc, place)?;
+        match self.files.symlink_metadata(&path) {
+            Ok(found) => Ok(Some(meta_of(&found))),
+            Err(e) if is_missing(&e) => Ok(None),
+            Err(_) => Err(Refusal::DeviceFailed),
+        }
+    }
+}
+
+impl<F: Files + Drop> Tree for FolderTree<F> {
+    ghost use Rattle.wm_crawler.specs.Trees.{nothing_known};
+
+    ghost content = { λ _. nothing_known };
+
+    ghost stays = { λ _. ⊥ };
+
+    ghost may_fail = { λ _ _. ⊤ };
+
+    fn read_dir(&self, alloc: Global, folder: &Subtree) -> Result<Option<Dir>, Refusal> {
+        let path = match folder {
+            Subtree::Whole => self.path_of(alloc, "")?,
+            Subtree::Below(path) => self.path_of(alloc, path.as_str())?,
+        };
+        match self.files.open_dir(&path) {
+            Ok(mut names) => {
+                let dir = read_names(alloc, &mut names)?;
+                Ok(Some(dir))
+            }
+            Err(e) if is_missing(&e) => Ok(None),
+            Err(_) => Err(Refusal::DeviceFailed),
+        }
+    }
+
+    fn meta(&self, alloc: Global, path: &RelPath) -> Result<Option<Meta>, Refusal> {
+        self.meta_at(alloc, path.as_str())
+    }
+}

@@ -1,0 +1,23 @@
+//! The crawl of a root, or of part of it: every path below its top, with its metadata.
+//!
+//! [`crawl`] is generic over a [`Tree`] and proved once. Level by level it reads the folders, and then
+//! what each path has, both by as many threads as it is given workers.
+#![tactic(auto)]
+
+mod crawling;
+mod dir;
+mod folder_tree;
+mod gate;
+mod listed;
+mod memory;
+mod naming;
+mod reading;
+mod telling;
+mod tree;
+
+pub use crawling::{Crawled, MAX_WORKERS, crawl};
+pub use dir::Dir;
+pub use folder_tree::FolderTree;
+pub use gate::{Open, Turnstile};
+pub use memory::MemTree;
+pub use tree::Tree;
