@@ -1,5 +1,5 @@
 //! The real tree: a folder of the file system. No contract can say what it holds.
-//! Tests: crawler_tests/src/folders.rt, and tools/crawl_tree.sh.
+//! Tests: crawler_tests/src/folders.rt.
 ghost use Rattle.std.specs.Prelude.{◌≡◌, ◌≢◌, ⊤, ◌<◌, ◌^◌, Some, None, IfErr};
 ghost use Rattle.wm_disk.specs.declared.refusal.Refusal.TheVariants.{DeviceFailed, NoMemory as no_memory};
 
@@ -9,7 +9,7 @@ use std::alloc::Global;
 use std::fs::{Files, Metadata};
 use std::io::{Error, ErrorKind, Read};
 use std::os::unix::fs::MetadataExt;
-use wm_disk::{NoMemory, Refusal};
+use wm_disk::{MAX_COUNTER, NoMemory, Refusal};
 use wm_names::{Kind, Meta, RelPath, RootPath, Subtree};
 
 /// A folder of the file system, with what stands below it. Other programs may change it at any time, so a
@@ -19,9 +19,6 @@ pub struct FolderTree<F> {
     files: F,
     root: RootPath,
 }
-
-/// The greatest size, and the greatest time, that a line can tell.
-const MOST: u64 = 0x7fff_ffff_ffff_ffff;
 
 fn kind_of(found: &Metadata) -> Kind {
     if found.is_file() {
@@ -48,7 +45,7 @@ fn moment(seconds: i64, nanoseconds: i64) -> u64
     let all = seconds
         .saturating_mul(1_000)
         .saturating_add(nanoseconds / 1_000_000);
-    all.min(MOST)
+    all.min(MAX_COUNTER)
 }
 
 fn meta_of(found: &Metadata) -> Meta
@@ -56,7 +53,7 @@ fn meta_of(found: &Metadata) -> Meta
 {
     Meta {
         kind: kind_of(found),
-        size: found.len().min(MOST),
+        size: found.len().min(MAX_COUNTER),
         mtime_ms: moment(found.mtime(), found.mtime_nsec()),
     }
 }

@@ -1,5 +1,5 @@
 //! What holds a crawl back.
-//! No contract can see that a gate was passed: tests of crawler_tests/src/crawls.rt count it.
+//! No contract can see that a gate was passed: crawler_tests/src/gates.rt counts it.
 
 /// What is passed before each reading of a folder below the top. It may hold a reading back for a while.
 pub trait Turnstile {
