@@ -7,7 +7,7 @@ BENCH := crates/bench/out/bench
 FILES ?= 100000
 SOURCES := crates.txt $(shell find crates -name out -prune -o -type f \( -name '*.rt' -o -name '*.antt' \) -print)
 
-.PHONY: help clean uninstall test lint build run install bench bench-journal bench-store bench-desk bench-view bench-match session examples kill state-file file-calls
+.PHONY: help clean uninstall test lint build run install bench bench-journal bench-store bench-desk idle-desk bench-view bench-match session examples kill state-file file-calls
 
 help:
 	@echo "make test          the whole gate: each proof from nothing, edits that must be refused, tests, programs (rt; an hour on two cores)"
@@ -22,6 +22,7 @@ help:
 	@echo "make bench         a million lines beside Python's json (python3, GNU time)"
 	@echo "make bench-journal, bench-store, bench-desk, bench-view, bench-match     times by the program bench (rt; bench-store also sqlite3, if installed;"
 	@echo "                   bench-desk python3)"
+	@echo "make idle-desk     that a desk with nothing to do takes no processor (cc)"
 	@echo "make clean         removes what was built and proved"
 
 test:
@@ -90,6 +91,10 @@ bench-store: $(BENCH)
 # Commands from many threads through a desk, and through SQLite beside it.
 bench-desk: $(BENCH)
 	bench/desk.sh $(BENCH)
+
+# A desk with nothing to do for 10 seconds takes no processor.
+idle-desk: $(BENCH)
+	bench/desk_idle.sh $(BENCH)
 
 # How long a view of FILES files takes for what is done to it and asked of it, and its memory; also of a tenth.
 bench-view: $(BENCH)

@@ -25,20 +25,20 @@ statx
 flock
 fsync
 statx
-fsync
+fdatasync
 pread64
 pwrite64 2 1052673
-fsync
+fdatasync
 pwrite64 1 1052672
-fsync
+fdatasync
 read
 pwrite64 8 1052675
-fsync
+fdatasync
 pwrite64 1 1052674
-fsync
+fdatasync
 write
 read
-fsync
+fdatasync
 close
 CALLS
 diff -u wanted made

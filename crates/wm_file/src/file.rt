@@ -99,7 +99,7 @@ impl NotedFile {
             (λ _. self.new.log.events ≡ synced ∷ self.old.log.events)
             (λ _. self.new.log.events ≡ sync_failed ∷ self.old.log.events) }
     {
-        if self.file.sync_all().is_err() {
+        if self.file.sync_data().is_err() {
             self.log.note(&[SYNC_FAILED, 0, 0], &[]);
             return Err(DeviceFailed);
         }

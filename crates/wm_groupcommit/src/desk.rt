@@ -10,7 +10,7 @@ ghost use Rattle.wm_groupcommit.specs.Submits.{Submitted, Turned};
 
 use crate::book::Book;
 use crate::locked::{
-    CallPass, CallQueue, Delivery, LockedDesk, ReplyReceiver, Room, new_pass, pop, push,
+    CallPass, CallQueue, Delivery, LockedDesk, ReplyReceiver, Room, is_empty, new_pass, pop, push,
 };
 use crate::queued::Call;
 use crate::receipt::Receipt;
@@ -18,10 +18,15 @@ use crate::same_commands::copied;
 use crate::seat::{Seat, settle};
 use std::alloc::Global;
 use std::sync::{Mutex, Wait};
+use std::thread;
 use std::thread::Parker;
 use wm_disk::{Disk, NoMemory, Refusal};
 use wm_registry::{Command, Reply};
 use wm_store::Store;
+
+/// How often a thread that waits looks for what it waits for before it sleeps: about as long as two syncs of a
+/// fast disk take.
+const LOOKS: u32 = 400;
 
 /// A store that many threads share. Each submits from a seat of its own, and one, the flusher's, commits what
 /// was submitted, in batches. A seat and a flusher are of the desk that gave them.
@@ -103,7 +108,8 @@ impl<D: Disk + Drop> Desk<D> {
         })
     }
 
-    /// Puts a command into the queue, wakes the flusher's thread, and sleeps until the answer is there. A
+    /// Puts a command into the queue, wakes the flusher's thread, and sleeps until the answer is there; where no
+    /// other command was in the queue, it looks for the answer a bounded number of times first. A
     /// command that the registry accepts, or that changes nothing, has a receipt. Of the refusals `5`, `10`,
     /// `11` and `17` are the registry's, after a prefix of the list that is no shorter than what this seat
     /// had seen; `3 BadArguments` comes to a `Begin` alone. `13 DeviceFailed`, `15 Exhausted` and `16 NoMemory`
@@ -130,6 +136,7 @@ impl<D: Disk + Drop> Desk<D> {
         let Ok(copy) = copied(self.alloc, &command) else {
             return Err(Refusal::NoMemory);
         };
+        let is_alone = is_empty(&self.queue);
         let count = seat.calls + 1;
         let put = Call {
             seat: seat.number,
@@ -146,7 +153,7 @@ impl<D: Disk + Drop> Desk<D> {
             count,
             command,
         };
-        receive(rt, &mut seat.replies, &mut seat.seen, mine)
+        receive(rt, &mut seat.replies, &mut seat.seen, mine, is_alone)
     }
 
     /// Takes up to 64 calls from the queue, in one step, commits their commands, and tells how many it has
@@ -166,12 +173,15 @@ impl<D: Disk + Drop> Desk<D> {
         Ok(self.locked.lock(rt).answer(rt, self.alloc, popped, room))
     }
 
-    /// Sleeps until a command was submitted, or the desk closed, since the last sleep. The flusher's thread
-    /// calls it once a flush has answered none, and so takes no processor while the desk is idle.
+    /// Looks for a command a bounded number of times, and then sleeps until one was submitted, or the desk
+    /// closed, since the last sleep. The flusher's thread calls it once a flush has answered none, and so takes
+    /// no processor while the desk is idle.
     pub fn wait_for_calls<R: Wait>(&self, rt: &R, _flusher: &mut Flusher)
         ensures { _flusher.new ≡ _flusher.old }
     {
-        self.sleeper.park(rt);
+        if !meets_call(&self.queue) {
+            self.sleeper.park(rt);
+        }
     }
 
     /// The receipt's command, found at its number in the list; none for one that changed nothing.
@@ -180,23 +190,59 @@ impl<D: Disk + Drop> Desk<D> {
     }
 }
 
+/// Whether a call comes while it looks.
+fn meets_call(queue: &CallQueue) -> bool {
+    for _ in 0..LOOKS {
+        if !is_empty(queue) {
+            return true;
+        }
+        thread::yield_now();
+    }
+    false
+}
+
 /// Waits for the answer to the call.
 fn receive<R: Wait>(
     rt: &R,
     replies: &mut ReplyReceiver,
     seen: &mut u64,
     call: Call,
+    is_alone: bool,
 ) -> Result<(Reply, Receipt), Refusal>
     ensures later { IsLater replies.old replies.new.base replies.new.list }
     ensures ok { IfOk result (λ r. Submitted replies.old replies.new seen.old seen.new call r.0 r.1) }
     ensures err { IfErr result (λ e. (seen.new ≡ seen.old) × Turned replies.old replies.new seen.old call e) }
 {
-    let delivery = wait_for(rt, replies);
+    let delivery = wait_for(rt, replies, is_alone);
     settle(seen, call, delivery.answer())
 }
 
 /// Waits for an answer.
-fn wait_for<R: Wait>(rt: &R, replies: &mut ReplyReceiver) -> Delivery
+fn wait_for<R: Wait>(rt: &R, replies: &mut ReplyReceiver, is_alone: bool) -> Delivery
+    ensures { Took replies.old result replies.new }
+{
+    if is_alone {
+        look_for(rt, replies)
+    } else {
+        sleep_for(rt, replies)
+    }
+}
+
+/// Looks for an answer a bounded number of times, and then sleeps until one is there.
+fn look_for<R: Wait>(rt: &R, replies: &mut ReplyReceiver) -> Delivery
+    ensures { Took replies.old result replies.new }
+{
+    for _ in 0..LOOKS {
+        if let Some(delivery) = replies.take(rt) {
+            return delivery;
+        }
+        thread::yield_now();
+    }
+    sleep_for(rt, replies)
+}
+
+/// Sleeps until an answer is there.
+fn sleep_for<R: Wait>(rt: &R, replies: &mut ReplyReceiver) -> Delivery
     ensures { Took replies.old result replies.new }
 {
     for _ in rt.forever() {

@@ -17,7 +17,7 @@ mod reply_ends;
 use crate::book::Book;
 use crate::queued::{Answer, Call};
 use crate::receipt::Receipt;
-pub use call_queue::{CallPass, CallQueue, PoppedCalls, new_pass, pop, push};
+pub use call_queue::{CallPass, CallQueue, PoppedCalls, is_empty, new_pass, pop, push};
 pub use deliveries::Delivery;
 pub use reply_ends::ReplyReceiver;
 use reply_ends::{ReplySender, reply_queue};

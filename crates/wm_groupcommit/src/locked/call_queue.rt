@@ -39,6 +39,12 @@ pub fn new_pass(queue: &CallQueue) -> CallPass
     queue.pass()
 }
 
+/// Whether no call was in it at one moment.
+pub fn is_empty(queue: &CallQueue) -> bool {
+    let mut pass = new_pass(queue);
+    queue.is_empty_as::<Takes>(&mut pass)
+}
+
 /// Puts a call at the back.
 pub fn push<R: Wait>(rt: &R, queue: &CallQueue, pass: &mut CallPass, call: Call) -> Result<(), Call>
     requires { IsSegPassOf queue.now pass.old }

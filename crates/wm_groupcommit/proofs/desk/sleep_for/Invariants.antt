@@ -1,5 +1,5 @@
 use Rattle.std.proofs.Common.{◌≡◌}
-use Rattle.wm_groupcommit.proofs.desk.wait_for.Given as goal
+use Rattle.wm_groupcommit.proofs.desk.sleep_for.Given as goal
 
 abbrev pub invariant-loop : goal.invariant-loop
 invariant-loop g l = ((goal.iterator-loop g).can_next l.iterator' × (goal.iterator-loop g).is_finite l.iterator') × (l.replies ≡ l.initial.replies)
