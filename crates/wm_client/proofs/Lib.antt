@@ -1,0 +1,3 @@
+mod Wanting
+mod Lines
+mod Telling

@@ -1,0 +1,42 @@
+-- What is printed line by line is the first lines of the input.
+use Rattle.std.proofs.Common.{◌≡◌, ◌∙◌, ℕ, List, ◌++◌, refl, sym, ap, append_assoc, append-nil, ◌+◌, arith, zero, suc, Option, Some, None}
+use Rattle.std.specs.Io.KnownBytes.{Appends}
+use Rattle.std.specs.Io.BufRead.{drop_through, take_through}
+use Rattle.wm_client.specs.Talks.{lines_first}
+
+-- what stands behind the first n lines
+abbrev pub lines_behind : ℕ → List ℕ → List ℕ
+lines_behind zero input = input
+lines_behind (suc n) input = lines_behind n (drop_through 10 input)
+
+one_more : (n : ℕ) (input : List ℕ) → lines_first (suc n) input ≡ lines_first n input ++ take_through 10 (lines_behind n input)
+one_more zero input = append-nil (take_through 10 input)
+one_more (suc n) input = ap (λ l. take_through 10 input ++ l) (one_more n (drop_through 10 input)) ∙ sym (append_assoc (take_through 10 input) _ _)
+
+one_behind : (n : ℕ) (input : List ℕ) → lines_behind (suc n) input ≡ drop_through 10 (lines_behind n input)
+one_behind zero input = refl
+one_behind (suc n) input = one_behind n (drop_through 10 input)
+
+plus_one : (n : ℕ) → n + 1 ≡ suc n
+plus_one n = omega arith
+
+-- the same of one more line
+pub next_line : (n : ℕ) (input : List ℕ) → lines_first (n + 1) input ≡ lines_first n input ++ take_through 10 (lines_behind n input)
+next_line n input = ap (λ m. lines_first m input) (plus_one n) ∙ one_more n input
+
+pub next_behind : (n : ℕ) (input : List ℕ) → lines_behind (n + 1) input ≡ drop_through 10 (lines_behind n input)
+next_behind n input = ap (λ m. lines_behind m input) (plus_one n) ∙ one_behind n input
+
+-- the first line, and then n more
+pub reply_first : (n : ℕ) (input : List ℕ) → lines_first (n + 1) input ≡ take_through 10 input ++ lines_first n (drop_through 10 input)
+reply_first n input = ap (λ m. lines_first m input) (plus_one n)
+
+pub one_first : (input : List ℕ) → lines_first 1 input ≡ take_through 10 input
+one_first input = append-nil (take_through 10 input)
+
+-- known bytes that grow twice grow by both
+pub grown_twice : (a b c : Option (List ℕ)) (xs ys : List ℕ) → Appends a b xs → Appends b c ys → Appends a c (xs ++ ys)
+grown_twice None b c xs ys p q = tt
+grown_twice (Some x) None c xs ys p q = absurd p
+grown_twice (Some x) (Some y) None xs ys p q = absurd q
+grown_twice (Some x) (Some y) (Some z) xs ys p q = q ∙ ap (λ l. l ++ ys) p ∙ append_assoc x xs ys

@@ -1,0 +1,14 @@
+use Rattle.std.proofs.Common.{◌≡◌, ◌∙◌, Some, ap, sym, rules}
+use Rattle.std.specs.Io.BufRead.{drop_through}
+use Rattle.wm_client.specs.Talks.{is_refusal_line}
+use Rattle.wm_client.proofs.Telling.{then_more}
+use Rattle.wm_client.proofs.talking.talk.Goals as goal
+
+pub returns-clause-told : goal.returns-clause-told
+returns-clause-told g c =
+    then_more c.args.follow (g.W.Write.contents c.args.printer.now) (g.W.Write.contents c.print_line.new.printer) (g.W.Write.contents c.print_lines.new.printer)
+    (λ input. g.R.Read.remaining c.args.replies.now ≡ Some input) c.print_lines.result
+    (λ input known. let told = c.print_line.ensures.told (search rules) input known in
+    (told.1, ap is_refusal_line (sym (c.deref.ensures.value ∙ told.0)) ∙ sym c.is_refusal.ensures ∙ c.if-is_refusal.false))
+    (λ is input known. c.print_lines.ensures.told is (drop_through 10 input) ((c.print_line.ensures.told (search rules) input known).2))
+    c.print_lines.ensures.told_alone
