@@ -7,7 +7,7 @@ BENCH := crates/bench/out/bench
 FILES ?= 100000
 SOURCES := crates.txt $(shell find crates -name out -prune -o -type f \( -name '*.rt' -o -name '*.antt' \) -print)
 
-.PHONY: help clean uninstall test lint build run install bench bench-journal bench-store bench-desk idle-desk bench-view bench-match session examples kill state-file file-calls
+.PHONY: help clean uninstall test lint build run install bench bench-journal bench-store bench-desk idle-desk bench-crawl bench-view bench-match crawl-tree session examples kill state-file file-calls
 
 help:
 	@echo "make test          the whole gate: each proof from nothing, edits that must be refused, tests, programs (rt; an hour on two cores)"
@@ -23,6 +23,8 @@ help:
 	@echo "make bench-journal, bench-store, bench-desk, bench-view, bench-match     times by the program bench (rt; bench-store also sqlite3, if installed;"
 	@echo "                   bench-desk python3)"
 	@echo "make idle-desk     that a desk with nothing to do takes no processor (cc)"
+	@echo "make bench-crawl   crawls of 20,000 and 100,000 entries beside find (find, python3); make crawl-tree: rough trees, and whether a crawl"
+	@echo "                   finds what was made there (python3; setpriv, if root)"
 	@echo "make clean         removes what was built and proved"
 
 test:
@@ -95,6 +97,14 @@ bench-desk: $(BENCH)
 # A desk with nothing to do for 10 seconds takes no processor.
 idle-desk: $(BENCH)
 	bench/desk_idle.sh $(BENCH)
+
+# Crawls of trees that it makes, by 1, 2 and 4 workers, and `find` beside them.
+bench-crawl: $(BENCH)
+	bench/crawl.sh $(BENCH)
+
+# What a crawl finds in trees that hold each thing that a file system has.
+crawl-tree: $(BENCH)
+	tools/crawl_tree.sh $(BENCH)
 
 # How long a view of FILES files takes for what is done to it and asked of it, and its memory; also of a tenth.
 bench-view: $(BENCH)

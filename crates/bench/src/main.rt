@@ -1,9 +1,10 @@
-//! Times the journal, the store, the desk, views and `match`: which of them, and how often, its words say.
+//! Times the journal, the store, the desk, crawls, views and `match`: which of them, and how often, its words say.
 //! The journal and the store are timed beside the same writes and syncs by hand (by_hand.rt).
 //! Tests stand beside what they test: words.rt, memory.rt, and a tests.rt in three of the folders.
 #![tactic(auto)]
 
 mod by_hand;
+mod crawling;
 mod desk;
 mod journal;
 mod matching;
@@ -16,11 +17,13 @@ mod viewing;
 mod words;
 
 use crate::words::{Task, USAGE, tasks};
-use anyhow::Result;
+use anyhow::{Context, Result};
 use std::env;
 use std::process::ExitCode;
 use std::sync::Wait;
 use std::thread::Threads;
+use wm_crawler::FolderTree;
+use wm_names::RootPath;
 
 /// Tells times and memory on standard error, and what is the same in each run on standard output. Threads are the
 /// host's.
@@ -29,6 +32,8 @@ fn bench<R: Threads + Wait + Sync>(rt: &HostRuntime, host: &R, task: &Task<'_>) 
         Task::Journal(file, rounds) => journal::bench(rt, file, *rounds),
         Task::Store(file, rounds) => store::bench(rt, file, *rounds),
         Task::Desk(file, rounds) => desk::bench(rt, host, file, *rounds),
+        // it is called where the program's own files are
+        Task::Crawl(..) => Ok(()),
         Task::Match(rounds) => matching::bench(rt, *rounds),
         Task::View(files) => viewing::bench(rt, *files),
         Task::Memory(files) => sharing::bench(rt, *files),
@@ -48,7 +53,15 @@ fn main(rt: HostRuntime) -> Result<ExitCode> {
         return Ok(ExitCode::from(2));
     };
     for task in &tasks {
-        bench(&rt, &rt, task)?;
+        if let Task::Crawl(folder, workers) = task {
+            let root = RootPath::read(alloc, folder)
+                .ok()
+                .context("no absolute path")?;
+            let tree = FolderTree::new(rt.clone()?, root);
+            crawling::bench(&rt, &tree, *workers)?;
+        } else {
+            bench(&rt, &rt, task)?;
+        }
     }
     Ok(ExitCode::from(0))
 }

@@ -1,10 +1,11 @@
 //! The program's words: one or more tasks, one behind the other.
 
 use std::alloc::{AllocError, Global};
+use wm_crawler::MAX_WORKERS;
 
 /// What wrong words are answered.
 pub const USAGE: &str =
-    "usage: bench (journal FILE ROUNDS | store FILE ROUNDS | desk FILE ROUNDS | match ROUNDS | view FILES | memory FILES)..";
+    "usage: bench (journal FILE ROUNDS | store FILE ROUNDS | desk FILE ROUNDS | crawl FOLDER WORKERS | match ROUNDS | view FILES | memory FILES)..";
 
 /// What is measured.
 #[derive(Drop)]
@@ -17,6 +18,8 @@ pub enum Task<'a> {
     /// A desk on files that must not be there yet, of this name with `.sync`, `.1`, `.8` and `.31` behind it, and how many
     /// commands from each thread: 1 to 2^32 - 1.
     Desk(&'a str, u32),
+    /// A crawl of the folder at an absolute path, by so many workers: 1 to 16.
+    Crawl(&'a str, usize),
     /// `match` on hard patterns, so many times of each: 1 to 2^32 - 1.
     Match(u32),
     /// A view of so many files, and what is asked of it: 1,000 to 100,000,000.
@@ -29,6 +32,14 @@ pub enum Task<'a> {
 fn files(word: &str) -> Option<u64> {
     match word.parse::<u64>() {
         Ok(files) if 1_000 <= files && files <= 100_000_000 => Some(files),
+        _ => None,
+    }
+}
+
+/// The number of workers that a word is.
+fn workers(word: &str) -> Option<usize> {
+    match word.parse::<usize>() {
+        Ok(workers) if 1 <= workers && workers <= MAX_WORKERS => Some(workers),
         _ => None,
     }
 }
@@ -49,6 +60,7 @@ impl<'a> Task<'a> {
                 "journal" => Some(Task::Journal(*file, rounds(number)?)),
                 "store" => Some(Task::Store(*file, rounds(number)?)),
                 "desk" => Some(Task::Desk(*file, rounds(number)?)),
+                "crawl" => Some(Task::Crawl(*file, workers(number)?)),
                 _ => None,
             },
             [word, number] => match *word {
@@ -101,6 +113,9 @@ mod tests {
         (&["journal", "f", "0"], None),
         (&["desk", "f", "1"], Some(1)),
         (&["desk", "f", "0"], None),
+        (&["crawl", "/", "1", "crawl", "/", "16"], Some(2)),
+        (&["crawl", "/", "0"], None),
+        (&["crawl", "/", "17"], None),
         (&["store", "f", "4294967296"], None),
         (&["view", "999"], None),
         (&["memory", "100000001"], None),
