@@ -10,7 +10,7 @@ SOURCES := crates.txt $(shell find crates -name out -prune -o -type f \( -name '
 .PHONY: help clean uninstall test lint build run install bench bench-journal bench-store bench-desk idle-desk bench-crawl bench-view bench-match crawl-tree session examples kill state-file file-calls
 
 help:
-	@echo "make test          the whole gate: each proof from nothing, edits that must be refused, tests, programs (rt; an hour on two cores)"
+	@echo "make test          the whole gate: each proof from nothing, edits that must be refused, tests, programs (rt; two hours on two cores)"
 	@echo "make lint          what the gate doesn't see: no definition's name in the specs of two crates, and no use of another crate's proofs/ (sh, awk; at once)"
 	@echo "make build         builds watchmand (rt; some 20 minutes the first time, since it proves it)"
 	@echo "make run           answers request lines from standard input over STATE=$(STATE), which it makes where it isn't there"
