@@ -2,7 +2,7 @@
 # How long a crawl takes beside `find -printf`, of trees of 20,000 and 100,000 entries that it makes (100 or so
 # modules of 19 folders with 51 files each), by 1, 2 and 4 workers: the least of so many rounds, in milliseconds,
 # and how many times as fast as find it is. Each round runs find and each number of workers in turn.
-# With a third word it also crawls a tree of so many modules, and tells the memory.
+# With a third word it also crawls a tree of so many modules by 4 workers, and tells the memory: 1012 make a million entries.
 # Usage: bench/crawl.sh PROGRAM [ROUNDS] [MODULES]
 set -eu
 program=$(realpath "${1:-crates/bench/out/bench}")

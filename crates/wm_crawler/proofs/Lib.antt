@@ -2,6 +2,7 @@ mod Elements
 mod Levels
 mod Readable
 mod Results
+mod Sorted
 mod Steps
 mod Unfit
 mod Walks

@@ -1,6 +1,8 @@
 //! What a folder holds.
 //! Definitions: specs/Trees.antt. Tests: crawler_tests/src/crawls.rt.
 ghost use Rattle.std.specs.Prelude.{◌≡◌, ◌+◌, ◌-◌, ◌*◌, ◌^◌, ◌++◌, ◌∷◌, [], min, map, string_bytes, IfOk, OnOk, OnErr};
+ghost use Rattle.std.specs.List.Sorted.{IsPermutation, IsSorted};
+ghost use Rattle.wm_names.specs.Paths.{path_cmp};
 ghost use Rattle.wm_crawler.specs.Trees.{Held};
 
 use std::alloc::Global;
@@ -48,6 +50,16 @@ impl Dir {
         ensures { self.new ≡ record self.old { others = min (self.old.others + 1) (2 ^ 64 - 1) } }
     {
         self.others = self.others.saturating_add(1);
+    }
+
+    /// Puts the names in the order of their bytes. Without memory nothing is changed.
+    pub(crate) fn sort(&mut self) -> Result<(), NoMemory>
+        ensures same { IsPermutation self.old.names self.new.names × (self.new.others ≡ self.old.others) }
+        ensures sorted { OnOk result (IsSorted path_cmp self.new.names) }
+        ensures err { OnErr result (self.new ≡ self.old) }
+    {
+        self.names.sort()?;
+        Ok(())
     }
 
     /// How many names aren't text.

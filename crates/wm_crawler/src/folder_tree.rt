@@ -8,16 +8,25 @@ use crate::tree::Tree;
 use std::alloc::Global;
 use std::fs::{Files, Metadata};
 use std::io::{Error, ErrorKind, Read};
+use std::marker::Model;
 use std::os::unix::fs::MetadataExt;
 use wm_disk::{MAX_COUNTER, NoMemory, Refusal};
 use wm_names::{Kind, Meta, RelPath, RootPath, Subtree};
 
 /// A folder of the file system, with what stands below it. Other programs may change it at any time, so a
-/// crawl of it promises nothing of what it lists; that it lists what is there is tested.
+/// crawl of it promises nothing of what it lists; that it lists what is there is tested. Contracts see its root.
 #[derive(Drop)]
 pub struct FolderTree<F> {
     files: F,
     root: RootPath,
+}
+
+impl<F> Model for FolderTree<F> {
+    ghost use Rattle.wm_names.specs.Paths.{Path};
+
+    ghost Value = { Path };
+
+    ghost view = { λ t. t.root };
 }
 
 fn kind_of(found: &Metadata) -> Kind {
@@ -86,7 +95,8 @@ fn add_names(alloc: Global, dir: &mut Dir, names: &[u8]) -> Result<(), NoMemory>
     Ok(())
 }
 
-/// Reads names to their end.
+/// Reads names to their end, and puts them in order: what a crawl finds then stands nearly as its listing wants it,
+/// and folders are sorted by all workers.
 fn read_names(alloc: Global, names: &mut impl Read) -> Result<Dir, Refusal>
     ensures { IfErr result (λ e. e ≢ no_memory → e ≡ DeviceFailed) }
 {
@@ -100,13 +110,16 @@ fn read_names(alloc: Global, names: &mut impl Read) -> Result<Dir, Refusal>
             Err(_) => return Err(Refusal::DeviceFailed),
         }
     }
+    dir.sort()?;
     Ok(dir)
 }
 
 impl<F: Files + Drop> FolderTree<F> {
     /// The tree of the folder at a path. Nothing is read yet. A link that the root's path ends in is
     /// followed; one inside the tree never is.
-    pub fn new(files: F, root: RootPath) -> FolderTree<F> {
+    pub fn new(files: F, root: RootPath) -> FolderTree<F>
+        ensures { result ≡ root }
+    {
         FolderTree { files, root }
     }
 

@@ -1,6 +1,6 @@
 //! The path of a name in a folder.
 //! Definitions: specs/Trees.antt, specs/Levels.antt. Tests: crawler_tests/src/crawls.rt.
-ghost use Rattle.std.specs.Prelude.{◌≡◌, ◌==◌, not, string_bytes, IfOk};
+ghost use Rattle.std.specs.Prelude.{◌≡◌, ◌==◌, not, string_bytes, IfOk, OnOk};
 ghost use Rattle.std.specs.List.{list_all};
 ghost use Rattle.wm_crawler.specs.Trees.{join};
 ghost use Rattle.wm_crawler.specs.Levels.{path_of};
@@ -9,24 +9,20 @@ use std::alloc::Global;
 use wm_disk::{NoMemory, Refusal};
 use wm_names::{RelPath, Subtree};
 
-/// The text of a name's path.
-fn joined(alloc: Global, folder: &Subtree, name: &str) -> Result<String, NoMemory>
-    ensures { IfOk result (λ t. string_bytes t ≡ join folder.now name.now) }
+/// Makes the text that of a name's path. Without memory it is some text.
+fn join_in(text: &mut String, folder: &Subtree, name: &str) -> Result<(), NoMemory>
+    ensures { OnOk result (string_bytes text.new ≡ join folder.now name.now) }
 {
+    text.clear();
     match folder {
-        Subtree::Whole => {
-            let text = String::from_str(alloc, name)?;
-            Ok(text)
-        }
+        Subtree::Whole => text.push_str(name)?,
         Subtree::Below(path) => {
-            let folder = path.as_str();
-            let mut text = String::with_capacity(alloc, folder.len() + name.len() + 1)?;
-            text.push_str(folder)?;
+            text.push_str(path.as_str())?;
             text.push('/')?;
             text.push_str(name)?;
-            Ok(text)
         }
     }
+    Ok(())
 }
 
 /// Whether the name is one part of a path.
@@ -36,9 +32,10 @@ fn has_no_slash(name: &[u8]) -> bool
     name.iter().all(|byte| *byte != b'/')
 }
 
-/// The path of a name that fits.
+/// The path of a name that fits. The text is room to write it in.
 pub(crate) fn path_of(
     alloc: Global,
+    text: &mut String,
     folder: &Subtree,
     name: &str,
 ) -> Result<Option<RelPath>, NoMemory>
@@ -47,8 +44,8 @@ pub(crate) fn path_of(
     if !has_no_slash(name.as_bytes()) {
         return Ok(None);
     }
-    let text = joined(alloc, folder, name)?;
-    match RelPath::read(alloc, &text) {
+    join_in(text, folder, name)?;
+    match RelPath::read(alloc, text) {
         Ok(path) => Ok(Some(path)),
         Err(Refusal::NoMemory) => Err(NoMemory),
         Err(_) => Ok(None),

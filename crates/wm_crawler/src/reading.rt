@@ -26,12 +26,18 @@ pub(crate) struct Level {
 }
 
 /// Adds the path of a name, where it fits.
-fn add_name(alloc: Global, level: &mut Level, folder: &Subtree, name: &str) -> Result<(), NoMemory>
+fn add_name(
+    alloc: Global,
+    level: &mut Level,
+    text: &mut String,
+    folder: &Subtree,
+    name: &str,
+) -> Result<(), NoMemory>
     ensures paths { OnOk result (level.new.paths.items ≡ level.old.paths.items ++ cons_option (path_of_lem folder.now name.now) []) }
     ensures faults { OnOk result (level.new.faults ≡ counted (level.old.faults + count_by (λ n. not (is_fit folder.now n)) (name.now ∷ []))) }
 {
     let faults = level.faults;
-    match path_of(alloc, folder, name)? {
+    match path_of(alloc, text, folder, name)? {
         Some(path) => level.paths.push(path)?,
         None => level.faults = faults.saturating_add(1),
     }
@@ -49,8 +55,9 @@ fn add_names(
     ensures paths { OnOk result (level.new.paths.items ≡ level.old.paths.items ++ filter_map (path_of_lem folder.now) (map string_bytes names.now)) }
     ensures faults { OnOk result (level.new.faults ≡ counted (level.old.faults + count_by (λ n. not (is_fit folder.now n)) (map string_bytes names.now))) }
 {
+    let mut text = String::new(alloc);
     for name in names {
-        add_name(alloc, level, folder, name)?;
+        add_name(alloc, level, &mut text, folder, name)?;
     }
     Ok(())
 }
