@@ -4,7 +4,8 @@
 //! file (specs/Subscribers.antt). A client that applies what it is told holds exactly the matching
 //! files of the view, after each call on a view that is ready (specs/Folds.antt);
 //! [`every_subscription`] has that over whole runs. [`Subscriptions`] has those of one session, in
-//! the order of subscribing (specs/SessionLists.antt).
+//! the order of subscribing (specs/SessionLists.antt). [`Subscription::next`] is told of what a viewer of
+//! `wm_share` has seen, while the root's keeper goes on.
 #![tactic(auto)]
 
 mod laws;

@@ -15,6 +15,8 @@ use wm_disk::Refusal;
 use wm_since::{Answer, Query, Test, answer, every_client};
 use wm_view::View;
 
+mod following;
+
 /// What a client is told of one root, each time since the clock up to which it was told. Contracts
 /// see its name, what it asks next, and whether an answer was told.
 #[derive(Drop)]

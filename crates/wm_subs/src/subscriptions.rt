@@ -98,7 +98,7 @@ impl<T: Test> Subscriptions<T> {
     }
 
     /// Whether there is one of the root and name.
-    fn holds(&self, root: &RootPath, name: &SubscriptionName) -> bool
+    pub fn holds(&self, root: &RootPath, name: &SubscriptionName) -> bool
         ensures { result ≡ is_subscribed root.now name.now self.now }
     {
         self.all

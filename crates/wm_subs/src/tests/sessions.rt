@@ -48,6 +48,11 @@ fn removes(
     Ok(all.remove(&root, &SubscriptionName::read(alloc, name)?))
 }
 
+fn holds(alloc: Global, all: &Subscriptions<Every>, root: &str, name: &str) -> Result<bool, Fail> {
+    let root = RootPath::read(alloc, root)?;
+    Ok(all.holds(&root, &SubscriptionName::read(alloc, name)?))
+}
+
 /// The subscriptions as a text: the root, the name and the first field of each.
 fn shown(alloc: Global, all: &Subscriptions<Every>) -> Result<String, Fail> {
     let mut text = String::new(alloc);
@@ -90,6 +95,8 @@ fn has_room_for_32(rt: HostRuntime) -> Result<(), Fail> {
     assert!(rt; !puts(alloc, &mut all, "/r", "another", "name")?);
     assert!(rt; puts(alloc, &mut all, "/r", "7", "name")?);
     assert!(rt; all.as_slice().len() == 32);
+    assert!(rt; holds(alloc, &all, "/r", "7")?);
+    assert!(rt; !holds(alloc, &all, "/q", "7")? && !holds(alloc, &all, "/r", "another")?);
     Ok(())
 }
 

@@ -1,0 +1,16 @@
+//! Tests of shares (`wm_share`), and of subscriptions that follow a viewer (`wm_subs`).
+//!
+//! What each call promises stands in its contract; here is that the calls succeed with ample memory, with what
+//! they tell then written out by hand, and that a viewer on another thread reads what was told.
+#![tactic(auto)]
+
+#[cfg(test)]
+mod following;
+#[cfg(test)]
+mod making;
+#[cfg(test)]
+mod pools;
+#[cfg(test)]
+mod shares;
+#[cfg(test)]
+mod telling;

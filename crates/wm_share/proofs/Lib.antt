@@ -1,0 +1,4 @@
+pub mod Fronts
+pub mod Logs
+pub mod Adding
+pub mod Lists

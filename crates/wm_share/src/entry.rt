@@ -1,0 +1,10 @@
+//! An entry of the log: an operation, and the share on which it was handed in.
+//! Definitions: specs/Logs.antt. Tests: share_tests/src/shares.rt.
+use wm_view::Op;
+
+/// An operation of the share with this number.
+#[derive(Drop)]
+pub struct Entry {
+    pub share: u64,
+    pub op: Op,
+}

@@ -1,0 +1,76 @@
+//! A subscription that follows a viewer, while the root's keeper goes on.
+//! Definitions: specs/Subscribers.antt, specs/Folds.antt. Tests: share_tests/src/following.rt.
+ghost use Rattle.std.specs.Prelude.{◌≡◌, ◌⊎◌, IfOk, IfErr, OnErr};
+ghost use Rattle.wm_share.specs.PublishedLists.{Begins, history};
+ghost use Rattle.wm_subs.specs.Subscribers.{after_due, due_answer};
+ghost use Rattle.wm_subs.specs.Folds.{FoldsOn};
+
+use super::Subscription;
+use std::alloc::Global;
+use wm_disk::Refusal;
+use wm_share::{Naming, Viewer};
+use wm_since::{Answer, Test, every_client};
+
+impl<T: Test> Subscription<T> {
+    /// What is to be told on what the viewer has then seen.
+    fn due_of<J: Naming>(
+        &self,
+        alloc: Global,
+        viewer: &mut Viewer<J>,
+    ) -> Result<Option<Answer>, Refusal>
+        ensures seen { Begins viewer.old viewer.new }
+        ensures due { IfOk result (λ o. o ≡ due_answer (T.passes self.now.query.test) (history viewer.new) self.now) }
+        ensures refused { IfErr result (λ e. (e ≡ Refusal.NoMemory) ⊎ (e ≡ Refusal.NoPlace)) }
+    {
+        let answer = match viewer.answer(alloc, &self.query) {
+            Ok(answer) => answer,
+            Err(Refusal::NotReady) => return Ok(None),
+            Err(refusal) => return Err(refusal),
+        };
+        if self.is_told && !answer.fresh && answer.files.as_slice().is_empty() {
+            return Ok(None);
+        }
+        Ok(Some(answer))
+    }
+
+    /// What is to be told on what the viewer has then seen, taken as told.
+    fn take_next<J: Naming>(
+        &mut self,
+        alloc: Global,
+        viewer: &mut Viewer<J>,
+    ) -> Result<Option<Answer>, Refusal>
+        ensures seen { Begins viewer.old viewer.new }
+        ensures due { IfOk result (λ o. o ≡ due_answer (T.passes self.old.query.test) (history viewer.new) self.old) }
+        ensures moved { IfOk result (λ o. self.new ≡ after_due self.old o) }
+        ensures refused { IfErr result (λ e. (e ≡ Refusal.NoMemory) ⊎ (e ≡ Refusal.NoPlace)) }
+        ensures err { OnErr result (self.new ≡ self.old) }
+    {
+        let due = self.due_of(alloc, viewer)?;
+        if let Some(answer) = &due {
+            self.told(answer.clock);
+        }
+        Ok(due)
+    }
+
+    /// What is to be told on a published list that begins with all that the viewer had seen or learnt, and
+    /// that it has then seen. `None` where the view isn't ready after that list, or the answer since the last
+    /// clock is neither the first nor fresh and lists no file. An answer is taken as told: the next is since
+    /// its clock. `None` changes nothing, nor does a refusal: `NoPlace` where the keeper is gone, and
+    /// `NoMemory`.
+    pub fn next<J: Naming>(
+        &mut self,
+        alloc: Global,
+        viewer: &mut Viewer<J>,
+    ) -> Result<Option<Answer>, Refusal>
+        ensures seen { Begins viewer.old viewer.new }
+        ensures due { IfOk result (λ o. o ≡ due_answer (T.passes self.old.query.test) (history viewer.new) self.old) }
+        ensures moved { IfOk result (λ o. self.new ≡ after_due self.old o) }
+        ensures folds { IfOk result (λ o. FoldsOn (T.passes self.old.query.test) (history viewer.new) self.old o self.new) }
+        ensures refused { IfErr result (λ e. (e ≡ Refusal.NoMemory) ⊎ (e ≡ Refusal.NoPlace)) }
+        ensures err { OnErr result (self.new ≡ self.old) }
+    {
+        every_client();
+        let due = self.take_next(alloc, viewer)?;
+        Ok(due)
+    }
+}
