@@ -4,6 +4,7 @@ mod listed;
 mod observed;
 mod queries;
 mod shown;
+mod subscriptions;
 mod triggers;
 
 use self::shown::show;
@@ -20,6 +21,8 @@ const PATH: &str = "4 BadPath";
 const CLOCK: &str = "7 BadClock";
 
 const EXPRESSION: &str = "8 BadExpression";
+
+const FIELD: &str = "9 BadField";
 
 /// What is read of a line, or the refusal.
 fn read(alloc: Global, line: &str) -> Result<String, Fail> {
@@ -50,8 +53,9 @@ fn reads_requests(rt: HostRuntime) -> Result<(), Fail> {
 }
 
 #[test]
-fn reads_queries(rt: HostRuntime) -> Result<(), Fail> {
-    assert_reads(&rt, rt.alloc(), queries::ROWS)
+fn reads_queries_and_subscriptions(rt: HostRuntime) -> Result<(), Fail> {
+    assert_reads(&rt, rt.alloc(), queries::ROWS)?;
+    assert_reads(&rt, rt.alloc(), subscriptions::ROWS)
 }
 
 #[test]

@@ -27,10 +27,17 @@ fn root(alloc: Global) -> Result<RootPath, Fail> {
     Ok(RootPath::read(alloc, "/r")?)
 }
 
-fn watch(alloc: Global, path: &str) -> Result<Event, Fail> {
+/// A batch that watches these paths.
+fn watch_all(alloc: Global, paths: &[&str]) -> Result<Event, Fail> {
     let mut commands = Vec::new(alloc);
-    commands.push(Command::Watch(RootPath::read(alloc, path)?))?;
+    for path in paths {
+        commands.push(Command::Watch(RootPath::read(alloc, path)?))?;
+    }
     Ok(Event::Commands(commands))
+}
+
+fn watch(alloc: Global, path: &str) -> Result<Event, Fail> {
+    watch_all(alloc, &[path])
 }
 
 fn file(size: u64) -> Meta {

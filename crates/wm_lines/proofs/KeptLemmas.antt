@@ -15,7 +15,7 @@ use Rattle.wm_expr.specs.Readings.{comparison_of, each, expression_of, joined, k
 use Rattle.wm_expr.specs.Terms.{AllOf, AnyOf, Match, Name, OfType, Size, Suffix, Term, Terms}
 use Rattle.wm_names.specs.Paths.{Path}
 use Rattle.wm_registry.specs.declared.root.Root.{Root}
-use Rattle.wm_lines.specs.KeptExpressions.{expression_shown, has_expression, have_expressions, is_expression, kept_text}
+use Rattle.wm_lines.specs.KeptExpressions.{expression_shown, has_expression, is_expression, kept_text}
 
 -- ---- where an optional value made of others is there, so are they
 

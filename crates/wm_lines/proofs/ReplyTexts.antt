@@ -23,8 +23,9 @@ use Rattle.wm_lines.proofs.KeptLemmas.{shown_no_float}
 use Rattle.wm_since.specs.Rendered.{files_data}
 use Rattle.wm_since.specs.declared.field.Field.{Field}
 use Rattle.wm_since.specs.declared.query.Answer.{Answer}
-use Rattle.wm_lines.specs.AnswerTexts.{answer_tail, answer_text}
-use Rattle.wm_lines.specs.Replies.{answer_reply, clock_reply, command_reply, floor_reply, paths_of, roots_reply, line_text, query_reply, refusal_reply, stdin_text, trigger_data, triggers_reply, with_expression}
+use Rattle.wm_subs.specs.declared.subscribed.Subscribed.{Subscribed}
+use Rattle.wm_lines.specs.AnswerTexts.{answer_tail, answer_text, due_tail, due_text}
+use Rattle.wm_lines.specs.Replies.{answer_reply, clock_reply, command_reply, due_data, due_object, floor_reply, paths_of, roots_reply, line_text, query_reply, refusal_reply, stdin_text, trigger_data, triggers_reply, with_expression}
 
 paths_no_float : (roots : List (Path × Root)) → items_have_float (items_of (paths_of roots)) ≡ false
 paths_no_float [] = refl
@@ -157,3 +158,23 @@ pub answer_line : (fields : List Field) (a : Answer) → line_text (query_reply 
 answer_line fields a =
     answer_around (clock_text a.clock) (files_data fields a) a.fresh
     ∙ ap (λ (s : List ℕ). (((codes "{\"clock\":\"" ++ s) ++ codes "\",\"files\":") ++ compact_text (files_data fields a)) ++ answer_tail a.fresh) (plain_clock a.clock)
+
+-- ---- the line that is told unasked
+
+around_texts : (e m f t r k n w l : List ℕ)
+    → ((e ++ 34 ∷ []) ++ (m ++ (f ++ (t ++ 34 ∷ ((r ++ 34 ∷ []) ++ (k ++ 34 ∷ ((n ++ 34 ∷ []) ++ w))))))) ++ l
+    ≡ ((e ++ 34 ∷ m) ++ f) ++ ((((t ++ 34 ∷ (r ++ 34 ∷ [])) ++ k) ++ 34 ∷ (n ++ 34 ∷ [])) ++ (w ++ l))
+around_texts e m f t r k n w l = simp append_assoc
+
+-- such a line, around the texts of its files, its root and its name
+due_around : (s : List ℕ) (files : Data) (fresh : Bool) (root name : List ℕ) → line_text (due_object s files fresh root name) ≡ (((codes "{\"clock\":\"" ++ escape s) ++ codes "\",\"files\":") ++ compact_text files) ++ due_tail fresh root name
+unfolding line_text serde_json_on_literals
+due_around s files true root name =
+    ap (λ (t : List ℕ). codes "{\"clock\":\"" ++ t) (around_texts (escape s) (codes ",\"files\":") (compact_text files) (codes ",\"is_fresh_instance\":true,\"root\":") (escape root) (codes ",\"subscription\":") (escape name) (codes ",\"unilateral\":true,\"version\":\"w1\"}") (10 ∷ []))
+due_around s files false root name =
+    ap (λ (t : List ℕ). codes "{\"clock\":\"" ++ t) (around_texts (escape s) (codes ",\"files\":") (compact_text files) (codes ",\"is_fresh_instance\":false,\"root\":") (escape root) (codes ",\"subscription\":") (escape name) (codes ",\"unilateral\":true,\"version\":\"w1\"}") (10 ∷ []))
+
+pub due_line : {T : Type 0} (s : Subscribed T) (a : Answer) → line_text (due_data s a) ≡ due_text s a
+due_line s a =
+    due_around (clock_text a.clock) (files_data s.fields a) a.fresh s.root s.subscription.name
+    ∙ ap (λ (c : List ℕ). (((codes "{\"clock\":\"" ++ c) ++ codes "\",\"files\":") ++ compact_text (files_data s.fields a)) ++ due_tail a.fresh s.root s.subscription.name) (plain_clock a.clock)

@@ -11,4 +11,5 @@ pub mod Metadata
 pub mod PairLines
 pub mod QueryLines
 pub mod Replies
+pub mod SubscribeLines
 pub mod TriggerLines

@@ -15,6 +15,7 @@ use Rattle.wm_lines.specs.ListingLines.{listing_request}
 use Rattle.wm_lines.specs.QueryLines.{query_request}
 use Rattle.wm_lines.specs.PairLines.{observe_request}
 use Rattle.wm_lines.specs.declared.request.Request.TheVariants.{Version, Watch, WatchDel, WatchList, TriggerList, Clock}
+use Rattle.wm_lines.specs.SubscribeLines.{subscribe_request, unsubscribe_request}
 use Rattle.wm_lines.specs.TriggerLines.{trigger_request, trigger_del_request}
 
 -- the most bytes of a line, its newline among them
@@ -55,7 +56,9 @@ command_named d (Some name) =
     else (if bytes_eq name (codes "clock") then request_with (λ path. Clock path) (only_root d)
     else (if bytes_eq name (codes "since") then since_request d
     else (if bytes_eq name (codes "query") then query_request d
-    else Err BadCommand))))))))))))
+    else (if bytes_eq name (codes "subscribe") then subscribe_request d
+    else (if bytes_eq name (codes "unsubscribe") then unsubscribe_request d
+    else Err BadCommand))))))))))))))
 
 unfoldable pub request_of : Data → Result Request Refusal
 request_of d = command_named d (option_and_then as_str (at 0 d))

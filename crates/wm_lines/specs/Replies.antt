@@ -10,6 +10,7 @@ use Rattle.wm_clock.specs.declared.clock_id.ClockId.{ClockId}
 use Rattle.wm_since.specs.declared.field.Field.{Field}
 use Rattle.wm_since.specs.Rendered.{files_data}
 use Rattle.wm_since.specs.declared.query.Answer.{Answer}
+use Rattle.wm_subs.specs.declared.subscribed.Subscribed.{Subscribed}
 use Rattle.wm_registry.specs.declared.root.Root.{Root}
 use Rattle.wm_registry.specs.declared.stdin.Stdin.{Stdin}
 use Rattle.wm_registry.specs.declared.stdin.Stdin.TheVariants.{DevNull, NamePerLine}
@@ -118,6 +119,30 @@ answer_reply clock files is_fresh =
 
 abbrev pub query_reply : List Field → Answer → Data
 query_reply fields answer = answer_reply (clock_text answer.clock) (files_data fields answer) answer.fresh
+
+-- ---- subscriptions
+
+abbrev pub subscribe_reply : ClockId → List ℕ → Data
+subscribe_reply clock name =
+    object (member (codes "clock") (string (clock_text clock)) (member (codes "subscribe") (string name) (member (codes "version") (string (codes "w1")) no_members)))
+
+abbrev pub unsubscribe_reply : Bool → List ℕ → Data
+unsubscribe_reply is_deleted name =
+    object (member (codes "deleted") (boolean is_deleted) (member (codes "unsubscribe") (string name) (member (codes "version") (string (codes "w1")) no_members)))
+
+abbrev pub due_object : List ℕ → Data → Bool → List ℕ → List ℕ → Data
+due_object clock files is_fresh root name =
+    object (member (codes "clock") (string clock)
+    (member (codes "files") files
+    (member (codes "is_fresh_instance") (boolean is_fresh)
+    (member (codes "root") (string root)
+    (member (codes "subscription") (string name)
+    (member (codes "unilateral") (boolean true)
+    (member (codes "version") (string (codes "w1")) no_members)))))))
+
+-- what is told unasked: an answer that is due to a subscription
+abbrev pub due_data : {T : Type 0} → Subscribed T → Answer → Data
+due_data s answer = due_object (clock_text answer.clock) (files_data s.fields answer) answer.fresh s.root s.subscription.name
 
 -- a reply and its newline
 unfoldable pub line_text : Data → List ℕ

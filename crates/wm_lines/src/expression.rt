@@ -1,6 +1,8 @@
 //! Expressions as lines have them. Contracts see the terms of `wm_expr`, spelled in specs/Expressions.
 //! Tests: session_tests/src/lines/expressions.rt.
 ghost use Rattle.std.specs.Prelude.{◌≡◌, ◌≢◌, Some, None, IfOk, IfErr};
+ghost use Rattle.wm_expr.specs.Meanings.{holds as holds_lem, is_path_only as is_path_only_lem};
+ghost use Rattle.wm_expr.specs.PathLaws.{reads_path_alone};
 ghost use Rattle.serde_json.specs.View.{view};
 ghost use Rattle.wm_expr.specs.Readings.{expression_of};
 ghost use Rattle.wm_expr.specs.Terms.{Always};
@@ -9,8 +11,10 @@ ghost use Rattle.wm_expr.specs.Views.{term};
 use serde_json::Value;
 use std::alloc::Global;
 use std::marker::Model;
-use wm_disk::Refusal;
+use wm_disk::{NoMemory, Refusal};
 use wm_expr::Expr;
+use wm_names::Entry;
+use wm_since::Test;
 
 /// An expression that a line has. Contracts see its term.
 #[derive(Drop)]
@@ -53,5 +57,26 @@ impl Expression {
         ensures { term result ≡ self }
     {
         self.expr
+    }
+}
+
+impl Test for Expression {
+    ghost passes = { λ test. holds_lem test };
+
+    ghost path_only = { λ test. is_path_only_lem test };
+
+    ghost by_path = { λ test. reads_path_alone test };
+
+    fn holds(&self, entry: &Entry) -> bool {
+        Expr::holds(&self.expr, entry)
+    }
+
+    fn is_path_only(&self) -> bool {
+        Expr::is_path_only(&self.expr)
+    }
+
+    fn copy(&self, alloc: Global) -> Result<Expression, NoMemory> {
+        let expr = Expr::copy(&self.expr, alloc)?;
+        Ok(Expression { expr })
     }
 }

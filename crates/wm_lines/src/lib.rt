@@ -20,6 +20,7 @@ mod query;
 pub mod reply;
 mod request;
 mod since;
+mod subscribe;
 mod triggers;
 
 pub use expression::Expression;

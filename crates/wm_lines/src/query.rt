@@ -32,7 +32,7 @@ pub struct Inquiry {
 }
 
 /// Whether an object has no keys but the known ones.
-fn has_query_keys(object: &Value) -> bool
+pub(crate) fn has_query_keys(object: &Value) -> bool
     ensures { result ≡ has_query_keys_lem (view object.now) }
 {
     let clocks = one_for(object, "since");
@@ -47,7 +47,7 @@ fn has_query_keys(object: &Value) -> bool
 }
 
 /// Whether the clock, the fields and the timeout are of their kinds, where they are there.
-fn has_query_kinds(object: &Value) -> bool
+pub(crate) fn has_query_kinds(object: &Value) -> bool
     ensures { result ≡ has_query_kinds_lem (view object.now) }
 {
     object.get("since").is_none_or(may_be_clock)
@@ -106,7 +106,11 @@ fn fields(alloc: Global, value: Option<&Value>) -> Result<Fields, Refusal>
 }
 
 /// What an object asks, whose keys and kinds were looked at.
-fn inquiry_in(alloc: Global, object: &Value, empty_on_fresh: bool) -> Result<Inquiry, Refusal>
+pub(crate) fn inquiry_in(
+    alloc: Global,
+    object: &Value,
+    empty_on_fresh: bool,
+) -> Result<Inquiry, Refusal>
     ensures ok { IfOk result (λ q. inquiry_in_lem empty_on_fresh (view object.now) ≡ Ok q) }
     ensures refused { IfErr result (λ e. e ≢ Refusal.NoMemory → inquiry_in_lem empty_on_fresh (view object.now) ≡ Err e) }
 {

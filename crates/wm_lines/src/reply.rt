@@ -8,11 +8,14 @@ ghost use Rattle.wm_lines.specs.Replies.{clock_reply, command_reply, disposition
 ghost use Rattle.serde_json.specs.Data.{member, string};
 ghost use Rattle.wm_lines.specs.KeptExpressions.{expression_shown as expression_shown_lem};
 
+mod subscriptions;
+
 use crate::kept_expression::expression_in;
 use crate::progress::Progress;
 use indexmap::IndexMap;
 use serde_json::{Value, json};
 use std::alloc::{AllocError, Global};
+pub use subscriptions::{put_due, put_subscribe, put_unsubscribe};
 use wm_clock::{ClockId, put_number};
 use wm_disk::{NoMemory, Refusal};
 use wm_names::RootPath;

@@ -10,12 +10,14 @@ use crate::listing::listing;
 use crate::pairs::observe;
 use crate::query::{Inquiry, query};
 use crate::since::since;
+use crate::subscribe::{subscribe, unsubscribe};
 use crate::triggers::{trigger, trigger_del};
 use serde_json::Value;
 use std::alloc::Global;
 use wm_disk::Refusal;
 use wm_names::RootPath;
 use wm_registry::{Trigger, TriggerName};
+use wm_subs::SubscriptionName;
 use wm_view::{Listing, Pairs};
 
 /// What a line asks.
@@ -45,6 +47,10 @@ pub enum Request {
     Clock(RootPath),
     /// What changed in a root, or is there.
     Query(RootPath, Inquiry),
+    /// That what changes in a root be told in this session from now on, under that name.
+    Subscribe(RootPath, SubscriptionName, Inquiry),
+    /// That a root's subscription of that name end.
+    Unsubscribe(RootPath, SubscriptionName),
 }
 
 /// The most bytes of a line, its newline among them.
@@ -114,6 +120,8 @@ fn request_in(alloc: Global, value: &Value) -> Result<Request, Refusal>
         "clock" => Ok(Request::Clock(only_root(alloc, value)?)),
         "since" => since(alloc, value),
         "query" => query(alloc, value),
+        "subscribe" => subscribe(alloc, value),
+        "unsubscribe" => unsubscribe(alloc, value),
         _ => Err(Refusal::BadCommand),
     }
 }

@@ -1,4 +1,5 @@
 pub mod Asked
+pub mod Dues
 pub mod Faults
 pub mod Inputs
 pub mod Inquiries
@@ -6,5 +7,7 @@ pub mod Pages
 pub mod Reading
 pub mod Runs
 pub mod Sessions
+pub mod Stands
 pub mod Streams
+pub mod Telling
 pub mod Watched

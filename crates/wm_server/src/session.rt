@@ -1,14 +1,15 @@
-//! The session: a line to its reply, and the lines of a reader. Its definitions are in specs/session.
+//! The session: a line to its reply and what is due after it, and the lines of a reader. Its definitions are in specs/session.
 //! Tests: session_tests/src/lines.
 ghost use Rattle.std.specs.Prelude.{◌≡◌, ◌≢◌, Ok, Err, [], ◌∷◌, ◌++◌, ◌+◌, ◌≤◌, ◌<◌, List, ℕ, vec_len, vec_capacity, IfOk, IfErr, OnOk, OnErr};
 ghost use Rattle.wm_registry.specs.Roots.{root_at};
 ghost use Rattle.wm_server.specs.session.Asked.{asked_by};
 ghost use Rattle.wm_lines.specs.Lines.{request_of_line};
-ghost use Rattle.wm_server.specs.session.Sessions.{commanded, triggers_met, question_met, line_met, inquiry_met, handled, operation_outcome, view_of};
+ghost use Rattle.wm_server.specs.session.Sessions.{commanded, triggers_met, question_met, line_met, inquiry_met, handled, operation_outcome, by_request, subscriptions_by, view_of};
 ghost use Rattle.wm_lines.specs.Replies.{clock_reply};
 ghost use Rattle.wm_server.specs.session.Watched.{answer_of, clock_answer};
-ghost use Rattle.wm_server.specs.session.Faults.{RepliesTo, Way, faults_of, is_fault as is_fault_lem};
-ghost use Rattle.wm_server.specs.session.Pages.{Handles, Told, page};
+ghost use Rattle.wm_server.specs.session.Faults.{Meeting, RepliesTo, Way, faults_at, faults_of, is_fault as is_fault_lem, seen};
+ghost use Rattle.wm_server.specs.session.Stands.{without_subscriptions, standing};
+ghost use Rattle.wm_server.specs.session.Pages.{Handles, Replied, Told, page};
 ghost use Rattle.wm_server.specs.session.Inquiries.{inquired, point_answer};
 ghost use Rattle.wm_expr.specs.Meanings.{holds};
 ghost use Rattle.wm_expr.specs.Views.{term};
@@ -18,6 +19,7 @@ mod front;
 mod input;
 mod output;
 pub mod run;
+mod subscribing;
 
 pub use front::Front;
 pub use input::Input;
@@ -27,16 +29,18 @@ use wm_clock::{ClockId, ClockSpec};
 use wm_disk::{NoMemory, Refusal};
 use wm_expr::Expr;
 use wm_lines::reply::REFUSAL_ROOM;
-use wm_lines::{Inquiry, Request, reply};
+use wm_lines::{Expression, Inquiry, Request, reply};
 use wm_names::RootPath;
 use wm_registry::{Command, Reply};
 use wm_since::{Fields, Query};
+use wm_subs::Subscriptions;
 use wm_view::Op;
 
-/// One client's session on a front.
+/// One client's session on a front, with its subscriptions.
 #[derive(Drop)]
 pub struct Session<F> {
     pub front: F,
+    subscriptions: Subscriptions<Expression>,
 }
 
 /// Whether a refusal comes where its cause comes, and not by what is defined.
@@ -47,11 +51,15 @@ fn is_fault(refusal: Refusal) -> bool
 }
 
 impl<F: Front> Session<F> {
-    /// A session that has answered no line yet.
-    pub fn new(front: F) -> Session<F>
-        ensures { result.front ≡ front }
+    /// A session that has answered no line yet. It takes no memory.
+    pub fn new(alloc: Global, front: F) -> Session<F>
+        ensures front { result.front ≡ front }
+        ensures first { standing F.front_state result ≡ without_subscriptions (F.front_state front) }
     {
-        Session { front }
+        Session {
+            front,
+            subscriptions: Subscriptions::new(alloc),
+        }
     }
 
     /// Submits a command. Each reply that it may have is made first, with its room, so that an accepted
@@ -60,6 +68,7 @@ impl<F: Front> Session<F> {
         ensures met { Handles (commanded (F.front_state self.old.front).state command) (page (F.front_state self.old.front) out.old.items) result (page (F.front_state self.new.front) out.new.items) }
         ensures room { vec_capacity out.old ≤ vec_capacity out.new }
         ensures later { F.leads_to self.old.front (command ∷ []) self.new.front }
+        ensures kept { self.new.subscriptions ≡ self.old.subscriptions }
     {
         let changed = reply::line_to(alloc, &command, Reply::Changed)?;
         let replaced = reply::line_to(alloc, &command, Reply::Replaced)?;
@@ -98,6 +107,7 @@ impl<F: Front> Session<F> {
         ensures met { let s = (F.front_state self.old.front).state in Handles (operation_outcome s root.now op.now) (page (F.front_state self.old.front) out.old.items) result (page (F.front_state self.new.front) out.new.items) }
         ensures room { vec_capacity out.old ≤ vec_capacity out.new }
         ensures later { F.leads_to self.old.front [] self.new.front }
+        ensures kept { self.new.subscriptions ≡ self.old.subscriptions }
     {
         out.try_reserve(reply::PROGRESS_ROOM)?;
         match self.front.operate(alloc, root, op) {
@@ -163,6 +173,7 @@ impl<F: Front> Session<F> {
         ensures met { let s = (F.front_state self.old.front).state in Handles (inquiry_met s root.now inquiry (inquired (view_of s root.now) inquiry)) (page (F.front_state self.old.front) out.old.items) result (page (F.front_state self.new.front) out.new.items) }
         ensures room { vec_capacity out.old ≤ vec_capacity out.new }
         ensures later { F.leads_to self.old.front [] self.new.front }
+        ensures kept { self.new.subscriptions ≡ self.old.subscriptions }
     {
         let Inquiry {
             since,
@@ -190,14 +201,16 @@ impl<F: Front> Session<F> {
         request: Request,
         out: &mut Vec<u8>,
     ) -> Result<(), Refusal>
-        ensures met { Handles (handled (F.front_state self.old.front).state moment request) (page (F.front_state self.old.front) out.old.items) result (page (F.front_state self.new.front) out.new.items) }
+        ensures met { Handles (handled (F.front_state self.old.front).state self.old.subscriptions moment request) (page (F.front_state self.old.front) out.old.items) result (page (F.front_state self.new.front) out.new.items) }
         ensures room { vec_capacity out.old ≤ vec_capacity out.new }
         ensures later { F.leads_to self.old.front (asked_by (Ok request)) self.new.front }
+        ensures subscriptions { OnOk result (self.new.subscriptions ≡ subscriptions_by (F.front_state self.old.front).state self.old.subscriptions request) }
+        ensures err { OnErr result (self.new.subscriptions ≡ self.old.subscriptions) }
     {
         match request {
             Request::Version => reply::put_version(alloc, out)?,
             Request::Watch(path) => self.command(alloc, Command::Watch(path), out)?,
-            Request::WatchDel(path) => self.command(alloc, Command::WatchDel(path), out)?,
+            Request::WatchDel(path) => self.unwatch(alloc, path, out)?,
             Request::Trigger(path, trigger) => {
                 self.command(alloc, Command::Trigger(path, trigger), out)?
             }
@@ -217,6 +230,10 @@ impl<F: Front> Session<F> {
             }
             Request::Clock(root) => self.clock(&root, out)?,
             Request::Query(root, inquiry) => self.inquire(alloc, &root, inquiry, out)?,
+            Request::Subscribe(root, name, inquiry) => {
+                self.subscribe(alloc, root, name, inquiry, out)?
+            }
+            Request::Unsubscribe(root, name) => self.unsubscribe(alloc, &root, &name, out)?,
         }
         Ok(())
     }
@@ -229,17 +246,36 @@ impl<F: Front> Session<F> {
         line: &[u8],
         out: &mut Vec<u8>,
     ) -> Result<(), Refusal>
-        ensures met { Handles (line_met (F.front_state self.old.front).state moment line.now) (page (F.front_state self.old.front) out.old.items) result (page (F.front_state self.new.front) out.new.items) }
+        ensures met { Handles (line_met (seen (standing F.front_state self.old)) moment line.now) (page (F.front_state self.old.front) out.old.items) result (page (F.front_state self.new.front) out.new.items) }
         ensures room { vec_capacity out.old ≤ vec_capacity out.new }
         ensures later { F.leads_to self.old.front (asked_by (request_of_line line.now)) self.new.front }
+        ensures subscriptions { OnOk result (self.new.subscriptions ≡ by_request (F.front_state self.old.front).state self.old.subscriptions (request_of_line line.now)) }
+        ensures err { OnErr result (self.new.subscriptions ≡ self.old.subscriptions) }
     {
         let request = Request::read(alloc, line)?;
         self.meet(alloc, moment, request, out)
     }
 
-    /// Answers a line, which comes with its newline: appends the reply and a newline, and tells how many
-    /// faults were met: none or one. The room of a refusal is made before anything changes: an `Err`
-    /// means that none was found, comes only where `out` has no such room yet, and changes nothing.
+    /// Answers a line alone, without what is due after it, and tells how many faults were met: none or one.
+    fn reply(&mut self, alloc: Global, moment: u64, line: &[u8], out: &mut Vec<u8>) -> u64
+        requires { vec_len out.old + REFUSAL_ROOM ≤ vec_capacity out.old }
+        ensures told { (way : Way) × (result ≡ faults_of way) × Replied way (standing F.front_state self.old) moment line.now out.old.items out.new.items (standing F.front_state self.new) }
+        ensures later { F.leads_to self.old.front (asked_by (request_of_line line.now)) self.new.front }
+    {
+        match self.perform(alloc, moment, line, out) {
+            Ok(()) => 0,
+            Err(refusal) => {
+                reply::put_refusal(refusal, out);
+                if is_fault(refusal) { 1 } else { 0 }
+            }
+        }
+    }
+
+    /// Answers a line, which comes with its newline: appends the reply and a newline, and then each line
+    /// that is due to a subscription, in the order of subscribing. It tells how many faults were met: none
+    /// or one. The room of a refusal is made before anything changes: an `Err` means that none was found,
+    /// comes only where `out` has no such room yet, and changes nothing. Where memory runs out for a line
+    /// that is due nothing of it is written, and it is due again after a later line.
     pub fn line(
         &mut self,
         alloc: Global,
@@ -247,19 +283,15 @@ impl<F: Front> Session<F> {
         line: &[u8],
         out: &mut Vec<u8>,
     ) -> Result<u64, NoMemory>
-        ensures ok { IfOk result (λ n. (way : Way) × (bytes : List ℕ) × (n ≡ faults_of way) × (out.new.items ≡ out.old.items ++ bytes)
-            × RepliesTo way (F.front_state self.old.front) moment line.now bytes (F.front_state self.new.front)) }
+        ensures ok { IfOk result (λ n. (meeting : Meeting) × (bytes : List ℕ) × (n ≡ faults_at meeting) × (out.new.items ≡ out.old.items ++ bytes)
+            × RepliesTo meeting (standing F.front_state self.old) moment line.now bytes (standing F.front_state self.new)) }
         ensures err { OnErr result ((out.new.items ≡ out.old.items) × (self.new ≡ self.old)) }
         ensures full { OnErr result (vec_capacity out.old < vec_len out.old + REFUSAL_ROOM) }
         ensures later { F.leads_to self.old.front (asked_by (request_of_line line.now)) self.new.front }
     {
         out.try_reserve(REFUSAL_ROOM)?;
-        match self.perform(alloc, moment, line, out) {
-            Ok(()) => Ok(0),
-            Err(refusal) => {
-                reply::put_refusal(refusal, out);
-                Ok(if is_fault(refusal) { 1 } else { 0 })
-            }
-        }
+        let faults = self.reply(alloc, moment, line, out);
+        let is_whole = self.tell_due(alloc, out);
+        Ok(if is_whole { faults } else { 1 })
     }
 }

@@ -1,5 +1,5 @@
-//! The limits of lines, paths, roots, pairs, cursors, expressions and triggers, each with the last input
-//! that is taken and the first that isn't.
+//! The limits of lines, paths, roots, pairs, cursors, subscriptions, expressions and triggers, each
+//! with the last input that is taken and the first that isn't.
 use super::expressions::FILES;
 use crate::disks::new_file;
 use crate::ends::{Row, assert_serves, texts};
@@ -140,8 +140,14 @@ const LISTED: &[Row<'static>] = &[
 
 const WATCHES_R: &[Part<'static>] = &[(b"\xa5\x00\xa5\x01\x00\x00\x00\x02/r\x00", 0, 1)];
 
+const SUBSCRIBE: &[u8] = b"[\"subscribe\",\"/r\",\"#\",{\"since\":\"c:1:1:1\"}]\n";
+
+/// The reply to a subscription, and its first answer.
+const TOLD: &[u8] =
+    b"{\"clock\":\"c:1:1:1\",\"subscribe\":\"#\",\"version\":\"w1\"}\n{\"clock\":\"c:1:1:1\",\"files\":[],\"is_fresh_instance\":false,\"root\":\"/r\",\"subscription\":\"#\",\"unilateral\":true,\"version\":\"w1\"}\n";
+
 /// Observations of one path so many times. The 256th cursor has room and the next has none; one that is
-/// there still moves.
+/// there still moves. So with the 32nd subscription; one that is there is replaced.
 const VIEWS: &[Limit<'static>] = &[
     (
         "65,536 pairs",
@@ -186,6 +192,13 @@ const VIEWS: &[Limit<'static>] = &[
             ),
         ],
         &[(b"\xa5\x00", 0, 1)],
+    ),
+    (
+        "33 subscriptions",
+        LISTED,
+        &[(SUBSCRIBE, 100, 133), (SUBSCRIBE, 131, 132)],
+        &[(TOLD, 100, 132), (TOO_MANY, 0, 1), (TOLD, 131, 132)],
+        WATCHES_R,
     ),
 ];
 

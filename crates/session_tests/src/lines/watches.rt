@@ -99,7 +99,7 @@ fn answers_by_its_parts(rt: HostRuntime) -> Result<(), Fail> {
     let Ok(front) = LocalFront::open(alloc, new_file(alloc)?) else {
         return Err("the file can't be opened".into());
     };
-    let mut session = Session::new(front);
+    let mut session = Session::new(alloc, front);
     assert!(rt; answers_a_line(alloc, &mut session)?);
     assert!(rt; answers_a_reader(alloc, &mut session)?);
     let (closed, disk) = session.front.close();

@@ -1,8 +1,6 @@
 //! Lines with query objects, and what is read of them.
-use super::{ARGUMENTS, CLOCK, EXPRESSION, PATH};
+use super::{ARGUMENTS, CLOCK, EXPRESSION, FIELD, PATH};
 use crate::ends::Row;
-
-const FIELD: &str = "9 BadField";
 
 pub(super) const ROWS: &[Row<'static>] = &[
     (r#"["query","/r",{}]"#, "query /r exists name new size"),

@@ -109,6 +109,16 @@ pub(super) fn show(request: &Request, text: &mut String) -> Result<(), NoMemory>
             write!(text, "query {}", root.as_str())?;
             show_inquiry(inquiry, text)
         }
+        Request::Subscribe(root, name, inquiry) => {
+            write!(text, "subscribe {} {}", root.as_str(), name.as_str())?;
+            show_inquiry(inquiry, text)
+        }
+        Request::Unsubscribe(root, name) => Ok(write!(
+            text,
+            "unsubscribe {} {}",
+            root.as_str(),
+            name.as_str()
+        )?),
         _ => Ok(text.push_str("another request")?),
     }
 }

@@ -1,5 +1,5 @@
 //! The worked rows: a batch that fails at its second sync, and then a stop or a crash.
-use super::{driven, found, root, shown, watch};
+use super::{driven, found, root, shown, watch, watch_all};
 use std::alloc::Global;
 use std::test::Fail;
 use wm_disk::MemDisk;
@@ -87,6 +87,42 @@ fn plans_failures(rt: HostRuntime) -> Result<(), Fail> {
         let world = driven(alloc, MemDisk::new(alloc, 0), planned(alloc, place)?)?;
         let text = shown(alloc, &world)?;
         assert!(rt; text.as_str() == *wanted, "{place}: {text}");
+    }
+    Ok(())
+}
+
+/// After the first start, a batch of three on a device that lets so many calls pass, a stop, and a start.
+fn cut_batch(alloc: Global, passing: u64) -> Result<Vec<Event>, Fail> {
+    let mut events = Vec::new(alloc);
+    events.push(Event::Open)?;
+    events.push(Event::Arm(passing))?;
+    events.push(watch_all(alloc, &["/a", "/b", "/c"])?)?;
+    events.push(Event::Stop)?;
+    events.push(Event::Open)?;
+    Ok(events)
+}
+
+/// What the start finds, and how many commands were answered, by the number of calls: a write and a sync, a gate for each
+/// command, and a sync.
+const CUT: &[(&str, usize)] = &[
+    ("2", 0),
+    ("2", 0),
+    ("2", 0),
+    ("2 /a", 0),
+    ("2 /a /b", 0),
+    ("2 /a /b /c", 0),
+    ("2 /a /b /c", 3),
+];
+
+#[test]
+fn finds_what_the_gates_let_in(rt: HostRuntime) -> Result<(), Fail> {
+    let alloc = rt.alloc();
+    for (passing, (wanted, answered)) in CUT.iter().enumerate() {
+        let events = cut_batch(alloc, passing as u64)?;
+        let world = driven(alloc, MemDisk::new(alloc, 0), events)?;
+        let text = shown(alloc, &world)?;
+        assert!(rt; text.as_str() == *wanted, "{passing}: {text}");
+        assert!(rt; world.replies().len() == *answered, "{passing}");
     }
     Ok(())
 }

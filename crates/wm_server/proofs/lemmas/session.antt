@@ -4,3 +4,4 @@ pub mod Inquiring
 pub mod PlainLemmas
 pub mod RunLemmas
 pub mod SessionLemmas
+pub mod TellingLemmas

@@ -17,9 +17,10 @@ use Rattle.wm_disk.specs.Parts.{IsPartOf}
 use Rattle.wm_server.specs.local.Stores.{IsKeptOn}
 use Rattle.wm_server.specs.session.Asked.{asked_in}
 use Rattle.wm_server.specs.session.Inputs.{lines_of}
-use Rattle.wm_server.specs.session.Sessions.{SessionState}
-use Rattle.wm_server.specs.session.Faults.{FrontState, Way, Defined, Device, Memory, Spent}
+use Rattle.wm_server.specs.session.Sessions.{SessionState, Standing}
+use Rattle.wm_server.specs.session.Faults.{FrontState, Meeting, Way, Defined, Device, Memory, Spent}
 use Rattle.wm_server.specs.session.Runs.{RunsLines}
+use Rattle.wm_server.specs.session.Stands.{without_subscriptions}
 use Rattle.wm_server.specs.session.Streams.{writer_failed, writer_of}
 use Rattle.wm_server.specs.declared.session.output.Output.{Output}
 use Rattle.wm_server.specs.session.Watched.{first_views}
@@ -67,11 +68,11 @@ pub record LinesMet {D : Type 0} (disk : Ghosts D) (old : D) (lines : List (List
   -- how often the device had failed before the first line, and the number of the slot
   pub before : ℕ
   pub number : ℕ
-  pub ways : List Way
-  pub quiet : AllByRecursion IsQuiet ways
-  pub left : FrontState
-  pub run : RunsLines (record { state = first_state was; failures = before; number = number }) line_number 0 lines ways bytes left
-  pub kept : KeepsAccepted disk old was left.state.registry (asked_in lines) new
+  pub meetings : List Meeting
+  pub quiet : AllByRecursion (λ meeting. IsQuiet meeting.way) meetings
+  pub left : Standing FrontState
+  pub run : RunsLines (without_subscriptions (record { state = first_state was; failures = before; number = number })) line_number 0 lines meetings bytes left
+  pub kept : KeepsAccepted disk old was left.front.state.registry (asked_in lines) new
   -- a start raises the number of the file's slot by one at most
   pub number_is : number ≤ kept.means.number + 1
 
@@ -97,11 +98,11 @@ pub record LinesCut {D : Type 0} (disk : Ghosts D) (old : D) (input : List ℕ) 
   pub was : registry.State
   pub before : ℕ
   pub number : ℕ
-  pub ways : List Way
+  pub meetings : List Meeting
   pub bytes : List ℕ
-  pub left : FrontState
-  pub run : RunsLines (record { state = first_state was; failures = before; number = number }) line_number 0 prefix ways bytes left
-  pub cut : CutShort disk old was left.state.registry (asked_in prefix) new
+  pub left : Standing FrontState
+  pub run : RunsLines (without_subscriptions (record { state = first_state was; failures = before; number = number })) line_number 0 prefix meetings bytes left
+  pub cut : CutShort disk old was left.front.state.registry (asked_in prefix) new
   pub number_is : number ≤ cut.means.number + 1
 
 -- what a program that is refused tells: its name, and the number and name of the refusal
@@ -118,8 +119,8 @@ pub record LinesAnswered (input : List ℕ) (held holds : Option (List ℕ)) : T
   pub begun : FrontState
   pub works : begun.state.has_failed ≡ false
   pub views : begun.state.views ≡ first_views begun.state.registry
-  pub ways : List Way
+  pub meetings : List Meeting
   pub bytes : List ℕ
-  pub left : FrontState
-  pub run : RunsLines begun line_number 0 (lines_of input) ways bytes left
+  pub left : Standing FrontState
+  pub run : RunsLines (without_subscriptions begun) line_number 0 (lines_of input) meetings bytes left
   pub appends : Appends held holds bytes

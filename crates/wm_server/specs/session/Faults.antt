@@ -1,5 +1,6 @@
 -- How a line was met: as it is defined, or by a fault, which comes where its cause comes.
-use Rattle.std.specs.Prelude.{◌≡◌, ◌≤◌, ℕ, List, Bool, true, false, Result, Err}
+use Rattle.std.specs.Prelude.{◌≡◌, ◌≤◌, ℕ, List, ◌++◌, length, Bool, true, false, if◌then◌else◌, Result, Err}
+use Rattle.serde_json.specs.Data.{Data}
 use Rattle.wm_disk.specs.Contents.{Rose}
 use Rattle.wm_disk.specs.declared.refusal.Refusal.{Refusal}
 use Rattle.wm_disk.specs.declared.refusal.Refusal.TheVariants.{DeviceFailed, Exhausted, NoMemory}
@@ -11,11 +12,13 @@ use Rattle.wm_registry.specs.declared.command.Command.{Command}
 use Rattle.wm_registry.specs.declared.reply.Reply.{Reply}
 use Rattle.wm_registry.specs.declared.reply.Reply.TheVariants as reply
 use Rattle.wm_registry.specs.Registry.{is_change}
+use Rattle.wm_lines.specs.Lines.{request_of_line}
 use Rattle.wm_lines.specs.Replies.{reply_bytes}
-use Rattle.wm_server.specs.session.Sessions.{SessionState, line_met, operation_met, reply_to_command, state_after_command, view_of}
+use Rattle.wm_server.specs.session.Sessions.{SessionState, Standing, SubscriptionList, line_met, operation_met, reply_to_command, state_after_command, subscriptions_after, view_of}
+use Rattle.wm_server.specs.session.Dues.{after_told, are_all_found, told_lines}
 use Rattle.wm_server.specs.session.Watched.{progress_after, view_after}
 
--- the state of a session, how often the device under it has failed, and the number of the slot in use
+-- what lines read and change of a front, how often the device under it has failed, and the number of the slot in use
 pub record FrontState : Type 0 where
   pub state : SessionState
   pub failures : ℕ
@@ -67,18 +70,41 @@ pub record Submits (old : FrontState) (command : Command) (result : Reply) (new 
   pub reply_is : result ≡ reply_or way (reply_to_command old.state command)
   pub state_is : new.state ≡ state_or way (state_after_command old.state command) old.state
 
--- the line was answered with these bytes
-pub record RepliesTo (way : Way) (old : FrontState) (moment : ℕ) (line bytes : List ℕ) (new : FrontState) : Type 0 where
-  pub cause : HasCause way (line_met old.state moment line).accepts old new
-  pub bytes_are : bytes ≡ reply_bytes (refusal_or way (line_met old.state moment line).reply)
-  pub state_is : new.state ≡ state_or way (line_met old.state moment line).state old.state
-
 -- one for a fault
 abbrev pub faults_of : Way → ℕ
 faults_of Defined = 0
 faults_of Device = 1
 faults_of Memory = 1
 faults_of Spent = 0
+
+-- how a line was met, and for which of the subscriptions after it memory was found
+pub record Meeting : Type 0 where
+  pub way : Way
+  pub finds : List Bool
+
+-- one where the line or what is due after it met a fault
+abbrev pub faults_at : Meeting → ℕ
+faults_at meeting = if are_all_found meeting.finds then faults_of meeting.way else 1
+
+-- what lines see of it
+abbrev pub seen : Standing FrontState → Standing SessionState
+seen s = record { front = s.front.state; subscriptions = s.subscriptions }
+
+-- the reply to a line that was met in this way
+abbrev pub told_by : Way → Standing FrontState → ℕ → List ℕ → Result Data Refusal
+told_by way old moment line = refusal_or way (line_met (seen old) moment line).reply
+
+-- the subscriptions after that reply
+abbrev pub subscriptions_told : Way → Standing FrontState → ℕ → List ℕ → SubscriptionList
+subscriptions_told way old moment line = subscriptions_after (told_by way old moment line) (seen old) (request_of_line line)
+
+-- the line was answered with these bytes: its reply, and what is due after it
+pub record RepliesTo (meeting : Meeting) (old : Standing FrontState) (moment : ℕ) (line bytes : List ℕ) (new : Standing FrontState) : Type 0 where
+  pub cause : HasCause meeting.way (line_met (seen old) moment line).accepts old.front new.front
+  pub state_is : new.front.state ≡ state_or meeting.way (line_met (seen old) moment line).state old.front.state
+  pub marks : length meeting.finds ≡ length (subscriptions_told meeting.way old moment line)
+  pub bytes_are : bytes ≡ reply_bytes (told_by meeting.way old moment line) ++ told_lines new.front.state meeting.finds (subscriptions_told meeting.way old moment line)
+  pub subscriptions_are : new.subscriptions ≡ after_told new.front.state meeting.finds (subscriptions_told meeting.way old moment line)
 
 -- a refusal that comes where its cause comes, and not by what is defined
 abbrev pub is_fault : Refusal → Bool

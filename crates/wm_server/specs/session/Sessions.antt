@@ -1,18 +1,23 @@
--- What a line is answered, and the state after it.
+-- What a line is answered, and the state and the subscriptions after it.
 use Rattle.std.specs.Prelude.{ℕ, List, [], ◌∷◌, ◌++◌, Bool, true, false, Option, Some, None, Result, Ok, Err, if◌then◌else◌}
 use Rattle.serde_json.specs.Data.{Data}
 use Rattle.wm_disk.specs.declared.refusal.Refusal.{Refusal}
-use Rattle.wm_disk.specs.declared.refusal.Refusal.TheVariants.{BadArguments, NotWatched, StoreFailed}
+use Rattle.wm_disk.specs.declared.refusal.Refusal.TheVariants.{BadArguments, NotWatched, StoreFailed, TooMany}
 use Rattle.wm_names.specs.Paths.{Path}
 use Rattle.wm_clock.specs.declared.clock_id.ClockId.{ClockId}
 use Rattle.wm_clock.specs.declared.clock_spec.ClockSpec.{ClockSpec}
 use Rattle.wm_clock.specs.declared.clock_spec.ClockSpec.TheVariants.{Cursor}
+use Rattle.wm_expr.specs.Terms.{Term}
 use Rattle.wm_view.specs.declared.op.Op.{Op}
 use Rattle.wm_view.specs.declared.op.Op.TheVariants as op
+use Rattle.wm_since.specs.Cursors.{CursorList}
 use Rattle.wm_since.specs.declared.query.Answer.{Answer}
+use Rattle.wm_subs.specs.SessionLists.{is_subscribed, may_subscribe, with_subscription, without_subscribed, without_subscription}
+use Rattle.wm_subs.specs.Subscribers.{new_subscriber}
+use Rattle.wm_subs.specs.declared.subscribed.Subscribed.{Subscribed}
 use Rattle.wm_lines.specs.declared.query.Inquiry.{Inquiry}
 use Rattle.wm_server.specs.declared.local.root_views.RootView.{RootView}
-use Rattle.wm_server.specs.session.Inquiries.{inquired}
+use Rattle.wm_server.specs.session.Inquiries.{inquired, since_point}
 use Rattle.wm_registry.specs.declared.command.Command.{Command}
 use Rattle.wm_registry.specs.declared.command.Command.TheVariants as command
 use Rattle.wm_registry.specs.declared.reply.Reply.{Reply}
@@ -21,10 +26,10 @@ use Rattle.wm_registry.specs.declared.root.Root.{Root}
 use Rattle.wm_registry.specs.Registry as registry
 use Rattle.wm_registry.specs.Roots as roots
 use Rattle.wm_lines.specs.declared.request.Request.{Request}
-use Rattle.wm_lines.specs.declared.request.Request.TheVariants.{Version, Watch, WatchDel, WatchList, Trigger, TriggerList, TriggerDel, Observe, Listing, AgeOut, Clock, Query}
+use Rattle.wm_lines.specs.declared.request.Request.TheVariants.{Version, Watch, WatchDel, WatchList, Trigger, TriggerList, TriggerDel, Observe, Listing, AgeOut, Clock, Query, Subscribe, Unsubscribe}
 use Rattle.wm_lines.specs.Lines.{request_of_line}
 use Rattle.wm_store.specs.Batches.{is_begin}
-use Rattle.wm_lines.specs.Replies.{version_reply, command_reply, operation_reply, roots_reply, triggers_reply, clock_reply, query_reply}
+use Rattle.wm_lines.specs.Replies.{version_reply, command_reply, operation_reply, roots_reply, triggers_reply, clock_reply, query_reply, subscribe_reply, unsubscribe_reply}
 use Rattle.wm_server.specs.session.Watched.{clock_answer, new_view, progress_in, view_after, root_view_at, with_cursor, with_view, without_view}
 
 -- what lines read and change
@@ -122,27 +127,78 @@ abbrev pub inquiry_met : SessionState → Path → Inquiry → Result Answer Ref
 inquiry_met s root q (Ok a) = replied (query_reply q.fields a) (answered s root q.since a.clock)
 inquiry_met s root q (Err r) = refused r s
 
+-- ---- subscriptions
+
+-- those of a session, in the order of subscribing
+abbrev pub SubscriptionList : Type 0
+SubscriptionList = List (Subscribed Term)
+
+-- a root that isn't watched has no cursors
+abbrev pub cursors_of : Option RootView → CursorList
+cursors_of None = []
+cursors_of (Some root) = root.cursors
+
+-- what asks so of the files of a root, under a name: a cursor stands for its clock here and now
+abbrev pub subscribed_by : Path → List ℕ → Inquiry → CursorList → Subscribed Term
+subscribed_by root name q cursors = record {
+  root = root;
+  fields = q.fields;
+  subscription = new_subscriber name (record { since = since_point q.since cursors; test = q.expression; empty_on_fresh = q.empty_on_fresh });
+}
+
+-- the root's clock is told, where there is room
+abbrev pub subscribe_met : SessionState → SubscriptionList → Path → List ℕ → Result ClockId Refusal → Outcome
+subscribe_met s subscriptions root name (Ok clock) = if may_subscribe root name subscriptions then replied (subscribe_reply clock name) s else refused TooMany s
+subscribe_met s subscriptions root name (Err r) = refused r s
+
+abbrev pub unsubscribe_met : SessionState → SubscriptionList → Path → List ℕ → Option Root → Outcome
+unsubscribe_met s subscriptions root name None = refused NotWatched s
+unsubscribe_met s subscriptions root name (Some watched) = replied (unsubscribe_reply (is_subscribed root name subscriptions) name) s
+
+-- what a request that isn't refused makes of the session's subscriptions
+abbrev pub subscriptions_by : SessionState → SubscriptionList → Request → SubscriptionList
+subscriptions_by s subscriptions (WatchDel path) = without_subscribed path subscriptions
+subscriptions_by s subscriptions (Subscribe root name q) = with_subscription (subscribed_by root name q (cursors_of (view_of s root))) subscriptions
+subscriptions_by s subscriptions (Unsubscribe root name) = without_subscription root name subscriptions
+subscriptions_by s subscriptions _ = subscriptions
+
 -- ---- lines
 
 -- a request at a moment
-abbrev pub handled : SessionState → ℕ → Request → Outcome
-handled s moment Version = replied version_reply s
-handled s moment (Watch path) = commanded s (command.Watch path)
-handled s moment (WatchDel path) = commanded s (command.WatchDel path)
-handled s moment WatchList = replied (roots_reply s.registry.roots) s
-handled s moment (Observe root pairs) = operation_outcome s root (op.Observe moment pairs)
-handled s moment (Listing root begun_at found) = operation_outcome s root (op.Recrawl moment begun_at found)
-handled s moment (AgeOut root age) = operation_outcome s root (op.AgeOut moment age)
-handled s moment (Clock root) = question_met s (clock_answer (view_of s root)) clock_reply
-handled s moment (Trigger path trigger) = commanded s (command.Trigger path trigger)
-handled s moment (TriggerList path) = triggers_met s (roots.root_at path s.registry)
-handled s moment (TriggerDel path name) = commanded s (command.TriggerDel path name)
-handled s moment (Query root q) = inquiry_met s root q (inquired (view_of s root) q)
+abbrev pub handled : SessionState → SubscriptionList → ℕ → Request → Outcome
+handled s subscriptions moment Version = replied version_reply s
+handled s subscriptions moment (Watch path) = commanded s (command.Watch path)
+handled s subscriptions moment (WatchDel path) = commanded s (command.WatchDel path)
+handled s subscriptions moment WatchList = replied (roots_reply s.registry.roots) s
+handled s subscriptions moment (Observe root pairs) = operation_outcome s root (op.Observe moment pairs)
+handled s subscriptions moment (Listing root begun_at found) = operation_outcome s root (op.Recrawl moment begun_at found)
+handled s subscriptions moment (AgeOut root age) = operation_outcome s root (op.AgeOut moment age)
+handled s subscriptions moment (Clock root) = question_met s (clock_answer (view_of s root)) clock_reply
+handled s subscriptions moment (Trigger path trigger) = commanded s (command.Trigger path trigger)
+handled s subscriptions moment (TriggerList path) = triggers_met s (roots.root_at path s.registry)
+handled s subscriptions moment (TriggerDel path name) = commanded s (command.TriggerDel path name)
+handled s subscriptions moment (Query root q) = inquiry_met s root q (inquired (view_of s root) q)
+handled s subscriptions moment (Subscribe root name q) = subscribe_met s subscriptions root name (clock_answer (view_of s root))
+handled s subscriptions moment (Unsubscribe root name) = unsubscribe_met s subscriptions root name (roots.root_at root s.registry)
 
-abbrev pub met_or_refused : SessionState → ℕ → Result Request Refusal → Outcome
-met_or_refused s moment (Ok request) = handled s moment request
-met_or_refused s moment (Err r) = refused r s
+abbrev pub met_or_refused : SessionState → SubscriptionList → ℕ → Result Request Refusal → Outcome
+met_or_refused s subscriptions moment (Ok request) = handled s subscriptions moment request
+met_or_refused s subscriptions moment (Err r) = refused r s
 
--- a line at a moment: what it is answered, and the state after it
-abbrev pub line_met : SessionState → ℕ → List ℕ → Outcome
-line_met s moment line = met_or_refused s moment (request_of_line line)
+-- where a session stands: its front, of which this is said, and its subscriptions
+pub record Standing (A : Type 0) : Type 0 where
+  pub front : A
+  pub subscriptions : SubscriptionList
+
+-- a line at a moment: what it is answered, and what the front holds after it
+abbrev pub line_met : Standing SessionState → ℕ → List ℕ → Outcome
+line_met s moment line = met_or_refused s.front s.subscriptions moment (request_of_line line)
+
+abbrev pub by_request : SessionState → SubscriptionList → Result Request Refusal → SubscriptionList
+by_request s subscriptions (Ok request) = subscriptions_by s subscriptions request
+by_request s subscriptions (Err r) = subscriptions
+
+-- the subscriptions after a request that was answered so; a refusal changes none
+abbrev pub subscriptions_after : Result Data Refusal → Standing SessionState → Result Request Refusal → SubscriptionList
+subscriptions_after (Ok reply) s request = by_request s.front s.subscriptions request
+subscriptions_after (Err r) s request = s.subscriptions

@@ -19,11 +19,12 @@ use std::alloc::Global;
 use wm_clock::{ClockId, CursorName};
 use wm_disk::{Disk, NoMemory, Refusal};
 use wm_expr::Expr;
-use wm_lines::{Progress, have_expressions};
+use wm_lines::{Expression, Progress, have_expressions};
 use wm_names::RootPath;
 use wm_registry::{Command, Registry, Reply};
 use wm_since::{Answer, Query, answer};
 use wm_store::Store;
+use wm_subs::Subscription;
 use wm_view::Op;
 
 /// A front of one thread over a disk: a store, and a view of each watched root.
@@ -191,6 +192,19 @@ impl<D: Disk + Drop> Front for LocalFront<D> {
     fn move_cursor(&mut self, root: &RootPath, name: CursorName, clock: ClockId) {
         let roots = self.store.registry().roots();
         root_views::move_cursor(root, roots, &mut self.views, name, clock);
+    }
+
+    fn due(
+        &self,
+        alloc: Global,
+        root: &RootPath,
+        subscription: &Subscription<Expression>,
+    ) -> Result<Option<Answer>, Refusal> {
+        let Some(root) = root_views::view_at(root, self.store.registry().roots(), &self.views)
+        else {
+            return Ok(None);
+        };
+        subscription.due_on(alloc, &root.view)
     }
 
     ghost stays = { λ a asked. stays_lem _ asked a.store };

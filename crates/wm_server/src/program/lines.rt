@@ -49,7 +49,7 @@ pub fn serve_lines<D: Disk + Drop, R: BufRead, W: Write>(
         Ok(front) => front,
         Err((refusal, disk)) => return (Ending::Refused(refusal), disk),
     };
-    let mut session = Session::new(front);
+    let mut session = Session::new(alloc, front);
     let ran = run(alloc, &mut session, &mut LineNumbers::new(), reader, writer);
     let (closed, disk) = session.front.close();
     match (closed, ran) {

@@ -1,11 +1,12 @@
-//! What a session stands on, and what each call of it owes. Its definitions are in specs/session: Faults,
-//! Sessions and Watched.
+//! What a session stands on, and what each call of it owes. Its definitions are in specs/session: Dues,
+//! Faults, Sessions and Watched.
 //! Tests: session_tests/src/lines.
 ghost use Rattle.std.specs.Prelude.{◌≡◌, ◌≢◌, ◌∷◌, ◌++◌, [], List, true, Ok, Err, IfOk, IfErr};
 ghost use Rattle.wm_registry.specs.declared.command.Command as commands;
 ghost use Rattle.wm_expr.specs.Meanings.{holds};
 ghost use Rattle.wm_expr.specs.Views.{term};
 ghost use Rattle.wm_since.specs.Answers.{question};
+ghost use Rattle.wm_server.specs.session.Dues.{due_of};
 ghost use Rattle.wm_server.specs.session.Faults.{Operates, FrontState, Submits};
 ghost use Rattle.wm_server.specs.session.Sessions.{cursor_moved, view_of};
 ghost use Rattle.wm_server.specs.session.Watched.{answer_of, clock_answer, cursor_answer, may_move};
@@ -14,10 +15,11 @@ use std::alloc::Global;
 use wm_clock::{ClockId, CursorName};
 use wm_disk::Refusal;
 use wm_expr::Expr;
-use wm_lines::Progress;
+use wm_lines::{Expression, Progress};
 use wm_names::RootPath;
 use wm_registry::{Command, Registry, Reply};
 use wm_since::{Answer, Query};
+use wm_subs::Subscription;
 use wm_view::Op;
 
 /// What a session stands on: where its commands and operations go, and what it can ask.
@@ -65,6 +67,17 @@ pub trait Front {
         requires { may_move (view_of (front_state self.old).state root.now) name ≡ true }
         ensures met { front_state self.new ≡ record (front_state self.old) { state = cursor_moved (front_state self.old).state root.now (view_of (front_state self.old).state root.now) name clock } }
         ensures later { leads_to self.old [] self.new };
+
+    /// What a root has to tell a subscription: `None` where it isn't watched, and as
+    /// [`Subscription::due_on`] has it. `NoMemory`.
+    fn due(
+        &self,
+        alloc: Global,
+        root: &RootPath,
+        subscription: &Subscription<Expression>,
+    ) -> Result<Option<Answer>, Refusal>
+        ensures ok { IfOk result (λ o. o ≡ due_of (view_of (front_state self.now).state root.now) subscription.now) }
+        ensures refused { IfErr result (λ e. e ≡ Refusal.NoMemory) };
 
     /// A front leads to itself, whatever was asked for: a command may be refused.
     ghost stays: { (a : Self) (asked : List commands.Command) → leads_to a asked a };

@@ -9,6 +9,8 @@ ghost use Rattle.wm_lines.specs.Lines.{request_of_line};
 ghost use Rattle.wm_server.specs.session.Reading.{IsReadOf};
 ghost use Rattle.wm_lines.specs.Replies.{reply_bytes};
 ghost use Rattle.wm_server.specs.session.Streams.{IsCutOff, StandAsBefore, reader_of, writer_failed, writer_of};
+ghost use Rattle.wm_server.specs.session.Faults.{seen};
+ghost use Rattle.wm_server.specs.session.Stands.{standing};
 ghost use Rattle.wm_server.specs.session.Runs.{HandlesPrefix, Served, ServedCleanly, Serves, Untold};
 
 use crate::session::Session;
@@ -92,9 +94,9 @@ fn answer_kept<F: Front, W: Write>(
 ) -> io::Result<u64>
     ensures failed { OnErr result (writer_failed writer.new ≡ true) }
     ensures whole { OnOk result (writer_failed writer.new ≡ writer_failed writer.old) }
-    ensures served { IfOk result (λ n. Serves (F.front_state session.old.front) moment line.now n (W.contents (writer_of writer.old)) (W.contents (writer_of writer.new)) (F.front_state session.new.front)) }
+    ensures served { IfOk result (λ n. Serves (standing F.front_state session.old) moment line.now n (W.contents (writer_of writer.old)) (W.contents (writer_of writer.new)) (standing F.front_state session.new)) }
     ensures few { IfOk result (λ n. n ≤ 1) }
-    ensures untold { OnErr result (Untold (F.front_state session.old.front) moment line.now (F.front_state session.new.front)) }
+    ensures untold { OnErr result (Untold (standing F.front_state session.old) moment line.now (standing F.front_state session.new)) }
     ensures later { F.leads_to session.old.front (asked_by (request_of_line line.now)) session.new.front }
 {
     let mut reply = Vec::new(alloc);
@@ -119,9 +121,9 @@ fn serve_line<F: Front, W: Write>(
     ensures failed { OnErr result (writer_failed writer.new ≡ true) }
     ensures whole { OnOk result (writer_failed writer.new ≡ writer_failed writer.old) }
     ensures served { IfOk result (λ n. (whole : List ℕ) → IsReadOf read line.now whole →
-        Serves (F.front_state session.old.front) moment whole n (W.contents (writer_of writer.old)) (W.contents (writer_of writer.new)) (F.front_state session.new.front)) }
+        Serves (standing F.front_state session.old) moment whole n (W.contents (writer_of writer.old)) (W.contents (writer_of writer.new)) (standing F.front_state session.new)) }
     ensures few { IfOk result (λ n. n ≤ 1) }
-    ensures untold { OnErr result ((whole : List ℕ) → IsReadOf read line.now whole → Untold (F.front_state session.old.front) moment whole (F.front_state session.new.front)) }
+    ensures untold { OnErr result ((whole : List ℕ) → IsReadOf read line.now whole → Untold (standing F.front_state session.old) moment whole (standing F.front_state session.new)) }
     ensures later { (asked : List Command) × F.leads_to session.old.front asked session.new.front }
     ensures asked { (whole : List ℕ) → IsReadOf read line.now whole → F.leads_to session.old.front (asked_by (request_of_line whole)) session.new.front }
 {
@@ -133,7 +135,8 @@ fn serve_line<F: Front, W: Write>(
 }
 
 /// Answers the lines of a reader to a writer, each before the next is read, until the reader ends. It
-/// tells how many faults were met: lines that were answered `DeviceFailed` or `NoMemory`. It holds one
+/// tells how many lines met a fault: were answered `DeviceFailed` or `NoMemory`, or found no memory for a
+/// line that is due after them. It holds one
 /// line and one reply. An `Err` is that of the call of the reader or of the writer that failed, or comes
 /// after 2^64 - 1 lines.
 pub fn run<F: Front, M: Moments, R: BufRead, W: Write>(
@@ -151,17 +154,17 @@ pub fn run<F: Front, M: Moments, R: BufRead, W: Write>(
 
     // Each line is answered as it is defined, or by a fault.
     ensures served { IfOk result (λ faults. (input : List ℕ) → R.remaining (reader_of reader.old) ≡ Some input →
-        Served (F.front_state session.old.front) (M.moment moments.old) 0 input faults
-        (W.contents (writer_of writer.old)) (W.contents (writer_of writer.new)) (F.front_state session.new.front)) }
+        Served (standing F.front_state session.old) (M.moment moments.old) 0 input faults
+        (W.contents (writer_of writer.old)) (W.contents (writer_of writer.new)) (standing F.front_state session.new)) }
 
     // Without a fault, and where the slot's number isn't spent, the bytes and the state are the defined ones.
     ensures clean { IfOk result (λ faults. faults ≡ 0 → (F.front_state session.new.front).number < max_counter → (input : List ℕ) → R.remaining (reader_of reader.old) ≡ Some input →
-        ServedCleanly (F.front_state session.old.front).state (M.moment moments.old) 0 input
-        (W.contents (writer_of writer.old)) (W.contents (writer_of writer.new)) (F.front_state session.new.front).state) }
+        ServedCleanly (seen (standing F.front_state session.old)) (M.moment moments.old) 0 input
+        (W.contents (writer_of writer.old)) (W.contents (writer_of writer.new)) (seen (standing F.front_state session.new))) }
 
     // A prefix of the lines was met, also where the reader or the writer fails.
     ensures met { (input : List ℕ) → R.remaining (reader_of reader.old) ≡ Some input → (asked : List Command)
-        × HandlesPrefix (F.front_state session.old.front) (M.moment moments.old) input asked (F.front_state session.new.front)
+        × HandlesPrefix (standing F.front_state session.old) (M.moment moments.old) input asked (standing F.front_state session.new)
         × F.leads_to session.old.front asked session.new.front }
     ensures later { (asked : List Command) × F.leads_to session.old.front asked session.new.front }
 {

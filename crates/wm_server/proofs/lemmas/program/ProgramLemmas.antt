@@ -1,5 +1,5 @@
 -- Lines over a file.
-use Rattle.std.proofs.Common.{◌≡◌, ◌≤◌, ℕ, ◌+◌, List, [], ◌∷◌, ◌++◌, Bool, true, false, Option, Some, None, Result, Ok, Err, refl, sym, ap, ◌∙◌, subst, arith, inl, inr, ⊎_elim}
+use Rattle.std.proofs.Common.{◌≡◌, ◌≤◌, ℕ, ◌+◌, List, [], ◌∷◌, ◌++◌, Bool, true, false, cond, Option, Some, None, Result, Ok, Err, refl, sym, ap, ◌∙◌, subst, arith, inl, inr, ⊎_elim}
 use Rattle.std.proofs.lemmas.List.{append-nil}
 use Rattle.std.specs.List.{AllByRecursion}
 use Rattle.wm_disk.specs.declared.refusal.Refusal.{Refusal}
@@ -30,7 +30,7 @@ use Rattle.wm_registry.specs.Roots as registry
 use Rattle.wm_store.specs.Openings.{IsBegun}
 use Rattle.wm_store.specs.Stored.{Stored}
 use Rattle.wm_lines.specs.declared.request.Request.{Request}
-use Rattle.wm_lines.specs.declared.request.Request.TheVariants.{Version, Watch, WatchDel, WatchList, Trigger, TriggerList, TriggerDel, Observe, Listing, AgeOut, Clock, Query}
+use Rattle.wm_lines.specs.declared.request.Request.TheVariants.{Version, Watch, WatchDel, WatchList, Trigger, TriggerList, TriggerDel, Observe, Listing, AgeOut, Clock, Query, Subscribe, Unsubscribe}
 use Rattle.wm_server.specs.session.Inputs.{lines_of}
 use Rattle.wm_lines.specs.Lines.{request_of_line}
 use Rattle.wm_server.specs.session.Asked.{AreAskedOf, asked_in}
@@ -43,11 +43,13 @@ use Rattle.wm_server.specs.declared.session.output.Output.{Output}
 use Rattle.wm_server.specs.declared.program.lines.Ending.TheVariants.{Refused}
 use Rattle.wm_server.specs.local.Locals.{CloseRefused}
 use Rattle.wm_server.specs.declared.local.local_front.LocalFront.{LocalFront}
-use Rattle.wm_server.specs.session.Sessions.{SessionState, question_met, line_met, met_or_refused, operation_outcome, operation_met, answered, cursor_moved, inquiry_met, triggers_met, view_of}
+use Rattle.wm_subs.specs.SessionLists.{may_subscribe}
+use Rattle.wm_server.specs.session.Stands.{without_subscriptions}
+use Rattle.wm_server.specs.session.Sessions.{SessionState, Standing, SubscriptionList, refused, replied, subscribe_met, unsubscribe_met, question_met, line_met, met_or_refused, operation_outcome, operation_met, answered, cursor_moved, inquiry_met, triggers_met, view_of}
 use Rattle.wm_server.specs.local.Stores.{IsKeptOn, Later, LeadsTo, StartCut, StartRefused, front_state_with, state_with}
-use Rattle.wm_lines.specs.Replies.{clock_reply}
+use Rattle.wm_lines.specs.Replies.{clock_reply, subscribe_reply}
 use Rattle.wm_server.specs.session.Watched.{clock_answer, first_views, view_after}
-use Rattle.wm_server.specs.session.Faults.{FrontState, Way, Defined, Device, Memory, Spent, state_or}
+use Rattle.wm_server.specs.session.Faults.{FrontState, Meeting, seen, Way, Defined, Device, Memory, Spent, state_or}
 use Rattle.wm_server.specs.session.Runs.{HandlesPrefix, RunsLines, Served}
 use Rattle.wm_server.specs.program.Programs.{CutShort, IsQuiet, KeepsAccepted, LinesBroken, LinesCut, LinesMet, LinesServed, first_state, line_number}
 
@@ -82,51 +84,65 @@ inquired_failed : (s : SessionState) (root : Path) (q : Inquiry) (r : Result Ans
 inquired_failed s root q (Ok a) = told_failed s root q.since a.clock
 inquired_failed s root q (Err e) = refl
 
-met_failed : (s : SessionState) (moment : ℕ) (r : Result Request Refusal) → s.has_failed ≡ true → (met_or_refused s moment r).state.has_failed ≡ true
-met_failed s moment (Ok Version) e = e
-met_failed s moment (Ok (Watch path)) e = rw e refl
-met_failed s moment (Ok (WatchDel path)) e = rw e refl
-met_failed s moment (Ok WatchList) e = e
-met_failed s moment (Ok (Trigger path trigger)) e = rw e refl
-met_failed s moment (Ok (TriggerList path)) e = listed_triggers_failed s (registry.root_at path s.registry) ∙ e
-met_failed s moment (Ok (TriggerDel path name)) e = rw e refl
-met_failed s moment (Ok (Observe root pairs)) e = viewed_failed s root (op.Observe moment pairs) ∙ e
-met_failed s moment (Ok (Listing root begun_at found)) e = viewed_failed s root (op.Recrawl moment begun_at found) ∙ e
-met_failed s moment (Ok (AgeOut root age)) e = viewed_failed s root (op.AgeOut moment age) ∙ e
-met_failed s moment (Ok (Clock root)) e = asked_failed s (clock_answer (view_of s root)) clock_reply ∙ e
-met_failed s moment (Ok (Query root q)) e = inquired_failed s root q (inquired (view_of s root) q) ∙ e
-met_failed s moment (Err r) e = e
+subscribed_failed : (s : SessionState) (subs : SubscriptionList) (root name : List ℕ) (r : Result ClockId Refusal) → (subscribe_met s subs root name r).state.has_failed ≡ s.has_failed
+subscribed_failed s subs root name (Ok clock) =
+    elim (may_subscribe root name subs) as (λ b. (cond b (replied (subscribe_reply clock name) s) (refused refusals.TooMany s)).state.has_failed ≡ s.has_failed) [
+      | true ↦ refl
+      | false ↦ refl
+    ]
+subscribed_failed s subs root name (Err e) = refl
 
-way_failed : (way : Way) (s : SessionState) (moment : ℕ) (line : List ℕ) → s.has_failed ≡ true → (state_or way (line_met s moment line).state s).has_failed ≡ true
-way_failed Defined s moment line e = met_failed s moment (request_of_line line) e
+unsubscribed_failed : (s : SessionState) (subs : SubscriptionList) (root name : List ℕ) (r : Option Root) → (unsubscribe_met s subs root name r).state.has_failed ≡ s.has_failed
+unsubscribed_failed s subs root name None = refl
+unsubscribed_failed s subs root name (Some watched) = refl
+
+met_failed : (s : SessionState) (subs : SubscriptionList) (moment : ℕ) (r : Result Request Refusal) → s.has_failed ≡ true → (met_or_refused s subs moment r).state.has_failed ≡ true
+met_failed s subs moment (Ok Version) e = e
+met_failed s subs moment (Ok (Watch path)) e = rw e refl
+met_failed s subs moment (Ok (WatchDel path)) e = rw e refl
+met_failed s subs moment (Ok WatchList) e = e
+met_failed s subs moment (Ok (Trigger path trigger)) e = rw e refl
+met_failed s subs moment (Ok (TriggerList path)) e = listed_triggers_failed s (registry.root_at path s.registry) ∙ e
+met_failed s subs moment (Ok (TriggerDel path name)) e = rw e refl
+met_failed s subs moment (Ok (Observe root pairs)) e = viewed_failed s root (op.Observe moment pairs) ∙ e
+met_failed s subs moment (Ok (Listing root begun_at found)) e = viewed_failed s root (op.Recrawl moment begun_at found) ∙ e
+met_failed s subs moment (Ok (AgeOut root age)) e = viewed_failed s root (op.AgeOut moment age) ∙ e
+met_failed s subs moment (Ok (Clock root)) e = asked_failed s (clock_answer (view_of s root)) clock_reply ∙ e
+met_failed s subs moment (Ok (Query root q)) e = inquired_failed s root q (inquired (view_of s root) q) ∙ e
+met_failed s subs moment (Ok (Subscribe root name q)) e = subscribed_failed s subs root name (clock_answer (view_of s root)) ∙ e
+met_failed s subs moment (Ok (Unsubscribe root name)) e = unsubscribed_failed s subs root name (registry.root_at root s.registry) ∙ e
+met_failed s subs moment (Err r) e = e
+
+way_failed : (way : Way) (s : Standing SessionState) (moment : ℕ) (line : List ℕ) → s.front.has_failed ≡ true → (state_or way (line_met s moment line).state s.front).has_failed ≡ true
+way_failed Defined s moment line e = met_failed s.front s.subscriptions moment (request_of_line line) e
 way_failed Device s moment line e = refl
 way_failed Memory s moment line e = e
 way_failed Spent s moment line e = e
 
-stays_failed : (old : FrontState) (moment : ℕ → ℕ) (k : ℕ) (lines : List (List ℕ)) (ways : List Way) (bytes : List ℕ) (new : FrontState) → old.state.has_failed ≡ true → RunsLines old moment k lines ways bytes new → new.state.has_failed ≡ true
-stays_failed old moment k [] [] bytes new e r = ap (λ (s : FrontState). s.state.has_failed) r.1 ∙ e
-stays_failed old moment k [] (way ∷ ways) bytes new e r = absurd r
+stays_failed : (old : Standing FrontState) (moment : ℕ → ℕ) (k : ℕ) (lines : List (List ℕ)) (meetings : List Meeting) (bytes : List ℕ) (new : Standing FrontState) → old.front.state.has_failed ≡ true → RunsLines old moment k lines meetings bytes new → new.front.state.has_failed ≡ true
+stays_failed old moment k [] [] bytes new e r = ap (λ (s : Standing FrontState). s.front.state.has_failed) r.1 ∙ e
+stays_failed old moment k [] (meeting ∷ meetings) bytes new e r = absurd r
 stays_failed old moment k (line ∷ lines) [] bytes new e r = absurd r
-stays_failed old moment k (line ∷ lines) (way ∷ ways) bytes new e r =
-    let next : r.2.state.has_failed ≡ true = ap (λ (s : SessionState). s.has_failed) r.4.state_is ∙ way_failed way old.state (moment k) line e in
-    stays_failed r.2 moment (k + 1) lines ways r.1 new next r.5
+stays_failed old moment k (line ∷ lines) (meeting ∷ meetings) bytes new e r =
+    let next : r.2.front.state.has_failed ≡ true = ap (λ (s : SessionState). s.has_failed) r.4.state_is ∙ way_failed meeting.way (seen old) (moment k) line e in
+    stays_failed r.2 moment (k + 1) lines meetings r.1 new next r.5
 
 -- so in a run that ends with a working store the device never failed
-quiet_way : (way : Way) (s : SessionState) (moment : ℕ) (line : List ℕ) → ((state_or way (line_met s moment line).state s).has_failed ≡ true → ⊥) → IsQuiet way
+quiet_way : (way : Way) (s : Standing SessionState) (moment : ℕ) (line : List ℕ) → ((state_or way (line_met s moment line).state s.front).has_failed ≡ true → ⊥) → IsQuiet way
 quiet_way Defined s moment line works = tt
 quiet_way Device s moment line works = works refl
 quiet_way Memory s moment line works = tt
 quiet_way Spent s moment line works = tt
 
-quiet_run : (old : FrontState) (moment : ℕ → ℕ) (k : ℕ) (lines : List (List ℕ)) (ways : List Way) (bytes : List ℕ) (new : FrontState) → new.state.has_failed ≡ false → RunsLines old moment k lines ways bytes new → AllByRecursion IsQuiet ways
+quiet_run : (old : Standing FrontState) (moment : ℕ → ℕ) (k : ℕ) (lines : List (List ℕ)) (meetings : List Meeting) (bytes : List ℕ) (new : Standing FrontState) → new.front.state.has_failed ≡ false → RunsLines old moment k lines meetings bytes new → AllByRecursion (λ (meeting : Meeting). IsQuiet meeting.way) meetings
 quiet_run old moment k [] [] bytes new e r = tt
-quiet_run old moment k [] (way ∷ ways) bytes new e r = absurd r
+quiet_run old moment k [] (meeting ∷ meetings) bytes new e r = absurd r
 quiet_run old moment k (line ∷ lines) [] bytes new e r = absurd r
-quiet_run old moment k (line ∷ lines) (way ∷ ways) bytes new e r = (
-  quiet_way way old.state (moment k) line (λ failed.
-      let next : r.2.state.has_failed ≡ true = ap (λ (s : SessionState). s.has_failed) r.4.state_is ∙ failed in
-      let bad : false ≡ true = sym e ∙ stays_failed r.2 moment (k + 1) lines ways r.1 new next r.5 in absurd cc),
-  quiet_run r.2 moment (k + 1) lines ways r.1 new e r.5,
+quiet_run old moment k (line ∷ lines) (meeting ∷ meetings) bytes new e r = (
+  quiet_way meeting.way (seen old) (moment k) line (λ failed.
+      let next : r.2.front.state.has_failed ≡ true = ap (λ (s : SessionState). s.has_failed) r.4.state_is ∙ failed in
+      let bad : false ≡ true = sym e ∙ stays_failed r.2 moment (k + 1) lines meetings r.1 new next r.5 in absurd cc),
+  quiet_run r.2 moment (k + 1) lines meetings r.1 new e r.5,
 )
 
 -- ---- all of a session
@@ -245,46 +261,46 @@ module _ {D : Type 0} (disk : Ghosts D) where
 
     -- ---- all of a session
 
-    module _ (views views' : List RootView) (views_are : views ≡ first_views begun.registry) where
-      pub lines_met : (asked : List Command) → LeadsTo disk asked begun left → (lines : List (List ℕ)) (ways : List Way) (bytes : List ℕ) → ((some : List Command) → IsPartOf some asked → IsPartOf some (asked_in lines))
-          → left.failed ≡ false → IsKeptOn disk left.registry new → disk.honest new → RunsLines (front_state_with disk begun views) line_number 0 lines ways bytes (front_state_with disk left views') → LinesMet disk old lines bytes new
+    module _ (views views' : List RootView) (subs' : SubscriptionList) (views_are : views ≡ first_views begun.registry) where
+      pub lines_met : (asked : List Command) → LeadsTo disk asked begun left → (lines : List (List ℕ)) (meetings : List Meeting) (bytes : List ℕ) → ((some : List Command) → IsPartOf some asked → IsPartOf some (asked_in lines))
+          → left.failed ≡ false → IsKeptOn disk left.registry new → disk.honest new → RunsLines (without_subscriptions (front_state_with disk begun views)) line_number 0 lines meetings bytes (record { front = front_state_with disk left views'; subscriptions = subs' }) → LinesMet disk old lines bytes new
       unfolding keeps
-      lines_met asked leads lines ways bytes wider worked kept h run =
+      lines_met asked leads lines meetings bytes wider worked kept h run =
           let start = course.start h in
           let first : state_with begun views ≡ first_state start.found = same_state (state_with begun views) start.found start.registry course.works views_are in
           record {
             was = start.found;
             before = disk.failures begun.disk;
             number = begun.number;
-            ways = ways;
-            quiet = quiet_run (front_state_with disk begun views) line_number 0 lines ways bytes (front_state_with disk left views') worked run;
-            left = front_state_with disk left views';
-            run = subst (λ (t : SessionState). RunsLines (record { state = t; failures = disk.failures begun.disk; number = begun.number }) line_number 0 lines ways bytes (front_state_with disk left views')) first run;
+            meetings = meetings;
+            quiet = quiet_run (without_subscriptions (front_state_with disk begun views)) line_number 0 lines meetings bytes (record { front = front_state_with disk left views'; subscriptions = subs' }) worked run;
+            left = record { front = front_state_with disk left views'; subscriptions = subs' };
+            run = subst (λ (t : SessionState). RunsLines (without_subscriptions (record { state = t; failures = disk.failures begun.disk; number = begun.number })) line_number 0 lines meetings bytes (record { front = front_state_with disk left views'; subscriptions = subs' })) first run;
             kept = keeps asked leads (asked_in lines) wider worked kept h;
             number_is = start.number;
           }
 
       pub lines_served : (faults : ℕ) (input : List ℕ) (held holds : Option (List ℕ)) → left.failed ≡ false → IsKeptOn disk left.registry new → disk.honest new
-          → (asked : List Command) × HandlesPrefix (front_state_with disk begun views) line_number input asked (front_state_with disk left views') × LeadsTo disk asked begun left
-          → Served (front_state_with disk begun views) line_number 0 input faults held holds (front_state_with disk left views') → LinesServed disk old input held holds new
+          → (asked : List Command) × HandlesPrefix (without_subscriptions (front_state_with disk begun views)) line_number input asked (record { front = front_state_with disk left views'; subscriptions = subs' }) × LeadsTo disk asked begun left
+          → Served (without_subscriptions (front_state_with disk begun views)) line_number 0 input faults held holds (record { front = front_state_with disk left views'; subscriptions = subs' }) → LinesServed disk old input held holds new
       lines_served faults input held holds worked kept h front served = record {
         bytes = served.bytes;
-        met = lines_met front.0 front.2 (lines_of input) served.ways served.bytes (λ some. in_all input front.1.met front.1.more front.0 some front.1.lines front.1.asked_is) worked kept h served.run;
+        met = lines_met front.0 front.2 (lines_of input) served.meetings served.bytes (λ some. in_all input front.1.met front.1.more front.0 some front.1.lines front.1.asked_is) worked kept h served.run;
         appends = served.appends;
       }
 
       pub lines_broken : (input : List ℕ) → left.failed ≡ false → IsKeptOn disk left.registry new → disk.honest new
-          → (asked : List Command) × HandlesPrefix (front_state_with disk begun views) line_number input asked (front_state_with disk left views') × LeadsTo disk asked begun left → LinesBroken disk old input new
+          → (asked : List Command) × HandlesPrefix (without_subscriptions (front_state_with disk begun views)) line_number input asked (record { front = front_state_with disk left views'; subscriptions = subs' }) × LeadsTo disk asked begun left → LinesBroken disk old input new
       lines_broken input worked kept h front = record {
         prefix = front.1.met;
         more = front.1.more;
         lines = front.1.lines;
         bytes = front.1.bytes;
-        met = lines_met front.0 front.2 front.1.met front.1.ways front.1.bytes (λ some p. subst (λ (l : List Command). IsPartOf some l) front.1.asked_is p) worked kept h front.1.run;
+        met = lines_met front.0 front.2 front.1.met front.1.meetings front.1.bytes (λ some p. subst (λ (l : List Command). IsPartOf some l) front.1.asked_is p) worked kept h front.1.run;
       }
 
       lines_cut : CountsNow disk → (input : List ℕ) → disk.honest new
-          → (asked : List Command) × HandlesPrefix (front_state_with disk begun views) line_number input asked (front_state_with disk left views') × LeadsTo disk asked begun left → LinesCut disk old input new
+          → (asked : List Command) × HandlesPrefix (without_subscriptions (front_state_with disk begun views)) line_number input asked (record { front = front_state_with disk left views'; subscriptions = subs' }) × LeadsTo disk asked begun left → LinesCut disk old input new
       unfolding cut_short
       lines_cut counts_now input h front =
           let start = course.start h in
@@ -296,16 +312,16 @@ module _ {D : Type 0} (disk : Ghosts D) where
             was = start.found;
             before = disk.failures begun.disk;
             number = begun.number;
-            ways = front.1.ways;
+            meetings = front.1.meetings;
             bytes = front.1.bytes;
-            left = front_state_with disk left views';
-            run = subst (λ (t : SessionState). RunsLines (record { state = t; failures = disk.failures begun.disk; number = begun.number }) line_number 0 front.1.met front.1.ways front.1.bytes (front_state_with disk left views')) first front.1.run;
+            left = record { front = front_state_with disk left views'; subscriptions = subs' };
+            run = subst (λ (t : SessionState). RunsLines (without_subscriptions (record { state = t; failures = disk.failures begun.disk; number = begun.number })) line_number 0 front.1.met front.1.meetings front.1.bytes (record { front = front_state_with disk left views'; subscriptions = subs' })) first front.1.run;
             cut = cut_short front.0 front.2 counts_now (asked_in front.1.met) front.1.asked_is h;
             number_is = start.number;
           }
 
       pub cuts_lines : CountsNow disk → (holds : Option (List ℕ)) → (asked : List Command) × LeadsTo disk asked begun left
-          → ((input : List ℕ) → holds ≡ Some input → (asked : List Command) × HandlesPrefix (front_state_with disk begun views) line_number input asked (front_state_with disk left views') × LeadsTo disk asked begun left)
+          → ((input : List ℕ) → holds ≡ Some input → (asked : List Command) × HandlesPrefix (without_subscriptions (front_state_with disk begun views)) line_number input asked (record { front = front_state_with disk left views'; subscriptions = subs' }) × LeadsTo disk asked begun left)
           → CutsLines disk holds old new
       cuts_lines counts_now holds some front = λ h. (
         ((course.start h).found, left.registry, some.0, cut_short some.0 some.1 counts_now some.0 refl h),
@@ -314,13 +330,13 @@ module _ {D : Type 0} (disk : Ghosts D) where
 
       -- as far as the reader tells
       asked_for : (holds : Option (List ℕ)) → (asked : List Command) × LeadsTo disk asked begun left
-          → ((input : List ℕ) → holds ≡ Some input → (asked : List Command) × HandlesPrefix (front_state_with disk begun views) line_number input asked (front_state_with disk left views') × LeadsTo disk asked begun left)
+          → ((input : List ℕ) → holds ≡ Some input → (asked : List Command) × HandlesPrefix (without_subscriptions (front_state_with disk begun views)) line_number input asked (record { front = front_state_with disk left views'; subscriptions = subs' }) × LeadsTo disk asked begun left)
           → (asked : List Command) × AreAskedOf holds asked × LeadsTo disk asked begun left
       asked_for None some front = (some.0, tt, some.1)
       asked_for (Some input) some front = let here = front input refl in (here.0, (here.1.met, here.1.more, here.1.lines, here.1.asked_is), here.2)
 
       pub session_anytime : (holds : Option (List ℕ)) → (asked : List Command) × LeadsTo disk asked begun left
-          → ((input : List ℕ) → holds ≡ Some input → (asked : List Command) × HandlesPrefix (front_state_with disk begun views) line_number input asked (front_state_with disk left views') × LeadsTo disk asked begun left)
+          → ((input : List ℕ) → holds ≡ Some input → (asked : List Command) × HandlesPrefix (without_subscriptions (front_state_with disk begun views)) line_number input asked (record { front = front_state_with disk left views'; subscriptions = subs' }) × LeadsTo disk asked begun left)
           → LeavesAnytime disk holds old new
       session_anytime holds some front = λ h. let told = asked_for holds some front in inr ((course.start h).found, told.0, told.1, passes told.0 told.2 h)
 

@@ -21,10 +21,12 @@ use Rattle.wm_registry.specs.declared.root.Root.{Root}
 use Rattle.wm_registry.specs.Registry.{is_change}
 use Rattle.wm_registry.specs.Roots as roots
 use Rattle.wm_lines.specs.declared.request.Request.{Request}
-use Rattle.wm_lines.specs.declared.request.Request.TheVariants.{Version, Watch, WatchDel, WatchList, Trigger, TriggerList, TriggerDel, Observe, Listing, AgeOut, Clock, Query}
+use Rattle.wm_lines.specs.declared.request.Request.TheVariants.{Version, Watch, WatchDel, WatchList, Trigger, TriggerList, TriggerDel, Observe, Listing, AgeOut, Clock, Query, Subscribe, Unsubscribe}
 use Rattle.wm_lines.specs.Lines.{request_of_line}
-use Rattle.wm_lines.specs.Replies.{clock_reply, command_reply}
-use Rattle.wm_server.specs.session.Sessions.{SessionState, accepted, answered, commanded, cursor_moved, inquiry_met, question_met, line_met, met_or_refused, operation_outcome, operation_met, reply_to_command, state_after_command, triggers_met, view_of, views_after}
+use Rattle.wm_lines.specs.Replies.{clock_reply, command_reply, subscribe_reply}
+use Rattle.wm_disk.specs.declared.refusal.Refusal.TheVariants.{TooMany}
+use Rattle.wm_subs.specs.SessionLists.{may_subscribe}
+use Rattle.wm_server.specs.session.Sessions.{SessionState, Standing, SubscriptionList, subscribe_met, unsubscribe_met, replied, refused, accepted, answered, commanded, cursor_moved, inquiry_met, question_met, line_met, met_or_refused, operation_outcome, operation_met, reply_to_command, state_after_command, triggers_met, view_of, views_after}
 use Rattle.wm_server.specs.session.Watched.{AreOfHistories, IsOfHistory, of_history, clock_answer, first_views, new_view, unless, view_after, root_view_at, with_cursor, with_view, without_view}
 use Rattle.wm_server.proofs.lemmas.session.SessionLemmas.{left_so}
 
@@ -142,20 +144,34 @@ module _ (operated_so : (h : History) (cursors : CursorList) (o : Op) → IsMade
   viewed_are s root o are =
       operated_are s root o (view_after (view_of s root) o) are (λ new e. seen_is (view_of s root) new o (λ v f. found_is root s.registry.roots s.views v are f) e)
 
-  met_are : (s : SessionState) (moment : ℕ) (r : Result Request Refusal) → AreOfHistories s.views → AreOfHistories (met_or_refused s moment r).state.views
-  met_are s moment (Ok Version) are = are
-  met_are s moment (Ok (Watch path)) are = commanded_are s (command.Watch path) are
-  met_are s moment (Ok (WatchDel path)) are = commanded_are s (command.WatchDel path) are
-  met_are s moment (Ok (Trigger path trigger)) are = commanded_are s (command.Trigger path trigger) are
-  met_are s moment (Ok (TriggerList path)) are = triggers_are s (roots.root_at path s.registry) are
-  met_are s moment (Ok (TriggerDel path name)) are = commanded_are s (command.TriggerDel path name) are
-  met_are s moment (Ok WatchList) are = are
-  met_are s moment (Ok (Observe root pairs)) are = viewed_are s root (op.Observe moment pairs) are
-  met_are s moment (Ok (Listing root begun_at found)) are = viewed_are s root (op.Recrawl moment begun_at found) are
-  met_are s moment (Ok (AgeOut root age)) are = viewed_are s root (op.AgeOut moment age) are
-  met_are s moment (Ok (Clock root)) are = asked_are s (clock_answer (view_of s root)) clock_reply are
-  met_are s moment (Ok (Query root q)) are = inquired_are s root q (inquired (view_of s root) q) are
-  met_are s moment (Err e) are = are
+  subscribed_are : (s : SessionState) (subs : SubscriptionList) (root name : List ℕ) (r : Result ClockId Refusal) → AreOfHistories s.views → AreOfHistories (subscribe_met s subs root name r).state.views
+  subscribed_are s subs root name (Ok clock) are =
+      elim (may_subscribe root name subs) as (λ b. AreOfHistories (cond b (replied (subscribe_reply clock name) s) (refused TooMany s)).state.views) [
+        | true ↦ are
+        | false ↦ are
+      ]
+  subscribed_are s subs root name (Err e) are = are
 
-  pub line_are : (s : SessionState) (moment : ℕ) (line : List ℕ) → AreOfHistories s.views → AreOfHistories (line_met s moment line).state.views
-  line_are s moment line are = met_are s moment (request_of_line line) are
+  unsubscribed_are : (s : SessionState) (subs : SubscriptionList) (root name : List ℕ) (r : Option Root) → AreOfHistories s.views → AreOfHistories (unsubscribe_met s subs root name r).state.views
+  unsubscribed_are s subs root name None are = are
+  unsubscribed_are s subs root name (Some watched) are = are
+
+  met_are : (s : SessionState) (subs : SubscriptionList) (moment : ℕ) (r : Result Request Refusal) → AreOfHistories s.views → AreOfHistories (met_or_refused s subs moment r).state.views
+  met_are s subs moment (Ok Version) are = are
+  met_are s subs moment (Ok (Watch path)) are = commanded_are s (command.Watch path) are
+  met_are s subs moment (Ok (WatchDel path)) are = commanded_are s (command.WatchDel path) are
+  met_are s subs moment (Ok (Trigger path trigger)) are = commanded_are s (command.Trigger path trigger) are
+  met_are s subs moment (Ok (TriggerList path)) are = triggers_are s (roots.root_at path s.registry) are
+  met_are s subs moment (Ok (TriggerDel path name)) are = commanded_are s (command.TriggerDel path name) are
+  met_are s subs moment (Ok WatchList) are = are
+  met_are s subs moment (Ok (Observe root pairs)) are = viewed_are s root (op.Observe moment pairs) are
+  met_are s subs moment (Ok (Listing root begun_at found)) are = viewed_are s root (op.Recrawl moment begun_at found) are
+  met_are s subs moment (Ok (AgeOut root age)) are = viewed_are s root (op.AgeOut moment age) are
+  met_are s subs moment (Ok (Clock root)) are = asked_are s (clock_answer (view_of s root)) clock_reply are
+  met_are s subs moment (Ok (Query root q)) are = inquired_are s root q (inquired (view_of s root) q) are
+  met_are s subs moment (Ok (Subscribe root name q)) are = subscribed_are s subs root name (clock_answer (view_of s root)) are
+  met_are s subs moment (Ok (Unsubscribe root name)) are = unsubscribed_are s subs root name (roots.root_at root s.registry) are
+  met_are s subs moment (Err e) are = are
+
+  pub line_are : (s : Standing SessionState) (moment : ℕ) (line : List ℕ) → AreOfHistories s.front.views → AreOfHistories (line_met s moment line).state.views
+  line_are s moment line are = met_are s.front s.subscriptions moment (request_of_line line) are

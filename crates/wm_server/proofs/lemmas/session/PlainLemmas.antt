@@ -1,5 +1,5 @@
 -- What is defined is never a fault: so a fault that is told has its cause.
-use Rattle.std.proofs.Common.{◌≡◌, ◌∙◌, ℕ, List, Bool, true, false, not, ◌||◌, ◌==◌, cond, length, nat_lt, refl, sym, ap, true≢false}
+use Rattle.std.proofs.Common.{◌≡◌, ◌∙◌, ℕ, List, Bool, true, false, not, ◌||◌, ◌==◌, cond, length, ◌++◌, nat_lt, refl, sym, ap, true≢false}
 use Rattle.std.specs.Prelude.{Option, Some, None, Result, Ok, Err, ◌&&◌, option_and_then, option_map, unwrap_or, is_none, codes}
 use Rattle.std.specs.Option.{option_map_or}
 use Rattle.std.specs.Str.{bytes_eq}
@@ -37,7 +37,7 @@ use Rattle.wm_view.specs.declared.op.Op.{Op}
 use Rattle.wm_view.specs.declared.op.Op.TheVariants as op
 use Rattle.wm_since.specs.Answers.{answer_by}
 use Rattle.wm_lines.specs.declared.request.Request.{Request}
-use Rattle.wm_lines.specs.declared.request.Request.TheVariants.{Version, Watch, WatchDel, WatchList, Trigger, TriggerList, TriggerDel, Observe, Listing, AgeOut, Clock, Query}
+use Rattle.wm_lines.specs.declared.request.Request.TheVariants.{Version, Watch, WatchDel, WatchList, Trigger, TriggerList, TriggerDel, Observe, Listing, AgeOut, Clock, Query, Subscribe, Unsubscribe}
 use Rattle.wm_lines.specs.AgeOutLines.{age_out_with}
 use Rattle.wm_lines.specs.Arguments.{only_root, root_named, text_at, count_of}
 use Rattle.wm_lines.specs.ClockLines.{may_be_clock, since_clock, since_root}
@@ -51,12 +51,16 @@ use Rattle.wm_since.specs.declared.field.Field.{Field}
 use Rattle.wm_lines.specs.QueryLines.{clock_at, clock_key, clock_read, empty_key, expression_at, expression_key, expression_read, fields_at, fields_key, fields_read, has_query_keys, has_query_kinds, inquiry_in, inquiry_of, names_in, query_at, query_on, query_with}
 use Rattle.wm_lines.specs.KeptExpressions.{is_expression, kept_text}
 use Rattle.wm_lines.specs.Keys.{flag_in, object_at}
+use Rattle.wm_lines.specs.SubscribeLines.{subscribe_at, subscribe_on, subscribe_with, unsubscribe_with}
+use Rattle.wm_subs.specs.SubscriptionNames.{is_subscription_name}
+use Rattle.wm_subs.specs.SessionLists.{may_subscribe}
+use Rattle.wm_clock.specs.declared.clock_id.ClockId.{ClockId}
 use Rattle.wm_lines.specs.TriggerLines.{by_rules, definition_in, trigger_at, trigger_del_with, trigger_in, trigger_keeping, trigger_with}
-use Rattle.wm_server.specs.session.Faults.{FrontState, Way, Defined, Device, Memory, Spent, RepliesTo, is_fault, faults_of, refusal_or}
-use Rattle.wm_server.specs.session.Pages.{Refuses, page}
-use Rattle.wm_server.specs.session.Sessions.{SessionState, question_met, line_met, met_or_refused, commanded, by_reply, operation_outcome, operation_met, reply_to_command, inquiry_met, state_after_command, triggers_met, view_of}
+use Rattle.wm_server.specs.session.Faults.{FrontState, Way, Defined, Device, Memory, Spent, is_fault, faults_of, refusal_or, seen}
+use Rattle.wm_server.specs.session.Pages.{Refuses, Replied, page}
+use Rattle.wm_server.specs.session.Sessions.{SessionState, Standing, SubscriptionList, subscriptions_after, subscribe_met, unsubscribe_met, replied, refused, question_met, line_met, met_or_refused, commanded, by_reply, operation_outcome, operation_met, reply_to_command, inquiry_met, state_after_command, triggers_met, view_of}
 use Rattle.wm_server.specs.session.Watched.{clock_in, clock_answer, unless, view_after}
-use Rattle.wm_lines.specs.Replies.{clock_reply, command_reply, line_text, refusal_reply, reply_bytes}
+use Rattle.wm_lines.specs.Replies.{clock_reply, command_reply, subscribe_reply, line_text, refusal_reply, reply_bytes}
 
 -- a result that tells a fault
 abbrev pub tells_fault : {A : Type 0} → Result A Refusal → Bool
@@ -153,6 +157,27 @@ queried_plain : (root : Option (List ℕ)) (d : Option Data) → tells_fault (qu
 queried_plain (Some root) (Some d) = either (has_query_keys d && has_query_kinds d) (query_on root d (flag_in (empty_key d))) (Err BadArguments) (query_on_plain root d (flag_in (empty_key d))) refl
 queried_plain _ _ = refl
 
+subscribe_at_plain : (root name : List ℕ) (q : Result Inquiry Refusal) → tells_fault q ≡ false → tells_fault (subscribe_at root name q) ≡ false
+subscribe_at_plain root name (Ok q) h = refl
+subscribe_at_plain root name (Err e) h = h
+
+subscribe_on_plain : (root name : List ℕ) (d : Data) (b : Option Bool) → tells_fault (subscribe_on root name d b) ≡ false
+subscribe_on_plain root name d None = refl
+subscribe_on_plain root name d (Some b) =
+    either (is_root_path root) (subscribe_at root name (inquiry_in b d)) (Err BadPath)
+    (subscribe_at_plain root name (inquiry_in b d)
+    (inquiry_of_plain b (clock_at (clock_key d)) (expression_at (expression_key d)) (fields_at (fields_key d)) (clock_at_plain (clock_key d)) (expression_at_plain (expression_key d)) (fields_at_plain (fields_key d)))) refl
+
+subscribed_plain : (root name : Option (List ℕ)) (d : Option Data) → tells_fault (subscribe_with root name d) ≡ false
+subscribed_plain (Some root) (Some name) (Some d) =
+    either (is_subscription_name name && (has_query_keys d && has_query_kinds d)) (subscribe_on root name d (flag_in (empty_key d))) (Err BadArguments) (subscribe_on_plain root name d (flag_in (empty_key d))) refl
+subscribed_plain _ _ _ = refl
+
+unsubscribed_plain : (root name : Option (List ℕ)) → tells_fault (unsubscribe_with root name) ≡ false
+unsubscribed_plain (Some root) (Some name) =
+    either {A = Request} (is_subscription_name name) (cond (is_root_path root) (Ok (Unsubscribe root name)) (Err BadPath)) (Err BadArguments) (either {A = Request} (is_root_path root) (Ok (Unsubscribe root name)) (Err BadPath) refl refl) refl
+unsubscribed_plain _ _ = refl
+
 rules_plain : (t : Option Definition) → tells_fault (by_rules t) ≡ false
 rules_plain None = refl
 rules_plain (Some t) = either (is_trigger t) _ _ refl refl
@@ -196,7 +221,9 @@ command_plain d (Some name) =
     (either (bytes_eq name (codes "age-out")) _ _ (either (is_none (at 3 d)) _ _ (aged_plain (text_at 1 d) (option_and_then count_of (at 2 d))) refl)
     (either (bytes_eq name (codes "clock")) _ _ (with_plain (λ path. Clock path) (only_root d) (alone_plain d))
     (either (bytes_eq name (codes "since")) _ _ (either (is_none (at 3 d)) _ _ (since_plain (unwrap_or (option_map may_be_clock (at 2 d)) false) (text_at 1 d) (option_and_then spec_of (text_at 2 d))) refl)
-    (either (bytes_eq name (codes "query")) _ _ (either (is_none (at 3 d)) _ _ (queried_plain (text_at 1 d) (object_at 2 d)) refl) refl))))))))))))
+    (either (bytes_eq name (codes "query")) _ _ (either (is_none (at 3 d)) _ _ (queried_plain (text_at 1 d) (object_at 2 d)) refl)
+    (either (bytes_eq name (codes "subscribe")) _ _ (either (is_none (at 4 d)) _ _ (subscribed_plain (text_at 1 d) (text_at 2 d) (object_at 3 d)) refl)
+    (either (bytes_eq name (codes "unsubscribe")) _ _ (either (is_none (at 3 d)) _ _ (unsubscribed_plain (text_at 1 d) (text_at 2 d)) refl) refl))))))))))))))
 
 text_plain : (o : Option Data) → tells_fault (request_of_text o) ≡ false
 unfolding request_of
@@ -319,20 +346,34 @@ inquiry_plain : (s : SessionState) (root : List ℕ) (q : Inquiry) (r : Result A
 inquiry_plain s root q (Ok a) h = refl
 inquiry_plain s root q (Err e) h = h
 
-met_plain : (s : SessionState) (moment : ℕ) (r : Result Request Refusal) → tells_fault r ≡ false → tells_fault (met_or_refused s moment r).reply ≡ false
-met_plain s moment (Ok Version) h = refl
-met_plain s moment (Ok (Watch path)) h = commanded_plain s (command.Watch path)
-met_plain s moment (Ok (WatchDel path)) h = commanded_plain s (command.WatchDel path)
-met_plain s moment (Ok (Trigger path t)) h = commanded_plain s (command.Trigger path t)
-met_plain s moment (Ok (TriggerList path)) h = triggers_plain s (roots.root_at path s.registry)
-met_plain s moment (Ok (TriggerDel path name)) h = commanded_plain s (command.TriggerDel path name)
-met_plain s moment (Ok WatchList) h = refl
-met_plain s moment (Ok (Observe root pairs)) h = viewed_plain s root (op.Observe moment pairs)
-met_plain s moment (Ok (Listing root begun_at files)) h = viewed_plain s root (op.Recrawl moment begun_at files)
-met_plain s moment (Ok (AgeOut root age)) h = viewed_plain s root (op.AgeOut moment age)
-met_plain s moment (Ok (Clock root)) h = asked_plain s (clock_answer (view_of s root)) clock_reply (clock_told_plain (view_of s root))
-met_plain s moment (Ok (Query root q)) h = inquiry_plain s root q (inquired (view_of s root) q) (inquired_plain (view_of s root) q)
-met_plain s moment (Err e) h = h
+subscribe_told_plain : (s : SessionState) (subs : SubscriptionList) (root name : List ℕ) (r : Result ClockId Refusal) → tells_fault r ≡ false → tells_fault (subscribe_met s subs root name r).reply ≡ false
+subscribe_told_plain s subs root name (Ok clock) h =
+    elim (may_subscribe root name subs) as (λ b. tells_fault (cond b (replied (subscribe_reply clock name) s) (refused TooMany s)).reply ≡ false) [
+      | true ↦ refl
+      | false ↦ refl
+    ]
+subscribe_told_plain s subs root name (Err e) h = h
+
+unsubscribe_told_plain : (s : SessionState) (subs : SubscriptionList) (root name : List ℕ) (r : Option Root) → tells_fault (unsubscribe_met s subs root name r).reply ≡ false
+unsubscribe_told_plain s subs root name None = refl
+unsubscribe_told_plain s subs root name (Some watched) = refl
+
+met_plain : (s : SessionState) (subs : SubscriptionList) (moment : ℕ) (r : Result Request Refusal) → tells_fault r ≡ false → tells_fault (met_or_refused s subs moment r).reply ≡ false
+met_plain s subs moment (Ok Version) h = refl
+met_plain s subs moment (Ok (Watch path)) h = commanded_plain s (command.Watch path)
+met_plain s subs moment (Ok (WatchDel path)) h = commanded_plain s (command.WatchDel path)
+met_plain s subs moment (Ok (Trigger path t)) h = commanded_plain s (command.Trigger path t)
+met_plain s subs moment (Ok (TriggerList path)) h = triggers_plain s (roots.root_at path s.registry)
+met_plain s subs moment (Ok (TriggerDel path name)) h = commanded_plain s (command.TriggerDel path name)
+met_plain s subs moment (Ok WatchList) h = refl
+met_plain s subs moment (Ok (Observe root pairs)) h = viewed_plain s root (op.Observe moment pairs)
+met_plain s subs moment (Ok (Listing root begun_at files)) h = viewed_plain s root (op.Recrawl moment begun_at files)
+met_plain s subs moment (Ok (AgeOut root age)) h = viewed_plain s root (op.AgeOut moment age)
+met_plain s subs moment (Ok (Clock root)) h = asked_plain s (clock_answer (view_of s root)) clock_reply (clock_told_plain (view_of s root))
+met_plain s subs moment (Ok (Query root q)) h = inquiry_plain s root q (inquired (view_of s root) q) (inquired_plain (view_of s root) q)
+met_plain s subs moment (Ok (Subscribe root name q)) h = subscribe_told_plain s subs root name (clock_answer (view_of s root)) (clock_told_plain (view_of s root))
+met_plain s subs moment (Ok (Unsubscribe root name)) h = unsubscribe_told_plain s subs root name (roots.root_at root s.registry)
+met_plain s subs moment (Err e) h = h
 
 one_fault : (way : Way) (defined : Result Data Refusal) (r : Refusal) → tells_fault defined ≡ false → is_fault r ≡ true → refusal_or way defined ≡ Err r → 1 ≡ faults_of way
 one_fault Defined defined r plain fault e = absurd (true≢false (sym fault ∙ (ap (λ (x : Result Data Refusal). tells_fault x) (sym e) ∙ plain)))
@@ -340,11 +381,38 @@ one_fault Device defined r plain fault e = refl
 one_fault Memory defined r plain fault e = refl
 one_fault Spent defined r plain fault e = let bad : true ≡ false = sym fault ∙ ap (λ (x : Result Data Refusal). tells_fault x) (sym e) in absurd cc
 
+no_fault : (way : Way) (defined : Result Data Refusal) (r : Refusal) → is_fault r ≡ false → refusal_or way defined ≡ Err r → 0 ≡ faults_of way
+no_fault Defined defined r plain e = refl
+no_fault Device defined r plain e = let bad : true ≡ false = ap (λ (x : Result Data Refusal). tells_fault x) e ∙ plain in absurd cc
+no_fault Memory defined r plain e = let bad : true ≡ false = ap (λ (x : Result Data Refusal). tells_fault x) e ∙ plain in absurd cc
+no_fault Spent defined r plain e = refl
+
+-- a refusal was told, and changed no subscription
+replied_so : (old new : Standing FrontState) (moment : ℕ) (line before mid after : List ℕ) (r : Refusal) (told : Refuses (line_met (seen old) moment line) r (page old.front before) (page new.front mid)) → new.subscriptions ≡ old.subscriptions
+    → after ≡ mid ++ line_text (refusal_reply r) → Replied told.way old moment line before after new
+replied_so old new moment line before mid after r told kept put = record {
+  cause = told.cause;
+  state_is = told.state_is;
+  bytes_are = put ∙ ap (λ (bytes : List ℕ). bytes ++ line_text (refusal_reply r)) told.bytes_are ∙ ap (λ (x : Result Data Refusal). before ++ reply_bytes x) (sym told.reply_is);
+  subscriptions_are = kept ∙ sym (ap (λ (x : Result Data Refusal). subscriptions_after x (seen old) (request_of_line line)) told.reply_is);
+}
+
 -- a fault that is told is one
-pub fault_told : (old new : FrontState) (moment : ℕ) (line before after : List ℕ) (r : Refusal) → is_fault r ≡ true → Refuses (line_met old.state moment line) r (page old before) (page new after)
-    → (way : Way) × (1 ≡ faults_of way) × RepliesTo way old moment line (line_text (refusal_reply r)) new
-fault_told old new moment line before after r fault told = (
+pub fault_told : (old new : Standing FrontState) (moment : ℕ) (line before mid after : List ℕ) (r : Refusal) → is_fault r ≡ true → Refuses (line_met (seen old) moment line) r (page old.front before) (page new.front mid) → new.subscriptions ≡ old.subscriptions
+    → after ≡ mid ++ line_text (refusal_reply r)
+    → (way : Way) × (1 ≡ faults_of way) × Replied way old moment line before after new
+fault_told old new moment line before mid after r fault told kept put = (
   told.way,
-  one_fault told.way (line_met old.state moment line).reply r (met_plain old.state moment (request_of_line line) (line_plain line)) fault told.reply_is,
-  record { cause = told.cause; bytes_are = ap reply_bytes (sym told.reply_is); state_is = told.state_is },
+  one_fault told.way (line_met (seen old) moment line).reply r (met_plain old.front.state old.subscriptions moment (request_of_line line) (line_plain line)) fault told.reply_is,
+  replied_so old new moment line before mid after r told kept put,
+)
+
+-- so is any refusal
+pub plain_told : (old new : Standing FrontState) (moment : ℕ) (line before mid after : List ℕ) (r : Refusal) → is_fault r ≡ false → Refuses (line_met (seen old) moment line) r (page old.front before) (page new.front mid) → new.subscriptions ≡ old.subscriptions
+    → after ≡ mid ++ line_text (refusal_reply r)
+    → (way : Way) × (0 ≡ faults_of way) × Replied way old moment line before after new
+plain_told old new moment line before mid after r plain told kept put = (
+  told.way,
+  no_fault told.way (line_met (seen old) moment line).reply r plain told.reply_is,
+  replied_so old new moment line before mid after r told kept put,
 )

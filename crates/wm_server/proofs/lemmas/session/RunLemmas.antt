@@ -1,5 +1,5 @@
 -- Runs that go on, line by line.
-use Rattle.std.proofs.Common.{◌≡◌, ◌≢◌, ℕ, ◌+◌, ◌<◌, ◌≤◌, List, [], ◌∷◌, ◌++◌, length, take, Bool, true, false, cond, Option, Some, None, Result, Ok, Err, refl, sym, ap, ◌∙◌, arith, inl, inr, append_assoc, subst, codes}
+use Rattle.std.proofs.Common.{◌≡◌, ◌≢◌, ℕ, suc, ◌+◌, ◌<◌, ◌≤◌, List, [], ◌∷◌, ◌++◌, length, take, Bool, true, false, cond, Option, Some, None, Result, Ok, Err, refl, sym, ap, ◌∙◌, arith, inl, inr, append_assoc, subst, codes}
 use Rattle.std.proofs.lemmas.List.{append-nil, length-append, take_all, length-take-le}
 use Rattle.std.proofs.lemmas.Bool.{cases_lt}
 use Rattle.std.proofs.lemmas.Bool.Decides.{nat_tests}
@@ -14,8 +14,11 @@ use Rattle.wm_registry.specs.declared.command.Command.{Command}
 use Rattle.wm_server.specs.session.Asked.{asked_by, asked_in}
 use Rattle.wm_lines.specs.Lines.{value_of_line, max_line, request_of_line, request_of_text}
 use Rattle.wm_lines.specs.Replies.{line_text, refusal_reply, reply_bytes}
-use Rattle.wm_server.specs.session.Sessions.{SessionState, Outcome, line_met, met_or_refused}
-use Rattle.wm_server.specs.session.Faults.{FrontState, Way, Defined, Device, Memory, Spent, HasCause, Lasts, RepliesTo, faults_of, refusal_or, state_or}
+use Rattle.wm_disk.specs.declared.refusal.Refusal.{Refusal}
+use Rattle.wm_lines.specs.declared.request.Request.{Request}
+use Rattle.wm_server.specs.session.Sessions.{SessionState, Standing, SubscriptionList, line_met, met_or_refused, subscriptions_after}
+use Rattle.wm_server.specs.session.Dues.{after_due_lines, after_line, after_telling, after_told, are_all_found, due_in, due_line, due_lines, line_bytes, told_lines}
+use Rattle.wm_server.specs.session.Faults.{FrontState, Meeting, faults_at, seen, subscriptions_told, told_by, Way, Defined, Device, Memory, Spent, HasCause, Lasts, RepliesTo, faults_of, refusal_or, state_or}
 use Rattle.wm_server.specs.session.Runs.{RunsLines, HandlesPrefix, Served, ServedCleanly, Serves, Untold, output_of, state_after, faults_in}
 use Rattle.wm_server.specs.declared.session.input.LineRead.{LineRead}
 use Rattle.wm_server.specs.declared.session.input.LineRead.TheVariants as reads
@@ -62,28 +65,31 @@ same_text kept whole e =
       | inr short ↦ ap value_of_line (e ∙ take_all max_kept whole (omega arith))
     ]
 
-same_met : (s : SessionState) (moment : ℕ) (kept whole : List ℕ) → kept ≡ take max_kept whole → line_met s moment kept ≡ line_met s moment whole
-same_met s moment kept whole e = ap (λ t. met_or_refused s moment (request_of_text t)) (same_text kept whole e)
-
-answers_kept : (way : Way) (old new : FrontState) (moment : ℕ) (kept whole bytes : List ℕ) → kept ≡ take max_kept whole → RepliesTo way old moment kept bytes new → RepliesTo way old moment whole bytes new
-answers_kept way old new moment kept whole bytes e a =
-    let same = same_met old.state moment kept whole e in
-    record {
-      cause = subst (λ (o : Outcome). HasCause way o.accepts old new) same a.cause;
-      bytes_are = a.bytes_are ∙ ap (λ (o : Outcome). reply_bytes (refusal_or way o.reply)) same;
-      state_is = a.state_is ∙ ap (λ (o : Outcome). state_or way o.state old.state) same;
-    }
-
-pub stands_kept : (old new : FrontState) (moment n : ℕ) (kept whole : List ℕ) (held holds : Option (List ℕ)) → kept ≡ take max_kept whole → Serves old moment kept n held holds new → Serves old moment whole n held holds new
-stands_kept old new moment n kept whole held holds e s =
-    record { way = s.way; bytes = s.bytes; faults_are = s.faults_are; appends = s.appends; answers = answers_kept s.way old new moment kept whole s.bytes e s.answers }
-
 -- and asks for the same
 pub same_request : (kept whole : List ℕ) → kept ≡ take max_kept whole → request_of_line kept ≡ request_of_line whole
 same_request kept whole e = ap request_of_text (same_text kept whole e)
 
-pub untold_kept : (old new : FrontState) (moment : ℕ) (kept whole : List ℕ) → kept ≡ take max_kept whole → Untold old moment kept new → Untold old moment whole new
-untold_kept old new moment kept whole e u = record { way = u.way; bytes = u.bytes; answers = answers_kept u.way old new moment kept whole u.bytes e u.answers }
+-- the subscriptions after a request
+abbrev after_request : Meeting → Standing FrontState → ℕ → Result Request Refusal → SubscriptionList
+after_request meeting old moment q = subscriptions_after (refusal_or meeting.way (met_or_refused old.front.state old.subscriptions moment q).reply) (seen old) q
+
+answers_kept : (meeting : Meeting) (old new : Standing FrontState) (moment : ℕ) (kept whole bytes : List ℕ) → kept ≡ take max_kept whole → RepliesTo meeting old moment kept bytes new → RepliesTo meeting old moment whole bytes new
+answers_kept meeting old new moment kept whole bytes e a =
+    let same = same_request kept whole e in
+    record {
+      cause = subst (λ (q : Result Request Refusal). HasCause meeting.way (met_or_refused old.front.state old.subscriptions moment q).accepts old.front new.front) same a.cause;
+      state_is = subst (λ (q : Result Request Refusal). new.front.state ≡ state_or meeting.way (met_or_refused old.front.state old.subscriptions moment q).state old.front.state) same a.state_is;
+      marks = subst (λ (q : Result Request Refusal). length meeting.finds ≡ length (after_request meeting old moment q)) same a.marks;
+      bytes_are = subst (λ (q : Result Request Refusal). bytes ≡ reply_bytes (refusal_or meeting.way (met_or_refused old.front.state old.subscriptions moment q).reply) ++ told_lines new.front.state meeting.finds (after_request meeting old moment q)) same a.bytes_are;
+      subscriptions_are = subst (λ (q : Result Request Refusal). new.subscriptions ≡ after_told new.front.state meeting.finds (after_request meeting old moment q)) same a.subscriptions_are;
+    }
+
+pub stands_kept : (old new : Standing FrontState) (moment n : ℕ) (kept whole : List ℕ) (held holds : Option (List ℕ)) → kept ≡ take max_kept whole → Serves old moment kept n held holds new → Serves old moment whole n held holds new
+stands_kept old new moment n kept whole held holds e s =
+    record { meeting = s.meeting; bytes = s.bytes; faults_are = s.faults_are; appends = s.appends; answers = answers_kept s.meeting old new moment kept whole s.bytes e s.answers }
+
+pub untold_kept : (old new : Standing FrontState) (moment : ℕ) (kept whole : List ℕ) → kept ≡ take max_kept whole → Untold old moment kept new → Untold old moment whole new
+untold_kept old new moment kept whole e u = record { meeting = u.meeting; bytes = u.bytes; answers = answers_kept u.meeting old new moment kept whole u.bytes e u.answers }
 
 pub no_memory_line : codes "{\"error\":\"16 NoMemory\",\"version\":\"w1\"}\n" ≡ line_text (refusal_reply refusals.NoMemory)
 unfolding line_text serde_json_on_literals
@@ -92,18 +98,55 @@ no_memory_line = refl
 stood : (old new : FrontState) → new ≡ old → Lasts old new
 stood old new same = record { failures = omega (arith, ap (λ (s : FrontState). s.failures) same); number = omega (arith, ap (λ (s : FrontState). s.number) same) }
 
-answered_no_memory : (old new : FrontState) (moment : ℕ) (line : List ℕ) → new ≡ old → RepliesTo Memory old moment line (reply_bytes (Err refusals.NoMemory)) new
-answered_no_memory old new moment line same =
-    record { cause = (stood old new same, ap (λ (s : FrontState). s.failures) same); bytes_are = refl; state_is = ap (λ (s : FrontState). s.state) same }
+-- nothing was due for want of memory
+none_found : SubscriptionList → List Bool
+none_found [] = []
+none_found (x ∷ xs) = false ∷ none_found xs
+
+none_marks : (xs : SubscriptionList) → length (none_found xs) ≡ length xs
+unfolding none_found
+none_marks [] = refl
+none_marks (x ∷ xs) = ap (λ (n : ℕ). suc n) (none_marks xs)
+
+none_lines : (s : SessionState) (xs : SubscriptionList) → told_lines s (none_found xs) xs ≡ []
+unfolding none_found
+none_lines s [] = refl
+none_lines s (x ∷ xs) = none_lines s xs
+
+none_after : (s : SessionState) (xs : SubscriptionList) → after_told s (none_found xs) xs ≡ xs
+unfolding none_found
+none_after s [] = refl
+none_after s (x ∷ xs) = ap (λ (l : SubscriptionList). x ∷ l) (none_after s xs)
+
+unmet : Standing FrontState → Meeting
+unmet old = record { way = Memory; finds = none_found old.subscriptions }
+
+unmet_fault : (old : Standing FrontState) → faults_at (unmet old) ≡ 1
+unfolding unmet
+unmet_fault old =
+    elim (are_all_found (none_found old.subscriptions)) as (λ b. cond b (faults_of Memory) 1 ≡ 1) [
+      | true ↦ refl
+      | false ↦ refl
+    ]
+
+answered_no_memory : (old new : Standing FrontState) (moment : ℕ) (line : List ℕ) → new ≡ old → RepliesTo (unmet old) old moment line (reply_bytes (Err refusals.NoMemory)) new
+unfolding unmet
+answered_no_memory old new moment line same = record {
+  cause = (stood old.front new.front (ap (λ (s : Standing FrontState). s.front) same), ap (λ (s : Standing FrontState). s.front.failures) same);
+  state_is = ap (λ (s : Standing FrontState). s.front.state) same;
+  marks = none_marks old.subscriptions;
+  bytes_are = sym (ap (λ (l : List ℕ). reply_bytes (Err refusals.NoMemory) ++ l) (none_lines new.front.state old.subscriptions) ∙ append-nil (reply_bytes (Err refusals.NoMemory)));
+  subscriptions_are = ap (λ (s : Standing FrontState). s.subscriptions) same ∙ sym (none_after new.front.state old.subscriptions);
+}
 
 -- a line that was answered with out of memory, with nothing changed
-pub no_memory : (old new : FrontState) (moment n : ℕ) (line : List ℕ) (held holds : Option (List ℕ)) → new ≡ old → n ≡ 1 → Appends held holds (reply_bytes (Err refusals.NoMemory)) → Serves old moment line n held holds new
+pub no_memory : (old new : Standing FrontState) (moment n : ℕ) (line : List ℕ) (held holds : Option (List ℕ)) → new ≡ old → n ≡ 1 → Appends held holds (reply_bytes (Err refusals.NoMemory)) → Serves old moment line n held holds new
 no_memory old new moment n line held holds same one appends =
-    record { way = Memory; bytes = reply_bytes (Err refusals.NoMemory); faults_are = one; appends = appends; answers = answered_no_memory old new moment line same }
+    record { meeting = unmet old; bytes = reply_bytes (Err refusals.NoMemory); faults_are = one ∙ sym (unmet_fault old); appends = appends; answers = answered_no_memory old new moment line same }
 
 -- not even that was told
-pub untold_no_memory : (old new : FrontState) (moment : ℕ) (line : List ℕ) → new ≡ old → Untold old moment line new
-untold_no_memory old new moment line same = record { way = Memory; bytes = reply_bytes (Err refusals.NoMemory); answers = answered_no_memory old new moment line same }
+pub untold_no_memory : (old new : Standing FrontState) (moment : ℕ) (line : List ℕ) → new ≡ old → Untold old moment line new
+untold_no_memory old new moment line same = record { meeting = unmet old; bytes = reply_bytes (Err refusals.NoMemory); answers = answered_no_memory old new moment line same }
 
 -- ---- what two steps appended
 
@@ -126,12 +169,12 @@ lasts Memory accepts old new c = c.0
 lasts Spent accepts old new c = c.1
 
 -- no line takes the slot's number back
-rises : (old : FrontState) (moment : ℕ → ℕ) (k : ℕ) (lines : List (List ℕ)) (ways : List Way) (bytes : List ℕ) (new : FrontState) → RunsLines old moment k lines ways bytes new → old.number ≤ new.number
-rises old moment k [] [] bytes new r = omega (arith, ap (λ (s : FrontState). s.number) r.1)
+rises : (old : Standing FrontState) (moment : ℕ → ℕ) (k : ℕ) (lines : List (List ℕ)) (ways : List Meeting) (bytes : List ℕ) (new : Standing FrontState) → RunsLines old moment k lines ways bytes new → old.front.number ≤ new.front.number
+rises old moment k [] [] bytes new r = omega (arith, ap (λ (s : Standing FrontState). s.front.number) r.1)
 rises old moment k [] (way ∷ ways) bytes new r = absurd r
 rises old moment k (line ∷ lines) [] bytes new r = absurd r
 rises old moment k (line ∷ lines) (way ∷ ways) bytes new r =
-    let here : Lasts old r.2 = lasts way (line_met old.state (moment k) line).accepts old r.2 r.4.cause in
+    let here : Lasts old.front r.2.front = lasts way.way (line_met (seen old) (moment k) line).accepts old.front r.2.front r.4.cause in
     omega (arith, here.number, rises r.2 moment (k + 1) lines ways r.1 new r.5)
 
 -- without a fault, and where the number isn't spent, a line was answered as it is defined
@@ -141,25 +184,52 @@ no_faults Device accepts old new e c below = absurd (omega arith)
 no_faults Memory accepts old new e c below = absurd (omega arith)
 no_faults Spent accepts old new e c below = absurd (omega (arith, c.3, below))
 
-clean_line : (way : Way) (old next : FrontState) (moment : ℕ) (line prefix : List ℕ) → way ≡ Defined → RepliesTo way old moment line prefix next
-    → (prefix ≡ reply_bytes (line_met old.state moment line).reply) × (next.state ≡ (line_met old.state moment line).state)
-clean_line way old next moment line prefix e a = (
-  a.bytes_are ∙ ap (λ (w : Way). reply_bytes (refusal_or w (line_met old.state moment line).reply)) e,
-  a.state_is ∙ ap (λ (w : Way). state_or w (line_met old.state moment line).state old.state) e,
-)
+-- and each line that was due after it was told
+no_fault_at : (way : Way) (found : Bool) → cond found (faults_of way) 1 ≡ 0 → (faults_of way ≡ 0) × (found ≡ true)
+no_fault_at way true e = (e, refl)
+no_fault_at way false e = absurd (omega (arith, e))
 
-clean : (old : FrontState) (moment : ℕ → ℕ) (k : ℕ) (lines : List (List ℕ)) (ways : List Way) (bytes : List ℕ) (new : FrontState) → faults_in ways ≡ 0 → new.number < max_counter → RunsLines old moment k lines ways bytes new
-    → (bytes ≡ output_of old.state moment k lines) × (new.state ≡ state_after old.state moment k lines)
-clean old moment k [] [] bytes new none below r = (r.0, ap (λ (s : FrontState). s.state) r.1)
+all_lines : (s : SessionState) (finds : List Bool) (xs : SubscriptionList) → length finds ≡ length xs → are_all_found finds ≡ true → told_lines s finds xs ≡ due_lines s xs
+all_lines s [] [] n e = refl
+all_lines s [] (x ∷ xs) n e = absurd (omega (arith, n))
+all_lines s (b ∷ finds) [] n e = absurd (omega (arith, n))
+all_lines s (true ∷ finds) (x ∷ xs) n e = ap (λ (l : List ℕ). due_line x (due_in s x) ++ l) (all_lines s finds xs (omega (arith, n)) e)
+all_lines s (false ∷ finds) (x ∷ xs) n e = absurd cc
+
+all_after : (s : SessionState) (finds : List Bool) (xs : SubscriptionList) → length finds ≡ length xs → are_all_found finds ≡ true → after_told s finds xs ≡ after_due_lines s xs
+all_after s [] [] n e = refl
+all_after s [] (x ∷ xs) n e = absurd (omega (arith, n))
+all_after s (b ∷ finds) [] n e = absurd (omega (arith, n))
+all_after s (true ∷ finds) (x ∷ xs) n e = ap (λ (l : SubscriptionList). after_telling x (due_in s x) ∷ l) (all_after s finds xs (omega (arith, n)) e)
+all_after s (false ∷ finds) (x ∷ xs) n e = absurd cc
+
+clean_line : (meeting : Meeting) (old next : Standing FrontState) (moment : ℕ) (line prefix : List ℕ) → meeting.way ≡ Defined → are_all_found meeting.finds ≡ true → RepliesTo meeting old moment line prefix next
+    → (prefix ≡ line_bytes (seen old) moment line) × (seen next ≡ after_line (seen old) moment line)
+clean_line meeting old next moment line prefix e all a =
+    let here = line_met (seen old) moment line in
+    let left : SubscriptionList = subscriptions_after here.reply (seen old) (request_of_line line) in
+    let state : next.front.state ≡ here.state = a.state_is ∙ ap (λ (w : Way). state_or w here.state old.front.state) e in
+    let subs : subscriptions_told meeting.way old moment line ≡ left = ap (λ (w : Way). subscriptions_told w old moment line) e in
+    let lines = all_lines next.front.state meeting.finds (subscriptions_told meeting.way old moment line) a.marks all in
+    let after = all_after next.front.state meeting.finds (subscriptions_told meeting.way old moment line) a.marks all in (
+      a.bytes_are ∙ ap (λ (l : List ℕ). reply_bytes (told_by meeting.way old moment line) ++ l) lines
+          ∙ ap (λ (w : Way). reply_bytes (told_by w old moment line) ++ due_lines next.front.state (subscriptions_told w old moment line)) e
+          ∙ ap (λ (s : SessionState). reply_bytes here.reply ++ due_lines s left) state,
+      λ i. record { front = state i; subscriptions = (a.subscriptions_are ∙ after ∙ ap (λ (l : SubscriptionList). after_due_lines next.front.state l) subs ∙ ap (λ (s : SessionState). after_due_lines s left) state) i },
+    )
+
+clean : (old : Standing FrontState) (moment : ℕ → ℕ) (k : ℕ) (lines : List (List ℕ)) (ways : List Meeting) (bytes : List ℕ) (new : Standing FrontState) → faults_in ways ≡ 0 → new.front.number < max_counter → RunsLines old moment k lines ways bytes new
+    → (bytes ≡ output_of (seen old) moment k lines) × (seen new ≡ state_after (seen old) moment k lines)
+clean old moment k [] [] bytes new none below r = (r.0, ap (λ (s : Standing FrontState). seen s) r.1)
 clean old moment k [] (way ∷ ways) bytes new none below r = absurd r
 clean old moment k (line ∷ lines) [] bytes new none below r = absurd r
 clean old moment k (line ∷ lines) (way ∷ ways) bytes new none below r =
-    let next : r.2.number < max_counter = omega (arith, below, rises r.2 moment (k + 1) lines ways r.1 new r.5) in
-    let here = clean_line way old r.2 (moment k) line r.0 (no_faults way (line_met old.state (moment k) line).accepts old r.2 (omega arith) r.4.cause next) r.4 in
-    let rest = clean r.2 moment (k + 1) lines ways r.1 new (omega arith) below r.5 in
-    let met = line_met old.state (moment k) line in (
-      r.3 ∙ ap (λ (t : List ℕ). t ++ r.1) here.0 ∙ ap (λ (t : List ℕ). reply_bytes met.reply ++ t) (rest.0 ∙ ap (λ (s : SessionState). output_of s moment (k + 1) lines) here.1),
-      rest.1 ∙ ap (λ (s : SessionState). state_after s moment (k + 1) lines) here.1,
+    let next : r.2.front.number < max_counter = omega (arith, below, rises r.2 moment (k + 1) lines ways r.1 new r.5) in
+    let fine = no_fault_at way.way (are_all_found way.finds) (omega (arith, none)) in
+    let here = clean_line way old r.2 (moment k) line r.0 (no_faults way.way (line_met (seen old) (moment k) line).accepts old.front r.2.front fine.0 r.4.cause next) fine.1 r.4 in
+    let rest = clean r.2 moment (k + 1) lines ways r.1 new (omega (arith, none)) below r.5 in (
+      r.3 ∙ ap (λ (t : List ℕ). t ++ r.1) here.0 ∙ ap (λ (t : List ℕ). line_bytes (seen old) (moment k) line ++ t) (rest.0 ∙ ap (λ (s : Standing SessionState). output_of s moment (k + 1) lines) here.1),
+      rest.1 ∙ ap (λ (s : Standing SessionState). state_after s moment (k + 1) lines) here.1,
     )
 
 -- ---- the loop
@@ -170,12 +240,12 @@ on_err (Ok t) p = tt
 on_err (Err e) p = p
 
 -- a run of one line more
-run_more : (old : FrontState) (moment : ℕ → ℕ) (k : ℕ) (met : List (List ℕ)) (ways : List Way) (bytes : List ℕ) (now : FrontState) (line : List ℕ) (way : Way) (prefix : List ℕ) (next : FrontState)
+run_more : (old : Standing FrontState) (moment : ℕ → ℕ) (k : ℕ) (met : List (List ℕ)) (ways : List Meeting) (bytes : List ℕ) (now : Standing FrontState) (line : List ℕ) (way : Meeting) (prefix : List ℕ) (next : Standing FrontState)
     → RunsLines old moment k met ways bytes now → RepliesTo way now (moment (k + length met)) line prefix next
     → RunsLines old moment k (met ++ line ∷ []) (ways ++ way ∷ []) (bytes ++ prefix) next
 run_more old moment k [] [] bytes now line way prefix next r a =
     let at_k : RepliesTo way now (moment k) line prefix next = subst (λ (m : ℕ). RepliesTo way now (moment m) line prefix next) (omega arith) a in
-    let from_old : RepliesTo way old (moment k) line prefix next = subst (λ (s : FrontState). RepliesTo way s (moment k) line prefix next) r.1 at_k in
+    let from_old : RepliesTo way old (moment k) line prefix next = subst (λ (s : Standing FrontState). RepliesTo way s (moment k) line prefix next) r.1 at_k in
     (prefix, [], next, ap (λ (t : List ℕ). t ++ prefix) r.0 ∙ sym (append-nil prefix), from_old, (refl, refl))
 run_more old moment k [] (w ∷ ways) bytes now line way prefix next r a = absurd r
 run_more old moment k (l ∷ met) [] bytes now line way prefix next r a = absurd r
@@ -184,7 +254,7 @@ run_more old moment k (l ∷ met) (w ∷ ways) bytes now line way prefix next r 
     (r.0, r.1 ++ prefix, r.2, ap (λ (t : List ℕ). t ++ prefix) r.3 ∙ append_assoc r.0 r.1 prefix, r.4, run_more r.2 moment (k + 1) met ways r.1 now line way prefix next r.5 later)
 
 -- the lines of the input in front of the rest were met
-pub record Underway (old : FrontState) (moment : ℕ → ℕ) (input : List ℕ) (asked : List Command) (ways : List Way) (now : FrontState) (place : ℕ) (rest written : List ℕ) : Type 0 where
+pub record Underway (old : Standing FrontState) (moment : ℕ → ℕ) (input : List ℕ) (asked : List Command) (ways : List Meeting) (now : Standing FrontState) (place : ℕ) (rest written : List ℕ) : Type 0 where
   pub met : List (List ℕ)
   pub asked_is : asked ≡ asked_in met
   pub lines : lines_of input ≡ met ++ lines_of rest
@@ -200,7 +270,7 @@ asked_behind (line ∷ first) second = ap (λ (l : List Command). asked_by (requ
 asked_next : (met : List (List ℕ)) (line : List ℕ) → asked_in (met ++ line ∷ []) ≡ asked_in met ++ asked_by (request_of_line line)
 asked_next met line = asked_behind met (line ∷ []) ∙ ap (λ (l : List Command). asked_in met ++ l) (append-nil (asked_by (request_of_line line)))
 
-one_more : (old : FrontState) (moment : ℕ → ℕ) (input : List ℕ) (asked : List Command) (ways : List Way) (now next : FrontState) (place : ℕ) (rest written prefix : List ℕ) (way : Way)
+one_more : (old : Standing FrontState) (moment : ℕ → ℕ) (input : List ℕ) (asked : List Command) (ways : List Meeting) (now next : Standing FrontState) (place : ℕ) (rest written prefix : List ℕ) (way : Meeting)
     → Underway old moment input asked ways now place rest written → rest ≢ [] → RepliesTo way now (moment place) (take_through 10 rest) prefix next
     → Underway old moment input (asked ++ asked_by (request_of_line (take_through 10 rest))) (ways ++ way ∷ []) next (place + 1) (drop_through 10 rest) (written ++ prefix)
 one_more old moment input asked ways now next place rest written prefix way u ne a =
@@ -215,26 +285,26 @@ one_more old moment input asked ways now next place rest written prefix way u ne
     }
 
 -- a run that is underway is cut
-cut : (old : FrontState) (moment : ℕ → ℕ) (input : List ℕ) (asked : List Command) (ways : List Way) (now : FrontState) (place : ℕ) (rest written : List ℕ) → Underway old moment input asked ways now place rest written → HandlesPrefix old moment input asked now
-cut old moment input asked ways now place rest written u = record { met = u.met; more = lines_of rest; lines = u.lines; asked_is = u.asked_is; ways = ways; bytes = written; run = u.run }
+cut : (old : Standing FrontState) (moment : ℕ → ℕ) (input : List ℕ) (asked : List Command) (ways : List Meeting) (now : Standing FrontState) (place : ℕ) (rest written : List ℕ) → Underway old moment input asked ways now place rest written → HandlesPrefix old moment input asked now
+cut old moment input asked ways now place rest written u = record { met = u.met; more = lines_of rest; lines = u.lines; asked_is = u.asked_is; meetings = ways; bytes = written; run = u.run }
 
-sum-one : (ways : List Way) (way : Way) → faults_in (ways ++ way ∷ []) ≡ faults_in ways + faults_of way
+sum-one : (ways : List Meeting) (way : Meeting) → faults_in (ways ++ way ∷ []) ≡ faults_in ways + faults_at way
 sum-one [] way = omega arith
 sum-one (w ∷ ways) way = omega (arith, sum-one ways way)
 
 -- one turn
-pub record Loop (old : FrontState) (moment : ℕ → ℕ) (input : List ℕ) (asked : List Command) (held : Option (List ℕ)) (faults : ℕ) (now : FrontState) (place : ℕ) (left holds : Option (List ℕ)) : Type 0 where
-  pub ways : List Way
+pub record Loop (old : Standing FrontState) (moment : ℕ → ℕ) (input : List ℕ) (asked : List Command) (held : Option (List ℕ)) (faults : ℕ) (now : Standing FrontState) (place : ℕ) (left holds : Option (List ℕ)) : Type 0 where
+  pub meetings : List Meeting
   pub rest : List ℕ
   pub written : List ℕ
-  pub faults_are : faults ≡ faults_in ways
+  pub faults_are : faults ≡ faults_in meetings
   pub left_is : left ≡ Some rest
   pub appends : Appends held holds written
-  pub underway : Underway old moment input asked ways now place rest written
+  pub underway : Underway old moment input asked meetings now place rest written
 
-pub begins : (old : FrontState) (moment : ℕ → ℕ) (input : List ℕ) (held left : Option (List ℕ)) (place : ℕ) → place ≡ 0 → left ≡ Some input → Loop old moment input [] held 0 old place left held
+pub begins : (old : Standing FrontState) (moment : ℕ → ℕ) (input : List ℕ) (held left : Option (List ℕ)) (place : ℕ) → place ≡ 0 → left ≡ Some input → Loop old moment input [] held 0 old place left held
 begins old moment input held left place first e = record {
-  ways = [];
+  meetings = [];
   rest = input;
   written = [];
   faults_are = refl;
@@ -250,7 +320,7 @@ some_line reads.Kept kept rest left' more r = r
 some_line reads.Lost kept rest left' more r = (r.0, tt, r.1)
 some_line reads.End kept rest left' more r = absurd (more refl)
 
-pub turns : (old : FrontState) (moment now_moment : ℕ → ℕ) (input : List ℕ) (asked : List Command) (held : Option (List ℕ)) (faults : ℕ) (now next : FrontState) (place place' m n : ℕ) (left left' holds holds' : Option (List ℕ)) (reading : LineRead) (kept : List ℕ)
+pub turns : (old : Standing FrontState) (moment now_moment : ℕ → ℕ) (input : List ℕ) (asked : List Command) (held : Option (List ℕ)) (faults : ℕ) (now next : Standing FrontState) (place place' m n : ℕ) (left left' holds holds' : Option (List ℕ)) (reading : LineRead) (kept : List ℕ)
     → Loop old moment input asked held faults now place left holds
     → reading ≢ reads.End → ((rest : List ℕ) → left ≡ Some rest → ReadsLine rest reading kept left')
     → now_moment ≡ moment → m ≡ now_moment place → place' ≡ place + 1
@@ -261,40 +331,40 @@ turns old moment now_moment input asked held faults now next place place' m n le
     let r = some_line reading kept l.rest left' more (read l.rest l.left_is) in
     let s = serves (take_through 10 l.rest) r.1 in
     let m_at : m ≡ moment place = m_is ∙ ap (λ (f : ℕ → ℕ). f place) same in
-    let a : RepliesTo s.way now (moment place) (take_through 10 l.rest) s.bytes next = rw (← m_at) s.answers in (
+    let a : RepliesTo s.meeting now (moment place) (take_through 10 l.rest) s.bytes next = rw (← m_at) s.answers in (
       asked ++ asked_by (request_of_line (take_through 10 l.rest)),
       record {
-        ways = l.ways ++ s.way ∷ [];
+        meetings = l.meetings ++ s.meeting ∷ [];
         rest = drop_through 10 l.rest;
         written = l.written ++ s.bytes;
-        faults_are = omega (arith, l.faults_are, s.faults_are, sum-one l.ways s.way);
+        faults_are = omega (arith, l.faults_are, s.faults_are, sum-one l.meetings s.meeting);
         left_is = r.2;
         appends = appends-then held holds holds' l.written s.bytes l.appends s.appends;
-        underway = rw place_is (one_more old moment input asked l.ways now next place l.rest l.written s.bytes s.way l.underway r.0 a);
+        underway = rw place_is (one_more old moment input asked l.meetings now next place l.rest l.written s.bytes s.meeting l.underway r.0 a);
       },
       leads (take_through 10 l.rest) r.1,
     )
 
-pub ends : (old : FrontState) (moment : ℕ → ℕ) (input : List ℕ) (asked : List Command) (held : Option (List ℕ)) (faults : ℕ) (now : FrontState) (place : ℕ) (left holds : Option (List ℕ)) (reading : LineRead) (kept : List ℕ) (left' : Option (List ℕ))
+pub ends : (old : Standing FrontState) (moment : ℕ → ℕ) (input : List ℕ) (asked : List Command) (held : Option (List ℕ)) (faults : ℕ) (now : Standing FrontState) (place : ℕ) (left holds : Option (List ℕ)) (reading : LineRead) (kept : List ℕ) (left' : Option (List ℕ))
     → Loop old moment input asked held faults now place left holds → reading ≡ reads.End → ((rest : List ℕ) → left ≡ Some rest → ReadsLine rest reading kept left')
     → Served old moment 0 input faults held holds now
 ends old moment input asked held faults now place left holds reading kept left' l end read =
     let none : l.rest ≡ [] = rw end at (read l.rest l.left_is) in
     let all : lines_of input ≡ l.underway.met = l.underway.lines ∙ ap (λ (t : List ℕ). l.underway.met ++ lines_of t) none ∙ append-nil l.underway.met in
     record {
-      ways = l.ways;
+      meetings = l.meetings;
       bytes = l.written;
-      run = subst (λ (ls : List (List ℕ)). RunsLines old moment 0 ls l.ways l.written now) (sym all) l.underway.run;
+      run = subst (λ (ls : List (List ℕ)). RunsLines old moment 0 ls l.meetings l.written now) (sym all) l.underway.run;
       faults_are = l.faults_are;
       appends = l.appends;
     }
 
 -- a prefix of the lines was met
-pub breaks : (old : FrontState) (moment : ℕ → ℕ) (input : List ℕ) (asked : List Command) (held : Option (List ℕ)) (faults : ℕ) (now : FrontState) (place : ℕ) (left holds : Option (List ℕ)) → Loop old moment input asked held faults now place left holds → HandlesPrefix old moment input asked now
-breaks old moment input asked held faults now place left holds l = cut old moment input asked l.ways now place l.rest l.written l.underway
+pub breaks : (old : Standing FrontState) (moment : ℕ → ℕ) (input : List ℕ) (asked : List Command) (held : Option (List ℕ)) (faults : ℕ) (now : Standing FrontState) (place : ℕ) (left holds : Option (List ℕ)) → Loop old moment input asked held faults now place left holds → HandlesPrefix old moment input asked now
+breaks old moment input asked held faults now place left holds l = cut old moment input asked l.meetings now place l.rest l.written l.underway
 
 -- the writer failed
-pub breaks_untold : (old : FrontState) (moment now_moment : ℕ → ℕ) (input : List ℕ) (asked : List Command) (held : Option (List ℕ)) (faults : ℕ) (now next : FrontState) (place m : ℕ) (left left' holds : Option (List ℕ)) (reading : LineRead) (kept : List ℕ)
+pub breaks_untold : (old : Standing FrontState) (moment now_moment : ℕ → ℕ) (input : List ℕ) (asked : List Command) (held : Option (List ℕ)) (faults : ℕ) (now next : Standing FrontState) (place m : ℕ) (left left' holds : Option (List ℕ)) (reading : LineRead) (kept : List ℕ)
     → Loop old moment input asked held faults now place left holds
     → reading ≢ reads.End → ((rest : List ℕ) → left ≡ Some rest → ReadsLine rest reading kept left')
     → now_moment ≡ moment → m ≡ now_moment place
@@ -305,21 +375,28 @@ breaks_untold old moment now_moment input asked held faults now next place m lef
     let r = some_line reading kept l.rest left' more (read l.rest l.left_is) in
     let u = untold (take_through 10 l.rest) r.1 in
     let m_at : m ≡ moment place = m_is ∙ ap (λ (f : ℕ → ℕ). f place) same in
-    let a : RepliesTo u.way now (moment place) (take_through 10 l.rest) u.bytes next = rw (← m_at) u.answers in
+    let a : RepliesTo u.meeting now (moment place) (take_through 10 l.rest) u.bytes next = rw (← m_at) u.answers in
     let here = asked ++ asked_by (request_of_line (take_through 10 l.rest)) in (
       here,
-      cut old moment input here (l.ways ++ u.way ∷ []) next (place + 1) (drop_through 10 l.rest) (l.written ++ u.bytes) (one_more old moment input asked l.ways now next place l.rest l.written u.bytes u.way l.underway r.0 a),
+      cut old moment input here (l.meetings ++ u.meeting ∷ []) next (place + 1) (drop_through 10 l.rest) (l.written ++ u.bytes) (one_more old moment input asked l.meetings now next place l.rest l.written u.bytes u.meeting l.underway r.0 a),
       leads (take_through 10 l.rest) r.1,
     )
 
-pub cleanly : (old : FrontState) (moment : ℕ → ℕ) (input : List ℕ) (held : Option (List ℕ)) (faults : ℕ) (now : FrontState) (holds : Option (List ℕ))
-    → Served old moment 0 input faults held holds now → faults ≡ 0 → now.number < max_counter → ServedCleanly old.state moment 0 input held holds now.state
+pub cleanly : (old : Standing FrontState) (moment : ℕ → ℕ) (input : List ℕ) (held : Option (List ℕ)) (faults : ℕ) (now : Standing FrontState) (holds : Option (List ℕ))
+    → Served old moment 0 input faults held holds now → faults ≡ 0 → now.front.number < max_counter → ServedCleanly (seen old) moment 0 input held holds (seen now)
 cleanly old moment input held faults now holds s none below =
-    let c = clean old moment 0 (lines_of input) s.ways s.bytes now (sym s.faults_are ∙ none) below s.run in
+    let c = clean old moment 0 (lines_of input) s.meetings s.bytes now (sym s.faults_are ∙ none) below s.run in
     record { appends = subst (λ (t : List ℕ). Appends held holds t) c.0 s.appends; state_is = c.1 }
 
-pub few_faults : (way : Way) → faults_of way ≤ 1
-few_faults Defined = omega arith
-few_faults Device = omega arith
-few_faults Memory = omega arith
-few_faults Spent = omega arith
+few_by_way : (way : Way) → faults_of way ≤ 1
+few_by_way Defined = omega arith
+few_by_way Device = omega arith
+few_by_way Memory = omega arith
+few_by_way Spent = omega arith
+
+pub few_faults : (meeting : Meeting) → faults_at meeting ≤ 1
+few_faults meeting =
+    elim (are_all_found meeting.finds) as (λ b. cond b (faults_of meeting.way) 1 ≤ 1) [
+      | true ↦ few_by_way meeting.way
+      | false ↦ omega arith
+    ]

@@ -1,5 +1,6 @@
 -- From what a front did to what a session answers.
 use Rattle.std.proofs.Common.{◌≡◌, ℕ, List, ◌++◌, false, Result, Ok, Err, refl, sym, ap, subst, ◌∙◌}
+use Rattle.std.specs.Prelude.{is_ok}
 use Rattle.serde_json.specs.Data.{Data}
 use Rattle.wm_disk.specs.declared.refusal.Refusal.{Refusal}
 use Rattle.wm_names.specs.Paths.{Path}
@@ -63,6 +64,7 @@ operation_done old new root o progress bytes m =
     let is = done_is m.way old.state root o r progress m.reply_is in
     record {
       cause = subst (λ b. HasCause Defined b old new) (takes_no_command old.state root o r) (subst (λ w. HasCause w false old new) is.0 m.cause);
+      is_reply = ap (λ (x : Result Data Refusal). is_ok x) is.1;
       bytes_are = ap (λ (x : Result Data Refusal). bytes ++ reply_bytes x) (sym is.1);
       state_is = m.state_is ∙ ap (λ w. state_or w (operation_outcome old.state root o).state old.state) is.0;
     }

@@ -1,11 +1,16 @@
-use Rattle.std.proofs.Common.{◌++◌, List, ℕ, sym, ap, ◌∙◌}
-use Rattle.wm_lines.specs.Replies.{line_text, refusal_reply}
-use Rattle.wm_server.proofs.lemmas.session.PlainLemmas.{fault_told}
+use Rattle.std.proofs.Common.{true, false, ap}
+use Rattle.wm_server.specs.session.Stands.{standing}
+use Rattle.wm_server.proofs.lemmas.session.TellingLemmas.{line_told}
 use Rattle.wm_server.proofs.session.Session.line.Goals as goal
 
-pub returns-then-is_fault-clause-ok : goal.returns-then-is_fault-clause-ok
-returns-then-is_fault-clause-ok g c =
-    let told = c.in-Err.ensures.met in
-    let text = line_text (refusal_reply c.in-Err.refusal) in
-    let w = fault_told (g.F.Front.front_state c.args.self.now.front) (g.F.Front.front_state c.perform.new.self.front) c.args.moment c.args.line.now c.try_reserve.new.self.items c.perform.new.out.items c.in-Err.refusal (sym c.if-is_fault.ensures) told in
-    (w.0, text, w.1, c.put_refusal.ensures ∙ ap (λ (bytes : List ℕ). bytes ++ text) (told.bytes_are ∙ c.in_ok-try_reserve.ensures.items), w.2)
+pub returns-then-is_whole-clause-ok : goal.returns-then-is_whole-clause-ok
+returns-then-is_whole-clause-ok g c =
+    let r = c.reply-faults.ensures.told in
+    line_told r.0 (standing g.F.Front.front_state c.args.self.now) (standing g.F.Front.front_state c.reply-faults.new.self) (standing g.F.Front.front_state c.tell_due-is_whole.new.self) c.args.moment c.args.line.now
+    c.args.out.now.items _ _ c.reply-faults.result true (rw c.in_ok-try_reserve.ensures.items at r.2) (rw c.if-is_whole.true at c.tell_due-is_whole.ensures.told) (ap g.F.Front.front_state c.tell_due-is_whole.ensures.front) r.1
+
+pub returns-else-is_whole-clause-ok : goal.returns-else-is_whole-clause-ok
+returns-else-is_whole-clause-ok g c =
+    let r = c.reply-faults.ensures.told in
+    line_told r.0 (standing g.F.Front.front_state c.args.self.now) (standing g.F.Front.front_state c.reply-faults.new.self) (standing g.F.Front.front_state c.tell_due-is_whole.new.self) c.args.moment c.args.line.now
+    c.args.out.now.items _ _ c.reply-faults.result false (rw c.in_ok-try_reserve.ensures.items at r.2) (rw c.if-is_whole.false at c.tell_due-is_whole.ensures.told) (ap g.F.Front.front_state c.tell_due-is_whole.ensures.front) r.1

@@ -1,6 +1,7 @@
 use Rattle.std.proofs.Common.{◌≡◌, ◌≢◌, ◌∙◌, [], ◌++◌, ap, refl, rules, arith}
 use Rattle.wm_server.specs.declared.session.input.LineRead.TheVariants.{End}
 use Rattle.wm_server.specs.session.Streams.{writer_of}
+use Rattle.wm_server.specs.session.Stands.{standing}
 use Rattle.wm_server.proofs.lemmas.session.RunLemmas.{begins, breaks, breaks_untold, turns, ends, cleanly}
 use Rattle.wm_server.proofs.session.run.run.Goals as goal
 
@@ -14,7 +15,7 @@ loop-init g c = (
   ([], g.met.F.Front.stays c.args.session.now.front []),
   λ input e. (
     [],
-    begins (g.F.Front.front_state c.args.session.now.front) (g.M.Moments.moment c.args.moments.now) input (g.W.Write.contents (writer_of c.args.writer.now)) _ _ c.requires.moments (ap (λ r. g.R.Read.remaining r) c.count_anew.ensures.reader ∙ e),
+    begins (standing g.F.Front.front_state c.args.session.now) (g.M.Moments.moment c.args.moments.now) input (g.W.Write.contents (writer_of c.args.writer.now)) _ _ c.requires.moments (ap (λ r. g.R.Read.remaining r) c.count_anew.ensures.reader ∙ e),
     g.met.F.Front.stays c.args.session.now.front [],
   ),
 )

@@ -1,0 +1,15 @@
+use Rattle.std.proofs.Common.{ap}
+use Rattle.std.proofs.lemmas.Result.{IfOk-weaker}
+use Rattle.wm_server.specs.session.Stands.{standing}
+use Rattle.wm_server.proofs.lemmas.session.RunLemmas.{no_memory, on_err, untold_no_memory}
+use Rattle.wm_server.proofs.session.run.answer_kept.Goals as goal
+
+pub returns-clause-served : goal.returns-clause-served
+returns-clause-served g c =
+    let old = standing g.F.Front.front_state c.args.session.now in
+    let new = standing g.F.Front.front_state c.line.new.self in
+    IfOk-weaker c.answer_no_memory.result _ _ (λ n told. no_memory old new c.args.moment n c.args.line.now _ _ (ap (standing g.F.Front.front_state) c.in-Err.ensures.err.1) told.0 told.1) c.answer_no_memory.ensures.told
+
+pub returns-clause-untold : goal.returns-clause-untold
+returns-clause-untold g c =
+    on_err c.answer_no_memory.result (untold_no_memory (standing g.F.Front.front_state c.args.session.now) (standing g.F.Front.front_state c.line.new.self) c.args.moment c.args.line.now (ap (standing g.F.Front.front_state) c.in-Err.ensures.err.1))
