@@ -7,7 +7,7 @@ BENCH := crates/bench/out/bench
 FILES ?= 100000
 SOURCES := crates.txt $(shell find crates -name out -prune -o -type f \( -name '*.rt' -o -name '*.antt' \) -print)
 
-.PHONY: help clean uninstall test lint build run install bench bench-journal bench-store bench-desk idle-desk bench-crawl bench-view bench-match crawl-tree session examples kill state-file file-calls
+.PHONY: help clean uninstall test lint build run install bench bench-journal bench-store bench-desk idle-desk bench-crawl bench-view bench-share bench-match crawl-tree session examples kill state-file file-calls
 
 help:
 	@echo "make test          the whole gate: each proof from nothing, edits that must be refused, tests, programs (rt; two hours on two cores)"
@@ -20,7 +20,7 @@ help:
 	@echo "make state-file    a file with two owners, a format that fails, a killed one; make file-calls: its calls (strace)"
 	@echo "make kill          kills the built program again and again, and looks for what it answered (python3)"
 	@echo "make bench         a million lines beside Python's json (python3, GNU time)"
-	@echo "make bench-journal, bench-store, bench-desk, bench-view, bench-match     times by the program bench (rt; bench-store also sqlite3, if installed;"
+	@echo "make bench-journal, bench-store, bench-desk, bench-view, bench-share, bench-match   times by the program bench (rt; bench-store also sqlite3, if installed;"
 	@echo "                   bench-desk python3)"
 	@echo "make idle-desk     that a desk with nothing to do takes no processor (cc)"
 	@echo "make bench-crawl   crawls of 20,000 and 100,000 entries beside find (find, python3); make crawl-tree: rough trees, and whether a crawl"
@@ -109,6 +109,10 @@ crawl-tree: $(BENCH)
 # How long a view of FILES files takes for what is done to it and asked of it, and its memory; also of a tenth.
 bench-view: $(BENCH)
 	bench/view.sh $(BENCH) $(FILES)
+
+# How fast 1, 8 and 31 viewers of a root of FILES files answer while its keeper publishes nothing, and a change each millisecond.
+bench-share: $(BENCH)
+	$(BENCH) share $(FILES) 3000
 
 # How long `match` takes for patterns that are hard to refuse, of 64 to 1,024 bytes.
 bench-match: $(BENCH)

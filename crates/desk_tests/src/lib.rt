@@ -12,3 +12,5 @@ mod faults;
 mod rows;
 #[cfg(test)]
 mod seats;
+#[cfg(test)]
+mod sweeps;

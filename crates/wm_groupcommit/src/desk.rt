@@ -1,7 +1,7 @@
 //! The desk: a queue of calls, and the store with its list of accepted commands under a lock.
 //! Definitions: specs/Seats.antt, specs/Submits.antt. Tests: desk_tests.
-ghost use Rattle.std.specs.Prelude.{◌≡◌, ◌≤◌, List, ◌++◌, length, true, IfOk, IfErr, OnOk};
-ghost use Rattle.wm_disk.specs.declared.refusal.Refusal.TheVariants.{NoMemory as no_memory, BadArguments as bad_arguments};
+ghost use Rattle.std.specs.Prelude.{◌≡◌, ◌≤◌, ◌⊎◌, List, ◌++◌, length, true, IfOk, IfErr, OnOk};
+ghost use Rattle.wm_disk.specs.declared.refusal.Refusal.TheVariants.{NoMemory as no_memory, NoPlace as no_place, BadArguments as bad_arguments};
 ghost use Rattle.wm_store.specs.Batches.{is_begin};
 ghost use Rattle.wm_groupcommit.specs.declared.queued.Call.{Call as Calls};
 ghost use Rattle.wm_groupcommit.specs.ReplyQueues.{IsLater, Took};
@@ -84,7 +84,8 @@ impl<D: Disk + Drop> Desk<D> {
 
     /// A new seat. `18 NoPlace` where 64 were given, and `16 NoMemory` when out of memory.
     pub fn seat<R: Wait>(&self, rt: &R) -> Result<Seat, Refusal>
-        ensures { IfOk result (λ seat. IsSeatOf self.now seat × IsNewSeat seat) }
+        ensures ok { IfOk result (λ seat. IsSeatOf self.now seat × IsNewSeat seat) }
+        ensures err { IfErr result (λ e. (e ≡ no_place) ⊎ (e ≡ no_memory)) }
     {
         let made = self.locked.lock(rt).seat(self.alloc);
         let (number, replies) = made?;
@@ -99,7 +100,8 @@ impl<D: Disk + Drop> Desk<D> {
 
     /// The flusher, once; `18 NoPlace` from then on.
     pub fn flusher<R: Wait>(&self, rt: &R) -> Result<Flusher, Refusal>
-        ensures { IfOk result (λ flusher. IsFlusherOf self.now flusher) }
+        ensures ok { IfOk result (λ flusher. IsFlusherOf self.now flusher) }
+        ensures err { IfErr result (λ e. e ≡ no_place) }
     {
         let made = self.locked.lock(rt).flusher();
         made?;

@@ -1,0 +1,163 @@
+#!/usr/bin/env python3
+"""Lets each call that `watchmand lines` makes of its state file fail once: reads, writes and syncs with EIO, writes and
+syncs with ENOSPC too (by strace's fault injection), and each write that makes the file longer cut short (by a limit on
+the file's size, which refuses what is left of it). Shows that the program says so, and that nothing that was answered is
+lost: a start finds the watches and triggers after the answered commands, perhaps with the one that failed.
+
+The session is short, and a checkpoint falls in its midst.
+
+Usage: tools/faults.py PROGRAM
+"""
+import json
+import os
+import re
+import resource
+import shutil
+import signal
+import subprocess
+import sys
+import tempfile
+
+WORD = "a" * 3000
+COMMANDS = (
+    [["watch", "/b"]]
+    + [["trigger", "/r", {"name": "t%d" % i, "command": [WORD, str(i)]}] for i in range(6)]
+    + [["trigger-del", "/r", "t1"], ["watch", "/c"], ["watch-del", "/b"]]
+)
+CALLS = {"pread64": ["EIO"], "pwrite64": ["EIO", "ENOSPC"], "fdatasync": ["EIO", "ENOSPC"], "fsync": ["EIO", "ENOSPC"]}
+
+
+def text_of(lines):
+    return "".join(json.dumps(line) + "\n" for line in lines)
+
+
+def ran(words, lines, **more):
+    return subprocess.run(words, input=text_of(lines), capture_output=True, text=True, **more)
+
+
+def after(state, line):
+    """The watches, each with its triggers, after a command that is accepted."""
+    kind, root = line[0], line[1]
+    state = {path: dict(triggers) for path, triggers in state.items()}
+    if kind == "watch":
+        state.setdefault(root, {})
+    elif kind == "watch-del":
+        state.pop(root)
+    elif kind == "trigger":
+        state[root][line[2]["name"]] = line[2]["command"]
+    else:
+        state[root].pop(line[2])
+    return state
+
+
+def found(program, path):
+    """The watches and triggers that a start finds."""
+    def ask(lines):
+        asked = ran([program, "lines", path], lines)
+        if asked.returncode != 0:
+            sys.exit("a start failed: " + asked.stderr)
+        return [json.loads(reply) for reply in asked.stdout.splitlines()]
+
+    roots = ask([["watch-list"]])[0]["roots"]
+    replies = ask([["trigger-list", root] for root in roots])
+    return {
+        root: {trigger["name"]: trigger["command"] for trigger in reply["triggers"]}
+        for root, reply in zip(roots, replies)
+    }
+
+
+def traced(program, path, lines, log):
+    """The calls of the state file in a session without a fault, in their order: name, place, count of bytes."""
+    words = ["strace", "-o", log, "-y", "-e", "trace=" + ",".join(CALLS), program, "lines", path]
+    asked = ran(words, lines)
+    assert asked.returncode == 0, asked.stderr
+    calls = []
+    with open(log) as text:
+        for line in text:
+            call = re.match(r"(\w+)\(\d+<([^>]*)>", line)
+            if call and call.group(2) == os.path.realpath(path):
+                place = re.search(r", (\d+), (\d+)\) += ", line)
+                calls.append((call.group(1), int(place.group(2)) if place else 0, int(place.group(1)) if place else 0))
+    return calls, asked.stdout
+
+
+def nearly_full(program, path, folder):
+    """A state file whose journal has room for a few of the commands: as many big commands as come before the checkpoint,
+    which is told by a second write of more than a gate in one command, less three."""
+    big = [["watch", "/r"]] + [["trigger", "/r", {"name": "t", "command": [WORD]}]] * 120
+    subprocess.run([program, "format", path], check=True, stdout=subprocess.DEVNULL)
+    calls, _ = traced(program, path, big, os.path.join(folder, "calls"))
+    places = [place for name, place, _ in calls if name == "pwrite64"]
+    turn = next(i for i in range(1, len(places)) if places[i] + 100_000 < places[i - 1] or places[i] > places[i - 1] + 100_000)
+    os.remove(path)
+    subprocess.run([program, "format", path], check=True, stdout=subprocess.DEVNULL)
+    # the start makes two writes, and each command two; the last of three kilobytes each has to find no room
+    kept = big[: (turn - 2) // 2 - 3]
+    assert ran([program, "lines", path], kept).returncode == 0
+    return {"/r": {"t": [WORD]}}
+
+
+def judge(program, path, state, asked, wanted, what):
+    """What was answered is found; the program told of the failure. Gives whether a command was answered and whether the
+    one that failed was found."""
+    replies = [json.loads(reply) for reply in asked.stdout.splitlines()]
+    answered = 0
+    while answered < len(replies) and replies[answered] == wanted[answered]:
+        state = after(state, COMMANDS[answered])
+        answered += 1
+    told = [reply.get("number") for reply in replies[answered:]]
+    says_so = asked.returncode == 1 and re.search(r"watchmand: 1[23] ", asked.stderr)
+    if not says_so or told != [13, 12, 12, 12, 12, 12, 12, 12, 12, 12][: len(told)] or answered + len(told) not in (0, len(COMMANDS)):
+        sys.exit("%s: it told %r, %d, %r" % (what, told, asked.returncode, asked.stderr))
+    there = found(program, path)
+    if there == state:
+        return answered, False
+    if told and there == after(state, COMMANDS[answered]):
+        return answered, True
+    sys.exit("%s: behind %d answers a start found %r" % (what, answered, there))
+
+
+def main():
+    program = os.path.realpath(sys.argv[1])
+    if shutil.which("strace") is None:
+        print("strace isn't installed: nothing was tried")
+        return
+    signal.signal(signal.SIGXFSZ, signal.SIG_IGN)
+    with tempfile.TemporaryDirectory() as folder:
+        base, path = os.path.join(folder, "base"), os.path.join(folder, "state")
+        state = nearly_full(program, base, folder)
+
+        def fresh():
+            shutil.copyfile(base, path)
+            return path
+
+        calls, output = traced(program, fresh(), COMMANDS, os.path.join(folder, "calls"))
+        wanted = [json.loads(reply) for reply in output.splitlines()]
+        assert len(wanted) == len(COMMANDS) and not any("number" in reply for reply in wanted), wanted
+        assert len([place for name, place, _ in calls if name == "pwrite64"]) > 2 * len(COMMANDS) + 2, "no checkpoint"
+        runs, kept = 0, 0
+        for name, errors in CALLS.items():
+            for number in range(1, 1 + sum(call[0] == name for call in calls)):
+                for error in errors:
+                    inject = "inject=%s:error=%s:when=%d" % (name, error, number)
+                    words = ["strace", "-o", "/dev/null", "-e", "trace=" + name, "-e", inject, "-P", path]
+                    asked = ran(words + [program, "lines", fresh()], COMMANDS)
+                    kept += judge(program, path, state, asked, wanted, inject)[1]
+                    runs += 1
+        print("%d calls failed once, %d times the command that failed was kept" % (runs, kept))
+        length, cut = os.path.getsize(base), 0
+        for name, place, count in calls:
+            if name != "pwrite64" or place + count <= length:
+                continue
+            limit = place + count // 2
+            length = place + count
+            def limited():
+                resource.setrlimit(resource.RLIMIT_FSIZE, (limit, limit))
+            asked = ran([program, "lines", fresh()], COMMANDS, preexec_fn=limited)
+            judge(program, path, state, asked, wanted, "a write cut at %d" % limit)
+            cut += 1
+        print("%d writes were cut short" % cut)
+        print("nothing that was answered was lost")
+
+
+main()
