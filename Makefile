@@ -7,7 +7,7 @@ BENCH := crates/bench/out/bench
 FILES ?= 100000
 SOURCES := crates.txt $(shell find crates -name out -prune -o -type f \( -name '*.rt' -o -name '*.antt' \) -print)
 
-.PHONY: help clean uninstall test lint build run install bench bench-journal bench-store bench-desk idle-desk bench-crawl bench-view bench-share bench-match crawl-tree session examples kill state-file file-calls
+.PHONY: help clean uninstall test lint build run install bench bench-journal bench-store bench-desk idle-desk bench-crawl bench-view bench-share bench-match crawl-tree session examples kill faults state-file file-calls
 
 help:
 	@echo "make test          the whole gate: each proof from nothing, edits that must be refused, tests, programs (rt; two hours on two cores)"
@@ -18,7 +18,8 @@ help:
 	@echo "make install       puts watchmand into PREFIX/bin (PREFIX=$(PREFIX)); make uninstall takes it away"
 	@echo "make session       a first session by the built program; make examples: those of README.md and docs/QUERIES.md"
 	@echo "make state-file    a file with two owners, a format that fails, a killed one; make file-calls: its calls (strace)"
-	@echo "make kill          kills the built program again and again, and looks for what it answered (python3)"
+	@echo "make kill          kills the built program again and again, and looks for what it answered (python3); make faults: each call"
+	@echo "                   that it makes of its state file fails once (python3, strace)"
 	@echo "make bench         a million lines beside Python's json (python3, GNU time)"
 	@echo "make bench-journal, bench-store, bench-desk, bench-view, bench-share, bench-match   times by the program bench (rt; bench-store also sqlite3, if installed;"
 	@echo "                   bench-desk python3)"
@@ -64,6 +65,10 @@ session: $(PROGRAM)
 # The requests of the page for users, by the built program.
 examples: $(PROGRAM)
 	tools/examples.sh $(PROGRAM)
+
+# Each read, write and sync of the state file fails once in a session of the built program, and writing is cut short.
+faults: $(PROGRAM)
+	tools/faults.py $(PROGRAM)
 
 # Kills the built program in the midst of commands, again and again, and looks for what it answered.
 kill: $(PROGRAM)

@@ -1,7 +1,7 @@
 #!/usr/bin/env python3
 """Lets each call that `watchmand lines` makes of its state file fail once: reads, writes and syncs with EIO, writes and
-syncs with ENOSPC too (by strace's fault injection), and each write that makes the file longer cut short (by a limit on
-the file's size, which refuses what is left of it). Shows that the program says so, and that nothing that was answered is
+syncs with ENOSPC too (by strace's fault injection), and writes cut short (by a limit on the file's size in the midst of each, behind
+which nothing is written). Shows that the program says so, and that nothing that was answered is
 lost: a start finds the watches and triggers after the answered commands, perhaps with the one that failed.
 
 The session is short, and a checkpoint falls in its midst.
@@ -18,10 +18,10 @@ import subprocess
 import sys
 import tempfile
 
-WORD = "a" * 3000
+WORD = ["a" * 1000] * 3
 COMMANDS = (
     [["watch", "/b"]]
-    + [["trigger", "/r", {"name": "t%d" % i, "command": [WORD, str(i)]}] for i in range(6)]
+    + [["trigger", "/r", {"name": "t%d" % i, "command": WORD + [str(i)]}] for i in range(6)]
     + [["trigger-del", "/r", "t1"], ["watch", "/c"], ["watch-del", "/b"]]
 )
 CALLS = {"pread64": ["EIO"], "pwrite64": ["EIO", "ENOSPC"], "fdatasync": ["EIO", "ENOSPC"], "fsync": ["EIO", "ENOSPC"]}
@@ -84,7 +84,7 @@ def traced(program, path, lines, log):
 def nearly_full(program, path, folder):
     """A state file whose journal has room for a few of the commands: as many big commands as come before the checkpoint,
     which is told by a second write of more than a gate in one command, less three."""
-    big = [["watch", "/r"]] + [["trigger", "/r", {"name": "t", "command": [WORD]}]] * 120
+    big = [["watch", "/r"]] + [["trigger", "/r", {"name": "t", "command": WORD + [str(i)]}] for i in range(120)]
     subprocess.run([program, "format", path], check=True, stdout=subprocess.DEVNULL)
     calls, _ = traced(program, path, big, os.path.join(folder, "calls"))
     places = [place for name, place, _ in calls if name == "pwrite64"]
@@ -94,7 +94,7 @@ def nearly_full(program, path, folder):
     # the start makes two writes, and each command two; the last of three kilobytes each has to find no room
     kept = big[: (turn - 2) // 2 - 3]
     assert ran([program, "lines", path], kept).returncode == 0
-    return {"/r": {"t": [WORD]}}
+    return {"/r": {"t": kept[-1][2]["command"]}}
 
 
 def judge(program, path, state, asked, wanted, what):
@@ -105,7 +105,7 @@ def judge(program, path, state, asked, wanted, what):
     while answered < len(replies) and replies[answered] == wanted[answered]:
         state = after(state, COMMANDS[answered])
         answered += 1
-    told = [reply.get("number") for reply in replies[answered:]]
+    told = [int(reply.get("error", "0 Answered").split()[0]) for reply in replies[answered:]]
     says_so = asked.returncode == 1 and re.search(r"watchmand: 1[23] ", asked.stderr)
     if not says_so or told != [13, 12, 12, 12, 12, 12, 12, 12, 12, 12][: len(told)] or answered + len(told) not in (0, len(COMMANDS)):
         sys.exit("%s: it told %r, %d, %r" % (what, told, asked.returncode, asked.stderr))
@@ -122,7 +122,6 @@ def main():
     if shutil.which("strace") is None:
         print("strace isn't installed: nothing was tried")
         return
-    signal.signal(signal.SIGXFSZ, signal.SIG_IGN)
     with tempfile.TemporaryDirectory() as folder:
         base, path = os.path.join(folder, "base"), os.path.join(folder, "state")
         state = nearly_full(program, base, folder)
@@ -133,7 +132,7 @@ def main():
 
         calls, output = traced(program, fresh(), COMMANDS, os.path.join(folder, "calls"))
         wanted = [json.loads(reply) for reply in output.splitlines()]
-        assert len(wanted) == len(COMMANDS) and not any("number" in reply for reply in wanted), wanted
+        assert len(wanted) == len(COMMANDS) and not any("error" in reply for reply in wanted), wanted
         assert len([place for name, place, _ in calls if name == "pwrite64"]) > 2 * len(COMMANDS) + 2, "no checkpoint"
         runs, kept = 0, 0
         for name, errors in CALLS.items():
@@ -145,18 +144,19 @@ def main():
                     kept += judge(program, path, state, asked, wanted, inject)[1]
                     runs += 1
         print("%d calls failed once, %d times the command that failed was kept" % (runs, kept))
-        length, cut = os.path.getsize(base), 0
+        cut = 0
         for name, place, count in calls:
-            if name != "pwrite64" or place + count <= length:
+            if name != "pwrite64" or count < 2:
                 continue
             limit = place + count // 2
-            length = place + count
             def limited():
+                # else the write would be the process's end, which is a crash
+                signal.signal(signal.SIGXFSZ, signal.SIG_IGN)
                 resource.setrlimit(resource.RLIMIT_FSIZE, (limit, limit))
             asked = ran([program, "lines", fresh()], COMMANDS, preexec_fn=limited)
             judge(program, path, state, asked, wanted, "a write cut at %d" % limit)
             cut += 1
-        print("%d writes were cut short" % cut)
+        print("%d times writing was cut short" % cut)
         print("nothing that was answered was lost")
 
 
