@@ -8,6 +8,7 @@ use crate::paths::{listing, pair};
 use anyhow::{Result, ensure};
 use std::alloc::Global;
 use std::marker::Brand;
+use std::ops::Range;
 use std::rt::Runtime;
 use std::sync::Wait;
 use std::sync::atomic::{AtomicU64, Ordering};
@@ -111,7 +112,7 @@ fn answer_all<J: Naming, R: Wait + Clock>(
     counts.slowest.fetch_max(slowest, Ordering::SeqCst);
 }
 
-/// Hands in that a file has another size now, and publishes it.
+/// Hands in that a file has another size now.
 fn change<J: Naming, R: Wait>(
     alloc: Global,
     keeper: &mut Keeper<'_, J, R>,
@@ -120,11 +121,30 @@ fn change<J: Naming, R: Wait>(
 ) -> Result<()> {
     let file = (number % CHANGING).saturating_mul(files / CHANGING);
     keeper.observe(1, pair(alloc, file, number.saturating_add(1))?)?;
+    Ok(())
+}
+
+/// Hands in the changes of these numbers, and publishes them at once.
+fn publish<J: Naming, R: Wait>(
+    alloc: Global,
+    keeper: &mut Keeper<'_, J, R>,
+    files: u64,
+    numbers: Range<u64>,
+) -> Result<()> {
+    for number in numbers {
+        change(alloc, keeper, files, number)?;
+    }
     keeper.publish()?;
     Ok(())
 }
 
-/// Waits for each millisecond until the time is over, and publishes a change in it if wanted.
+/// How many milliseconds have passed since then, or so many where it is more.
+fn passed<C: Clock>(clock: &C, start: &Instant, most: u64) -> Result<u64> {
+    let passed = start.elapsed(clock)?.as_millis();
+    Ok(u64::try_from(passed).unwrap_or(most).min(most))
+}
+
+/// Waits until the time is over, and hands in a change for each millisecond that passed, if wanted.
 fn pass<J: Naming, R: Wait + Clock>(
     rt: &R,
     alloc: Global,
@@ -134,21 +154,18 @@ fn pass<J: Naming, R: Wait + Clock>(
     counts: &Counts,
 ) -> Result<()> {
     let start = Instant::now(rt)?;
-    for millisecond in 0..extent.milliseconds {
-        let now = start.elapsed(rt)?;
-        if now.as_millis() >= u128::from(extent.milliseconds) {
+    let mut handed = 0;
+    for _ in rt.forever() {
+        let now = passed(rt, &start, extent.milliseconds)?;
+        if publishes {
+            publish(alloc, keeper, extent.files, handed..now)?;
+            counts.published.store(now, Ordering::SeqCst);
+        }
+        if now == extent.milliseconds {
             break;
         }
-        rt.sleep(Duration::from_millis(millisecond).saturating_sub(now));
-        if publishes {
-            change(
-                alloc,
-                keeper,
-                extent.files,
-                CHANGING.saturating_add(millisecond),
-            )?;
-            counts.published.fetch_add(1, Ordering::SeqCst);
-        }
+        handed = now;
+        rt.sleep(Duration::from_millis(1));
     }
     Ok(())
 }
@@ -200,9 +217,8 @@ fn opened<'a, J: Naming, R: Wait>(
 ) -> Result<(Keeper<'a, J, R>, Pool<J>)> {
     let (mut keeper, pool) = shares.share(rt, alloc, 1, 1)?;
     keeper.recrawl(1, 0, listing(alloc, files)?)?;
-    for number in 0..CHANGING {
-        change(alloc, &mut keeper, files, number)?;
-    }
+    keeper.publish()?;
+    publish(alloc, &mut keeper, files, 0..CHANGING)?;
     Ok((keeper, pool))
 }
 
