@@ -11,7 +11,7 @@ use Rattle.wm_names.specs.declared.entry.Meta.{Meta}
 use Rattle.wm_names.specs.declared.subtree.Subtree.{Subtree}
 use Rattle.wm_names.specs.declared.subtree.Subtree.TheVariants.{Below}
 use Rattle.wm_crawler.specs.Trees.{Content, Among, join, is_fit, unfit_in}
-use Rattle.wm_crawler.specs.Levels.{path_of, paths_in, paired, with_meta, counted, unfit_of, all_held, all_told, AreRead, AreTold, AllFrom, AllAmong, SomeFails}
+use Rattle.wm_crawler.specs.Levels.{path_of, paths_in, paired, paired_each, counted, unfit_of, all_held, all_told, AreMetas, AreRead, AreTold, AllFrom, AllAmong, SomeFails}
 use Rattle.wm_crawler.proofs.Elements.{among_left, among_right, among_either, among_get, among_map, made}
 
 -- one more element of a filtered list
@@ -126,43 +126,50 @@ fails_last may_fail n fs ls ms l m (f, a, t) = (f, subst (Among f) (parts n fs l
 
 -- ---- paths one after another
 
-pub told_both : (c : Content) (ps qs : List Path) (es gs : List (Path × Meta)) → AreTold c ps es → AreTold c qs gs → AreTold c (ps ++ qs) (es ++ gs)
-told_both c ps qs es gs a b = record {
-  found = ap (λ x. x ++ gs) a.found ∙ ap (λ x. with_meta c ps ++ x) b.found ∙ sym (filter_map-append (λ p. paired p (c.meta p)) ps qs);
-  told = list_all-append (λ p. is_some (c.meta p)) ps qs ∙ both_true (all_told c ps) (all_told c qs) a.told b.told;
-}
+pub metas_more : (c : Content) (ps : List Path) (i : ℕ) (p : Path) (ms ns : List (Option Meta)) (m : Option Meta) → i < length ps → p ≡ get_or ps i p → AreMetas c (take i ps) ms
+    → ns ≡ ms ++ m ∷ [] → c.meta p ≡ Some m → AreMetas c (take (i + 1) ps) ns
+metas_more c ps i p ms ns m l at a e h =
+    ap (map Some) e ∙ map-append Some ms (m ∷ []) ∙ ap (λ x. map Some ms ++ x ∷ []) (sym h) ∙ ap (λ x. x ++ c.meta p ∷ []) a
+    ∙ sym (mapped_more c.meta ps i p l at)
 
-one_told : (c : Content) (p : Path) → is_some (c.meta p) ≡ true → AreTold c (p ∷ []) (cons_option (paired p (c.meta p)) [])
-one_told c p e = record { found = refl; told = both_true (is_some (c.meta p)) true e refl }
+pub metas_halves : (c : Content) (n : ℕ) (ps ls rs : List Path) (ms ns all : List (Option Meta)) → ls ≡ take n ps → rs ≡ drop n ps → AreMetas c ls ms → AreMetas c rs ns → all ≡ ms ++ ns → AreMetas c ps all
+metas_halves c n ps ls rs ms ns all l r a b e =
+    ap (map Some) e ∙ map-append Some ms ns ∙ ap (λ x. x ++ map Some ns) a ∙ ap (λ x. map c.meta ls ++ x) b
+    ∙ sym (map-append c.meta ls rs) ∙ ap (map c.meta) (parts n ps ls rs l r)
 
-pub told_more : (c : Content) (ps : List Path) (i : ℕ) (p : Path) (es gs : List (Path × Meta)) → i < length ps → p ≡ get_or ps i p → AreTold c (take i ps) es
-    → gs ≡ es ++ cons_option (paired p (c.meta p)) [] → is_some (c.meta p) ≡ true → AreTold c (take (i + 1) ps) gs
-told_more c ps i p es gs l at a e h =
-    subst (λ x. AreTold c x gs) (sym (take_more ps i p l ∙ ap (λ y. take i ps ++ y ∷ []) (sym at)))
-    (subst (λ x. AreTold c (take i ps ++ p ∷ []) x) (sym e)
-    (told_both c (take i ps) (p ∷ []) es (cons_option (paired p (c.meta p)) []) a (one_told c p h)))
+first_or : {X : Type 0} → X → List X → X
+first_or y [] = y
+first_or y (x ∷ xs) = x
 
-pub told_halves : (c : Content) (n : ℕ) (ps ls ms : List Path) (es gs hs : List (Path × Meta)) → ls ≡ take n ps → ms ≡ drop n ps → AreTold c ls es → AreTold c ms gs → hs ≡ es ++ gs → AreTold c ps hs
-told_halves c n ps ls ms es gs hs l m a b e = subst (λ x. AreTold c x hs) (parts n ps ls ms l m) (subst (λ x. AreTold c (ls ++ ms) x) (sym e) (told_both c ls ms es gs a b))
+rest_of : {X : Type 0} → List X → List X
+rest_of [] = []
+rest_of (x ∷ xs) = xs
 
-only_there : (p : Path) (there : Option Meta) (e : Path × Meta) → Among e (cons_option (paired p (Some there)) []) → e.0 ≡ p
-only_there p None e h = absurd h
-only_there p (Some m) e (inl s) = ap (λ x. x.0) s
-only_there p (Some m) e (inr h) = absurd h
+pub told_from : (c : Content) (ps : List Path) (ms : List (Option Meta)) → AreMetas c ps ms → AreTold c ps (paired_each ps ms)
+unfolding first_or rest_of
+told_from c [] ms e = record { found = refl; told = refl }
+told_from c (p ∷ ps) [] e = absurd (omega (arith, ap length e))
+told_from c (p ∷ ps) (m ∷ ms) e =
+    let h : Some m ≡ c.meta p = ap (first_or None) e in
+    let rest = told_from c ps ms (ap rest_of e) in
+    record {
+      found = ap (λ o. cons_option (paired p o) (paired_each ps ms)) h ∙ ap (λ es. cons_option (paired p (c.meta p)) es) rest.found;
+      told = both_true (is_some (c.meta p)) (all_told c ps) (sym (ap is_some h)) rest.told;
+    }
 
-pub among_more : (ps : List Path) (p : Path) (there : Option Meta) (es gs : List (Path × Meta)) → Among p ps → AllAmong ps es → gs ≡ es ++ cons_option (paired p (Some there)) [] → AllAmong ps gs
-among_more ps p there es gs a all s e h = step (among_either e es (cons_option (paired p (Some there)) []) (subst (Among e) s h))
-  where
-    step : Among e es ⊎ Among e (cons_option (paired p (Some there)) []) → Among e.0 ps
-    step (inl x) = all e x
-    step (inr x) = subst (λ q. Among q ps) (sym (only_there p there e x)) a
+first_or_rest : (p : Path) (there : Option Meta) (es : List (Path × Meta)) (e : Path × Meta) → Among e (cons_option (paired p (Some there)) es) → (e.0 ≡ p) ⊎ Among e es
+first_or_rest p None es e h = inr h
+first_or_rest p (Some m) es e (inl s) = inl (ap (λ x. x.0) s)
+first_or_rest p (Some m) es e (inr h) = inr h
 
-pub among_halves : (n : ℕ) (ps ls ms : List Path) (es gs hs : List (Path × Meta)) → ls ≡ take n ps → ms ≡ drop n ps → AllAmong ls es → AllAmong ms gs → hs ≡ es ++ gs → AllAmong ps hs
-among_halves n ps ls ms es gs hs l m a b s e h = step (among_either e es gs (subst (Among e) s h))
-  where
-    step : Among e es ⊎ Among e gs → Among e.0 ps
-    step (inl x) = subst (Among e.0) (parts n ps ls ms l m) (among_left e.0 ls ms (a e x))
-    step (inr x) = subst (Among e.0) (parts n ps ls ms l m) (among_right e.0 ls ms (b e x))
+among_rest : (p : Path) (ps : List Path) (es : List (Path × Meta)) (e : Path × Meta) → AllAmong ps es → (e.0 ≡ p) ⊎ Among e es → Among e.0 (p ∷ ps)
+among_rest p ps es e all (inl s) = inl s
+among_rest p ps es e all (inr x) = inr (all e x)
+
+pub among_paired : (ps : List Path) (ms : List (Option Meta)) → AllAmong ps (paired_each ps ms)
+among_paired [] ms e h = absurd h
+among_paired (p ∷ ps) [] e h = absurd h
+among_paired (p ∷ ps) (m ∷ ms) e h = among_rest p ps (paired_each ps ms) e (among_paired ps ms) (first_or_rest p m (paired_each ps ms) e h)
 
 pub fails_at_one : (may_fail : Subtree → Type 0) (i : ℕ) (ps : List Path) (p : Path) → i < length ps → p ≡ get_or ps i p → may_fail (Below p) → SomeFails may_fail (map Below ps)
 fails_at_one may_fail i ps p l e m = (Below p, among_map Below p ps (among_get p ps i l e), m)

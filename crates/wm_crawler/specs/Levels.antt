@@ -1,6 +1,6 @@
 -- For private clauses: what is read level by level, the names of all folders of one level, then those of the next.
-use Rattle.std.specs.Prelude.{◌≡◌, ℕ, zero, suc, ◌+◌, ◌-◌, ◌^◌, min, Bool, true, ◌&&◌, List, [], ◌∷◌, ◌++◌, Option, Some, None, is_some, cond}
-use Rattle.std.specs.List.{filter_map, flat_map, list_all, sum_by}
+use Rattle.std.specs.Prelude.{◌≡◌, ℕ, zero, suc, ◌+◌, ◌-◌, ◌^◌, min, Bool, true, ◌&&◌, List, [], ◌∷◌, ◌++◌, map, Option, Some, None, is_some, cond}
+use Rattle.std.specs.List.{cons_option, filter_map, flat_map, list_all, sum_by}
 use Rattle.wm_names.specs.Paths.{Path, same_path}
 use Rattle.wm_names.specs.declared.entry.Meta.{Meta}
 use Rattle.wm_names.specs.declared.subtree.Subtree.{Subtree}
@@ -19,6 +19,12 @@ abbrev pub paired : Path → Option (Option Meta) → Option (Path × Meta)
 paired path (Some (Some meta)) = Some (path, meta)
 paired path (Some None) = None
 paired path None = None
+
+-- each path with what stands there, where something does
+abbrev pub paired_each : List Path → List (Option Meta) → List (Path × Meta)
+paired_each [] metas = []
+paired_each (p ∷ ps) [] = []
+paired_each (p ∷ ps) (m ∷ ms) = cons_option (paired p (Some m)) (paired_each ps ms)
 
 -- the paths at which something is, with its metadata
 abbrev pub with_meta : Content → List Path → List (Path × Meta)
@@ -77,6 +83,10 @@ AllFrom fs paths = (p : Path) → Among p paths → (f : Subtree) × Among f fs 
 -- of one of these places reading may fail
 abbrev pub SomeFails : (Subtree → Type 0) → List Subtree → Type 0
 SomeFails may_fail places = (place : Subtree) × Among place places × may_fail place
+
+-- what asking for these paths gave, one after another; of each it could be told
+abbrev pub AreMetas : Content → List Path → List (Option Meta) → Type 0
+AreMetas c paths metas = map Some metas ≡ map c.meta paths
 
 -- what asking for these paths gave: what is there, with its metadata; of each it could be told
 pub record AreTold (c : Content) (paths : List Path) (entries : List (Path × Meta)) : Type 0 where

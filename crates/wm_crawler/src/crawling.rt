@@ -8,7 +8,7 @@ ghost use Rattle.wm_crawler.specs.Levels.{AreLevels, AreRead, AllIn, IsOneLevel}
 use crate::gate::Turnstile;
 use crate::listed::listed;
 use crate::reading::{Level, read_all, read_folder};
-use crate::telling::{folders_of, meta_all};
+use crate::telling::{folders_of, told_all};
 use crate::tree::Tree;
 use std::alloc::Global;
 use std::thread::Threads;
@@ -55,7 +55,7 @@ fn read_level<R: Threads + Sync, T: Tree + Sync, G: Turnstile + Sync>(
         × ((top : Subtree) → AllIn top level.paths.items → FailsIn (T.may_fail tree.now) top)) }
 {
     let Level { paths, faults } = level;
-    let found = meta_all(rt, alloc, tree, &paths, workers)?;
+    let found = told_all(rt, alloc, tree, paths, workers)?;
     let folders = folders_of(alloc, &found)?;
     let next = read_all(rt, alloc, tree, &folders, gate, workers)?;
     let next = Level {

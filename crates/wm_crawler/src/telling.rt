@@ -1,13 +1,12 @@
 //! What stands at paths, asked by several threads, and which of it is a folder.
 //! Definitions: specs/Levels.antt. Tests: crawler_tests/src/crawls.rt.
-ghost use Rattle.std.specs.Prelude.{◌≡◌, Option, Some, is_some, true, ◌≢◌, ◌<◌, ◌≤◌, ◌++◌, [], map, IfOk, IfErr, OnOk};
+ghost use Rattle.std.specs.Prelude.{◌≡◌, ◌≢◌, ◌<◌, ◌≤◌, ◌++◌, [], map, IfOk, IfErr, OnOk};
 ghost use Rattle.std.specs.List.{cons_option};
 ghost use Rattle.std.specs.Thread.{IsSync};
 ghost use Rattle.wm_disk.specs.declared.refusal.Refusal.TheVariants.{DeviceFailed, NoMemory as no_memory};
-ghost use Rattle.wm_names.specs.declared.entry.Meta.{Meta as MetaHere};
 ghost use Rattle.wm_names.specs.declared.subtree.Subtree.TheVariants.{Below};
 ghost use Rattle.wm_crawler.specs.Trees.{is_folder as is_folder_lem};
-ghost use Rattle.wm_crawler.specs.Levels.{paired, folder_at, folders, AreTold, AllAmong, SomeFails};
+ghost use Rattle.wm_crawler.specs.Levels.{paired_each as paired_each_lem, folder_at, folders, AreMetas, AreTold, AllAmong, SomeFails};
 
 use crate::tree::Tree;
 use std::alloc::Global;
@@ -19,65 +18,32 @@ use wm_names::{Kind, Meta, RelPath, Subtree};
 /// How many paths a thread takes at least.
 const SHARE: usize = 64;
 
-/// Adds what stands at a path.
-fn add_meta<T: Tree>(
-    alloc: Global,
-    tree: &T,
-    path: &RelPath,
-    found: &mut Vec<(RelPath, Meta)>,
-) -> Result<(), Refusal>
-    ensures read { OnOk result (T.stays tree.now → found.new.items ≡ found.old.items ++ cons_option (paired path.now ((T.content tree.now).meta path.now)) []) }
-    ensures told { OnOk result (T.stays tree.now → is_some ((T.content tree.now).meta path.now) ≡ true) }
-    ensures there { OnOk result ((there : Option MetaHere) × (found.new.items ≡ found.old.items ++ cons_option (paired path.now (Some there)) [])) }
-    ensures refused { IfErr result (λ e. e ≢ no_memory → (e ≡ DeviceFailed) × T.may_fail tree.now (Below path.now)) }
-{
-    let there = tree.meta(alloc, path)?;
-    add_there(path, there, found)?;
-    Ok(())
-}
-
-/// Adds a path and its metadata, where something is there.
-fn add_there(
-    path: &RelPath,
-    there: Option<Meta>,
-    found: &mut Vec<(RelPath, Meta)>,
-) -> Result<(), NoMemory>
-    ensures { OnOk result (found.new.items ≡ found.old.items ++ cons_option (paired path.now (Some there)) []) }
-{
-    if let Some(meta) = there {
-        let path = path.copy()?;
-        found.push((path, meta))?;
-    }
-    Ok(())
-}
-
-/// The paths at which something is, with its metadata.
+/// What stands at each of the paths.
 fn meta_each<T: Tree>(
     alloc: Global,
     tree: &T,
     paths: &[RelPath],
-) -> Result<Vec<(RelPath, Meta)>, Refusal>
-    ensures read { IfOk result (λ v. T.stays tree.now → AreTold (T.content tree.now) paths.now v.items) }
-    ensures among { IfOk result (λ v. AllAmong paths.now v.items) }
+) -> Result<Vec<Option<Meta>>, Refusal>
+    ensures read { IfOk result (λ v. T.stays tree.now → AreMetas (T.content tree.now) paths.now v.items) }
     ensures refused { IfErr result (λ e. e ≢ no_memory → (e ≡ DeviceFailed) × SomeFails (T.may_fail tree.now) (map Below paths.now)) }
 {
-    let mut found = Vec::with_capacity(alloc, paths.len())?;
+    let mut metas = Vec::with_capacity(alloc, paths.len())?;
     for path in paths {
-        add_meta(alloc, tree, path, &mut found)?;
+        let there = tree.meta(alloc, path)?;
+        metas.push(there)?;
     }
-    Ok(found)
+    Ok(metas)
 }
 
-/// The paths at which something is, with its metadata, asked by so many threads.
-pub(crate) fn meta_all<R: Threads + Sync, T: Tree + Sync>(
+/// What stands at each of the paths, asked by so many threads.
+fn meta_all<R: Threads + Sync, T: Tree + Sync>(
     rt: &R,
     alloc: Global,
     tree: &T,
     paths: &[RelPath],
     workers: usize,
-) -> Result<Vec<(RelPath, Meta)>, Refusal>
-    ensures read { IfOk result (λ v. T.stays tree.now → AreTold (T.content tree.now) paths.now v.items) }
-    ensures among { IfOk result (λ v. AllAmong paths.now v.items) }
+) -> Result<Vec<Option<Meta>>, Refusal>
+    ensures read { IfOk result (λ v. T.stays tree.now → AreMetas (T.content tree.now) paths.now v.items) }
     ensures refused { IfErr result (λ e. e ≢ no_memory → (e ≡ DeviceFailed) × SomeFails (T.may_fail tree.now) (map Below paths.now)) }
 {
     if workers < 2 || paths.len() < SHARE {
@@ -88,16 +54,14 @@ pub(crate) fn meta_all<R: Threads + Sync, T: Tree + Sync>(
     let rest = workers - half;
     let (front, back) = thread::join(
         rt,
-        || -> Result<Vec<(RelPath, Meta)>, Refusal>
+        || -> Result<Vec<Option<Meta>>, Refusal>
             requires { IsSync R.row × IsSync T.row }
-            ensures { IfOk result (λ v. T.stays tree.entry.now → AreTold (T.content tree.entry.now) left.entry.now v.items)
-                × IfOk result (λ v. AllAmong left.entry.now v.items)
+            ensures { IfOk result (λ v. T.stays tree.entry.now → AreMetas (T.content tree.entry.now) left.entry.now v.items)
                 × IfErr result (λ e. e ≢ no_memory → (e ≡ DeviceFailed) × SomeFails (T.may_fail tree.entry.now) (map Below left.entry.now)) }
         { meta_all(rt, alloc, tree, left, half) },
-        || -> Result<Vec<(RelPath, Meta)>, Refusal>
+        || -> Result<Vec<Option<Meta>>, Refusal>
             requires { IsSync R.row × IsSync T.row }
-            ensures { IfOk result (λ v. T.stays tree.entry.now → AreTold (T.content tree.entry.now) right.entry.now v.items)
-                × IfOk result (λ v. AllAmong right.entry.now v.items)
+            ensures { IfOk result (λ v. T.stays tree.entry.now → AreMetas (T.content tree.entry.now) right.entry.now v.items)
                 × IfErr result (λ e. e ≢ no_memory → (e ≡ DeviceFailed) × SomeFails (T.may_fail tree.entry.now) (map Below right.entry.now)) }
         { meta_all(rt, alloc, tree, right, rest) },
     );
@@ -105,6 +69,40 @@ pub(crate) fn meta_all<R: Threads + Sync, T: Tree + Sync>(
     let mut more = back?;
     all.append(&mut more)?;
     Ok(all)
+}
+
+/// Each path with what stands there, where something does. The paths move, so that none is copied.
+fn paired_each(
+    alloc: Global,
+    paths: Vec<RelPath>,
+    metas: Vec<Option<Meta>>,
+) -> Result<Vec<(RelPath, Meta)>, NoMemory>
+    ensures { IfOk result (λ v. v.items ≡ paired_each_lem paths.items metas.items) }
+{
+    let mut found = Vec::with_capacity(alloc, paths.len())?;
+    for (path, there) in paths.into_iter().zip(metas) {
+        if let Some(meta) = there {
+            found.push((path, meta))?;
+        }
+    }
+    Ok(found)
+}
+
+/// The paths at which something is, with its metadata, asked by so many threads.
+pub(crate) fn told_all<R: Threads + Sync, T: Tree + Sync>(
+    rt: &R,
+    alloc: Global,
+    tree: &T,
+    paths: Vec<RelPath>,
+    workers: usize,
+) -> Result<Vec<(RelPath, Meta)>, Refusal>
+    ensures read { IfOk result (λ v. T.stays tree.now → AreTold (T.content tree.now) paths.items v.items) }
+    ensures among { IfOk result (λ v. AllAmong paths.items v.items) }
+    ensures refused { IfErr result (λ e. e ≢ no_memory → (e ≡ DeviceFailed) × SomeFails (T.may_fail tree.now) (map Below paths.items)) }
+{
+    let metas = meta_all(rt, alloc, tree, &paths, workers)?;
+    let found = paired_each(alloc, paths, metas)?;
+    Ok(found)
 }
 
 /// Whether this is a folder.
