@@ -4,6 +4,7 @@ PREFIX ?= $(HOME)/.local
 STATE ?= watchmand.state
 PROGRAM := crates/watchmand/out/watchmand
 BENCH := crates/bench/out/bench
+SHARE_BENCH := crates/share_bench/out/share_bench
 FILES ?= 100000
 SOURCES := crates.txt $(shell find crates -name out -prune -o -type f \( -name '*.rt' -o -name '*.antt' \) -print)
 
@@ -115,9 +116,13 @@ crawl-tree: $(BENCH)
 bench-view: $(BENCH)
 	bench/view.sh $(BENCH) $(FILES)
 
+$(SHARE_BENCH): $(SOURCES)
+	cd crates/share_bench && rt run -- 1000 1 >&2
+	@touch $@
+
 # How fast 1, 8 and 31 viewers of a root of FILES files answer while its keeper publishes nothing, and a change each millisecond.
-bench-share: $(BENCH)
-	$(BENCH) share $(FILES) 3000
+bench-share: $(SHARE_BENCH)
+	$(SHARE_BENCH) $(FILES) 3000
 
 # How long `match` takes for patterns that are hard to refuse, of 64 to 1,024 bytes.
 bench-match: $(BENCH)

@@ -1,4 +1,4 @@
-//! Times the journal, the store, the desk, crawls, views, viewers and `match`: which of them, and how often, its words say.
+//! Times the journal, the store, the desk, crawls, views and `match`: which of them, and how often, its words say.
 //! The journal and the store are timed beside the same writes and syncs by hand (by_hand.rt).
 //! Tests stand beside what they test: words.rt, memory.rt, and a tests.rt in three of the folders.
 #![tactic(auto)]
@@ -11,7 +11,6 @@ mod matching;
 mod measured;
 mod memory;
 mod paths;
-mod shared;
 mod sharing;
 mod store;
 mod viewing;
@@ -33,8 +32,8 @@ fn bench<R: Threads + Wait + Sync>(rt: &HostRuntime, host: &R, task: &Task<'_>) 
         Task::Journal(file, rounds) => journal::bench(rt, file, *rounds),
         Task::Store(file, rounds) => store::bench(rt, file, *rounds),
         Task::Desk(file, rounds) => desk::bench(rt, host, file, *rounds),
-        // they are called where the program's own files and its threads are
-        Task::Crawl(..) | Task::Share(..) => Ok(()),
+        // it is called where the program's own files are
+        Task::Crawl(..) => Ok(()),
         Task::Match(rounds) => matching::bench(rt, *rounds),
         Task::View(files) => viewing::bench(rt, *files),
         Task::Memory(files) => sharing::bench(rt, *files),
@@ -60,8 +59,6 @@ fn main(rt: HostRuntime) -> Result<ExitCode> {
                 .context("no absolute path")?;
             let tree = FolderTree::new(rt.clone()?, root);
             crawling::bench(&rt, &tree, *workers)?;
-        } else if let Task::Share(files, milliseconds) = task {
-            shared::bench(&rt, *files, u64::from(*milliseconds))?;
         } else {
             bench(&rt, &rt, task)?;
         }

@@ -5,7 +5,7 @@ use wm_crawler::MAX_WORKERS;
 
 /// What wrong words are answered.
 pub const USAGE: &str =
-    "usage: bench (journal FILE ROUNDS | store FILE ROUNDS | desk FILE ROUNDS | crawl FOLDER WORKERS | match ROUNDS | view FILES | memory FILES | share FILES MILLISECONDS)..";
+    "usage: bench (journal FILE ROUNDS | store FILE ROUNDS | desk FILE ROUNDS | crawl FOLDER WORKERS | match ROUNDS | view FILES | memory FILES)..";
 
 /// What is measured.
 #[derive(Drop)]
@@ -26,9 +26,6 @@ pub enum Task<'a> {
     View(u64),
     /// The memory of two views of so many files: 1,000 to 100,000,000.
     Memory(u64),
-    /// The viewers of a root of so many files, 1,000 to 100,000,000, beside a keeper, each number of them for so many
-    /// milliseconds: 1 to 2^32 - 1.
-    Share(u64, u32),
 }
 
 /// The number of files that a word is.
@@ -63,7 +60,6 @@ impl<'a> Task<'a> {
                 "journal" => Some(Task::Journal(*file, rounds(number)?)),
                 "store" => Some(Task::Store(*file, rounds(number)?)),
                 "desk" => Some(Task::Desk(*file, rounds(number)?)),
-                "share" => Some(Task::Share(files(file)?, rounds(number)?)),
                 "crawl" => Some(Task::Crawl(*file, workers(number)?)),
                 _ => None,
             },
@@ -122,8 +118,6 @@ mod tests {
         (&["crawl", "/", "17"], None),
         (&["store", "f", "4294967296"], None),
         (&["view", "999"], None),
-        (&["share", "1000", "5", "view", "1000"], Some(2)),
-        (&["share", "999", "5"], None),
         (&["memory", "100000001"], None),
         (&["view", "1000", "match"], None),
         (&["list", "1000"], None),

@@ -3,7 +3,6 @@
 ghost use Rattle.std.specs.Prelude.{◌≡◌};
 ghost use Rattle.std.specs.Thread.{IsSync};
 
-use crate::memory::Memory;
 use crate::paths::{listing, pair};
 use anyhow::{Result, ensure};
 use std::alloc::Global;
@@ -254,23 +253,6 @@ fn time<J: Naming + Send + Sync, R: Runtime + Threads + Wait + Sync>(
     tell(rt, viewers, extent, &counts)
 }
 
-/// Tells how many bytes of memory a share takes for each of its files: two views, and what is shared by them.
-fn weigh<J: Naming, R: Runtime + Wait>(
-    rt: &R,
-    alloc: Global,
-    shares: &mut Shares<J>,
-    files: u64,
-) -> Result<()> {
-    let before = Memory::read(rt)?;
-    let (keeper, _pool) = opened(rt, alloc, shares, files)?;
-    let after = Memory::read(rt)?;
-    drop(keeper);
-    let bytes = after.now.saturating_sub(before.now) / files.max(1);
-    let all = after.now / 1_000_000;
-    eprintln!(rt; "{files} files: {bytes} bytes a file in two views, the whole process {all} MB")?;
-    Ok(())
-}
-
 fn measured<J: Naming + Send + Sync, R: Runtime + Threads + Wait + Sync>(
     rt: &R,
     alloc: Global,
@@ -280,7 +262,6 @@ fn measured<J: Naming + Send + Sync, R: Runtime + Threads + Wait + Sync>(
     requires { opened.seen.book ≡ J.book }
 {
     let mut shares: Shares<J> = Shares::new(opened);
-    weigh(rt, alloc, &mut shares, extent.files)?;
     rt.eprintln("| viewers | published a second | answers a second | slowest answer, µs |")?;
     rt.eprintln("|---|---|---|---|")?;
     for viewers in VIEWERS {
@@ -290,8 +271,8 @@ fn measured<J: Naming + Send + Sync, R: Runtime + Threads + Wait + Sync>(
     Ok(())
 }
 
-/// Tells on standard error what a share of so many files takes in memory, and how fast its viewers answer; on standard
-/// output that each answer was of the files that change.
+/// Tells on standard error how fast the viewers of a share of so many files answer, each number of them for so many
+/// milliseconds; on standard output that each answer was of the files that change.
 pub fn bench<R: Runtime + Threads + Wait + Sync + AllocGlobal>(
     rt: &R,
     files: u64,

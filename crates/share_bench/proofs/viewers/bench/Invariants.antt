@@ -1,4 +1,4 @@
-use Rattle.bench.proofs.shared.bench.Given as goal
+use Rattle.share_bench.proofs.viewers.bench.Given as goal
 
 -- the book that was just opened
 abbrev pub ghosts-measured : goal.ghosts-measured
