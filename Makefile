@@ -1,24 +1,29 @@
 # `make test` is the gate: every proof from nothing, the edits that must be refused, the tests, the programs.
-# `make run` answers request lines from standard input over ./watchmand.state, which it makes where it isn't there.
+# `make run` serves ./watchmand.socket over ./watchmand.state, which it makes where it isn't there.
 PREFIX ?= $(HOME)/.local
 STATE ?= watchmand.state
+SOCKET ?= watchmand.socket
 PROGRAM := crates/watchmand/out/watchmand
+CLIENT := crates/wmctl/out/wmctl
 BENCH := crates/bench/out/bench
 SHARE_BENCH := crates/share_bench/out/share_bench
 FILES ?= 100000
 SOURCES := crates.txt $(shell find crates -name out -prune -o -type f \( -name '*.rt' -o -name '*.antt' \) -print)
 
-.PHONY: help clean uninstall test lint build run install bench bench-journal bench-store bench-desk idle-desk bench-crawl bench-view bench-share bench-match crawl-tree session examples kill faults state-file file-calls
+.PHONY: help clean uninstall test lint build run lines serve-use install bench bench-journal bench-store bench-desk idle-desk bench-crawl bench-view bench-share bench-match bench-peer clients crawl-tree session examples kill faults state-file file-calls
 
 help:
 	@echo "make test          the whole gate: each proof from nothing, edits that must be refused, tests, programs (rt; two hours on two cores)"
 	@echo "make lint          what the gate doesn't see: no definition's name in the specs of two crates, and no use of another crate's proofs/ (sh, awk; at once)"
-	@echo "make build         builds watchmand (rt; some 20 minutes the first time, since it proves it)"
-	@echo "make run           answers request lines from standard input over STATE=$(STATE), which it makes where it isn't there"
-	@echo "                   (it and all below build watchmand or bench first: rt alone, no network)"
-	@echo "make install       puts watchmand into PREFIX/bin (PREFIX=$(PREFIX)); make uninstall takes it away"
+	@echo "make build         builds watchmand (rt; some 45 minutes the first time, since it proves it)"
+	@echo "make run           serves SOCKET=$(SOCKET) over STATE=$(STATE), which it makes where it isn't there, and tells what to try next"
+	@echo "                   (it and all below build watchmand, wmctl or bench first: rt alone, no network)"
+	@echo "make lines         answers request lines from standard input over STATE=$(STATE)"
+	@echo "make install       puts watchmand and wmctl into PREFIX/bin (PREFIX=$(PREFIX)); make uninstall takes them away"
 	@echo "make session       a first session by the built program; make examples: those of README.md and docs/QUERIES.md"
 	@echo "make state-file    a file with two owners, a format that fails, a killed one; make file-calls: its calls (strace)"
+	@echo "make serve-use     rough use of a server by the built program (python3; setpriv, if root); make clients: Watchman's own clients talk"
+	@echo "                   to it; make bench-peer: it beside Watchman 4.9.0 (both python3; apt-get, where Watchman isn't installed; cc)"
 	@echo "make kill          kills the built program again and again, and looks for what it answered (python3); make faults: each call"
 	@echo "                   that it makes of its state file fails once (python3, strace)"
 	@echo "make bench         a million lines beside Python's json (python3, GNU time)"
@@ -44,17 +49,34 @@ $(PROGRAM): $(SOURCES)
 	cd crates/watchmand && rt run -- --help </dev/null >&2
 	@touch $@
 
-# A `format` that fails ends it, and has taken its file away. A part that a killed one left is answered `14 Damaged`.
-run: $(PROGRAM)
+$(CLIENT): $(SOURCES)
+	cd crates/wmctl && rt run -- --help </dev/null >&2
+	@touch $@
+
+# What a crawl or a long reply took goes back to the system by the C library's setting. A `format` that fails ends it, and has taken its file away. A part that a killed one left is answered `14 Damaged`.
+run: $(PROGRAM) $(CLIENT)
+	@test -e $(STATE) || $(PROGRAM) format $(STATE) >&2
+	@echo "Try in another shell of this folder:"
+	@echo "  $(CLIENT) $(SOCKET) '[\"watch\",\"$(CURDIR)\"]'"
+	@echo "  $(CLIENT) $(SOCKET) '[\"query\",\"$(CURDIR)\",{\"expression\":[\"suffix\",\"md\"],\"fields\":[\"name\"]}]'"
+	@echo "  $(CLIENT) $(SOCKET) '[\"subscribe\",\"$(CURDIR)\",\"s\",{\"expression\":[\"suffix\",\"md\"],\"fields\":[\"name\"]}]' --follow 1"
+	@MALLOC_TRIM_THRESHOLD_=131072 $(PROGRAM) serve $(STATE) $(SOCKET)
+
+lines: $(PROGRAM)
 	@test -e $(STATE) || $(PROGRAM) format $(STATE) >&2
 	@$(PROGRAM) lines $(STATE)
 
-install: $(PROGRAM)
+# What clients and folders may do to a server, by the built program.
+serve-use: $(PROGRAM)
+	tools/rough_use.py $(PROGRAM)
+
+install: $(PROGRAM) $(CLIENT)
 	install -d $(DESTDIR)$(PREFIX)/bin
 	install -m 755 $(PROGRAM) $(DESTDIR)$(PREFIX)/bin/watchmand
+	install -m 755 $(CLIENT) $(DESTDIR)$(PREFIX)/bin/wmctl
 
 uninstall:
-	rm -f $(DESTDIR)$(PREFIX)/bin/watchmand
+	rm -f $(DESTDIR)$(PREFIX)/bin/watchmand $(DESTDIR)$(PREFIX)/bin/wmctl
 
 clean:
 	rm -rf $(wildcard crates/*/out)
@@ -123,6 +145,14 @@ $(SHARE_BENCH): $(SOURCES)
 # How fast 1, 8 and 31 viewers of a root of FILES files answer while its keeper publishes nothing, and a change each millisecond.
 bench-share: $(SHARE_BENCH)
 	$(SHARE_BENCH) $(FILES) 3000
+
+# A server beside Watchman 4.9.0, which is installed from Debian's packages where it isn't there.
+bench-peer: $(PROGRAM)
+	bench/peer.sh $(PROGRAM)
+
+# Watchman's own clients, `watchman` and pywatchman, talk to a server.
+clients: $(PROGRAM)
+	examples/clients.sh $(PROGRAM)
 
 # How long `match` takes for patterns that are hard to refuse, of 64 to 1,024 bytes.
 bench-match: $(BENCH)

@@ -4,9 +4,8 @@
 use std::io::BufReader;
 use std::process::ExitCode;
 use std::{env, io};
-use wm_server::program::watchmand;
-use wm_server::system::Host;
-use wm_server::{Input, Output};
+use wm_program::watchmand;
+use wm_serve::{SystemFolders, SystemPrograms};
 
 fn main(rt: HostRuntime) -> io::Result<ExitCode> {
     let alloc = rt.alloc();
@@ -16,16 +15,19 @@ fn main(rt: HostRuntime) -> io::Result<ExitCode> {
     };
     let args: Vec<String> = args.skip(1).collect(alloc)?;
     let words: Vec<&str> = args.iter().map(|word| word.as_str()).collect(alloc)?;
-    let mut reader = Input::new(BufReader::new(alloc, rt.reader())?);
-    let mut writer = Output::new(io::writer(&rt));
+    let reader = BufReader::new(alloc, rt.reader())?;
+    let mut writer = io::writer(&rt);
     let errors = rt.stderr();
-    let mut faults = Output::new(io::writer(&errors));
-    let mut system = Host::new(&rt);
+    let mut faults = io::writer(&errors);
+    let folders = SystemFolders::new(rt.clone()?);
+    let programs = SystemPrograms::new(rt.clone()?);
     let status = watchmand(
+        &rt,
         alloc,
-        &mut system,
         &words,
-        &mut reader,
+        &folders,
+        &programs,
+        reader,
         &mut writer,
         &mut faults,
     );

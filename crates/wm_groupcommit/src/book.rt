@@ -16,7 +16,7 @@ use std::alloc::Global;
 use std::marker::Model;
 use std::snapshot::Snapshot;
 use wm_disk::{Disk, NoMemory, Refusal};
-use wm_registry::{Command, Reply};
+use wm_registry::{Command, Registry, Reply};
 use wm_store::Store;
 
 /// The store, the registry that the desk found, and the commands accepted since, each with its seat and
@@ -62,6 +62,13 @@ impl<D: Disk + Drop> Book<D> {
         ensures { (result.value.base ≡ self.now.base) × (result.value.entries.items ≡ self.now.list) }
     {
         Snapshot::of(&self.history)
+    }
+
+    /// The registry after all of the list.
+    pub fn registry(&self, alloc: Global) -> Result<Registry, NoMemory>
+        ensures { IfOk result (λ r. r ≡ self.now.store.registry) }
+    {
+        self.store.registry().copy(alloc)
     }
 
     /// The receipt's command, where it stands at its number.

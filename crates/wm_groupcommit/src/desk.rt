@@ -21,7 +21,7 @@ use std::sync::{Mutex, Wait};
 use std::thread;
 use std::thread::Parker;
 use wm_disk::{Disk, NoMemory, Refusal};
-use wm_registry::{Command, Reply};
+use wm_registry::{Command, Registry, Reply};
 use wm_store::Store;
 
 /// How often a thread that waits looks for what it waits for before it sleeps: about as long as two syncs of a
@@ -184,6 +184,11 @@ impl<D: Disk + Drop> Desk<D> {
         if !meets_call(&self.queue) {
             self.sleeper.park(rt);
         }
+    }
+
+    /// A copy of the registry, as the last flush left it. It waits for a flush that runs.
+    pub fn registry<R: Wait>(&self, rt: &R) -> Result<Registry, NoMemory> {
+        self.locked.lock(rt).registry(self.alloc)
     }
 
     /// The receipt's command, found at its number in the list; none for one that changed nothing.

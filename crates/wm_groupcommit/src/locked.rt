@@ -25,7 +25,7 @@ use std::alloc::Global;
 use std::marker::Model;
 use std::sync::Wait;
 use wm_disk::{Disk, NoMemory, Refusal};
-use wm_registry::Command;
+use wm_registry::{Command, Registry};
 use wm_store::Store;
 
 /// The most seats of a desk.
@@ -102,6 +102,13 @@ impl<D: Disk + Drop> LockedDesk<D> {
         }
         self.has_flusher = true;
         Ok(())
+    }
+
+    /// The registry after all of the list.
+    pub fn registry(&self, alloc: Global) -> Result<Registry, NoMemory>
+        ensures { IfOk result (λ r. r ≡ self.now.book.store.registry) }
+    {
+        self.book.registry(alloc)
     }
 
     /// The receipt's command, found at its number in the book.

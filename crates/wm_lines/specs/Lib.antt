@@ -10,6 +10,7 @@ pub mod ListingLines
 pub mod Metadata
 pub mod PairLines
 pub mod QueryLines
+pub mod RecrawlLines
 pub mod Replies
 pub mod SubscribeLines
 pub mod TriggerLines

@@ -45,7 +45,7 @@ fn files(alloc: Global, value: &Value) -> Result<BTreeMap<&str, Meta>, Refusal>
 }
 
 /// The part of a root that a text names.
-fn subtree(alloc: Global, text: &str) -> Result<Subtree, Refusal>
+pub(crate) fn subtree(alloc: Global, text: &str) -> Result<Subtree, Refusal>
     ensures ok { IfOk result (λ s. subtree_of text.now ≡ Some s) }
     ensures refused { IfErr result (λ e. e ≢ Refusal.NoMemory → (e ≡ Refusal.BadPath) × (subtree_of text.now ≡ None)) }
 {

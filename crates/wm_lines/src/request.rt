@@ -67,7 +67,7 @@ fn is_whole(line: &[u8]) -> bool
 }
 
 /// The JSON value that a line is.
-fn text_in(alloc: Global, line: &[u8]) -> Result<Value, Refusal>
+pub(crate) fn text_in(alloc: Global, line: &[u8]) -> Result<Value, Refusal>
     ensures ok { IfOk result (λ v. value_of_line line.now ≡ Some (view v)) }
     ensures refused { IfErr result (λ e. e ≢ Refusal.NoMemory → (e ≡ Refusal.BadLine) × (value_of_line line.now ≡ None)) }
 {
@@ -99,7 +99,7 @@ fn plain(value: &Value, request: Request) -> Result<Request, Refusal>
 
 /// The request that a JSON value is: the table of the commands.
 #[tactic(auto, unfolding(crate::specs::Lines::request_of))]
-fn request_in(alloc: Global, value: &Value) -> Result<Request, Refusal>
+pub(crate) fn request_in(alloc: Global, value: &Value) -> Result<Request, Refusal>
     ensures ok { IfOk result (λ r. request_of (view value.now) ≡ Ok r) }
     ensures refused { IfErr result (λ e. e ≢ Refusal.NoMemory → request_of (view value.now) ≡ Err e) }
 {

@@ -1,4 +1,5 @@
 pub mod LocalLaws
 pub mod Locals
+pub mod PartFronts
 pub mod Stores
 pub mod ViewChanges

@@ -4,6 +4,7 @@ pub mod Faults
 pub mod Inputs
 pub mod Inquiries
 pub mod Pages
+pub mod PartLaws
 pub mod Reading
 pub mod Runs
 pub mod Sessions

@@ -1,4 +1,4 @@
-//! What holds of every line and of every restart: laws of specs/session and specs/program, without code.
+//! What holds of every line, of every part of a state and of every restart: laws of specs/session and specs/program, without code.
 ghost use Rattle.std.specs.Prelude.{◌≡◌, ℕ, List, true, false, Some, Ok, Err};
 ghost use Rattle.wm_disk.specs.declared.refusal.Refusal.TheVariants.{NotReady, TooMany};
 ghost use Rattle.wm_view.specs.declared.op.Op.{Op};
@@ -11,6 +11,7 @@ ghost use Rattle.wm_subs.specs.Subscribers.{Subscriber, due_answer};
 ghost use Rattle.wm_server.specs.session.Dues.{due_of};
 ghost use Rattle.wm_lines.specs.declared.query.Inquiry.{Inquiry};
 ghost use Rattle.wm_server.specs.session.Inquiries.{has_place, inquired, question_in};
+ghost use Rattle.wm_server.specs.session.PartLaws.{MeetsOnPart};
 ghost use Rattle.wm_server.specs.session.Watched.{AreOfHistories, first_views, of_history, unless, view_after};
 ghost use Rattle.wm_server.specs.program.Programs.{KeepsAccepted};
 ghost use Rattle.wm_server.specs.session.Sessions.{SessionState, Standing, line_met};
@@ -37,6 +38,12 @@ pub fn every_line()
     every_operation();
     every_answer();
 }
+
+/// A request about one root, as a question or an operation, reads that root's view and cursors alone: it is answered the
+/// same on a part of a state as on the whole, and leaves the same view there.
+pub fn every_part()
+    ensures { MeetsOnPart }
+{}
 
 /// What holds of two sessions over one honest disk, one after the other: the second begins on what the first
 /// left, which is the replay of all that it accepted, and so with one more `Begin`.

@@ -16,10 +16,10 @@ mod local;
 pub mod program;
 mod session;
 
-pub use laws::{every_line, every_restart};
-pub use local::{LocalFront, RootView};
+pub use laws::{every_line, every_part, every_restart};
+pub use local::{LocalFront, Part, RootView};
 pub use program::{lines, system, words};
-pub use session::{Front, Input, Output, Session, run};
+pub use session::{Front, Input, Output, Session, input, run};
 pub use wm_file::file;
 pub use wm_lines::reply::REFUSAL_ROOM;
 pub use wm_lines::{Expression, Inquiry, MAX_LINE, Progress, Request};

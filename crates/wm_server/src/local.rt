@@ -3,7 +3,9 @@
 //! Tests: session_tests/src/lines.
 
 mod local_front;
+mod part;
 mod root_views;
 
 pub use local_front::LocalFront;
+pub use part::Part;
 pub use root_views::RootView;

@@ -7,7 +7,7 @@ ghost use Rattle.wm_lines.specs.Lines.{request_of_line};
 ghost use Rattle.wm_server.specs.session.Sessions.{commanded, triggers_met, question_met, line_met, inquiry_met, handled, operation_outcome, by_request, subscriptions_by, view_of};
 ghost use Rattle.wm_lines.specs.Replies.{clock_reply};
 ghost use Rattle.wm_server.specs.session.Watched.{answer_of, clock_answer};
-ghost use Rattle.wm_server.specs.session.Faults.{Meeting, RepliesTo, Way, faults_at, faults_of, is_fault as is_fault_lem, seen};
+ghost use Rattle.wm_server.specs.session.Faults.{Meeting, RepliesAs, RepliesTo, Way, faults_at, faults_of, is_fault as is_fault_lem, seen};
 ghost use Rattle.wm_server.specs.session.Stands.{without_subscriptions, standing};
 ghost use Rattle.wm_server.specs.session.Pages.{Handles, Replied, Told, page};
 ghost use Rattle.wm_server.specs.session.Inquiries.{inquired, point_answer};
@@ -16,7 +16,7 @@ ghost use Rattle.wm_expr.specs.Views.{term};
 ghost use Rattle.wm_since.specs.Answers.{question};
 
 mod front;
-mod input;
+pub mod input;
 mod output;
 pub mod run;
 mod subscribing;
@@ -267,6 +267,33 @@ impl<F: Front> Session<F> {
             Err(refusal) => {
                 reply::put_refusal(refusal, out);
                 if is_fault(refusal) { 1 } else { 0 }
+            }
+        }
+    }
+
+    /// Answers a request that was read: appends the reply and a newline, but nothing of what is due after it,
+    /// and tells how many faults were met: none or one. The room of a refusal is made before anything
+    /// changes: an `Err` means that none was found, comes only where `out` has no such room yet, and changes
+    /// nothing.
+    pub fn request(
+        &mut self,
+        alloc: Global,
+        moment: u64,
+        request: Request,
+        out: &mut Vec<u8>,
+    ) -> Result<u64, NoMemory>
+        ensures ok { IfOk result (λ n. (way : Way) × (bytes : List ℕ) × (n ≡ faults_of way) × (out.new.items ≡ out.old.items ++ bytes)
+            × RepliesAs way (standing F.front_state self.old) moment request bytes (standing F.front_state self.new)) }
+        ensures err { OnErr result ((out.new.items ≡ out.old.items) × (self.new ≡ self.old)) }
+        ensures full { OnErr result (vec_capacity out.old < vec_len out.old + REFUSAL_ROOM) }
+        ensures later { F.leads_to self.old.front (asked_by (Ok request)) self.new.front }
+    {
+        out.try_reserve(reply::REFUSAL_ROOM)?;
+        match self.meet(alloc, moment, request, out) {
+            Ok(()) => Ok(0),
+            Err(refusal) => {
+                reply::put_refusal(refusal, out);
+                Ok(if is_fault(refusal) { 1 } else { 0 })
             }
         }
     }

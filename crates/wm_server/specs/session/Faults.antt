@@ -1,5 +1,5 @@
 -- How a line was met: as it is defined, or by a fault, which comes where its cause comes.
-use Rattle.std.specs.Prelude.{◌≡◌, ◌≤◌, ℕ, List, ◌++◌, length, Bool, true, false, if◌then◌else◌, Result, Err}
+use Rattle.std.specs.Prelude.{◌≡◌, ◌≤◌, ℕ, List, ◌++◌, length, Bool, true, false, if◌then◌else◌, Result, Ok, Err}
 use Rattle.serde_json.specs.Data.{Data}
 use Rattle.wm_disk.specs.Contents.{Rose}
 use Rattle.wm_disk.specs.declared.refusal.Refusal.{Refusal}
@@ -13,8 +13,9 @@ use Rattle.wm_registry.specs.declared.reply.Reply.{Reply}
 use Rattle.wm_registry.specs.declared.reply.Reply.TheVariants as reply
 use Rattle.wm_registry.specs.Registry.{is_change}
 use Rattle.wm_lines.specs.Lines.{request_of_line}
+use Rattle.wm_lines.specs.declared.request.Request.{Request}
 use Rattle.wm_lines.specs.Replies.{reply_bytes}
-use Rattle.wm_server.specs.session.Sessions.{SessionState, Standing, SubscriptionList, line_met, operation_met, reply_to_command, state_after_command, subscriptions_after, view_of}
+use Rattle.wm_server.specs.session.Sessions.{SessionState, Standing, SubscriptionList, handled, line_met, operation_met, reply_to_command, state_after_command, subscriptions_after, view_of}
 use Rattle.wm_server.specs.session.Dues.{after_told, are_all_found, told_lines}
 use Rattle.wm_server.specs.session.Watched.{progress_after, view_after}
 
@@ -105,6 +106,13 @@ pub record RepliesTo (meeting : Meeting) (old : Standing FrontState) (moment : �
   pub marks : length meeting.finds ≡ length (subscriptions_told meeting.way old moment line)
   pub bytes_are : bytes ≡ reply_bytes (told_by meeting.way old moment line) ++ told_lines new.front.state meeting.finds (subscriptions_told meeting.way old moment line)
   pub subscriptions_are : new.subscriptions ≡ after_told new.front.state meeting.finds (subscriptions_told meeting.way old moment line)
+
+-- a request was answered with these bytes, and what is due after it isn't told yet
+pub record RepliesAs (way : Way) (old : Standing FrontState) (moment : ℕ) (request : Request) (bytes : List ℕ) (new : Standing FrontState) : Type 0 where
+  pub cause : HasCause way (handled old.front.state old.subscriptions moment request).accepts old.front new.front
+  pub bytes_are : bytes ≡ reply_bytes (refusal_or way (handled old.front.state old.subscriptions moment request).reply)
+  pub state_is : new.front.state ≡ state_or way (handled old.front.state old.subscriptions moment request).state old.front.state
+  pub subscriptions_are : new.subscriptions ≡ subscriptions_after (refusal_or way (handled old.front.state old.subscriptions moment request).reply) (seen old) (Ok request)
 
 -- a refusal that comes where its cause comes, and not by what is defined
 abbrev pub is_fault : Refusal → Bool

@@ -44,7 +44,7 @@ impl<R: BufRead> Input<R> {
 
 /// What was read of a line.
 #[derive(Clone, Copy, Debug, PartialEq, Eq)]
-pub(crate) enum LineRead {
+pub enum LineRead {
     /// The line was kept, with its newline if it has one; of one that is longer than a line may be,
     /// its first part.
     Kept,
@@ -139,10 +139,7 @@ fn line_off<R: BufRead>(reader: &mut R, line: &mut Vec<u8>) -> io::Result<LineRe
 }
 
 /// Reads the next line off an input, as far as it may be kept.
-pub(crate) fn read_line<R: BufRead>(
-    input: &mut Input<R>,
-    line: &mut Vec<u8>,
-) -> io::Result<LineRead>
+pub fn read_line<R: BufRead>(input: &mut Input<R>, line: &mut Vec<u8>) -> io::Result<LineRead>
     requires { lines_read input.old < 2 ^ 64 - 1 }
     ensures read { IfOk result (λ read. (rest : List ℕ) → R.remaining (reader_of input.old) ≡ Some rest → ReadsLine rest read line.new.items (R.remaining (reader_of input.new))) }
     ensures counted { lines_read input.new ≡ lines_read input.old + 1 }

@@ -56,9 +56,9 @@ use Rattle.wm_subs.specs.SubscriptionNames.{is_subscription_name}
 use Rattle.wm_subs.specs.SessionLists.{may_subscribe}
 use Rattle.wm_clock.specs.declared.clock_id.ClockId.{ClockId}
 use Rattle.wm_lines.specs.TriggerLines.{by_rules, definition_in, trigger_at, trigger_del_with, trigger_in, trigger_keeping, trigger_with}
-use Rattle.wm_server.specs.session.Faults.{FrontState, Way, Defined, Device, Memory, Spent, is_fault, faults_of, refusal_or, seen}
+use Rattle.wm_server.specs.session.Faults.{FrontState, Way, Defined, Device, Memory, Spent, RepliesAs, is_fault, faults_of, refusal_or, seen}
 use Rattle.wm_server.specs.session.Pages.{Refuses, Replied, page}
-use Rattle.wm_server.specs.session.Sessions.{SessionState, Standing, SubscriptionList, subscriptions_after, subscribe_met, unsubscribe_met, replied, refused, question_met, line_met, met_or_refused, commanded, by_reply, operation_outcome, operation_met, reply_to_command, inquiry_met, state_after_command, triggers_met, view_of}
+use Rattle.wm_server.specs.session.Sessions.{SessionState, Standing, SubscriptionList, handled, subscriptions_after, subscribe_met, unsubscribe_met, replied, refused, question_met, line_met, met_or_refused, commanded, by_reply, operation_outcome, operation_met, reply_to_command, inquiry_met, state_after_command, triggers_met, view_of}
 use Rattle.wm_server.specs.session.Watched.{clock_in, clock_answer, unless, view_after}
 use Rattle.wm_lines.specs.Replies.{clock_reply, command_reply, subscribe_reply, line_text, refusal_reply, reply_bytes}
 
@@ -415,4 +415,32 @@ plain_told old new moment line before mid after r plain told kept put = (
   told.way,
   no_fault told.way (line_met (seen old) moment line).reply r plain told.reply_is,
   replied_so old new moment line before mid after r told kept put,
+)
+
+-- a refusal of a request was told, and changed no subscription
+replied_as : (old new : Standing FrontState) (moment : ℕ) (request : Request) (before mid : List ℕ) (r : Refusal) (told : Refuses (handled old.front.state old.subscriptions moment request) r (page old.front before) (page new.front mid)) → new.subscriptions ≡ old.subscriptions
+    → RepliesAs told.way old moment request (line_text (refusal_reply r)) new
+replied_as old new moment request before mid r told kept = record {
+  cause = told.cause;
+  bytes_are = ap reply_bytes (sym told.reply_is);
+  state_is = told.state_is;
+  subscriptions_are = kept ∙ sym (ap (λ (x : Result Data Refusal). subscriptions_after x (seen old) (Ok request)) told.reply_is);
+}
+
+-- a fault that a request is told is one
+pub fault_told_as : (old new : Standing FrontState) (moment : ℕ) (request : Request) (before mid : List ℕ) (r : Refusal) → is_fault r ≡ true → Refuses (handled old.front.state old.subscriptions moment request) r (page old.front before) (page new.front mid) → new.subscriptions ≡ old.subscriptions
+    → (way : Way) × (1 ≡ faults_of way) × RepliesAs way old moment request (line_text (refusal_reply r)) new
+fault_told_as old new moment request before mid r fault told kept = (
+  told.way,
+  one_fault told.way (handled old.front.state old.subscriptions moment request).reply r (met_plain old.front.state old.subscriptions moment (Ok request) refl) fault told.reply_is,
+  replied_as old new moment request before mid r told kept,
+)
+
+-- so is any refusal
+pub plain_told_as : (old new : Standing FrontState) (moment : ℕ) (request : Request) (before mid : List ℕ) (r : Refusal) → is_fault r ≡ false → Refuses (handled old.front.state old.subscriptions moment request) r (page old.front before) (page new.front mid) → new.subscriptions ≡ old.subscriptions
+    → (way : Way) × (0 ≡ faults_of way) × RepliesAs way old moment request (line_text (refusal_reply r)) new
+plain_told_as old new moment request before mid r plain told kept = (
+  told.way,
+  no_fault told.way (handled old.front.state old.subscriptions moment request).reply r plain told.reply_is,
+  replied_as old new moment request before mid r told kept,
 )

@@ -1,0 +1,22 @@
+//! Tests of a server: its words and requests in tables, and sessions over a socket that a test serves, with the
+//! system's folders and programs.
+//!
+//! Each server stands on files of its own names in the folder where the tests run.
+#![tactic(auto)]
+
+#[cfg(test)]
+mod client;
+#[cfg(test)]
+mod crawls;
+#[cfg(test)]
+mod places;
+#[cfg(test)]
+mod requests;
+#[cfg(test)]
+mod restarts;
+#[cfg(test)]
+mod sessions;
+#[cfg(test)]
+mod sockets;
+#[cfg(test)]
+mod words;

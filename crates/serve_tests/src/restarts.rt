@@ -1,0 +1,61 @@
+//! A server that is killed, and the next one over its state file.
+use crate::client::Client;
+use crate::places::Place;
+use std::test::Fail;
+use std::{fs, io, thread};
+use wm_crawler::Open;
+
+/// Watches the root, and copies the state file once that was answered: what a kill leaves then.
+fn watch_and_copy(rt: &HostRuntime, place: &Place, copy: &str) -> io::Result<String> {
+    let alloc = rt.alloc();
+    let root = place.root.as_str();
+    let mut client = Client::connect(rt, place.socket.as_str())?;
+    client.ask(format!(in alloc; "[\"watch\",\"{root}\"]")?.as_str())?;
+    let left = fs::read(rt, place.state.as_str())?;
+    fs::write(rt, copy, left.as_slice())?;
+    client.ask_ready(
+        rt,
+        format!(in alloc;
+            "[\"observe\",\"{root}\",[[\"b.c\",{{\"mtime_ms\":0,\"size\":4,\"type\":\"f\"}}]]]"
+        )?.as_str(),
+    )
+}
+
+/// Asks what changed since a clock of the killed server.
+fn ask_since(rt: &HostRuntime, place: &Place, clock: &str) -> io::Result<String> {
+    let root = place.root.as_str();
+    let mut client = Client::connect(rt, place.socket.as_str())?;
+    client.ask_ready(
+        rt,
+        format!(in rt.alloc();
+            "[\"query\",\"{root}\",{{\"fields\":[\"name\",\"size\"],\"since\":\"{clock}\",\"expression\":[\"type\",\"f\"]}}]"
+        )?.as_str(),
+    )
+}
+
+/// The roots stand, and every older clock is answered as fresh.
+#[test]
+fn killed_server(rt: HostRuntime) -> Result<(), Fail> {
+    let alloc = rt.alloc();
+    let mut place = Place::new(&rt, "serve_killed")?;
+    let copy = "serve_killed.copy";
+    let (served, told) = thread::join(
+        &rt,
+        || place.serve(&rt, alloc, &Open, 1),
+        || watch_and_copy(&rt, &place, copy),
+    );
+    assert!(rt; served.is_ok());
+    assert!(rt; told?.as_str() == "{\"clock\":\"c:1:1:2\",\"version\":\"w1\"}");
+    place.state = String::from_str(alloc, copy)?;
+    let (served, told) = thread::join(
+        &rt,
+        || place.serve(&rt, alloc, &Open, 1),
+        || ask_since(&rt, &place, "c:1:1:2"),
+    );
+    assert!(rt; served.is_ok());
+    let told = told?;
+    let wanted =
+        "{\"clock\":\"c:2:1:1\",\"files\":[{\"name\":\"a\",\"size\":3},{\"name\":\"d/b\",\"size\":0}],\"is_fresh_instance\":true,\"version\":\"w1\"}";
+    assert!(rt; told.as_str() == wanted, "{told}");
+    Ok(())
+}

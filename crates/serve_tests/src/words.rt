@@ -1,0 +1,79 @@
+//! What the command-line words ask of `watchmand`, `serve` among them.
+use std::alloc::{AllocError, Global};
+use std::test::Fail;
+use wm_program::Words;
+
+/// Lists of words, and what they ask for.
+const ASKED: &[(&[&str], &str)] = &[
+    (
+        &["serve", "f", "s"],
+        "serve f s 4 43200 86400 18446744073709551615",
+    ),
+    (
+        &[
+            "serve",
+            "--workers",
+            "16",
+            "f",
+            "--gc-age=0",
+            "s",
+            "--gc-interval",
+            "4294967295",
+            "--sessions",
+            "2",
+        ],
+        "serve f s 16 0 4294967295 2",
+    ),
+    (
+        &["serve", "--workers=1", "--", "-f", "-s"],
+        "serve -f -s 1 43200 86400 18446744073709551615",
+    ),
+    (&["format", "f"], "plain"),
+    (&["lines", "f"], "plain"),
+    (&["--help"], "shown 0"),
+    (&["serve", "--help"], "shown 0"),
+    (&["serve", "-V"], "shown 0"),
+    (&[], "shown 2"),
+    (&["serve"], "shown 2"),
+    (&["serve", "f"], "shown 2"),
+    (&["serve", "f", "s", "t"], "shown 2"),
+    (&["serve", "f", "s", "--workers"], "shown 2"),
+    (&["serve", "f", "s", "--workers", "0"], "shown 2"),
+    (&["serve", "f", "s", "--workers", "17"], "shown 2"),
+    (&["serve", "f", "s", "--workers", "x"], "shown 2"),
+    (&["serve", "f", "s", "--gc-age=-1"], "shown 2"),
+    (&["serve", "f", "s", "--gc-age", "4294967296"], "shown 2"),
+    (&["serve", "f", "s", "--gc-interval", ""], "shown 2"),
+    (
+        &["serve", "f", "s", "--sessions", "1", "--sessions", "2"],
+        "shown 2",
+    ),
+    (&["server", "f", "s"], "shown 2"),
+    (&["lines", "f", "--sessions", "1"], "shown 2"),
+];
+
+fn asked(alloc: Global, words: &Words) -> Result<String, AllocError> {
+    match words {
+        Words::Serve {
+            file,
+            socket,
+            settings,
+        } => {
+            let (workers, age) = (settings.workers, settings.gc_age);
+            let (interval, sessions) = (settings.gc_interval, settings.sessions);
+            format!(in alloc; "serve {file} {socket} {workers} {age} {interval} {sessions}")
+        }
+        Words::Plain => String::from_str(alloc, "plain"),
+        Words::Shown { text: _, status } => format!(in alloc; "shown {status}"),
+    }
+}
+
+#[test]
+fn words_of_the_table(rt: HostRuntime) -> Result<(), Fail> {
+    let alloc = rt.alloc();
+    for (words, wanted) in ASKED {
+        let told = asked(alloc, &Words::read(alloc, words)?)?;
+        assert!(rt; told.as_str() == *wanted, "{words:?}: {told}");
+    }
+    Ok(())
+}

@@ -1,0 +1,13 @@
+//! All of `watchmand`: its words, and what meets them.
+//!
+//! [`Words`] is what its words ask for (specs/ProgramWords.antt). `format` and `lines` are met by `wm_server`,
+//! `serve` by `wm_serve`, and [`watchmand`] is the whole program.
+//!
+//! Tests: serve_tests/src/words.rt, serve_tests/src/started.
+#![tactic(auto)]
+
+mod program;
+mod words;
+
+pub use program::watchmand;
+pub use words::Words;

@@ -1,0 +1,67 @@
+//! A session's chair: what its two threads share.
+use crate::bell::Bell;
+use std::alloc::Global;
+use std::os::unix::net::UnixStream;
+use std::sync::atomic::{AtomicU64, Ordering};
+use std::sync::{Arc, Mutex, Wait};
+use wm_lines::Expression;
+use wm_names::RootPath;
+use wm_subs::Subscriptions;
+
+/// What a session's thread of lines and its thread of subscriptions share.
+#[derive(Drop)]
+pub struct Chair {
+    /// The reply on its way, and with it the right to write to the socket.
+    pub page: Mutex<Vec<u8>>,
+    pub subscriptions: Mutex<Subscriptions<Expression>>,
+    pub bell: Bell,
+    // how many subscriptions there are
+    count: AtomicU64,
+    stream: Mutex<Option<Arc<UnixStream>>>,
+}
+
+impl Chair {
+    pub fn new(alloc: Global) -> Chair {
+        Chair {
+            page: Mutex::new(Vec::new(alloc)),
+            subscriptions: Mutex::new(Subscriptions::new(alloc)),
+            bell: Bell::new(),
+            count: AtomicU64::new(0),
+            stream: Mutex::new(None),
+        }
+    }
+
+    /// The socket of the session that sits here.
+    pub fn stream<R: Wait>(&self, rt: &R) -> Option<Arc<UnixStream>> {
+        match &*self.stream.lock(rt) {
+            Some(stream) => Arc::try_clone(stream).ok(),
+            None => None,
+        }
+    }
+
+    /// A session sits down, or has left.
+    pub fn seat<R: Wait>(&self, rt: &R, alloc: Global, stream: Option<Arc<UnixStream>>) {
+        let mut page = self.page.lock(rt);
+        *page = Vec::new(alloc);
+        *self.stream.lock(rt) = stream;
+        *self.subscriptions.lock(rt) = Subscriptions::new(alloc);
+        self.count.store(0, Ordering::SeqCst);
+    }
+
+    /// Takes note of how many subscriptions there are.
+    pub fn recount(&self, count: usize) {
+        self.count.store(count as u64, Ordering::SeqCst);
+    }
+
+    /// The subscriptions may be due.
+    pub fn ring<R: Wait>(&self, rt: &R) {
+        if self.count.load(Ordering::SeqCst) > 0 {
+            self.bell.ring(rt);
+        }
+    }
+
+    /// Ends the subscriptions on a root.
+    pub fn end_root<R: Wait>(&self, rt: &R, root: &RootPath) {
+        self.subscriptions.lock(rt).remove_root(root);
+    }
+}

@@ -1,0 +1,79 @@
+//! What the threads of a server see of it: a bound in place of the types, so that little is proved of what crosses.
+use crate::system::Programs;
+use std::alloc::Global;
+use std::os::unix::net::UnixStream;
+use std::sync::Wait;
+use std::time::Clock;
+use wm_disk::Refusal;
+use wm_lines::Progress;
+use wm_names::{RootPath, Subtree};
+use wm_view::Listing;
+
+/// A worker of the root of a number.
+#[derive(Clone, Copy, Debug, PartialEq, Eq)]
+pub enum Worker {
+    /// Crawls it.
+    Crawler(u64),
+    /// Runs its triggers.
+    Triggers(u64),
+}
+
+/// A crawl that was asked for.
+#[derive(Drop)]
+pub struct Crawl {
+    pub path: RootPath,
+    pub subtree: Subtree,
+    pub ticket: u64,
+}
+
+/// What the threads of a server share.
+pub trait House {
+    /// So many sessions may be there at once from now on.
+    fn open_door<R: Wait>(&self, rt: &R, chairs: u64);
+
+    /// Lets a session in, or hands it back where there is no chair.
+    fn enter<R: Wait>(&self, rt: &R, stream: UnixStream) -> Result<(), UnixStream>;
+
+    /// Answers the lines of one session after the other, until no session comes any longer.
+    fn sit<R: Wait + Clock>(&self, rt: &R, alloc: Global, chair: usize);
+
+    /// Tells the subscriptions of the sessions on a chair, until the server closes.
+    fn tell<R: Wait>(&self, rt: &R, alloc: Global, chair: usize);
+
+    /// Commits what is submitted, until the server closes.
+    fn flush<R: Wait + Clock>(&self, rt: &R);
+
+    /// Waits for a worker that is to be started; `None` where the server closes.
+    fn next_worker<R: Wait>(&self, rt: &R) -> Option<Worker>;
+
+    /// A worker was started.
+    fn started<R: Wait>(&self, rt: &R, worker: Worker);
+
+    /// Waits for a crawl of the root of this number; `None` where it isn't watched any longer.
+    fn next_crawl<R: Wait>(&self, rt: &R, alloc: Global, root: u64) -> Option<Crawl>;
+
+    /// The tick at which the root of this number stands; 0 before its first listing.
+    fn tick<R: Wait>(&self, rt: &R, root: u64) -> u64;
+
+    /// Takes in what a crawl found that began at a tick.
+    fn take_in<R: Wait + Clock>(
+        &self,
+        rt: &R,
+        alloc: Global,
+        root: u64,
+        begun_at: u64,
+        found: Listing,
+    ) -> Result<Progress, Refusal>;
+
+    /// The crawl of a ticket has ended so.
+    fn crawled<R: Wait>(&self, rt: &R, root: u64, ticket: u64, ended: Result<Progress, Refusal>);
+
+    /// Runs the triggers of the root of this number, until it isn't watched any longer.
+    fn run_triggers<R: Wait, P: Programs>(&self, rt: &R, alloc: Global, root: u64, programs: &P);
+
+    /// No session comes any longer.
+    fn close_door<R: Wait>(&self, rt: &R);
+
+    /// Each thread ends that isn't a session's, and the store is closed: refused as that is.
+    fn close<R: Wait>(&self, rt: &R) -> Result<(), Refusal>;
+}

@@ -1,0 +1,38 @@
+//! The socket.
+use std::fs::{File, Files, Permissions};
+use std::io::ErrorKind;
+use std::net::Net;
+use std::os::unix::fs::{FileTypeExt, PermissionsExt};
+use std::os::unix::net::{UnixListener, UnixStream};
+use std::{fs, io};
+
+/// A plain file refuses a connection too, and is not ours to remove.
+fn is_socket<R: Files<File = File>>(rt: &R, path: &str) -> bool {
+    match fs::symlink_metadata(rt, path) {
+        Ok(found) => found.file_type().is_socket(),
+        Err(_) => false,
+    }
+}
+
+/// Binds a path. A socket that nobody serves any longer is taken over.
+fn bind<R: Net + Files<File = File>>(rt: &R, path: &str) -> io::Result<UnixListener> {
+    match UnixListener::bind(rt, path) {
+        Ok(listener) => Ok(listener),
+        Err(e) if e.kind() == ErrorKind::AddrInUse => match UnixStream::connect(rt, path) {
+            Err(refused) if refused.kind() == ErrorKind::ConnectionRefused && is_socket(rt, path) =>
+                {
+                    fs::remove_file(rt, path)?;
+                    UnixListener::bind(rt, path)
+                }
+            _ => Err(e),
+        },
+        Err(e) => Err(e),
+    }
+}
+
+/// Makes the socket, for this user alone.
+pub fn listen<R: Net + Files<File = File>>(rt: &R, path: &str) -> io::Result<UnixListener> {
+    let listener = bind(rt, path)?;
+    fs::set_permissions(rt, path, Permissions::from_mode(0o600))?;
+    Ok(listener)
+}

@@ -1,0 +1,131 @@
+//! `serve`: the whole server, from its state file and its socket to the close of the file.
+use crate::admitting::serve_on;
+use crate::hall::Forgetting;
+use crate::listening::listen;
+use crate::shared::Shared;
+use crate::system::{Folders, Programs};
+use std::alloc::Global;
+use std::fs;
+use std::fs::{File, Files};
+use std::io::Write;
+use std::net::Net;
+use std::sync::Wait;
+use std::thread::Threads;
+use std::time::Clock;
+use wm_crawler::Turnstile;
+use wm_disk::{NoMemory, Refusal};
+use wm_file::{FileDisk, Unknown};
+use wm_groupcommit::Desk;
+use wm_lines::have_expressions;
+use wm_store::Store;
+
+/// How a server is to serve.
+#[derive(Clone, Copy)]
+pub struct Settings {
+    /// The threads of a crawl, 1 to 16.
+    pub workers: usize,
+    /// The age of what is forgotten, in seconds.
+    pub gc_age: u64,
+    /// The seconds between two age-outs of a root.
+    pub gc_interval: u64,
+    /// After so many sessions it ends.
+    pub sessions: u64,
+}
+
+/// Opens the store of a state file.
+fn open<R: Files<File = File>>(
+    rt: &R,
+    alloc: Global,
+    file: &str,
+) -> Result<Store<FileDisk<Unknown>>, Refusal> {
+    let Ok(disk) = FileDisk::<Unknown>::open(rt, file) else {
+        return Err(Refusal::DeviceFailed);
+    };
+    let store = match Store::open(alloc, disk) {
+        Ok(store) => store,
+        Err((refusal, _)) => return Err(refusal),
+    };
+    if !have_expressions(alloc, store.registry())? {
+        return Err(Refusal::Damaged);
+    }
+    Ok(store)
+}
+
+/// Serves a state file on a socket until so many sessions have ended.
+pub fn serve<
+    R: Threads + Wait + Clock + Net + Files<File = File> + Sync,
+    F: Folders + Sync,
+    G: Turnstile + Sync,
+    P: Programs + Sync,
+    W: Write,
+>(
+    rt: &R,
+    alloc: Global,
+    file: &str,
+    socket: &str,
+    folders: &F,
+    gate: &G,
+    programs: &P,
+    settings: Settings,
+    writer: &mut W,
+) -> Result<(), Refusal> {
+    let store = open(rt, alloc, file)?;
+    let desk = match Desk::new(alloc, store) {
+        Ok(desk) => desk,
+        Err((refusal, _)) => return Err(refusal),
+    };
+    let forgetting = Forgetting {
+        age: settings.gc_age,
+        interval: settings.gc_interval,
+    };
+    let shared = match Shared::new(alloc, desk, forgetting) {
+        Ok(shared) => shared,
+        Err((NoMemory, desk)) => {
+            let _store = desk.into_store();
+            return Err(Refusal::NoMemory);
+        }
+    };
+    let served = serve_shared(
+        rt, alloc, &shared, socket, folders, gate, programs, settings, writer,
+    );
+    let _store = shared.into_desk().into_store();
+    served
+}
+
+/// Makes the socket and serves it.
+fn serve_shared<
+    R: Threads + Wait + Clock + Net + Files<File = File> + Sync,
+    F: Folders + Sync,
+    G: Turnstile + Sync,
+    P: Programs + Sync,
+    W: Write,
+>(
+    rt: &R,
+    alloc: Global,
+    shared: &Shared<FileDisk<Unknown>>,
+    socket: &str,
+    folders: &F,
+    gate: &G,
+    programs: &P,
+    settings: Settings,
+    writer: &mut W,
+) -> Result<(), Refusal> {
+    shared.begin(rt, alloc)?;
+    let Ok(listener) = listen(rt, socket) else {
+        return Err(Refusal::DeviceFailed);
+    };
+    let served = serve_on(
+        rt,
+        alloc,
+        shared,
+        &listener,
+        folders,
+        gate,
+        programs,
+        settings.workers,
+        settings.sessions,
+        writer,
+    );
+    let _gone = fs::remove_file(rt, socket);
+    served
+}

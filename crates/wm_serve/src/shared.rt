@@ -1,0 +1,205 @@
+//! What all threads of a server share: the desk, the halls, the chairs and the door.
+use crate::chair::Chair;
+use crate::door::{CHAIRS, Door};
+use crate::hall::{Forgetting, RootHall};
+use crate::house::Worker;
+use std::alloc::Global;
+use std::sync::atomic::{AtomicU64, Ordering};
+use std::sync::{Arc, Condvar, Mutex, Wait};
+use wm_disk::{Disk, NoMemory, Refusal};
+use wm_groupcommit::Desk;
+use wm_names::RootPath;
+use wm_registry::{Registry, Root};
+
+/// The workers that are still to be started.
+#[derive(Drop)]
+pub struct Missing {
+    pub workers: Vec<Worker>,
+    pub is_closing: bool,
+}
+
+/// What all threads share.
+pub struct Shared<D: Disk + Drop> {
+    pub desk: Desk<D>,
+    pub halls: Mutex<Vec<Arc<RootHall>>>,
+    /// Held while the halls follow the registry.
+    following: Mutex<u64>,
+    pub missing: Mutex<Missing>,
+    pub came: Condvar,
+    pub chairs: Vec<Chair>,
+    pub door: Door,
+    /// 1 where the server closes.
+    pub closing: AtomicU64,
+    pub forgetting: Forgetting,
+}
+
+impl<D: Disk + Drop> Shared<D> {
+    pub fn new(
+        alloc: Global,
+        desk: Desk<D>,
+        forgetting: Forgetting,
+    ) -> Result<Shared<D>, (NoMemory, Desk<D>)> {
+        let Ok(chairs) = chairs(alloc) else {
+            return Err((NoMemory, desk));
+        };
+        Ok(Shared {
+            desk,
+            halls: Mutex::new(Vec::new(alloc)),
+            following: Mutex::new(0),
+            missing: Mutex::new(Missing {
+                workers: Vec::new(alloc),
+                is_closing: false,
+            }),
+            came: Condvar::new(),
+            chairs,
+            door: Door::new(alloc),
+            closing: AtomicU64::new(0),
+            forgetting,
+        })
+    }
+
+    /// The desk, once each thread has ended.
+    pub fn into_desk(self) -> Desk<D> {
+        let Shared {
+            desk,
+            halls: _,
+            following: _,
+            missing: _,
+            came: _,
+            chairs: _,
+            door: _,
+            closing: _,
+            forgetting: _,
+        } = self;
+        desk
+    }
+
+    /// The hall of a watched root.
+    pub fn hall<R: Wait>(&self, rt: &R, path: &RootPath) -> Result<Arc<RootHall>, Refusal> {
+        for hall in self.halls.lock(rt).iter() {
+            if hall.path == *path {
+                return Arc::try_clone(hall).map_err(|_| Refusal::NoMemory);
+            }
+        }
+        Err(Refusal::NotWatched)
+    }
+
+    /// The hall of a root by its number.
+    pub fn numbered<R: Wait>(&self, rt: &R, number: u64) -> Option<Arc<RootHall>> {
+        for hall in self.halls.lock(rt).iter() {
+            if hall.number == number {
+                return Arc::try_clone(hall).ok();
+            }
+        }
+        None
+    }
+
+    /// Makes a hall for each root of the registry at the start.
+    pub fn begin<R: Wait>(&self, rt: &R, alloc: Global) -> Result<(), NoMemory> {
+        let registry = self.desk.registry(rt)?;
+        for (path, root) in registry.roots() {
+            self.add(rt, alloc, path, registry.incarnation(), root)?;
+        }
+        Ok(())
+    }
+
+    fn add<R: Wait>(
+        &self,
+        rt: &R,
+        alloc: Global,
+        path: &RootPath,
+        incarnation: u64,
+        root: &Root,
+    ) -> Result<(), NoMemory> {
+        let hall = RootHall::new(alloc, path, incarnation, root.number)?;
+        hall.keep_triggers(rt, alloc, root.triggers.as_slice())?;
+        let Ok(hall) = Arc::new(alloc, hall) else {
+            return Err(NoMemory);
+        };
+        let mut missing = self.missing.lock(rt);
+        missing.workers.try_reserve(2)?;
+        self.halls.lock(rt).push(hall)?;
+        missing.workers.push(Worker::Crawler(root.number))?;
+        missing.workers.push(Worker::Triggers(root.number))?;
+        drop(missing);
+        self.came.notify_all();
+        Ok(())
+    }
+
+    fn remove<R: Wait>(&self, rt: &R, path: &RootPath) {
+        let mut found = None;
+        let mut halls = self.halls.lock(rt);
+        for (i, hall) in halls.iter().enumerate() {
+            if hall.path == *path {
+                found = Some(i);
+            }
+        }
+        if let Some(i) = found
+            && i < halls.len()
+        {
+            let hall = halls.remove(i);
+            drop(halls);
+            hall.work.end(rt);
+            for chair in self.chairs.iter() {
+                chair.end_root(rt, path);
+            }
+        }
+    }
+
+    /// The hall of a path follows the registry, after a command that changed it.
+    pub fn follow<R: Wait>(&self, rt: &R, alloc: Global, path: &RootPath) -> Result<(), NoMemory> {
+        let _following = self.following.lock(rt);
+        let registry = self.desk.registry(rt)?;
+        self.follow_to(rt, alloc, path, &registry)
+    }
+
+    fn follow_to<R: Wait>(
+        &self,
+        rt: &R,
+        alloc: Global,
+        path: &RootPath,
+        registry: &Registry,
+    ) -> Result<(), NoMemory> {
+        let Some(root) = registry.roots().get(path) else {
+            self.remove(rt, path);
+            return Ok(());
+        };
+        if let Ok(hall) = self.hall(rt, path)
+            && hall.number == root.number
+        {
+            hall.keep_triggers(rt, alloc, root.triggers.as_slice())?;
+            hall.work.stir(rt);
+            return Ok(());
+        }
+        self.remove(rt, path);
+        self.add(rt, alloc, path, registry.incarnation(), root)
+    }
+
+    /// The subscriptions may be due.
+    pub fn ring<R: Wait>(&self, rt: &R) {
+        for chair in self.chairs.iter() {
+            chair.ring(rt);
+        }
+    }
+
+    /// Each worker ends, and each thread that tells subscriptions; the flusher ends once the desk is closed.
+    pub fn end_workers<R: Wait>(&self, rt: &R) {
+        self.missing.lock(rt).is_closing = true;
+        self.came.notify_all();
+        for hall in self.halls.lock(rt).iter() {
+            hall.work.end(rt);
+        }
+        for chair in self.chairs.iter() {
+            chair.bell.close(rt);
+        }
+        self.closing.store(1, Ordering::SeqCst);
+    }
+}
+
+fn chairs(alloc: Global) -> Result<Vec<Chair>, NoMemory> {
+    let mut chairs = Vec::new(alloc);
+    for _ in 0..CHAIRS {
+        chairs.push(Chair::new(alloc))?;
+    }
+    Ok(chairs)
+}

@@ -1,0 +1,83 @@
+//! `subscribe` and `unsubscribe` of a session.
+use crate::chair::Chair;
+use crate::hall::RootHall;
+use crate::shared::Shared;
+use std::alloc::Global;
+use std::sync::Wait;
+use wm_clock::{ClockId, ClockSpec};
+use wm_disk::{Disk, Refusal};
+use wm_lines::{Inquiry, reply};
+use wm_names::RootPath;
+use wm_since::Query;
+use wm_subs::{Subscribed, Subscription, SubscriptionName};
+
+/// The clock since which is told first: a cursor's as it stands now, and none where it isn't there.
+fn start<R: Wait>(rt: &R, hall: &RootHall, since: &Option<ClockSpec>) -> Option<ClockId> {
+    match since {
+        Some(ClockSpec::Clock(clock)) => Some(*clock),
+        Some(ClockSpec::Cursor(name)) => hall.cursor(rt, name),
+        Some(ClockSpec::Another) => None,
+        None => None,
+    }
+}
+
+/// Subscribes to a root under a name, in place of a subscription of that root and name, and appends the reply.
+pub fn subscribe<R: Wait, D: Disk + Drop>(
+    rt: &R,
+    alloc: Global,
+    shared: &Shared<D>,
+    chair: &Chair,
+    root: RootPath,
+    name: SubscriptionName,
+    inquiry: Inquiry,
+    out: &mut Vec<u8>,
+) -> Result<(), Refusal> {
+    // Under this lock a root that is still in the table takes the subscription along when it goes.
+    let mut all = chair.subscriptions.lock(rt);
+    let hall = shared.hall(rt, &root)?;
+    let clock = hall.clock(rt)?;
+    let Inquiry {
+        since,
+        expression,
+        fields,
+        empty_on_fresh,
+    } = inquiry;
+    let query = Query {
+        since: start(rt, &hall, &since),
+        test: expression,
+        empty_on_fresh,
+    };
+    if !all.has_room(&root, &name) {
+        return Err(Refusal::TooMany);
+    }
+    let mut told = Vec::new(alloc);
+    reply::put_subscribe(alloc, clock, &name, &mut told)?;
+    out.try_reserve(told.len())?;
+    all.put(Subscribed {
+        root,
+        fields,
+        subscription: Subscription::new(name, query),
+    })?;
+    chair.recount(all.as_slice().len());
+    out.extend_from_slice(&told)?;
+    Ok(())
+}
+
+/// Ends the subscription of a watched root and a name, where there is one, and appends the reply.
+pub fn unsubscribe<R: Wait, D: Disk + Drop>(
+    rt: &R,
+    alloc: Global,
+    shared: &Shared<D>,
+    chair: &Chair,
+    root: &RootPath,
+    name: &SubscriptionName,
+    out: &mut Vec<u8>,
+) -> Result<(), Refusal> {
+    let _hall = shared.hall(rt, root)?;
+    let mut all = chair.subscriptions.lock(rt);
+    let is_there = all.holds(root, name);
+    reply::put_unsubscribe(alloc, is_there, name, out)?;
+    all.remove(root, name);
+    chair.recount(all.as_slice().len());
+    Ok(())
+}

@@ -1,0 +1,68 @@
+//! Tells the subscriptions of a session.
+use crate::chair::Chair;
+use crate::shared::Shared;
+use std::alloc::Global;
+use std::io::Write;
+use std::net::Shutdown;
+use std::sync::Wait;
+use wm_clock::ClockId;
+use wm_disk::{Disk, Refusal};
+use wm_lines::{Expression, reply};
+use wm_subs::Subscribed;
+
+/// Appends a subscription's line where it is due, and gives its clock.
+fn tell_one<R: Wait, D: Disk + Drop>(
+    rt: &R,
+    alloc: Global,
+    shared: &Shared<D>,
+    subscribed: &Subscribed<Expression>,
+    out: &mut Vec<u8>,
+) -> Result<Option<ClockId>, Refusal> {
+    let hall = shared.hall(rt, &subscribed.root)?;
+    let Some(answer) = hall.due(rt, alloc, &subscribed.subscription)? else {
+        return Ok(None);
+    };
+    reply::put_due(alloc, subscribed, &answer, out)?;
+    Ok(Some(answer.clock))
+}
+
+/// Appends the lines that are due, in the order of subscribing. One that is refused is tried again with the next change.
+fn tell_all<R: Wait, D: Disk + Drop>(
+    rt: &R,
+    alloc: Global,
+    shared: &Shared<D>,
+    chair: &Chair,
+    out: &mut Vec<u8>,
+) {
+    let mut all = chair.subscriptions.lock(rt);
+    let all = &mut *all;
+    for place in 0..all.as_slice().len() {
+        if place >= all.as_slice().len() {
+            return;
+        }
+        let told = tell_one(rt, alloc, shared, &all.as_slice()[place], out);
+        if let Ok(Some(clock)) = told
+            && place < all.as_slice().len()
+        {
+            all.told(place, clock);
+        }
+    }
+}
+
+/// Tells the subscriptions of the sessions on a chair, until the server closes.
+pub fn tell_for<R: Wait, D: Disk + Drop>(rt: &R, alloc: Global, shared: &Shared<D>, chair: &Chair) {
+    for _ in rt.forever() {
+        if !chair.bell.wait(rt) {
+            return;
+        }
+        let mut page = chair.page.lock(rt);
+        let Some(stream) = chair.stream(rt) else {
+            continue;
+        };
+        page.clear();
+        tell_all(rt, alloc, shared, chair, &mut page);
+        if !page.is_empty() && (&*stream).write_all(&page).is_err() {
+            let _ = stream.shutdown(Shutdown::Both);
+        }
+    }
+}

@@ -1,0 +1,111 @@
+//! Runs the triggers of a root.
+use crate::hall::RootHall;
+use crate::system::Programs;
+use std::alloc::Global;
+use std::sync::Wait;
+use wm_disk::Refusal;
+use wm_registry::{Stdin, Trigger};
+use wm_triggers::TriggerRun;
+
+/// A trigger and its runs.
+#[derive(Drop)]
+struct Kept {
+    trigger: Trigger,
+    runs: TriggerRun,
+}
+
+fn same_stdin(one: Stdin, other: Stdin) -> bool {
+    matches!(
+        (one, other),
+        (Stdin::NamePerLine, Stdin::NamePerLine) | (Stdin::DevNull, Stdin::DevNull)
+    )
+}
+
+fn same_words(one: &Trigger, other: &Trigger) -> bool {
+    let words = one.command();
+    let others = other.command();
+    words.len() == others.len()
+        && words
+            .iter()
+            .zip(others.iter())
+            .all(|(word, other)| word.as_str() == other.as_str())
+}
+
+fn is_same(one: &Trigger, other: &Trigger) -> bool {
+    one.name() == other.name()
+        && one.expression() == other.expression()
+        && one.append_files() == other.append_files()
+        && same_stdin(one.stdin(), other.stdin())
+        && same_words(one, other)
+}
+
+/// The runs of a trigger: those that were kept, or none yet.
+fn runs_of(alloc: Global, trigger: &Trigger, kept: &mut Vec<Kept>) -> Result<Kept, Refusal> {
+    let mut place = None;
+    for (i, old) in kept.iter().enumerate() {
+        if is_same(&old.trigger, trigger) {
+            place = Some(i);
+        }
+    }
+    match place {
+        Some(i) if i < kept.len() => Ok(kept.swap_remove(i)),
+        _ => Ok(Kept {
+            trigger: trigger.copy()?,
+            runs: TriggerRun::new(alloc, trigger)?,
+        }),
+    }
+}
+
+/// Runs a trigger if it is due.
+fn run_one<R: Wait, P: Programs>(
+    rt: &R,
+    alloc: Global,
+    hall: &RootHall,
+    programs: &P,
+    kept: &mut Kept,
+) -> Result<(), Refusal> {
+    let query = kept.runs.ask(alloc)?;
+    let Some(answer) = hall.ask(rt, alloc, &query)? else {
+        return Ok(());
+    };
+    let Some(run) = kept.runs.run_of(answer) else {
+        return Ok(());
+    };
+    match programs.run(alloc, &hall.path, &kept.trigger, &run) {
+        Ok(()) => kept.runs.started(&run),
+        Err(_) => kept.runs.failed_to_start(),
+    }
+    Ok(())
+}
+
+/// Runs the triggers once, those that are due. Whose runs find no memory begins anew with the next change.
+fn run_all<R: Wait, P: Programs>(
+    rt: &R,
+    alloc: Global,
+    hall: &RootHall,
+    programs: &P,
+    kept: &mut Vec<Kept>,
+) -> Result<Vec<Kept>, Refusal> {
+    let mut now = Vec::new(alloc);
+    for trigger in hall.triggers(rt, alloc)? {
+        let mut one = runs_of(alloc, &trigger, kept)?;
+        let _run = run_one(rt, alloc, hall, programs, &mut one);
+        now.push(one)?;
+    }
+    Ok(now)
+}
+
+/// The worker that runs the triggers of a root.
+pub fn trigger_for<R: Wait, P: Programs>(rt: &R, alloc: Global, hall: &RootHall, programs: &P) {
+    let mut seen = 0;
+    let mut kept = Vec::new(alloc);
+    for _ in rt.forever() {
+        let Some(changes) = hall.work.next_change(rt, seen) else {
+            return;
+        };
+        seen = changes;
+        if let Ok(now) = run_all(rt, alloc, hall, programs, &mut kept) {
+            kept = now;
+        }
+    }
+}
