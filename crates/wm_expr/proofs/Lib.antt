@@ -2,6 +2,8 @@ pub mod Alone
 pub mod Cuts
 pub mod DeepRuns
 pub mod Each
+pub mod Flat
+pub mod Left
 pub mod Lists
 pub mod Runs
 pub mod Suffixes

@@ -1,6 +1,6 @@
 -- Reading terms of a bounded depth, part by part.
-use Rattle.std.proofs.Common.{◌≡◌, ℕ, ◌+◌, ◌<◌, ◌≤◌, Bool, true, false, cond, max, length, get_or, List, [], ◌∷◌, refl, sym, ap, ◌∙◌, arith}
-use Rattle.std.specs.Prelude.{◌&&◌, nat_le, Option, Some, None, option_map, option_and_then}
+use Rattle.std.proofs.Common.{◌≡◌, ℕ, ◌+◌, ◌<◌, ◌≤◌, Bool, true, false, cond, max, length, get_or, List, [], ◌∷◌, refl, sym, ap, ◌∙◌, true≢false, arith}
+use Rattle.std.specs.Prelude.{◌&&◌, nat_le, Option, Some, None, is_some, option_map, option_and_then}
 use Rattle.std.proofs.Math.Dec.{leb-zero}
 use Rattle.std.proofs.lemmas.Bool.{leb-true, le-leb, lt-leb}
 use Rattle.serde_json.specs.Data.{Data, Items, no_items, item}
@@ -10,25 +10,22 @@ use Rattle.wm_expr.specs.Limits.{count, deepest, depth, keeps_limits, max_depth,
 use Rattle.wm_expr.specs.Readings.{each, joined, kept, not_term, term_of, terms_of}
 use Rattle.wm_expr.specs.Terms.{Term, Always, Never, Not, AllOf, AnyOf, Name, Suffix, OfType, Exists, Empty, Size, Match, Terms, no_more, more}
 use Rattle.wm_expr.specs.Views.{as_terms}
-use Rattle.wm_expr.specs.Within.{not_within, read_within, within}
+use Rattle.wm_expr.specs.Within.{all_within, not_within, read_within, within}
 use Rattle.wm_expr.proofs.Runs.{and_left, and_right, both_ways}
 
 -- ---- tests on depths
 
-both_le : (a b l : ℕ) → nat_le (max a b) l ≡ (nat_le a l && nat_le b l)
+pub both_le : (a b l : ℕ) → nat_le (max a b) l ≡ (nat_le a l && nat_le b l)
 both_le a b l =
     both_ways (nat_le (max a b) l) (nat_le a l && nat_le b l)
     (λ h. (let le = leb-true (max a b) l h in rw (le-leb a l (omega arith), le-leb b l (omega arith)) refl))
     (λ h. (let p = leb-true a l (and_left (nat_le a l) (nat_le b l) h) in let q = leb-true b l (and_right (nat_le a l) (nat_le b l) h) in le-leb (max a b) l (omega arith)))
 
-one_more : (a l : ℕ) → nat_le (a + 1) (l + 1) ≡ nat_le a l
+pub one_more : (a l : ℕ) → nat_le (a + 1) (l + 1) ≡ nat_le a l
 one_more a l =
     both_ways (nat_le (a + 1) (l + 1)) (nat_le a l) (λ h. (let le = leb-true (a + 1) (l + 1) h in le-leb a l (omega arith))) (λ h. (let le = leb-true a l h in le-leb (a + 1) (l + 1) (omega arith)))
 
 -- ---- lists of terms
-
-abbrev all_within : ℕ → Option Terms → Option Terms
-all_within levels o = kept (λ xs. nat_le (deepest xs) levels) o
 
 -- one more part, with v and w for the tests on its depth and on that of the others
 put_first : (x : Term) (xs : Terms) (v w : Bool) (es : Option (List Term)) → cond w (Some xs) None ≡ option_map as_terms es
@@ -58,7 +55,7 @@ parts_within levels (item d ds) = joined_within levels (term_of d) (terms_of ds)
 
 -- a term round parts is one deeper than the deepest
 module _ (f : Terms → Term) (deeper : (xs : Terms) → depth (f xs) ≡ deepest xs + 1) where
-  round : (levels : ℕ) (p : Option Terms) → within (levels + 1) (option_map f p) ≡ option_map f (all_within levels p)
+  pub round : (levels : ℕ) (p : Option Terms) → within (levels + 1) (option_map f p) ≡ option_map f (all_within levels p)
   round levels None = refl
   round levels (Some xs) =
       ap (λ (b : Bool). cond b (Some (f xs)) None) (ap (λ (n : ℕ). nat_le n (levels + 1)) (deeper xs) ∙ one_more (deepest xs) levels)
@@ -139,10 +136,14 @@ too_deep None h = refl
 too_deep (Some x) h =
     elim (nat_le (depth x) max_depth) as (λ v. cond v (Some x) None ≡ None → cond (v && nat_le (count x) max_terms) (Some x) None ≡ None) [ true ↦ λ e. cc | false ↦ λ e. refl ] h
 
-pub in_limits : (o : Option Term) (x : Term) → within max_depth o ≡ Some x → nat_le (count x) max_terms ≡ true → kept keeps_limits o ≡ Some x
-in_limits None x h few = cc
-in_limits (Some y) x h few =
-    elim (nat_le (depth y) max_depth) as (λ v. cond v (Some y) None ≡ Some x → cond (v && nat_le (count y) max_terms) (Some y) None ≡ Some x) [
-      | true ↦ λ e. (let same : y ≡ x = cc in ap (λ (z : Term). cond (nat_le (count z) max_terms) (Some z) None) same ∙ ap (λ (b : Bool). cond b (Some x) None) few)
-      | false ↦ λ e. cc
-    ] h
+pub is_none : {X : Type 0} (o : Option X) → is_some o ≡ false → o ≡ None
+is_none None h = refl
+is_none (Some x) h = absurd (true≢false h)
+
+pub in_limits : (o : Option Term) (x : Term) → within max_depth o ≡ Some x → is_some (kept keeps_limits o) ≡ true → kept keeps_limits o ≡ Some x
+in_limits None x h is = cc
+in_limits (Some y) x h is =
+    elim (nat_le (depth y) max_depth) as (λ v. cond v (Some y) None ≡ Some x → is_some (cond (v && nat_le (count y) max_terms) (Some y) None) ≡ true → cond (v && nat_le (count y) max_terms) (Some y) None ≡ Some x) [
+      | true ↦ elim (nat_le (count y) max_terms) as (λ w. Some y ≡ Some x → is_some (cond w (Some y) None) ≡ true → cond w (Some y) None ≡ Some x) [ true ↦ λ e _. e | false ↦ λ e no. absurd (true≢false (sym no)) ]
+      | false ↦ λ e no. cc
+    ] h is

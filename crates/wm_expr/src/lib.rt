@@ -9,6 +9,7 @@
 mod component;
 mod copying;
 mod expr;
+mod judging;
 mod laws;
 mod limits;
 mod meaning;

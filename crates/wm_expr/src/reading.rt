@@ -1,14 +1,15 @@
 //! Reads an expression from JSON, down to 32 levels and no further.
 //! Definitions: specs/Readings.antt, specs/Within.antt.
 //! Tests: view_tests/src/expressions/readings.rt.
-ghost use Rattle.std.specs.Prelude.{◌≡◌, ◌≢◌, Some, None, IfOk, IfErr, map};
+ghost use Rattle.std.specs.Prelude.{◌≡◌, ◌≢◌, Some, None, true, IfOk, IfErr, IsErrOf, is_some, map};
 ghost use Rattle.serde_json.specs.View.{items_view, view};
 ghost use Rattle.wm_expr.specs.Readings.{each, expression_of};
 ghost use Rattle.wm_expr.specs.Views.{term};
 ghost use Rattle.wm_expr.specs.Within.{list_within, not_within, read_within, word_within};
 
 use crate::expr::Expr;
-use crate::limits::{MAX_DEPTH, has_few_terms};
+use crate::judging::is_expression;
+use crate::limits::MAX_DEPTH;
 use crate::simple::{plain_term, simple_term};
 use serde_json::Value;
 use std::alloc::Global;
@@ -89,15 +90,16 @@ fn read_term(alloc: Global, value: &Value, levels: u8) -> Result<Expr, Refusal>
 impl Expr {
     /// The expression that the JSON value is. `BadExpression` where it is none, where its terms stand
     /// more than 32 deep in one another, or where there are more than 1,024 of them; `NoMemory` where
-    /// the expression finds no room. The value isn't looked at below the depth of 32 terms.
+    /// the expression finds no room. The value isn't looked at below the depth of 32 terms, and memory is
+    /// taken only where it is an expression.
     pub fn read(alloc: Global, value: &Value) -> Result<Expr, Refusal>
         ensures ok { IfOk result (λ e. expression_of (view value.now) ≡ Some (term e)) }
         ensures refused { IfErr result (λ e. e ≢ Refusal.NoMemory → (e ≡ Refusal.BadExpression) × (expression_of (view value.now) ≡ None)) }
+        ensures memory { IsErrOf result Refusal.NoMemory → is_some (expression_of (view value.now)) ≡ true }
     {
-        let expr = read_term(alloc, value, MAX_DEPTH)?;
-        if !has_few_terms(&expr) {
+        if !is_expression(value) {
             return Err(Refusal::BadExpression);
         }
-        Ok(expr)
+        read_term(alloc, value, MAX_DEPTH)
     }
 }

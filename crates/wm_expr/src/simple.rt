@@ -1,6 +1,6 @@
-//! Reads the terms that hold no other term, such as `name`, `size` and `match`.
+//! Reads and judges the terms that hold no other term, such as `name`, `size` and `match`.
 //! Definitions: specs/Readings.antt. Tests: view_tests/src/expressions/readings.rt.
-ghost use Rattle.std.specs.Prelude.{◌≡◌, ◌≢◌, Some, None, IfOk, IfErr, map, string_bytes, option_and_then, option_map};
+ghost use Rattle.std.specs.Prelude.{◌≡◌, ◌≢◌, Some, None, IfOk, IfErr, is_some, map, string_bytes, option_and_then, option_map};
 ghost use Rattle.serde_json.specs.Find.{as_str};
 ghost use Rattle.serde_json.specs.View.{items_view, view};
 ghost use Rattle.wm_names.specs.Entries.{kind_of};
@@ -11,7 +11,7 @@ ghost use Rattle.wm_expr.specs.Views.{term};
 
 use crate::expr::{Comparison, Expr, Scope};
 use crate::pattern::is_pattern;
-use crate::texts::{owned, texts_of};
+use crate::texts::{are_texts, owned, texts_of};
 use crate::words::{comparison_named, plain, scope_named};
 use serde_json::Value;
 use std::alloc::Global;
@@ -185,5 +185,75 @@ pub(crate) fn simple_term(alloc: Global, word: &str, parts: &[Value]) -> Result<
         "size" => size_term(first, rest),
         "match" => match_term(alloc, first, rest),
         _ => Err(Refusal::BadExpression),
+    }
+}
+
+/// Whether a text or an array names texts.
+fn are_names(value: &Value) -> bool
+    ensures { result ≡ is_some (one_or_many (view value.now)) }
+{
+    match value {
+        Value::String(_) => true,
+        Value::Array(items) => are_texts(items),
+        _ => false,
+    }
+}
+
+/// Whether these follow `name` in a term.
+fn is_name_term(first: &Value, rest: &[Value]) -> bool
+    ensures { result ≡ is_some (name_term_lem (view first.now) (items_view rest.now)) }
+{
+    are_names(first) && scope(rest).is_some()
+}
+
+/// Whether these follow `suffix` in a term.
+fn is_suffix_term(first: &Value, rest: &[Value]) -> bool
+    ensures { result ≡ is_some (suffix_term_lem (view first.now) (items_view rest.now)) }
+{
+    rest.is_empty() && are_names(first)
+}
+
+/// Whether these follow `type` in a term.
+fn is_type_term(first: &Value, rest: &[Value]) -> bool
+    ensures { result ≡ is_some (type_term_lem (view first.now) (items_view rest.now)) }
+{
+    rest.is_empty() && kind(first).is_some()
+}
+
+/// Whether these follow `size` in a term.
+fn is_size_term(first: &Value, rest: &[Value]) -> bool
+    ensures { result ≡ is_some (size_term_lem (view first.now) (items_view rest.now)) }
+{
+    comparison(first).is_some() && size_alone(rest).is_some()
+}
+
+/// Whether these follow `match` in a term.
+fn is_match_term(first: &Value, rest: &[Value]) -> bool
+    ensures { result ≡ is_some (match_term_lem (view first.now) (items_view rest.now)) }
+{
+    pattern(first).is_some() && scope(rest).is_some()
+}
+
+/// Whether a word alone is a term.
+pub(crate) fn is_plain_term(word: &str) -> bool
+    ensures { result ≡ is_some (plain_of word.now) }
+{
+    plain(word).is_some()
+}
+
+/// Whether a word with what follows it is a term that holds no other.
+pub(crate) fn is_simple_term(word: &str, parts: &[Value]) -> bool
+    ensures { result ≡ is_some (simple_term_lem word.now (items_view parts.now)) }
+{
+    let [first, rest @ ..] = parts else {
+        return is_plain_term(word);
+    };
+    match word {
+        "name" => is_name_term(first, rest),
+        "suffix" => is_suffix_term(first, rest),
+        "type" => is_type_term(first, rest),
+        "size" => is_size_term(first, rest),
+        "match" => is_match_term(first, rest),
+        _ => false,
     }
 }

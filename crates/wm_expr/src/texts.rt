@@ -1,6 +1,6 @@
 //! The texts of a JSON array, and copies of texts.
 //! Definitions: specs/Readings.antt. Tests: view_tests/src/expressions/readings.rt.
-ghost use Rattle.std.specs.Prelude.{◌≡◌, ◌≢◌, Some, None, IfOk, IfErr, map, string_bytes};
+ghost use Rattle.std.specs.Prelude.{◌≡◌, ◌≢◌, Some, None, IfOk, IfErr, is_some, map, string_bytes};
 ghost use Rattle.serde_json.specs.Find.{as_str};
 ghost use Rattle.serde_json.specs.View.{items_view};
 ghost use Rattle.wm_expr.specs.Readings.{each};
@@ -22,6 +22,18 @@ pub fn texts_of(alloc: Global, items: &[Value], refusal: Refusal) -> Result<Vec<
         texts.push(text)?;
     }
     Ok(texts)
+}
+
+/// Whether each item is a text.
+pub(crate) fn are_texts(items: &[Value]) -> bool
+    ensures { result ≡ is_some (each as_str (items_view items.now)) }
+{
+    for item in items {
+        if !item.is_string() {
+            return false;
+        }
+    }
+    true
 }
 
 /// Copies of the texts.
