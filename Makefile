@@ -8,9 +8,15 @@ CLIENT := crates/wmctl/out/wmctl
 BENCH := crates/bench/out/bench
 SHARE_BENCH := crates/share_bench/out/share_bench
 FILES ?= 100000
+# The version, where the programs have it.
+VERSION := $(shell sed -n 's/^pub const VERSION: &str = "\(.*\)";$$/\1/p' crates/wm_lines/src/reply.rt)
+ARCHIVE := watchmand-$(VERSION)-linux-$(shell uname -m)
+# Where the installed unit finds the program.
+UNIT_PREFIX ?= $(PREFIX)
+PAGES := GUIDE.md QUERIES.md FORMATS.md PROMISES.md
 SOURCES := crates.txt $(shell find crates -name out -prune -o -type f \( -name '*.rt' -o -name '*.antt' \) -print)
 
-.PHONY: help clean uninstall test lint build run lines serve-use install bench bench-journal bench-store bench-desk idle-desk bench-crawl bench-view bench-share bench-match bench-peer clients crawl-tree session examples kill faults state-file file-calls
+.PHONY: help clean uninstall test lint build run lines serve-use install bench bench-journal bench-store bench-desk idle-desk bench-crawl bench-view bench-share bench-match bench-peer bench-plots clients crawl-tree session examples examples-use dist dist-use kill faults state-file file-calls
 
 help:
 	@echo "make test          the whole gate: each proof from nothing, edits that must be refused, tests, programs (rt; two hours on two cores)"
@@ -19,16 +25,21 @@ help:
 	@echo "make run           serves SOCKET=$(SOCKET) over STATE=$(STATE), which it makes where it isn't there, and tells what to try next"
 	@echo "                   (it and all below build watchmand, wmctl or bench first: rt alone, no network)"
 	@echo "make lines         answers request lines from standard input over STATE=$(STATE)"
-	@echo "make install       puts watchmand and wmctl into PREFIX/bin (PREFIX=$(PREFIX)); make uninstall takes them away"
-	@echo "make session       a first session by the built program; make examples: those of README.md and docs/QUERIES.md"
+	@echo "make install       puts watchmand and wmctl into PREFIX/bin (PREFIX=$(PREFIX)), with man pages, completion, a systemd user unit and"
+	@echo "                   docs (UNIT_PREFIX: where the unit is to find the program, if not in PREFIX); make uninstall takes them away"
+	@echo "make dist          makes dist/$(ARCHIVE).tar.gz and its .sha256 (tar, gzip, strip); make dist-use tries the archive"
+	@echo "make session       a first session by the built program; make examples: those of README.md and docs/QUERIES.md;"
+	@echo "                   make examples-use: the programs of examples/ and docs/GUIDE.md; docs/QUERIES.md and limits over a socket (cc,"
+	@echo "                   python3)"
 	@echo "make state-file    a file with two owners, a format that fails, a killed one; make file-calls: its calls (strace)"
 	@echo "make serve-use     rough use of a server by the built program (python3; setpriv, if root); make clients: Watchman's own clients talk"
-	@echo "                   to it; make bench-peer: it beside Watchman 4.9.0 (both python3; apt-get, where Watchman isn't installed; cc)"
+	@echo "                   to it; make bench-peer: it beside Watchman 4.9.0 (both python3; apt-get, where Watchman isn't installed; cc);"
+	@echo "                   make bench-plots: the same, and the plots of bench/README.md"
 	@echo "make kill          kills the built program again and again, and looks for what it answered (python3); make faults: each call"
 	@echo "                   that it makes of its state file fails once (python3, strace)"
 	@echo "make bench         a million lines beside Python's json (python3, GNU time)"
-	@echo "make bench-journal, bench-store, bench-desk, bench-view, bench-share, bench-match   times by the program bench (rt; bench-store also sqlite3, if installed;"
-	@echo "                   bench-desk python3)"
+	@echo "make bench-journal, bench-store, bench-desk, bench-view, bench-share, bench-match   times by the programs bench and share_bench (rt; bench-store also sqlite3,"
+	@echo "                   if installed; bench-desk python3)"
 	@echo "make idle-desk     that a desk with nothing to do takes no processor (cc)"
 	@echo "make bench-crawl   crawls of 20,000 and 100,000 entries beside find (find, python3); make crawl-tree: rough trees, and whether a crawl"
 	@echo "                   finds what was made there (python3; setpriv, if root)"
@@ -71,12 +82,32 @@ serve-use: $(PROGRAM)
 	tools/rough_use.py $(PROGRAM)
 
 install: $(PROGRAM) $(CLIENT)
-	install -d $(DESTDIR)$(PREFIX)/bin
+	install -d $(DESTDIR)$(PREFIX)/bin $(DESTDIR)$(PREFIX)/share/man/man1 $(DESTDIR)$(PREFIX)/share/bash-completion/completions
+	install -d $(DESTDIR)$(PREFIX)/lib/systemd/user $(DESTDIR)$(PREFIX)/share/doc/watchmand/docs
 	install -m 755 $(PROGRAM) $(DESTDIR)$(PREFIX)/bin/watchmand
 	install -m 755 $(CLIENT) $(DESTDIR)$(PREFIX)/bin/wmctl
+	install -m 644 man/watchmand.1 man/wmctl.1 $(DESTDIR)$(PREFIX)/share/man/man1
+	install -m 644 completion/watchmand.bash $(DESTDIR)$(PREFIX)/share/bash-completion/completions/watchmand
+	ln -sf watchmand $(DESTDIR)$(PREFIX)/share/bash-completion/completions/wmctl
+	sed 's|@PREFIX@|$(UNIT_PREFIX)|' systemd/watchmand.service > $(DESTDIR)$(PREFIX)/lib/systemd/user/watchmand.service
+	chmod 644 $(DESTDIR)$(PREFIX)/lib/systemd/user/watchmand.service
+	install -m 644 LICENSE README.md CHANGELOG.md $(DESTDIR)$(PREFIX)/share/doc/watchmand
+	install -m 644 $(addprefix docs/,$(PAGES)) $(DESTDIR)$(PREFIX)/share/doc/watchmand/docs
 
 uninstall:
 	rm -f $(DESTDIR)$(PREFIX)/bin/watchmand $(DESTDIR)$(PREFIX)/bin/wmctl
+	rm -f $(DESTDIR)$(PREFIX)/share/man/man1/watchmand.1 $(DESTDIR)$(PREFIX)/share/man/man1/wmctl.1
+	rm -f $(addprefix $(DESTDIR)$(PREFIX)/share/bash-completion/completions/,watchmand wmctl)
+	rm -f $(DESTDIR)$(PREFIX)/lib/systemd/user/watchmand.service
+	rm -rf $(DESTDIR)$(PREFIX)/share/doc/watchmand
+
+# An archive of what `install` puts into a prefix, with stripped programs, for a machine with the GNU C library alone.
+dist: $(PROGRAM) $(CLIENT)
+	tools/dist.sh $(PROGRAM) $(CLIENT) $(VERSION) dist/$(ARCHIVE)
+
+# The archive as a user has it, without the kit.
+dist-use: dist
+	tools/dist_use.sh dist/$(ARCHIVE).tar.gz
 
 clean:
 	rm -rf $(wildcard crates/*/out)
@@ -88,6 +119,13 @@ session: $(PROGRAM)
 # The requests of the page for users, by the built program.
 examples: $(PROGRAM)
 	tools/examples.sh $(PROGRAM)
+
+# The programs of examples/ at a server that is killed in their midst; the guide's lines; the page for users, and the limits, over a socket.
+examples-use: $(PROGRAM) $(CLIENT)
+	examples/run.sh $(PROGRAM) $(CLIENT)
+	tools/guide.sh $(PROGRAM) $(CLIENT)
+	tools/page_over_socket.py $(PROGRAM)
+	tools/limits_over_socket.py $(PROGRAM)
 
 # Each read, write and sync of the state file fails once in a session of the built program, and writing is cut short.
 faults: $(PROGRAM)
@@ -149,6 +187,11 @@ bench-share: $(SHARE_BENCH)
 # A server beside Watchman 4.9.0, which is installed from Debian's packages where it isn't there.
 bench-peer: $(PROGRAM)
 	bench/peer.sh $(PROGRAM)
+
+# The same, and the two plots of bench/README.md from that run's own numbers.
+bench-plots: $(PROGRAM)
+	bench/peer.sh $(PROGRAM) --json bench/peer.json
+	bench/plots.py bench/peer.json bench
 
 # Watchman's own clients, `watchman` and pywatchman, talk to a server.
 clients: $(PROGRAM)

@@ -1,11 +1,13 @@
 #!/usr/bin/env python3
-"""watchmand beside Watchman, in one run: peer.py WATCHMAND ASK [--sizes 1000,20000,100000] [--seconds 1]
+"""watchmand beside Watchman, in one run: peer.py WATCHMAND ASK [--sizes 1000,20000,100000] [--seconds 1] [--json FILE]
 
 Both are asked in JSON over their sockets by the same clients: a second's answers by the program of ask.c, all else from here. Each
-figure is printed as ours, theirs and the ratio ours / theirs. bench/peer.sh installs Watchman, builds ask.c and runs this."""
+figure is printed as ours, theirs and the ratio ours / theirs. With --json all of it stands in FILE too, with the machine, the date and its load:
+bench/plots.py draws from that. bench/peer.sh installs Watchman, builds ask.c and runs this."""
 import argparse
 import json
 import os
+import platform
 import shutil
 import socket
 import statistics
@@ -162,6 +164,24 @@ def measure(server, ask, root, size, seconds, rows):
     note("processor ticks idle for 3 s", ticks(server.process) - before)
 
 
+def machine(chosen):
+    """Where and when a run is made, and what runs beside it."""
+    with open("/proc/cpuinfo") as text:
+        model = next((line.split(":")[1].strip() for line in text if line.startswith("model name")), "unknown")
+    told = subprocess.run([chosen.peer, "--version"], capture_output=True, text=True).stdout.strip() if chosen.peer not in (None, "none") else "none"
+    return {"date": time.strftime("%Y-%m-%d %H:%M"), "machine": f"{os.cpu_count()} processors, {model}, {platform.system()} {platform.release()}",
+            "load before": round(os.getloadavg()[0], 2), "watchman": told}
+
+
+def show(rows):
+    """Prints the figures of a size."""
+    told = lambda value: "-" if value is None else f"{value:,.3f}" if value < 10 else f"{value:,.0f}"
+    for what, found in rows.items():
+        ours, theirs = found.get("watchmand"), found.get("watchman")
+        ratio = f"{ours / theirs:.2f}" if ours is not None and theirs else "-"
+        print(f"  {what:40} {told(ours):>12} {told(theirs):>12} {ratio:>6}")
+
+
 def main():
     words = argparse.ArgumentParser()
     words.add_argument("program")
@@ -169,7 +189,9 @@ def main():
     words.add_argument("--sizes", default="1000,20000,100000")
     words.add_argument("--seconds", type=float, default=1.0)
     words.add_argument("--peer", default=shutil.which("watchman"))
+    words.add_argument("--json")
     chosen = words.parse_args()
+    run = {**machine(chosen), "sizes": {}}
     for size in map(int, chosen.sizes.split(",")):
         rows = {}
         with tempfile.TemporaryDirectory(prefix="peer-", dir=os.environ.get("PEER_FOLDER")) as folder:
@@ -185,11 +207,13 @@ def main():
                     server.process.kill()
                     server.process.wait()
         print(f"{size} files")
-        for what, found in rows.items():
-            ours, theirs = found.get("watchmand"), found.get("watchman")
-            show = lambda value: "-" if value is None else f"{value:,.3f}" if value < 10 else f"{value:,.0f}"
-            ratio = f"{ours / theirs:.2f}" if ours is not None and theirs else "-"
-            print(f"  {what:40} {show(ours):>12} {show(theirs):>12} {ratio:>6}")
+        show(rows)
+        run["sizes"][size] = rows
+    run["load after"] = round(os.getloadavg()[0], 2)
+    if chosen.json:
+        with open(chosen.json, "w") as it:
+            json.dump(run, it, indent=1)
+            it.write("\n")
     return 0
 
 

@@ -116,6 +116,17 @@ def names(client, root, **asked):
     return until(look)
 
 
+@contextlib.contextmanager
+def watched(**files):
+    """A server whose one root, a tree with these files, was crawled; the root, and two clients, the first of which watched it."""
+    with server() as s:
+        top = tree(s.folder + "/T", **files)
+        a, b = s.client(), s.client()
+        a.ask(["watch", top])
+        names(a, top)
+        yield s, top, a, b
+
+
 def sessions_and_rows():
     with server() as s:
         a, b = s.client(), s.client()
@@ -141,11 +152,7 @@ def sessions_and_rows():
 
 
 def subscribers():
-    with server() as s:
-        a, b = s.client(), s.client()
-        top = tree(s.folder + "/T")
-        a.ask(["watch", top])
-        names(a, top)
+    with watched() as (s, top, a, b):
         told = a.tell(["subscribe", top, "s", {"fields": ["name"]}])
         check("a subscription is answered", told["subscribe"] == "s", told)
         told = json.loads(a.line())
@@ -194,11 +201,7 @@ def lines_that_are_wrong():
 
 
 def clients_that_do_not_read():
-    with server() as s:
-        top = tree(s.folder + "/T", **{f"file{n}": "" for n in range(2000)})
-        b = s.client()
-        b.ask(["watch", top])
-        names(b, top)
+    with watched(**{f"file{n}": "" for n in range(2000)}) as (s, top, _, b):
         gone = s.client()
         gone.send(["query", top, {}])
         gone.socket.recv(10)
@@ -260,11 +263,7 @@ def roots_that_are_odd():
 
 
 def triggers_that_are_odd():
-    with server() as s:
-        a, b = s.client(), s.client()
-        top = tree(s.folder + "/T")
-        a.ask(["watch", top])
-        names(a, top)
+    with watched() as (s, top, a, b):
         a.ask(["trigger", top, {"name": "none", "command": ["/no/such/program"]}])
         a.ask(["trigger", top, {"name": "slow", "command": ["sleep", "2"]}])
         time.sleep(0.3)
@@ -379,11 +378,7 @@ def kills():
 
 
 def crawls_under_load():
-    with server() as s:
-        top = tree(s.folder + "/T", **{f"file{n}": "" for n in range(100)})
-        a = s.client()
-        a.ask(["watch", top])
-        names(a, top)
+    with watched(**{f"file{n}": "" for n in range(100)}) as (s, top, a, _):
         told = []
 
         def ask():

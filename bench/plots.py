@@ -1,0 +1,107 @@
+#!/usr/bin/env python3
+"""Draws the plots of bench/README.md from the numbers of one run: bench/plots.py RUN.json FOLDER
+
+RUN.json is what bench/peer.py --json wrote. It makes FOLDER/since_by_clients.svg, answers a second by clients at the middle size, and
+FOLDER/cost_by_files.svg, the cost of a question by files, on a logarithmic scale. Under each stands where and when the run was made."""
+import json
+import math
+import sys
+from xml.sax.saxutils import escape
+
+WIDTH, HEIGHT, LEFT, TOP, RIGHT, BOTTOM = 780, 440, 90, 50, 40, 130
+COLOURS = {"watchmand": "#0b6e99", "watchman": "#b85c00"}
+ROWS = {"watch to first answer, ms": "from watch to the first answer", "all files, median ms": "an answer with all files",
+        "since, 1,000 changed, median ms": "since, 1,000 files changed", "since, nothing changed, median ms": "since, nothing changed"}
+
+
+class Plot:
+    """A picture whose values run from the bottom to the top by `height`, a number's share of the way."""
+
+    def __init__(self, title, run, height):
+        self.parts, self.height, self.title = [], height, title
+        self.text(LEFT, 28, title, 16)
+        busy = "other programs ran beside it: " if max(run["load before"], run["load after"]) > 1.5 else ""
+        self.text(LEFT, HEIGHT - 40, f"{run['date']}, {run['machine']}", 11)
+        self.text(LEFT, HEIGHT - 26, f"{busy}load {run['load before']} before the run and {run['load after']} after it", 11)
+        self.text(LEFT, HEIGHT - 12, f"Watchman {run['watchman']}; made by bench/peer.sh --json and bench/plots.py", 11)
+
+    def text(self, x, y, told, size=12, anchor="start", colour="#222"):
+        self.parts.append(f'<text x="{x:.1f}" y="{y:.1f}" font-size="{size}" text-anchor="{anchor}" fill="{colour}">{escape(told)}</text>')
+
+    def y(self, value):
+        return HEIGHT - BOTTOM - (HEIGHT - BOTTOM - TOP) * self.height(value)
+
+    def level(self, value, told):
+        at = self.y(value)
+        self.parts.append(f'<line x1="{LEFT}" y1="{at:.1f}" x2="{WIDTH - RIGHT}" y2="{at:.1f}" stroke="#ddd"/>')
+        self.text(LEFT - 8, at + 4, told, 11, "end")
+
+    def bar(self, x, width, value, colour, told):
+        at = self.y(value)
+        self.parts.append(f'<rect x="{x:.1f}" y="{at:.1f}" width="{width:.1f}" height="{HEIGHT - BOTTOM - at:.1f}" fill="{colour}"/>')
+        self.text(x + width / 2, at - 5, told, 11, "middle")
+
+    def line(self, points, colour, dashes):
+        at = " ".join(f"{x:.1f},{self.y(value):.1f}" for x, value in points)
+        self.parts.append(f'<polyline points="{at}" fill="none" stroke="{colour}" stroke-width="2" stroke-dasharray="{dashes}"/>')
+        self.parts += [f'<circle cx="{x:.1f}" cy="{self.y(value):.1f}" r="3" fill="{colour}"/>' for x, value in points]
+
+    def names(self, at):
+        for place, (name, colour) in enumerate(COLOURS.items()):
+            self.parts.append(f'<rect x="{WIDTH - RIGHT - 220 + 110 * place}" y="{at - 10}" width="12" height="12" fill="{colour}"/>')
+            self.text(WIDTH - RIGHT - 202 + 110 * place, at, name)
+
+    def save(self, path):
+        with open(path, "w") as file:
+            file.write(f'<svg xmlns="http://www.w3.org/2000/svg" width="{WIDTH}" height="{HEIGHT}" font-family="sans-serif" role="img">\n'
+                       f"<title>{escape(self.title)}</title>\n" + f'<rect width="{WIDTH}" height="{HEIGHT}" fill="white"/>\n' + "\n".join(self.parts) + "\n</svg>\n")
+
+
+def clients_plot(run):
+    size = sorted(run["sizes"], key=int)[len(run["sizes"]) // 2]
+    rows = {count: run["sizes"][size][f"since a second, {count} clients"] for count in (1, 8, 31)}
+    most = max(max(row.values()) for row in rows.values())
+    top = math.ceil(most / 50000) * 50000
+    plot = Plot(f"Answers to since a second, {int(size):,} files, nothing changed", run, lambda value: value / top)
+    for step in range(6):
+        plot.level(top * step / 5, f"{top * step // 5:,}")
+    wide = (WIDTH - LEFT - RIGHT) / 3
+    for place, (count, row) in enumerate(rows.items()):
+        for side, name in enumerate(COLOURS):
+            plot.bar(LEFT + wide * place + 40 + 72 * side, 66, row[name], COLOURS[name], f"{row[name]:,.0f}")
+        plot.text(LEFT + wide * (place + 0.5), HEIGHT - BOTTOM + 18, f"{count} client{'s' if count > 1 else ''}", 12, "middle")
+    plot.names(HEIGHT - BOTTOM + 42)
+    return plot
+
+
+def files_plot(run):
+    sizes = sorted(run["sizes"], key=int)
+    values = [run["sizes"][size][row][name] for size in sizes for row in ROWS for name in COLOURS]
+    low, high = math.floor(math.log10(min(values))), math.ceil(math.log10(max(values)))
+    plot = Plot("Milliseconds by files, on a logarithmic scale", run, lambda value: (math.log10(value) - low) / (high - low))
+    for power in range(low, high + 1):
+        plot.level(10.0 ** power, f"{10.0 ** power:g} ms")
+    places = [LEFT + 30 + (WIDTH - LEFT - RIGHT - 60) * place / max(1, len(sizes) - 1) for place in range(len(sizes))]
+    for x, size in zip(places, sizes):
+        plot.text(x, HEIGHT - BOTTOM + 18, f"{int(size):,} files", 12, "middle")
+    for place, (row, told) in enumerate(ROWS.items()):
+        dashes = ("", "9 4", "4 4", "1 3")[place]
+        for name, colour in COLOURS.items():
+            plot.line([(x, run["sizes"][size][row][name]) for x, size in zip(places, sizes)], colour, dashes)
+        x, y = LEFT + 225 * (place % 2), HEIGHT - BOTTOM + 38 + 18 * (place // 2)
+        plot.parts.append(f'<line x1="{x}" y1="{y - 4}" x2="{x + 34}" y2="{y - 4}" stroke="#222" stroke-width="2" stroke-dasharray="{dashes}"/>')
+        plot.text(x + 40, y, told, 11)
+    plot.names(HEIGHT - BOTTOM + 42)
+    return plot
+
+
+def main():
+    path, folder = sys.argv[1:]
+    with open(path) as file:
+        run = json.load(file)
+    clients_plot(run).save(f"{folder}/since_by_clients.svg")
+    files_plot(run).save(f"{folder}/cost_by_files.svg")
+
+
+if __name__ == "__main__":
+    main()

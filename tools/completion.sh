@@ -1,0 +1,41 @@
+#!/usr/bin/env bash
+# What completion/watchmand.bash offers for words that were begun, compared with what it has to. Usage: tools/completion.sh
+set -eu
+export LC_ALL=C
+. "$(dirname "$0")/../completion/watchmand.bash"
+folder=$(mktemp -d)
+trap 'rm -rf "$folder"' EXIT
+cd "$folder"
+touch state socket
+failed=0
+
+# The words so far, of which the last is completed, have to offer these, told in order.
+offers() { # OFFERED WORD ..
+    local wanted=$1
+    shift
+    COMP_WORDS=("$@")
+    COMP_CWORD=$(($# - 1))
+    "_$1"
+    local offered
+    offered=$(printf '%s\n' "${COMPREPLY[@]}" | sort | paste -sd ' ')
+    if [ "$offered" != "$wanted" ]; then
+        echo "$*: offers $offered, not $wanted"
+        failed=1
+    fi
+}
+
+offers '--help --version format lines serve' watchmand ''
+offers 'serve' watchmand s
+offers 'socket state' watchmand serve s
+offers 'state' watchmand format st
+offers '--gc-age --gc-interval --help --sessions --workers' watchmand serve state socket --
+offers '--gc-age --gc-interval' watchmand serve state socket --gc
+offers '1 16' watchmand serve state socket --workers 1
+offers '' watchmand serve state socket --sessions ''
+offers '--help' watchmand lines --
+offers 'socket' wmctl so
+offers "'[\"watch-list\"]'" wmctl socket "'[\"watch-l"
+offers "'[\"recrawl\",\"$folder\"" wmctl socket "'[\"rec"
+offers '--follow' wmctl socket x --f
+offers '1 4294967295' wmctl socket x --follow ''
+[ "$failed" = 0 ] && echo "the completion offers what it has to"

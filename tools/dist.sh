@@ -1,0 +1,21 @@
+#!/bin/sh
+# Makes ARCHIVE.tar.gz of what `make install` puts into a prefix, with stripped programs, and ARCHIVE.tar.gz.sha256. The same files make the
+# same bytes.
+# usage: tools/dist.sh WATCHMAND WMCTL VERSION ARCHIVE
+set -eu
+program=$1 client=$2 version=$3 archive=$4
+[ "$("$program" --version)" = "watchmand $version" ] || { echo "$program isn't of version $version" >&2 && exit 1; }
+name=$(basename "$archive")
+folder=$(mktemp -d)
+trap 'rm -rf "$folder"' EXIT
+mkdir "$folder/built" "$folder/$name"
+strip -o "$folder/built/watchmand" "$program"
+strip -o "$folder/built/wmctl" "$client"
+make -s install -o "$folder/built/watchmand" -o "$folder/built/wmctl" PROGRAM="$folder/built/watchmand" CLIENT="$folder/built/wmctl" \
+  DESTDIR="$folder/$name" PREFIX= UNIT_PREFIX=%h/.local
+cp LICENSE README.md "$folder/$name"
+mkdir -p "$(dirname "$archive")"
+moment=$(git log -1 --format=%ct 2> /dev/null || stat -c %Y CHANGELOG.md)
+tar --sort=name --owner=0 --group=0 --numeric-owner --mode=u+rw,go=rX --mtime="@$moment" -C "$folder" -cf - "$name" | gzip -9n > "$archive.tar.gz"
+(cd "$(dirname "$archive")" && sha256sum "$name.tar.gz" > "$name.tar.gz.sha256")
+ls -l "$archive.tar.gz" "$archive.tar.gz.sha256"
