@@ -1,0 +1,4 @@
+mod Texts
+mod Lines
+mod Written
+mod Asking

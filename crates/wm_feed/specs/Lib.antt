@@ -1,0 +1,4 @@
+pub mod Records
+pub mod Batches
+pub mod Observes
+pub mod Laws

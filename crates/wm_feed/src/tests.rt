@@ -1,0 +1,4 @@
+//! The tests of this crate.
+mod batches;
+mod observes;
+mod records;
