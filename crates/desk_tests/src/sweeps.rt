@@ -18,6 +18,9 @@ type Refusals = [Option<Refusal>; 4];
 /// Four groups of one command make the most device calls: a write, a sync, a gate and a sync each.
 const MOST_CALLS: u64 = 16;
 
+/// A start behind a stop makes at most so many device calls.
+const START_CALLS: u64 = 7;
+
 /// The choices of what a crash leaves: what was durable, what a read gives, two bytes in each written place, and
 /// single bits. Of these a test takes a quarter, each fourth one, since all take half a minute.
 fn choices(alloc: Global, quarter: u32) -> Result<Vec<u64>, AllocError> {
@@ -92,7 +95,17 @@ fn finds(alloc: Global, disk: MemDisk, refusals: &Refusals) -> bool {
 #[derive(Clone, Copy)]
 enum End {
     Crash,
-    Stop,
+    /// A stop, and behind it a start of which so many device calls pass before a crash.
+    Stop(u64),
+}
+
+/// The disk behind a start of which so many calls pass.
+fn started(alloc: Global, mut disk: MemDisk, passing: u64) -> MemDisk {
+    disk.arm(passing);
+    match Store::open(alloc, disk) {
+        Ok(store) => store.into_disk(),
+        Err((_, disk)) => disk,
+    }
 }
 
 /// Four threads on a disk that lets so many calls pass: whether a start behind the end finds what may be found, and whether
@@ -109,7 +122,7 @@ fn cut<R: Threads + Wait + Sync>(
     let disk = desk.into_store().into_disk();
     let disk = match end {
         End::Crash => disk.crash(),
-        End::Stop => disk.stop(),
+        End::Stop(calls) => started(alloc, disk.stop(), calls).crash(),
     };
     if count != 4 || !finds(alloc, disk, &refusals) {
         return None;
@@ -168,6 +181,14 @@ fn answered_commands_are_found_fourth_quarter(rt: HostRuntime) -> Result<(), Fai
 
 #[test]
 fn answered_commands_are_found_behind_a_stop(rt: HostRuntime) -> Result<(), Fail> {
-    assert!(rt; stands(&rt, rt.alloc(), 0, End::Stop));
+    let alloc = rt.alloc();
+    for choice in 0..4u64 {
+        for calls in 0..START_CALLS + 1 {
+            assert!(rt;
+                stands(&rt, alloc, choice, End::Stop(calls)),
+                "{choice} {calls}"
+            );
+        }
+    }
     Ok(())
 }
