@@ -68,7 +68,7 @@ pub fn put_clock(clock: ClockId, out: &mut Vec<u8>)
 }
 
 /// Appends the line of a floor, for which there is room.
-fn put_floor(floor: u64, out: &mut Vec<u8>)
+pub fn put_floor(floor: u64, out: &mut Vec<u8>)
     requires { vec_len out.old + PROGRESS_ROOM ≤ vec_capacity out.old }
     ensures value { out.new.items ≡ out.old.items ++ line_text (floor_reply floor) }
     ensures room { vec_capacity out.old ≤ vec_capacity out.new }

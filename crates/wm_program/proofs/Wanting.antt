@@ -1,5 +1,5 @@
 -- What clap's errors and matches say of the words.
-use Rattle.std.proofs.Common.{◌≡◌, ◌∙◌, ℕ, List, true, [], Option, Some, None, codes, inl, inr, refl, sym, ap, ap₂, subst, true≢false, is_some}
+use Rattle.std.proofs.Common.{◌≡◌, ◌∙◌, List, true, [], Option, Some, None, codes, inl, inr, refl, sym, ap, ap₂, subst, true≢false, is_some}
 use Rattle.std.specs.Prelude.{◌⊎◌, unwrap_or, option_map}
 use Rattle.std.specs.Option.{MatchOption}
 use Rattle.clap.proofs.WalkLemmas.{first_value-rows}
@@ -9,7 +9,7 @@ use Rattle.clap.specs.declared.error.ErrorKind.{ErrorKind}
 use Rattle.clap.specs.declared.error.ErrorKind.TheVariants.{OutOfMemory}
 use Rattle.clap.specs.declared.parser.ArgMatches.{ArgMatches}
 use Rattle.wm_serve.specs.declared.serving.Settings.{Settings}
-use Rattle.wm_program.specs.ProgramWords.{AsksProgram, FindsServe, MeetsFor, NamedFor, ServesBy, TellsSettings, ProgramWanted, plain, program_app, serve_on, told_for_kind, shown_status}
+use Rattle.wm_program.specs.ProgramWords.{AsksProgram, FindsServe, MeetsFor, ServesBy, TellsSettings, ProgramWanted, plain, program_app, serve_on, told_for_kind, shown_status}
 
 some≢none : {X : Type 0} (x : X) → Some x ≡ None → ⊥
 some≢none x same = true≢false (ap is_some same)

@@ -1,17 +1,31 @@
--- That what the threads of a server share over a real file may be used by many at once. Rattle finds this for a struct by itself, but
--- not where a desk stands below it.
+-- That what the threads of a server share over a real file may be used by many at once. Rattle finds this for a struct by itself, but not
+-- where a desk, the rights to make words of a log, or an expression stands below it.
+use base.Shift.{Keyless}
 use denote.Builtin
-use denote.Param.Send.{IsSend, IsSync, sendable}
-use denote.Param.SendFields.{declared_send, declared_sync}
+use denote.Param.Send.{IsSend, IsSync, recorded_send, sendable, struct_send, view_send}
+use denote.Param.SendFields.{declared_sync}
+use denote.RattleType.{RattleType}
+use denote.Struct.Declared
+use types.Keyed
+use Rattle.std.below.std_heap.proofs.GlobalAllocator.TheSendSync as FreesSent
+use Rattle.std.proofs.Common.{ℕ, zero, suc}
 use Rattle.std.proofs.Crossing.{crosses}
+use Rattle.std.proofs.alloc.Global.TheSendSync as GlobalSent
+use Rattle.std.proofs.sync.Arc.TheSendSync as ArcSent
 use Rattle.std.proofs.sync.Condvar.TheSendSync as CondvarSent
 use Rattle.std.proofs.sync.Mutex.TheSendSync as MutexSent
 use Rattle.std.proofs.sync.atomic.AtomicU64.TheSendSync as CountSent
+use Rattle.std.proofs.vec.Vec.TheSendSync as VecSent
 use Rattle.std.specs.contracts.alloc.Global
 use Rattle.std.specs.contracts.impls.GlobalAllocator.TheImpl as GlobalImpl
+use Rattle.std.specs.contracts.option.Option
+use Rattle.std.specs.contracts.os.unix.net.UnixStream
 use Rattle.std.specs.contracts.sync.Arc
 use Rattle.std.specs.contracts.sync.Mutex
 use Rattle.std.specs.contracts.vec.Vec
+use Rattle.logbook.proofs.tokens.Seen.TheSendSync as SeenSent
+use Rattle.logbook.specs.Kept.{pens_own}
+use Rattle.logbook.specs.contracts.tokens.Pens
 use Rattle.wm_expr.proofs.expr.Expr.TheLaws.TheKnot as Expressions
 use Rattle.wm_file.specs.contracts.file.FileDisk
 use Rattle.wm_file.specs.contracts.file.Unknown
@@ -20,54 +34,100 @@ use Rattle.wm_file.specs.contracts.file.FileDiskDisk.TheImpl as FileDiskImpl
 use Rattle.wm_file.proofs.file.FileDisk.TheSendSync as FileDiskSent
 use Rattle.wm_groupcommit.specs.contracts.desk.Desk
 use Rattle.wm_groupcommit.proofs.Crossing.{desk_sync}
-use Rattle.wm_names.proofs.root_path.RootPath.TheSendSync as RootPathSent
-use Rattle.wm_registry.specs.contracts.trigger.Trigger
-use Rattle.wm_server.proofs.local.part.Part.TheSendSync as PartSent
+use Rattle.wm_hall.proofs.hall.RootHall.TheSendSync as HallSent
+use Rattle.wm_hall.proofs.viewers.Viewers.TheSendSync as ViewersSent
+use Rattle.wm_hall.specs.contracts.hall.RootHall
+use Rattle.wm_hall.specs.contracts.viewers.Viewers
+use Rattle.wm_lines.specs.contracts.expression.Expression
+use Rattle.wm_share.specs.contracts.shares.Shares
+use Rattle.wm_share.specs.contracts.shares.Shares.TheInside as SharesInside
+use Rattle.wm_share.specs.declared.book.Naming as Naming
+use Rattle.wm_subs.specs.contracts.subscriptions.Subscriptions
 use Rattle.wm_serve.specs.contracts.chair.Chair
-use Rattle.wm_serve.specs.contracts.hall.Kept
-use Rattle.wm_serve.specs.contracts.hall.RootHall
 use Rattle.wm_serve.specs.contracts.shared.Missing
 use Rattle.wm_serve.specs.contracts.shared.Shared
+use Rattle.wm_serve.proofs.bell.Bell.TheSendSync as BellSent
 use Rattle.wm_serve.proofs.door.Door.TheSendSync as DoorSent
-use Rattle.wm_serve.proofs.hall.Forgetting.TheSendSync as ForgettingSent
-use Rattle.wm_serve.proofs.work.Work.TheSendSync as WorkSent
+use Rattle.wm_hall.proofs.keeping.Forgetting.TheSendSync as ForgettingSent
 
-count_send : IsSend Builtin.u64
-count_send = search sendable
+-- ---- what makes the roots' views
 
-kept_send : IsSend Kept.the_row
-kept_send = search (PartSent.the_field_send, crosses, Expressions.crosses, sendable) depth 60 fits 20000
+pens_keyless : (δ k n : ℕ) → Keyless (pens_own δ k n)
+unfolding types.Keyed.entry
+pens_keyless δ k zero = tt
+pens_keyless δ k (suc n) = (tt, pens_keyless δ (suc k) n)
 
-triggers_send : IsSend (Mutex.the_row (Vec.the_row Trigger.the_row Global.the_row GlobalImpl.ghosts))
-triggers_send = search (crosses, Expressions.crosses, sendable) depth 60 fits 20000
+pens_send : IsSend Pens.the_row
+pens_send = record { owned = λ d vs. ((λ vss. (tt, ((λ uss. (tt, tt)), tt))), pens_keyless d.book.cells_name d.next d.left); leaving = λ k x vs. tt }
 
-triggers_sync : IsSync (Mutex.the_row (Vec.the_row Trigger.the_row Global.the_row GlobalImpl.ghosts))
-triggers_sync = search (crosses, Expressions.crosses, sendable) depth 60 fits 20000
+shares_send : (J : RattleType) (g : Naming.Ghosts J.Denot) → IsSend (Shares.the_row J g)
+shares_send J g =
+    view_send (SharesInside.the_row J g) _ _ _ _
+    (recorded_send (SharesInside.the_field J g).row _ _ (SharesInside.the_type J g).to_one
+    (struct_send (Declared.shape (SharesInside.the_type J g)) (search sendable, (pens_send, (search (SeenSent.the_send, sendable) depth 40 fits 20000, (search (crosses, sendable) depth 40 fits 20000, tt))))))
 
-hall_send : IsSend RootHall.the_row
-hall_send = declared_send RootHall.the_type (RootPathSent.the_send, (search sendable, (WorkSent.the_send, (triggers_send, (MutexSent.the_send Kept.the_row kept_send, tt)))))
+shares_sync : (J : RattleType) (g : Naming.Ghosts J.Denot) → IsSync (Mutex.the_row (Shares.the_row J g))
+shares_sync J g = MutexSent.the_sync (Shares.the_row J g) (shares_send J g)
 
-hall_sync : IsSync RootHall.the_row
-hall_sync = declared_sync RootHall.the_type (RootPathSent.the_sync, (search sendable, (WorkSent.the_sync, (triggers_sync, (MutexSent.the_sync Kept.the_row kept_send, tt)))))
+-- ---- the roots
 
-halls_sync : IsSync (Mutex.the_row (Vec.the_row (Arc.the_row RootHall.the_row Global.the_row GlobalImpl.ghosts) Global.the_row GlobalImpl.ghosts))
-halls_sync = search (hall_send, hall_sync, crosses, sendable) depth 60 fits 20000
+halls_sync : (J K : RattleType) (g : Naming.Ghosts J.Denot) → IsSend K → IsSync (Mutex.the_row (Vec.the_row (Arc.the_row (RootHall.the_row J K g) Global.the_row GlobalImpl.ghosts) Global.the_row GlobalImpl.ghosts))
+halls_sync J K g k =
+    MutexSent.the_sync (Vec.the_row (Arc.the_row (RootHall.the_row J K g) Global.the_row GlobalImpl.ghosts) Global.the_row GlobalImpl.ghosts)
+    (VecSent.the_send (Arc.the_row (RootHall.the_row J K g) Global.the_row GlobalImpl.ghosts) Global.the_row GlobalImpl.ghosts
+    (ArcSent.the_send (RootHall.the_row J K g) Global.the_row GlobalImpl.ghosts (HallSent.the_send J K g k) GlobalSent.the_send (HallSent.the_sync J K g k) GlobalSent.the_sync FreesSent.the_frees)
+    GlobalSent.the_send
+    FreesSent.the_frees)
 
 missing_sync : IsSync (Mutex.the_row Missing.the_row)
 missing_sync = search (crosses, Expressions.crosses, sendable) depth 60 fits 20000
 
-chairs_sync : IsSync (Vec.the_row Chair.the_row Global.the_row GlobalImpl.ghosts)
-chairs_sync = search (crosses, Expressions.crosses, sendable) depth 60 fits 20000
+-- ---- the sessions
 
-pub file_desk : IsSync (Desk.the_row (FileDisk.the_row Unknown.the_row UnknownImpl.ghosts) (FileDiskImpl.ghosts Unknown.the_row UnknownImpl.ghosts FileDiskImpl.no_dict FileDiskImpl.no_dict))
+page_sync : IsSync (Mutex.the_row (Vec.the_row Builtin.u8 Global.the_row GlobalImpl.ghosts))
+page_sync = search (crosses, sendable) depth 60 fits 20000
+
+subscriptions_sync : IsSync (Mutex.the_row (Subscriptions.the_row Expression.the_row))
+subscriptions_sync = search (crosses, Expressions.crosses, sendable) depth 60 fits 20000
+
+stream_sync : IsSync (Mutex.the_row (Option.the_row (Arc.the_row UnixStream.the_row Global.the_row GlobalImpl.ghosts)))
+stream_sync = search (crosses, sendable) depth 60 fits 20000
+
+chair_sync : (J : RattleType) (g : Naming.Ghosts J.Denot) → IsSync (Chair.the_row J g)
+chair_sync J g =
+    declared_sync (Chair.the_type J g) (
+      page_sync,
+      (subscriptions_sync, (MutexSent.the_sync (Viewers.the_row J g) (ViewersSent.the_send J g), (BellSent.the_sync, (CountSent.the_sync, (stream_sync, tt))))),
+    )
+
+chairs_sync : (J : RattleType) (g : Naming.Ghosts J.Denot) → IsSync (Vec.the_row (Chair.the_row J g) Global.the_row GlobalImpl.ghosts)
+chairs_sync J g = search (chair_sync J g, crosses, sendable) depth 60 fits 20000
+
+-- ---- all of it
+
+count_send : IsSend Builtin.u64
+count_send = search sendable
+
+file_desk : IsSync (Desk.the_row (FileDisk.the_row Unknown.the_row UnknownImpl.ghosts) (FileDiskImpl.ghosts Unknown.the_row UnknownImpl.ghosts FileDiskImpl.no_dict FileDiskImpl.no_dict))
 file_desk =
     desk_sync
     (FileDisk.the_row Unknown.the_row UnknownImpl.ghosts)
     (FileDiskImpl.ghosts Unknown.the_row UnknownImpl.ghosts FileDiskImpl.no_dict FileDiskImpl.no_dict)
     (FileDiskSent.the_send Unknown.the_row UnknownImpl.ghosts)
 
-pub file_shared : IsSync (Shared.the_row (FileDisk.the_row Unknown.the_row UnknownImpl.ghosts) (FileDiskImpl.ghosts Unknown.the_row UnknownImpl.ghosts FileDiskImpl.no_dict FileDiskImpl.no_dict))
-file_shared = declared_sync (Shared.the_type (FileDisk.the_row Unknown.the_row UnknownImpl.ghosts) (FileDiskImpl.ghosts Unknown.the_row UnknownImpl.ghosts FileDiskImpl.no_dict FileDiskImpl.no_dict)) (
-  file_desk,
-  (halls_sync, (MutexSent.the_sync Builtin.u64 count_send, (missing_sync, (CondvarSent.the_sync, (chairs_sync, (DoorSent.the_sync, (CountSent.the_sync, (ForgettingSent.the_sync, tt)))))))),
-)
+pub file_shared : (J K : RattleType) (g : Naming.Ghosts J.Denot) → IsSend K → IsSync K
+    → IsSync (Shared.the_row (FileDisk.the_row Unknown.the_row UnknownImpl.ghosts) J K (FileDiskImpl.ghosts Unknown.the_row UnknownImpl.ghosts FileDiskImpl.no_dict FileDiskImpl.no_dict) g)
+file_shared J K g k k' =
+    declared_sync (Shared.the_type (FileDisk.the_row Unknown.the_row UnknownImpl.ghosts) J K (FileDiskImpl.ghosts Unknown.the_row UnknownImpl.ghosts FileDiskImpl.no_dict FileDiskImpl.no_dict) g) (
+      file_desk,
+      (
+        record { shared = k'.shared },
+        (
+          shares_sync J g,
+          (
+            halls_sync J K g k,
+            (MutexSent.the_sync Builtin.u64 count_send, (missing_sync, (CondvarSent.the_sync, (chairs_sync J g, (DoorSent.the_sync, (CountSent.the_sync, (ForgettingSent.the_sync, tt))))))),
+          ),
+        ),
+      ),
+    )

@@ -16,6 +16,7 @@ use wm_lines::{Request, ServerRequest};
 use wm_names::{RootPath, Subtree};
 use wm_server::Input;
 use wm_server::input::{LineRead, read_line};
+use wm_share::Naming;
 
 const NO_MEMORY: &str = "{\"error\":\"16 NoMemory\",\"version\":\"w1\"}\n";
 
@@ -31,17 +32,22 @@ fn send(stream: &UnixStream, line: Result<&[u8], NoMemory>) -> io::Result<()> {
 }
 
 /// Waits for the end of a crawl, and gives the reply.
-fn recrawl<R: Wait, D: Disk + Drop>(
+fn recrawl<R: Wait, D: Disk + Drop, J: Naming, K: Wait + Copy + Drop>(
     rt: &R,
     alloc: Global,
-    shared: &Shared<D>,
+    shared: &Shared<D, J, K>,
+    chair: &Chair<J>,
     root: &RootPath,
     subtree: Subtree,
 ) -> Result<Vec<u8>, NoMemory> {
     let mut out = Vec::new(alloc);
     out.try_reserve(PROGRESS_ROOM.max(REFUSAL_ROOM))?;
     let ended = match shared.hall(rt, root) {
-        Ok(hall) => hall.work.crawl(rt, subtree),
+        Ok(hall) => {
+            let ended = hall.work.crawl(rt, subtree);
+            chair.viewers.lock(rt).learn(rt, &hall);
+            ended
+        }
         Err(refusal) => Err(refusal),
     };
     match ended {
@@ -59,11 +65,11 @@ fn refuse(refusal: Refusal, out: &mut Vec<u8>) -> Result<(), NoMemory> {
 }
 
 /// Writes the reply to a request on an empty page. The room of a refusal is made first.
-fn answer<R: Wait + Clock, D: Disk + Drop>(
+fn answer<R: Wait + Clock, D: Disk + Drop, J: Naming, K: Wait + Copy + Drop>(
     rt: &R,
     alloc: Global,
-    shared: &Shared<D>,
-    chair: &Chair,
+    shared: &Shared<D, J, K>,
+    chair: &Chair<J>,
     place: &mut Option<Place<'_, D>>,
     request: Request,
     page: &mut Vec<u8>,
@@ -77,18 +83,18 @@ fn answer<R: Wait + Clock, D: Disk + Drop>(
 }
 
 /// Answers a line that was read. A crawl is awaited before the page is taken, so that subscriptions are told meanwhile.
-fn serve_line<R: Wait + Clock, D: Disk + Drop>(
+fn serve_line<R: Wait + Clock, D: Disk + Drop, J: Naming, K: Wait + Copy + Drop>(
     rt: &R,
     alloc: Global,
-    shared: &Shared<D>,
-    chair: &Chair,
+    shared: &Shared<D, J, K>,
+    chair: &Chair<J>,
     place: &mut Option<Place<'_, D>>,
     stream: &UnixStream,
     line: &[u8],
 ) -> io::Result<()> {
     let request = match ServerRequest::read(alloc, line) {
         Ok(ServerRequest::Recrawl(root, subtree)) => {
-            let told = recrawl(rt, alloc, shared, &root, subtree);
+            let told = recrawl(rt, alloc, shared, chair, &root, subtree);
             let _page = chair.page.lock(rt);
             return match told {
                 Ok(line) => send(stream, Ok(&line)),
@@ -111,11 +117,11 @@ fn serve_line<R: Wait + Clock, D: Disk + Drop>(
 }
 
 /// Answers a session's lines until it ends or its socket fails.
-fn serve_lines<R: Wait + Clock, D: Disk + Drop>(
+fn serve_lines<R: Wait + Clock, D: Disk + Drop, J: Naming, K: Wait + Copy + Drop>(
     rt: &R,
     alloc: Global,
-    shared: &Shared<D>,
-    chair: &Chair,
+    shared: &Shared<D, J, K>,
+    chair: &Chair<J>,
     place: &mut Option<Place<'_, D>>,
     stream: &UnixStream,
 ) -> io::Result<()> {
@@ -139,11 +145,11 @@ fn serve_lines<R: Wait + Clock, D: Disk + Drop>(
 }
 
 /// One session on a chair.
-fn attend<R: Wait + Clock, D: Disk + Drop>(
+fn attend<R: Wait + Clock, D: Disk + Drop, J: Naming, K: Wait + Copy + Drop>(
     rt: &R,
     alloc: Global,
-    shared: &Shared<D>,
-    chair: &Chair,
+    shared: &Shared<D, J, K>,
+    chair: &Chair<J>,
     place: &mut Option<Place<'_, D>>,
     stream: UnixStream,
 ) {
@@ -158,14 +164,19 @@ fn attend<R: Wait + Clock, D: Disk + Drop>(
     let _ended = serve_lines(rt, alloc, shared, chair, place, &stream);
     let _ = stream.shutdown(Shutdown::Both);
     chair.seat(rt, alloc, None);
+    for viewer in chair.take_viewers(rt, alloc).into_vec() {
+        if let Some(hall) = shared.numbered(rt, viewer.share().root) {
+            hall.take_back(rt, viewer);
+        }
+    }
 }
 
 /// Answers the lines of one session after the other, until no session comes any longer.
-pub fn sit_on<R: Wait + Clock, D: Disk + Drop>(
+pub fn sit_on<R: Wait + Clock, D: Disk + Drop, J: Naming, K: Wait + Copy + Drop>(
     rt: &R,
     alloc: Global,
-    shared: &Shared<D>,
-    chair: &Chair,
+    shared: &Shared<D, J, K>,
+    chair: &Chair<J>,
 ) {
     // Without a seat the commands of these sessions are refused 16.
     let mut place = Place::take(rt, &shared.desk).ok();

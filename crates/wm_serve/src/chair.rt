@@ -1,30 +1,36 @@
 //! A session's chair: what its two threads share.
 use crate::bell::Bell;
 use std::alloc::Global;
+use std::mem;
 use std::os::unix::net::UnixStream;
 use std::sync::atomic::{AtomicU64, Ordering};
 use std::sync::{Arc, Mutex, Wait};
+use wm_hall::Viewers;
 use wm_lines::Expression;
 use wm_names::RootPath;
+use wm_share::Naming;
 use wm_subs::Subscriptions;
 
 /// What a session's thread of lines and its thread of subscriptions share.
 #[derive(Drop)]
-pub struct Chair {
+pub struct Chair<J: Naming> {
     /// The reply on its way, and with it the right to write to the socket.
     pub page: Mutex<Vec<u8>>,
     pub subscriptions: Mutex<Subscriptions<Expression>>,
+    /// Under this lock a root that is still in the table takes its viewer along when it goes.
+    pub viewers: Mutex<Viewers<J>>,
     pub bell: Bell,
     // how many subscriptions there are
     count: AtomicU64,
     stream: Mutex<Option<Arc<UnixStream>>>,
 }
 
-impl Chair {
-    pub fn new(alloc: Global) -> Chair {
+impl<J: Naming> Chair<J> {
+    pub fn new(alloc: Global) -> Chair<J> {
         Chair {
             page: Mutex::new(Vec::new(alloc)),
             subscriptions: Mutex::new(Subscriptions::new(alloc)),
+            viewers: Mutex::new(Viewers::new(alloc)),
             bell: Bell::new(),
             count: AtomicU64::new(0),
             stream: Mutex::new(None),
@@ -60,8 +66,14 @@ impl Chair {
         }
     }
 
-    /// Ends the subscriptions on a root.
-    pub fn end_root<R: Wait>(&self, rt: &R, root: &RootPath) {
+    /// Ends the subscriptions on a root, and lets its viewer go.
+    pub fn end_root<R: Wait>(&self, rt: &R, root: &RootPath, number: u64) {
         self.subscriptions.lock(rt).remove_root(root);
+        self.viewers.lock(rt).forget(number);
+    }
+
+    /// The viewers of the session that has left, to be given back.
+    pub fn take_viewers<R: Wait>(&self, rt: &R, alloc: Global) -> Viewers<J> {
+        mem::replace(&mut *self.viewers.lock(rt), Viewers::new(alloc))
     }
 }

@@ -7,6 +7,7 @@ use wm_disk::{Disk, Refusal};
 use wm_lines::reply::line_to;
 use wm_names::RootPath;
 use wm_registry::{Command, Reply};
+use wm_share::Naming;
 
 /// The root that a command is about; none for a `Begin`, which no line asks for.
 fn root_of(command: &Command) -> Option<&RootPath> {
@@ -20,10 +21,10 @@ fn root_of(command: &Command) -> Option<&RootPath> {
 }
 
 /// Submits a command. Each reply that it may have is made first, with its room, so that an accepted command has its reply.
-pub fn command<R: Wait, D: Disk + Drop>(
+pub fn command<R: Wait, D: Disk + Drop, J: Naming, K: Wait + Copy + Drop>(
     rt: &R,
     alloc: Global,
-    shared: &Shared<D>,
+    shared: &Shared<D, J, K>,
     place: &mut Option<Place<'_, D>>,
     command: Command,
     out: &mut Vec<u8>,

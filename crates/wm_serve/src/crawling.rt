@@ -71,7 +71,7 @@ fn crawl_once<R: Threads + Wait + Clock + Sync, H: House, F: Folders + Sync, G: 
 {
     let begun_at = house.tick(rt, root);
     let found = list(rt, alloc, folders, gate, asked, workers)?;
-    house.take_in(rt, alloc, root, begun_at, found)
+    house.take_in(rt, root, begun_at, found)
 }
 
 /// Crawls as it is asked, and tells the end. One that is refused `BadClock`, since it was overtaken, is tried once more.

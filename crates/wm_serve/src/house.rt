@@ -59,7 +59,6 @@ pub trait House {
     fn take_in<R: Wait + Clock>(
         &self,
         rt: &R,
-        alloc: Global,
         root: u64,
         begun_at: u64,
         found: Listing,

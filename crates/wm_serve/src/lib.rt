@@ -1,8 +1,8 @@
 //! The socket server: sessions in threads over one desk, and a hall for each watched root.
 //!
 //! [`serve`] opens a state file and serves a Unix socket. Each thread starts in [`serving`] or
-//! [`leading`] and sees the server as a [`House`]. What a line is answered is `Session::request` of
-//! `wm_server`, under the lock of the part of the state that it reads.
+//! [`leading`] and sees the server as a [`House`]. A command goes to the desk, an operation to the keeper of its
+//! root, and a question to the session's own viewer of the root (`wm_hall`), which waits for nobody.
 #![tactic(auto)]
 
 mod admitting;
@@ -12,7 +12,6 @@ mod chair;
 mod commanding;
 mod crawling;
 mod door;
-mod hall;
 mod house;
 mod leading;
 mod listening;
@@ -26,7 +25,6 @@ mod subscribing;
 mod system;
 mod telling;
 mod triggering;
-mod work;
 
 pub use serving::{Settings, serve};
 pub use system::{Folders, Programs, SystemFolders, SystemPrograms};

@@ -1,4 +1,4 @@
-//! Where a request is met: on the registry, on the hall of its root, at the desk, or on the chair of its session.
+//! Where a request is met: on the registry, by the keeper of its root or the session's viewer of it, at the desk, or on the chair of its session.
 use crate::chair::Chair;
 use crate::commanding::command;
 use crate::place::Place;
@@ -9,10 +9,13 @@ use std::alloc::Global;
 use std::sync::Wait;
 use std::time::Clock;
 use wm_disk::{Disk, Refusal};
-use wm_lines::Request;
+use wm_lines::reply::{PROGRESS_ROOM, put_clock, put_floor};
+use wm_lines::{Inquiry, Request};
 use wm_names::RootPath;
 use wm_registry::{Command, Registry};
-use wm_server::{Part, Session};
+use wm_server::{RegistryFront, Session};
+use wm_share::Naming;
+use wm_view::Op;
 
 /// Meets a request on a registry.
 fn meet_registry(
@@ -21,48 +24,75 @@ fn meet_registry(
     request: Request,
     out: &mut Vec<u8>,
 ) -> Result<(), Refusal> {
-    let mut session = Session::new(alloc, Part::of_registry(alloc, registry));
+    let mut session = Session::new(alloc, RegistryFront::new(registry));
     session.request(alloc, 0, request, out)?;
     Ok(())
 }
 
-/// The root whose view a request reads or changes; none where it does neither.
-fn viewed(request: &Request) -> Option<&RootPath> {
-    match request {
-        Request::Observe(path, _) => Some(path),
-        Request::Listing(path, _, _) => Some(path),
-        Request::AgeOut(path, _) => Some(path),
-        Request::Clock(path) => Some(path),
-        Request::Query(path, _) => Some(path),
-        _ => None,
-    }
-}
-
-/// Meets a request on the view of its root; another is refused `BadCommand`.
-fn meet_root<R: Wait + Clock, D: Disk + Drop>(
+/// Performs an operation, and appends where the view stands after it. The session's viewer learns of it before that is told.
+fn operate<R: Wait + Clock, D: Disk + Drop, J: Naming, K: Wait + Copy + Drop>(
     rt: &R,
-    alloc: Global,
-    shared: &Shared<D>,
-    request: Request,
+    shared: &Shared<D, J, K>,
+    chair: &Chair<J>,
+    path: &RootPath,
+    moment: u64,
+    op: Op,
     out: &mut Vec<u8>,
 ) -> Result<(), Refusal> {
-    let Some(path) = viewed(&request) else {
-        return Err(Refusal::BadCommand);
-    };
+    out.try_reserve(PROGRESS_ROOM)?;
+    let tells_floor = matches!(op, Op::AgeOut(_, _));
     let hall = shared.hall(rt, path)?;
-    let has_changed = hall.request(rt, alloc, second(rt), shared.forgetting, request, out)?;
-    if has_changed {
-        shared.ring(rt);
+    let met = hall.operate(rt, moment, shared.forgetting, op);
+    chair.viewers.lock(rt).learn(rt, &hall);
+    shared.ring(rt);
+    let progress = met?;
+    if tells_floor {
+        put_floor(progress.floor, out);
+    } else {
+        put_clock(progress.clock, out);
     }
     Ok(())
 }
 
-/// Meets a request of a session, which is refused or has its reply appended.
-pub fn meet<R: Wait + Clock, D: Disk + Drop>(
+/// Appends the clock of a root, as the session's viewer sees it.
+fn clock<R: Wait, D: Disk + Drop, J: Naming, K: Wait + Copy + Drop>(
     rt: &R,
     alloc: Global,
-    shared: &Shared<D>,
-    chair: &Chair,
+    shared: &Shared<D, J, K>,
+    chair: &Chair<J>,
+    path: &RootPath,
+    out: &mut Vec<u8>,
+) -> Result<(), Refusal> {
+    out.try_reserve(PROGRESS_ROOM)?;
+    let mut viewers = chair.viewers.lock(rt);
+    let hall = shared.hall(rt, path)?;
+    let clock = hall.clock(rt, alloc, viewers.of_root(rt, &hall)?)?;
+    put_clock(clock, out);
+    Ok(())
+}
+
+/// Appends the answer to a question, as the session's viewer sees the root.
+fn inquire<R: Wait, D: Disk + Drop, J: Naming, K: Wait + Copy + Drop>(
+    rt: &R,
+    alloc: Global,
+    shared: &Shared<D, J, K>,
+    chair: &Chair<J>,
+    path: &RootPath,
+    inquiry: Inquiry,
+    out: &mut Vec<u8>,
+) -> Result<(), Refusal> {
+    let mut viewers = chair.viewers.lock(rt);
+    let hall = shared.hall(rt, path)?;
+    let viewer = viewers.of_root(rt, &hall)?;
+    hall.inquire(rt, alloc, viewer, inquiry, out)
+}
+
+/// Meets a request of a session, which is refused or has its reply appended.
+pub fn meet<R: Wait + Clock, D: Disk + Drop, J: Naming, K: Wait + Copy + Drop>(
+    rt: &R,
+    alloc: Global,
+    shared: &Shared<D, J, K>,
+    chair: &Chair<J>,
     place: &mut Option<Place<'_, D>>,
     request: Request,
     out: &mut Vec<u8>,
@@ -106,6 +136,22 @@ pub fn meet<R: Wait + Clock, D: Disk + Drop>(
         Request::Unsubscribe(root, name) => {
             unsubscribe(rt, alloc, shared, chair, &root, &name, out)
         }
-        other => meet_root(rt, alloc, shared, other, out),
+        Request::Observe(path, pairs) => {
+            let moment = second(rt);
+            let op = Op::Observe(moment, pairs);
+            operate(rt, shared, chair, &path, moment, op, out)
+        }
+        Request::Listing(path, begun_at, listing) => {
+            let moment = second(rt);
+            let op = Op::Recrawl(moment, begun_at, listing);
+            operate(rt, shared, chair, &path, moment, op, out)
+        }
+        Request::AgeOut(path, age) => {
+            let moment = second(rt);
+            let op = Op::AgeOut(moment, age);
+            operate(rt, shared, chair, &path, moment, op, out)
+        }
+        Request::Clock(path) => clock(rt, alloc, shared, chair, &path, out),
+        Request::Query(path, inquiry) => inquire(rt, alloc, shared, chair, &path, inquiry, out),
     }
 }

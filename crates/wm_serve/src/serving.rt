@@ -1,6 +1,7 @@
 //! `serve`: the whole server, from its state file and its socket to the close of the file.
+ghost use Rattle.std.specs.Prelude.{◌≡◌};
+
 use crate::admitting::serve_on;
-use crate::hall::Forgetting;
 use crate::listening::listen;
 use crate::shared::Shared;
 use crate::system::{Folders, Programs};
@@ -8,7 +9,9 @@ use std::alloc::Global;
 use std::fs;
 use std::fs::{File, Files};
 use std::io::Write;
+use std::marker::Brand;
 use std::net::Net;
+use std::os::unix::net::UnixListener;
 use std::sync::Wait;
 use std::thread::Threads;
 use std::time::Clock;
@@ -16,7 +19,9 @@ use wm_crawler::Turnstile;
 use wm_disk::{NoMemory, Refusal};
 use wm_file::{FileDisk, Unknown};
 use wm_groupcommit::Desk;
+use wm_hall::Forgetting;
 use wm_lines::have_expressions;
+use wm_share::{Naming, Opened, Shares};
 use wm_store::Store;
 
 /// How a server is to serve.
@@ -51,7 +56,12 @@ fn open<R: Files<File = File>>(
     Ok(store)
 }
 
-/// Serves a state file on a socket until so many sessions have ended.
+/// Serves a state file on a socket until so many sessions have ended. The socket is removed then.
+///
+/// Refused before anybody is let in: `DeviceFailed` where the file can't be opened, has another owner or fails, where a server listens on
+/// the socket, something else stands there or it can't be made, and where the writer fails; `Damaged` where the file
+/// means nothing, or a trigger in it has a text that is no expression; `Retired` and `Exhausted` as `Store::open` is; and `NoMemory`.
+/// Behind the last session it is refused as the close of the store is. The file keeps what was accepted in each case.
 pub fn serve<
     R: Threads + Wait + Clock + Net + Files<File = File> + Sync,
     F: Folders + Sync,
@@ -70,30 +80,28 @@ pub fn serve<
     writer: &mut W,
 ) -> Result<(), Refusal> {
     let store = open(rt, alloc, file)?;
-    let desk = match Desk::new(alloc, store) {
-        Ok(desk) => desk,
-        Err((refusal, _)) => return Err(refusal),
+    let Ok(listener) = listen(rt, socket) else {
+        return Err(Refusal::DeviceFailed);
     };
-    let forgetting = Forgetting {
-        age: settings.gc_age,
-        interval: settings.gc_interval,
-    };
-    let shared = match Shared::new(alloc, desk, forgetting) {
-        Ok(shared) => shared,
-        Err((NoMemory, desk)) => {
-            let _store = desk.into_store();
-            return Err(Refusal::NoMemory);
-        }
-    };
-    let served = serve_shared(
-        rt, alloc, &shared, socket, folders, gate, programs, settings, writer,
+    let served = serve_over::<Brand, R, F, G, P, W>(
+        rt,
+        alloc,
+        store,
+        &listener,
+        folders,
+        gate,
+        programs,
+        settings,
+        writer,
+        Opened::new(),
     );
-    let _store = shared.into_desk().into_store();
+    let _gone = fs::remove_file(rt, socket);
     served
 }
 
-/// Makes the socket and serves it.
-fn serve_shared<
+/// Serves with the views' book that was opened.
+fn serve_over<
+    J: Naming + Send + Sync,
     R: Threads + Wait + Clock + Net + Files<File = File> + Sync,
     F: Folders + Sync,
     G: Turnstile + Sync,
@@ -102,8 +110,54 @@ fn serve_shared<
 >(
     rt: &R,
     alloc: Global,
-    shared: &Shared<FileDisk<Unknown>>,
-    socket: &str,
+    store: Store<FileDisk<Unknown>>,
+    listener: &UnixListener,
+    folders: &F,
+    gate: &G,
+    programs: &P,
+    settings: Settings,
+    writer: &mut W,
+    opened: Opened,
+) -> Result<(), Refusal>
+    requires { opened.seen.book ≡ J.book }
+{
+    let desk = match Desk::new(alloc, store) {
+        Ok(desk) => desk,
+        Err((refusal, _)) => return Err(refusal),
+    };
+    let forgetting = Forgetting {
+        age: settings.gc_age,
+        interval: settings.gc_interval,
+    };
+    let shares: Shares<J> = Shares::new(opened);
+    let shared = match Shared::new(alloc, rt, desk, shares, forgetting) {
+        Ok(shared) => shared,
+        Err((NoMemory, desk)) => {
+            let _store = desk.into_store();
+            return Err(Refusal::NoMemory);
+        }
+    };
+    let served = serve_shared(
+        rt, alloc, &shared, listener, folders, gate, programs, settings, writer,
+    );
+    let _store = shared.into_desk().into_store();
+    served
+}
+
+/// Makes a hall for each root, and serves the socket.
+fn serve_shared<
+    J: Naming + Send + Sync,
+    K: Wait + Copy + Drop + Send + Sync,
+    R: Threads + Wait + Clock + Net + Files<File = File> + Sync,
+    F: Folders + Sync,
+    G: Turnstile + Sync,
+    P: Programs + Sync,
+    W: Write,
+>(
+    rt: &R,
+    alloc: Global,
+    shared: &Shared<FileDisk<Unknown>, J, K>,
+    listener: &UnixListener,
     folders: &F,
     gate: &G,
     programs: &P,
@@ -111,14 +165,11 @@ fn serve_shared<
     writer: &mut W,
 ) -> Result<(), Refusal> {
     shared.begin(rt, alloc)?;
-    let Ok(listener) = listen(rt, socket) else {
-        return Err(Refusal::DeviceFailed);
-    };
     let served = serve_on(
         rt,
         alloc,
         shared,
-        &listener,
+        listener,
         folders,
         gate,
         programs,
@@ -126,6 +177,5 @@ fn serve_shared<
         settings.sessions,
         writer,
     );
-    let _gone = fs::remove_file(rt, socket);
     served
 }

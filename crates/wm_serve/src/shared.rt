@@ -1,15 +1,16 @@
 //! What all threads of a server share: the desk, the halls, the chairs and the door.
 use crate::chair::Chair;
 use crate::door::{CHAIRS, Door};
-use crate::hall::{Forgetting, RootHall};
 use crate::house::Worker;
 use std::alloc::Global;
 use std::sync::atomic::{AtomicU64, Ordering};
 use std::sync::{Arc, Condvar, Mutex, Wait};
 use wm_disk::{Disk, NoMemory, Refusal};
 use wm_groupcommit::Desk;
+use wm_hall::{Forgetting, RootHall};
 use wm_names::RootPath;
 use wm_registry::{Registry, Root};
+use wm_share::{Naming, Shares};
 
 /// The workers that are still to be started.
 #[derive(Drop)]
@@ -19,31 +20,39 @@ pub struct Missing {
 }
 
 /// What all threads share.
-pub struct Shared<D: Disk + Drop> {
+pub struct Shared<D: Disk + Drop, J: Naming, K: Wait + Copy + Drop> {
     pub desk: Desk<D>,
-    pub halls: Mutex<Vec<Arc<RootHall>>>,
+    /// What keepers wait with.
+    keeping: K,
+    /// What makes the keeper and the viewers of a root.
+    shares: Mutex<Shares<J>>,
+    pub halls: Mutex<Vec<Arc<RootHall<J, K>>>>,
     /// Held while the halls follow the registry.
     following: Mutex<u64>,
     pub missing: Mutex<Missing>,
     pub came: Condvar,
-    pub chairs: Vec<Chair>,
+    pub chairs: Vec<Chair<J>>,
     pub door: Door,
     /// 1 where the server closes.
     pub closing: AtomicU64,
     pub forgetting: Forgetting,
 }
 
-impl<D: Disk + Drop> Shared<D> {
+impl<D: Disk + Drop, J: Naming, K: Wait + Copy + Drop> Shared<D, J, K> {
     pub fn new(
         alloc: Global,
+        keeping: K,
         desk: Desk<D>,
+        shares: Shares<J>,
         forgetting: Forgetting,
-    ) -> Result<Shared<D>, (NoMemory, Desk<D>)> {
+    ) -> Result<Shared<D, J, K>, (NoMemory, Desk<D>)> {
         let Ok(chairs) = chairs(alloc) else {
             return Err((NoMemory, desk));
         };
         Ok(Shared {
+            keeping,
             desk,
+            shares: Mutex::new(shares),
             halls: Mutex::new(Vec::new(alloc)),
             following: Mutex::new(0),
             missing: Mutex::new(Missing {
@@ -61,7 +70,9 @@ impl<D: Disk + Drop> Shared<D> {
     /// The desk, once each thread has ended.
     pub fn into_desk(self) -> Desk<D> {
         let Shared {
+            keeping: _,
             desk,
+            shares: _,
             halls: _,
             following: _,
             missing: _,
@@ -75,7 +86,7 @@ impl<D: Disk + Drop> Shared<D> {
     }
 
     /// The hall of a watched root.
-    pub fn hall<R: Wait>(&self, rt: &R, path: &RootPath) -> Result<Arc<RootHall>, Refusal> {
+    pub fn hall<R: Wait>(&self, rt: &R, path: &RootPath) -> Result<Arc<RootHall<J, K>>, Refusal> {
         for hall in self.halls.lock(rt).iter() {
             if hall.path == *path {
                 return Arc::try_clone(hall).map_err(|_| Refusal::NoMemory);
@@ -85,7 +96,7 @@ impl<D: Disk + Drop> Shared<D> {
     }
 
     /// The hall of a root by its number.
-    pub fn numbered<R: Wait>(&self, rt: &R, number: u64) -> Option<Arc<RootHall>> {
+    pub fn numbered<R: Wait>(&self, rt: &R, number: u64) -> Option<Arc<RootHall<J, K>>> {
         for hall in self.halls.lock(rt).iter() {
             if hall.number == number {
                 return Arc::try_clone(hall).ok();
@@ -111,7 +122,13 @@ impl<D: Disk + Drop> Shared<D> {
         incarnation: u64,
         root: &Root,
     ) -> Result<(), NoMemory> {
-        let hall = RootHall::new(alloc, path, incarnation, root.number)?;
+        let mut shares = self.shares.lock(rt);
+        let shared = shares.share(self.keeping, alloc, incarnation, root.number);
+        drop(shares);
+        let Ok((keeper, pool)) = shared else {
+            return Err(NoMemory);
+        };
+        let hall = RootHall::new(alloc, path, root.number, keeper, pool)?;
         hall.keep_triggers(rt, alloc, root.triggers.as_slice())?;
         let Ok(hall) = Arc::new(alloc, hall) else {
             return Err(NoMemory);
@@ -141,7 +158,7 @@ impl<D: Disk + Drop> Shared<D> {
             drop(halls);
             hall.work.end(rt);
             for chair in self.chairs.iter() {
-                chair.end_root(rt, path);
+                chair.end_root(rt, path, hall.number);
             }
         }
     }
@@ -196,7 +213,7 @@ impl<D: Disk + Drop> Shared<D> {
     }
 }
 
-fn chairs(alloc: Global) -> Result<Vec<Chair>, NoMemory> {
+fn chairs<J: Naming>(alloc: Global) -> Result<Vec<Chair<J>>, NoMemory> {
     let mut chairs = Vec::new(alloc);
     for _ in 0..CHAIRS {
         chairs.push(Chair::new(alloc))?;

@@ -2,7 +2,6 @@
 ghost use Rattle.wm_groupcommit.specs.Seats.{IsFlusherOf};
 
 use crate::answering::sit_on;
-use crate::hall::RootHall;
 use crate::house::{Crawl, House, Worker};
 use crate::second::second;
 use crate::shared::Shared;
@@ -17,8 +16,10 @@ use std::thread;
 use std::time::{Clock, Duration};
 use wm_disk::{Disk, NoMemory, Refusal};
 use wm_groupcommit::{Desk, Flusher};
+use wm_hall::RootHall;
 use wm_lines::Progress;
 use wm_names::Subtree;
+use wm_share::Naming;
 use wm_view::{Listing, Op};
 
 /// Commits what is submitted: whether the flusher may end, since the desk is closed and nothing is left.
@@ -46,9 +47,9 @@ fn flush_once<R: Wait + Clock, D: Disk + Drop>(
 }
 
 /// A crawl of a hall's root.
-fn crawl_of(
+fn crawl_of<J: Naming, K: Wait + Drop>(
     alloc: Global,
-    hall: &RootHall,
+    hall: &RootHall<J, K>,
     ticket: u64,
     subtree: Result<Subtree, NoMemory>,
 ) -> Result<Crawl, NoMemory> {
@@ -59,7 +60,7 @@ fn crawl_of(
     })
 }
 
-impl<D: Disk + Drop> House for Shared<D> {
+impl<D: Disk + Drop, J: Naming, K: Wait + Copy + Drop> House for Shared<D, J, K> {
     fn open_door<R: Wait>(&self, rt: &R, chairs: u64) {
         self.door.open(rt, chairs);
     }
@@ -119,19 +120,15 @@ impl<D: Disk + Drop> House for Shared<D> {
     }
 
     fn tick<R: Wait>(&self, rt: &R, root: u64) -> u64 {
-        let Some(hall) = self.numbered(rt, root) else {
-            return 0;
-        };
-        match hall.clock(rt) {
-            Ok(clock) => clock.tick,
-            Err(_) => 0,
+        match self.numbered(rt, root) {
+            Some(hall) => hall.tick(rt),
+            None => 0,
         }
     }
 
     fn take_in<R: Wait + Clock>(
         &self,
         rt: &R,
-        alloc: Global,
         root: u64,
         begun_at: u64,
         found: Listing,
@@ -141,7 +138,7 @@ impl<D: Disk + Drop> House for Shared<D> {
         };
         let moment = second(rt);
         let op = Op::Recrawl(moment, begun_at, found);
-        let met = hall.operate(rt, alloc, moment, self.forgetting, &op);
+        let met = hall.operate(rt, moment, self.forgetting, op);
         self.ring(rt);
         met
     }

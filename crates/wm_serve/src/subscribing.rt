@@ -1,18 +1,23 @@
 //! `subscribe` and `unsubscribe` of a session.
 use crate::chair::Chair;
-use crate::hall::RootHall;
 use crate::shared::Shared;
 use std::alloc::Global;
 use std::sync::Wait;
 use wm_clock::{ClockId, ClockSpec};
 use wm_disk::{Disk, Refusal};
+use wm_hall::RootHall;
 use wm_lines::{Inquiry, reply};
 use wm_names::RootPath;
+use wm_share::Naming;
 use wm_since::Query;
 use wm_subs::{Subscribed, Subscription, SubscriptionName};
 
 /// The clock since which is told first: a cursor's as it stands now, and none where it isn't there.
-fn start<R: Wait>(rt: &R, hall: &RootHall, since: &Option<ClockSpec>) -> Option<ClockId> {
+fn start<R: Wait, J: Naming, K: Wait + Drop>(
+    rt: &R,
+    hall: &RootHall<J, K>,
+    since: &Option<ClockSpec>,
+) -> Option<ClockId> {
     match since {
         Some(ClockSpec::Clock(clock)) => Some(*clock),
         Some(ClockSpec::Cursor(name)) => hall.cursor(rt, name),
@@ -22,11 +27,11 @@ fn start<R: Wait>(rt: &R, hall: &RootHall, since: &Option<ClockSpec>) -> Option<
 }
 
 /// Subscribes to a root under a name, in place of a subscription of that root and name, and appends the reply.
-pub fn subscribe<R: Wait, D: Disk + Drop>(
+pub fn subscribe<R: Wait, D: Disk + Drop, J: Naming, K: Wait + Copy + Drop>(
     rt: &R,
     alloc: Global,
-    shared: &Shared<D>,
-    chair: &Chair,
+    shared: &Shared<D, J, K>,
+    chair: &Chair<J>,
     root: RootPath,
     name: SubscriptionName,
     inquiry: Inquiry,
@@ -34,8 +39,10 @@ pub fn subscribe<R: Wait, D: Disk + Drop>(
 ) -> Result<(), Refusal> {
     // Under this lock a root that is still in the table takes the subscription along when it goes.
     let mut all = chair.subscriptions.lock(rt);
+    let mut viewers = chair.viewers.lock(rt);
     let hall = shared.hall(rt, &root)?;
-    let clock = hall.clock(rt)?;
+    let clock = hall.clock(rt, alloc, viewers.of_root(rt, &hall)?)?;
+    drop(viewers);
     let Inquiry {
         since,
         expression,
@@ -64,11 +71,11 @@ pub fn subscribe<R: Wait, D: Disk + Drop>(
 }
 
 /// Ends the subscription of a watched root and a name, where there is one, and appends the reply.
-pub fn unsubscribe<R: Wait, D: Disk + Drop>(
+pub fn unsubscribe<R: Wait, D: Disk + Drop, J: Naming, K: Wait + Copy + Drop>(
     rt: &R,
     alloc: Global,
-    shared: &Shared<D>,
-    chair: &Chair,
+    shared: &Shared<D, J, K>,
+    chair: &Chair<J>,
     root: &RootPath,
     name: &SubscriptionName,
     out: &mut Vec<u8>,

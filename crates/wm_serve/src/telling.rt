@@ -7,19 +7,24 @@ use std::net::Shutdown;
 use std::sync::Wait;
 use wm_clock::ClockId;
 use wm_disk::{Disk, Refusal};
+use wm_hall::Viewers;
 use wm_lines::{Expression, reply};
+use wm_share::Naming;
 use wm_subs::Subscribed;
 
 /// Appends a subscription's line where it is due, and gives its clock.
-fn tell_one<R: Wait, D: Disk + Drop>(
+fn tell_one<R: Wait, D: Disk + Drop, J: Naming, K: Wait + Copy + Drop>(
     rt: &R,
     alloc: Global,
-    shared: &Shared<D>,
+    shared: &Shared<D, J, K>,
+    viewers: &mut Viewers<J>,
     subscribed: &Subscribed<Expression>,
     out: &mut Vec<u8>,
 ) -> Result<Option<ClockId>, Refusal> {
     let hall = shared.hall(rt, &subscribed.root)?;
-    let Some(answer) = hall.due(rt, alloc, &subscribed.subscription)? else {
+    let viewer = viewers.of_root(rt, &hall)?;
+    hall.teach(rt, viewer);
+    let Some(answer) = subscribed.subscription.due_of(alloc, viewer)? else {
         return Ok(None);
     };
     reply::put_due(alloc, subscribed, &answer, out)?;
@@ -27,20 +32,22 @@ fn tell_one<R: Wait, D: Disk + Drop>(
 }
 
 /// Appends the lines that are due, in the order of subscribing. One that is refused is tried again with the next change.
-fn tell_all<R: Wait, D: Disk + Drop>(
+fn tell_all<R: Wait, D: Disk + Drop, J: Naming, K: Wait + Copy + Drop>(
     rt: &R,
     alloc: Global,
-    shared: &Shared<D>,
-    chair: &Chair,
+    shared: &Shared<D, J, K>,
+    chair: &Chair<J>,
     out: &mut Vec<u8>,
 ) {
     let mut all = chair.subscriptions.lock(rt);
     let all = &mut *all;
+    let mut viewers = chair.viewers.lock(rt);
     for place in 0..all.as_slice().len() {
         if place >= all.as_slice().len() {
             return;
         }
-        let told = tell_one(rt, alloc, shared, &all.as_slice()[place], out);
+        let one = &all.as_slice()[place];
+        let told = tell_one(rt, alloc, shared, &mut viewers, one, out);
         if let Ok(Some(clock)) = told
             && place < all.as_slice().len()
         {
@@ -50,7 +57,12 @@ fn tell_all<R: Wait, D: Disk + Drop>(
 }
 
 /// Tells the subscriptions of the sessions on a chair, until the server closes.
-pub fn tell_for<R: Wait, D: Disk + Drop>(rt: &R, alloc: Global, shared: &Shared<D>, chair: &Chair) {
+pub fn tell_for<R: Wait, D: Disk + Drop, J: Naming, K: Wait + Copy + Drop>(
+    rt: &R,
+    alloc: Global,
+    shared: &Shared<D, J, K>,
+    chair: &Chair<J>,
+) {
     for _ in rt.forever() {
         if !chair.bell.wait(rt) {
             return;

@@ -1,10 +1,11 @@
 //! Runs the triggers of a root.
-use crate::hall::RootHall;
 use crate::system::Programs;
 use std::alloc::Global;
 use std::sync::Wait;
 use wm_disk::Refusal;
+use wm_hall::RootHall;
 use wm_registry::{Stdin, Trigger};
+use wm_share::{Naming, Viewer};
 use wm_triggers::TriggerRun;
 
 /// A trigger and its runs.
@@ -57,17 +58,15 @@ fn runs_of(alloc: Global, trigger: &Trigger, kept: &mut Vec<Kept>) -> Result<Kep
 }
 
 /// Runs a trigger if it is due.
-fn run_one<R: Wait, P: Programs>(
-    rt: &R,
+fn run_one<J: Naming, K: Wait + Drop, P: Programs>(
     alloc: Global,
-    hall: &RootHall,
+    hall: &RootHall<J, K>,
+    viewer: &mut Viewer<J>,
     programs: &P,
     kept: &mut Kept,
 ) -> Result<(), Refusal> {
     let query = kept.runs.ask(alloc)?;
-    let Some(answer) = hall.ask(rt, alloc, &query)? else {
-        return Ok(());
-    };
+    let answer = viewer.answer(alloc, &query)?;
     let Some(run) = kept.runs.run_of(answer) else {
         return Ok(());
     };
@@ -79,24 +78,31 @@ fn run_one<R: Wait, P: Programs>(
 }
 
 /// Runs the triggers once, those that are due. Whose runs find no memory begins anew with the next change.
-fn run_all<R: Wait, P: Programs>(
+fn run_all<R: Wait, J: Naming, K: Wait + Drop, P: Programs>(
     rt: &R,
     alloc: Global,
-    hall: &RootHall,
+    hall: &RootHall<J, K>,
+    viewer: &mut Viewer<J>,
     programs: &P,
     kept: &mut Vec<Kept>,
 ) -> Result<Vec<Kept>, Refusal> {
     let mut now = Vec::new(alloc);
     for trigger in hall.triggers(rt, alloc)? {
         let mut one = runs_of(alloc, &trigger, kept)?;
-        let _run = run_one(rt, alloc, hall, programs, &mut one);
+        let _run = run_one(alloc, hall, viewer, programs, &mut one);
         now.push(one)?;
     }
     Ok(now)
 }
 
-/// The worker that runs the triggers of a root.
-pub fn trigger_for<R: Wait, P: Programs>(rt: &R, alloc: Global, hall: &RootHall, programs: &P) {
+/// The worker that runs the triggers of a root, with a viewer of its own from its start on.
+pub fn trigger_for<R: Wait, J: Naming, K: Wait + Drop, P: Programs>(
+    rt: &R,
+    alloc: Global,
+    hall: &RootHall<J, K>,
+    programs: &P,
+) {
+    let mut viewer = hall.lend(rt).ok();
     let mut seen = 0;
     let mut kept = Vec::new(alloc);
     for _ in rt.forever() {
@@ -104,7 +110,11 @@ pub fn trigger_for<R: Wait, P: Programs>(rt: &R, alloc: Global, hall: &RootHall,
             return;
         };
         seen = changes;
-        if let Ok(now) = run_all(rt, alloc, hall, programs, &mut kept) {
+        let Some(viewer) = &mut viewer else {
+            continue;
+        };
+        hall.teach(rt, viewer);
+        if let Ok(now) = run_all(rt, alloc, hall, viewer, programs, &mut kept) {
             kept = now;
         }
     }

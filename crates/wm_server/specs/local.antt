@@ -1,5 +1,5 @@
 pub mod LocalLaws
 pub mod Locals
-pub mod PartFronts
+pub mod RegistryFronts
 pub mod Stores
 pub mod ViewChanges

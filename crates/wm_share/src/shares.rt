@@ -106,13 +106,13 @@ impl<J: Naming> Shares<J> {
 
     /// A keeper and its viewers, over two new views of the root. `NoMemory`, and `Exhausted` where 2^63 - 1
     /// shares were made.
-    pub fn share<'a, R: Wait>(
+    pub fn share<R: Wait + Drop>(
         &mut self,
-        rt: &'a R,
+        rt: R,
         alloc: Global,
         incarnation: u64,
         root: u64,
-    ) -> Result<(RootKeeper<J, Shown<J>, &'a R>, Pool<J>), Refusal>
+    ) -> Result<(RootKeeper<J, Shown<J>, R>, Pool<J>), Refusal>
         ensures published { IfOk result (λ s. (s.0.published ≡ empty_list (record { number = self.old; incarnation = incarnation; root = root })) × (s.0.pending ≡ [])) }
         ensures viewers { IfOk result (λ s. s.1.share ≡ s.0.published.share) }
         ensures refused { IfErr result (λ e. (e ≡ Refusal.NoMemory) ⊎ (e ≡ Refusal.Exhausted)) }

@@ -1,4 +1,5 @@
 pub mod LocalLemmas
 pub mod OperationLemmas
+pub mod RegistryLemmas
 pub mod StartLemmas
 pub mod WatchedLemmas

@@ -12,8 +12,10 @@ use wm_share::{Naming, Viewer};
 use wm_since::{Answer, Test, every_client};
 
 impl<T: Test> Subscription<T> {
-    /// What is to be told on what the viewer has then seen.
-    fn due_of<J: Naming>(
+    /// What is to be told on a published list that begins with all that the viewer had seen or learnt, and
+    /// that it has then seen: `None` as `next` has it. `NoPlace` where the keeper is gone, and `NoMemory`.
+    /// Whoever tells it takes note of that with `told`.
+    pub fn due_of<J: Naming>(
         &self,
         alloc: Global,
         viewer: &mut Viewer<J>,

@@ -1,5 +1,5 @@
 use Rattle.std.proofs.lemmas.Result.{IfOk-weaker}
-use Rattle.wm_program.specs.ProgramWords.{TellsSettings, program_wanted}
+use Rattle.wm_program.specs.ProgramWords.{program_wanted}
 use Rattle.wm_program.proofs.Wanting.{by_settings, found_served}
 use Rattle.wm_program.proofs.words.served.Goals as goal
 

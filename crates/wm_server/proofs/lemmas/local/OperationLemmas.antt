@@ -11,7 +11,7 @@ use Rattle.wm_server.specs.session.Sessions.{operation_met, view_of}
 use Rattle.wm_server.specs.session.Watched.{Operated, progress_after, view_after}
 use Rattle.wm_server.proofs.lemmas.local.LocalLemmas.{lasts_same}
 
-refuses : (old : FrontState) (root : Path) (o : Op) (e : Refusal) → view_after (view_of old.state root) o ≡ Err e → Operates old root o (Err e) old
+pub refuses : (old : FrontState) (root : Path) (o : Op) (e : Refusal) → view_after (view_of old.state root) o ≡ Err e → Operates old root o (Err e) old
 refuses old root o e is = record {
   way = Defined;
   cause = lasts_same old;

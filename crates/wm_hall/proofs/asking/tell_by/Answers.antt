@@ -1,0 +1,14 @@
+use Rattle.std.proofs.Common.{◌≡◌, ◌++◌, subst}
+use Rattle.wm_expr.specs.Meanings.{holds}
+use Rattle.wm_since.specs.Answers.{answer_to}
+use Rattle.wm_share.specs.PublishedLists.{history}
+use Rattle.wm_lines.specs.Replies.{line_text, query_reply}
+use Rattle.wm_hall.proofs.asking.tell_by.Goals as goal
+
+-- the question is since where the cursor stands
+pub returns-clause-told : goal.returns-clause-told
+returns-clause-told g c =
+    subst
+    (λ s. c.tell.new.out.items ≡ c.args.out.now.items ++ line_text (query_reply c.args.fields.now (answer_to (holds c.args.query.test) (history c.tell.new.viewer) (record { since = s; empty_on_fresh = c.args.query.empty_on_fresh }))))
+    c.clock-query.ensures
+    c.in_ok-clock.ensures.told

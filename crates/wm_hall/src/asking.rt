@@ -1,0 +1,86 @@
+//! Questions of a root, as a viewer answers them: the replies of `query`, `since` and `clock`.
+//! Definitions: `answer_to` of wm_since, `history` of wm_share. Tests: serve_tests/src/sessions.rt.
+ghost use Rattle.std.specs.Prelude.{◌≡◌, ◌⊎◌, ◌++◌, ◌≤◌, true, false, IfOk, IfErr, OnErr, vec_capacity};
+ghost use Rattle.wm_expr.specs.Meanings.{holds};
+ghost use Rattle.wm_view.specs.Histories.{is_ready};
+ghost use Rattle.wm_since.specs.Answers.{answer_to, clock_of as clock_of_history, question};
+ghost use Rattle.wm_since.specs.Cursors.{cursor_at, has_room, moved_to};
+ghost use Rattle.wm_share.specs.PublishedLists.{Begins, history};
+ghost use Rattle.wm_lines.specs.Replies.{line_text, query_reply};
+
+use std::alloc::Global;
+use wm_clock::{ClockId, CursorName};
+use wm_disk::Refusal;
+use wm_lines::{Expression, reply};
+use wm_share::{Naming, Viewer};
+use wm_since::{Cursors, Every, Fields, Query};
+
+/// Appends the answer to a question, and gives its clock. `NotReady` before the first whole listing, `NoPlace` where the root is
+/// gone, and `NoMemory`; nothing is appended then.
+pub fn tell<J: Naming>(
+    alloc: Global,
+    viewer: &mut Viewer<J>,
+    query: &Query<Expression>,
+    fields: &Fields,
+    out: &mut Vec<u8>,
+) -> Result<ClockId, Refusal>
+    ensures seen { Begins viewer.old viewer.new }
+    ensures clock { IfOk result (λ clock. clock ≡ clock_of_history (history viewer.new)) }
+    ensures told { IfOk result (λ _. out.new.items ≡ out.old.items ++ line_text (query_reply fields.now (answer_to (holds query.now.test) (history viewer.new) (question query.now)))) }
+    ensures refused { IfErr result (λ e. (e ≡ Refusal.NoMemory) ⊎ (e ≡ Refusal.NoPlace) ⊎ ((e ≡ Refusal.NotReady) × (is_ready (history viewer.new) ≡ false))) }
+    ensures err { OnErr result (out.new.items ≡ out.old.items) }
+    ensures room { vec_capacity out.old ≤ vec_capacity out.new }
+{
+    let answer = viewer.answer(alloc, query)?;
+    reply::put_answer(alloc, &answer, fields, out)?;
+    Ok(answer.clock)
+}
+
+/// Appends the answer to a question since a cursor's clock, and moves the cursor to the answer's. It is refused as `tell` is, and
+/// `TooMany` where there is no room for a new cursor; no cursor is moved then.
+pub fn tell_by<J: Naming>(
+    alloc: Global,
+    viewer: &mut Viewer<J>,
+    cursors: &mut Cursors,
+    name: CursorName,
+    mut query: Query<Expression>,
+    fields: &Fields,
+    out: &mut Vec<u8>,
+) -> Result<(), Refusal>
+    ensures seen { Begins viewer.old viewer.new }
+    ensures told { IfOk result (λ _. out.new.items ≡ out.old.items ++ line_text (query_reply fields.now (answer_to (holds query.test) (history viewer.new) (record { since = cursor_at name cursors.old; empty_on_fresh = query.empty_on_fresh })))) }
+    ensures moved { IfOk result (λ _. cursors.new ≡ moved_to name (clock_of_history (history viewer.new)) cursors.old) }
+    ensures refused { IfErr result (λ e. (e ≡ Refusal.NoMemory) ⊎ (e ≡ Refusal.NoPlace) ⊎ ((e ≡ Refusal.NotReady) × (is_ready (history viewer.new) ≡ false)) ⊎ ((e ≡ Refusal.TooMany) × (is_ready (history viewer.new) ≡ true) × (has_room name cursors.old ≡ false))) }
+    ensures err { OnErr result ((out.new.items ≡ out.old.items) × (cursors.new ≡ cursors.old)) }
+    ensures room { vec_capacity out.old ≤ vec_capacity out.new }
+{
+    query.since = cursors.clock(&name);
+    if !cursors.has_room(&name) {
+        // a root that isn't ready says so first
+        viewer.answer(alloc, &query)?;
+        return Err(Refusal::TooMany);
+    }
+    let clock = tell(alloc, viewer, &query, fields, out)?;
+    cursors.moved(name, clock);
+    Ok(())
+}
+
+/// Where the root stands, as the viewer sees it. It costs what changed since a clock that it was told before. `NotReady` before the
+/// first whole listing, `NoPlace` where the root is gone, and `NoMemory`.
+pub fn clock<J: Naming>(
+    alloc: Global,
+    viewer: &mut Viewer<J>,
+    told: Option<ClockId>,
+) -> Result<ClockId, Refusal>
+    ensures seen { Begins viewer.old viewer.new }
+    ensures clock { IfOk result (λ clock. (is_ready (history viewer.new) ≡ true) × (clock ≡ clock_of_history (history viewer.new))) }
+    ensures refused { IfErr result (λ e. (e ≡ Refusal.NoMemory) ⊎ (e ≡ Refusal.NoPlace) ⊎ ((e ≡ Refusal.NotReady) × (is_ready (history viewer.new) ≡ false))) }
+{
+    let query = Query {
+        since: told,
+        test: Every,
+        empty_on_fresh: true,
+    };
+    let answer = viewer.answer(alloc, &query)?;
+    Ok(answer.clock)
+}

@@ -1,0 +1,180 @@
+//! One watched root, shared by sessions and workers: its keeper, its viewers, its cursors and its triggers, each under a lock of
+//! its own. Tests: serve_tests/src/sessions.rt.
+use crate::asking::{clock, tell, tell_by};
+use crate::keeping::{Forgetting, operate, progress_of};
+use crate::work::Work;
+use std::alloc::Global;
+use std::sync::{Mutex, Wait};
+use wm_clock::{ClockId, ClockSpec, CursorName};
+use wm_disk::{NoMemory, Refusal};
+use wm_lines::{Inquiry, Progress};
+use wm_names::RootPath;
+use wm_registry::Trigger;
+use wm_share::{Naming, Pool, RootKeeper, Shown, Told, Viewer};
+use wm_since::{Cursors, Query};
+use wm_view::Op;
+
+/// One watched root.
+#[derive(Drop)]
+pub struct RootHall<J: Naming, K: Wait + Drop> {
+    pub path: RootPath,
+    pub number: u64,
+    pub work: Work,
+    triggers: Mutex<Vec<Trigger>>,
+    keeper: Mutex<RootKeeper<J, Shown<J>, K>>,
+    /// The second of the last age-out, or when the view became ready. It is taken under the keeper's lock alone.
+    aged_at: Mutex<Option<u64>>,
+    pool: Mutex<Pool<J>>,
+    /// What was published last.
+    told: Mutex<Option<Told<J>>>,
+    cursors: Mutex<Cursors>,
+}
+
+impl<J: Naming, K: Wait + Drop> RootHall<J, K> {
+    /// A root over the keeper of a new view and its viewers. One crawl of it is asked for.
+    pub fn new(
+        alloc: Global,
+        path: &RootPath,
+        number: u64,
+        keeper: RootKeeper<J, Shown<J>, K>,
+        pool: Pool<J>,
+    ) -> Result<RootHall<J, K>, NoMemory> {
+        Ok(RootHall {
+            path: path.copy(alloc)?,
+            number,
+            work: Work::new(alloc)?,
+            triggers: Mutex::new(Vec::new(alloc)),
+            keeper: Mutex::new(keeper),
+            aged_at: Mutex::new(None),
+            pool: Mutex::new(pool),
+            told: Mutex::new(None),
+            cursors: Mutex::new(Cursors::new(alloc)?),
+        })
+    }
+
+    /// Keeps the triggers as they are now. Without memory the old ones stay.
+    pub fn keep_triggers<R: Wait>(
+        &self,
+        rt: &R,
+        alloc: Global,
+        triggers: &[Trigger],
+    ) -> Result<(), NoMemory> {
+        let copies = copied(alloc, triggers)?;
+        *self.triggers.lock(rt) = copies;
+        Ok(())
+    }
+
+    /// The triggers as they are.
+    pub fn triggers<R: Wait>(&self, rt: &R, alloc: Global) -> Result<Vec<Trigger>, NoMemory> {
+        copied(alloc, &self.triggers.lock(rt))
+    }
+
+    /// Performs an operation, publishes it, and tells where the view stands then. What the view refuses, `Exhausted`, and `NoMemory`,
+    /// after which it may still be published with the next one.
+    pub fn operate<R: Wait>(
+        &self,
+        rt: &R,
+        moment: u64,
+        forgetting: Forgetting,
+        op: Op,
+    ) -> Result<Progress, Refusal> {
+        let mut keeper = self.keeper.lock(rt);
+        let mut aged_at = self.aged_at.lock(rt);
+        let told = operate(&mut keeper, &mut aged_at, moment, forgetting, op)?;
+        let met = progress_of(&told);
+        *self.told.lock(rt) = Some(told);
+        drop(aged_at);
+        drop(keeper);
+        self.work.stir(rt);
+        met
+    }
+
+    /// A viewer, which has learnt what was published last. `NoPlace` where the pool is empty.
+    pub fn lend<R: Wait>(&self, rt: &R) -> Result<Viewer<J>, Refusal> {
+        let mut viewer = self.pool.lock(rt).take()?;
+        self.teach(rt, &mut viewer);
+        Ok(viewer)
+    }
+
+    /// Takes a viewer back.
+    pub fn take_back<R: Wait>(&self, rt: &R, viewer: Viewer<J>) {
+        self.pool.lock(rt).give(viewer);
+    }
+
+    /// A viewer learns what was published last.
+    pub fn teach<R: Wait>(&self, rt: &R, viewer: &mut Viewer<J>) {
+        if let Some(told) = &*self.told.lock(rt) {
+            viewer.learn(told);
+        }
+    }
+
+    /// The clock that was published last; none before the first whole listing.
+    fn last_clock<R: Wait>(&self, rt: &R) -> Option<ClockId> {
+        match &*self.told.lock(rt) {
+            Some(told) => told.clock(),
+            None => None,
+        }
+    }
+
+    /// The tick that was published last; 0 before the first whole listing.
+    pub fn tick<R: Wait>(&self, rt: &R) -> u64 {
+        match self.last_clock(rt) {
+            Some(clock) => clock.tick,
+            None => 0,
+        }
+    }
+
+    /// Where the root stands, as a viewer sees it.
+    pub fn clock<R: Wait>(
+        &self,
+        rt: &R,
+        alloc: Global,
+        viewer: &mut Viewer<J>,
+    ) -> Result<ClockId, Refusal> {
+        clock(alloc, viewer, self.last_clock(rt))
+    }
+
+    /// Where a cursor stands: `None` where it isn't there.
+    pub fn cursor<R: Wait>(&self, rt: &R, name: &CursorName) -> Option<ClockId> {
+        self.cursors.lock(rt).clock(name)
+    }
+
+    /// Appends the answer to what is asked, as a viewer sees the root. Questions by a cursor are answered one after the other.
+    pub fn inquire<R: Wait>(
+        &self,
+        rt: &R,
+        alloc: Global,
+        viewer: &mut Viewer<J>,
+        inquiry: Inquiry,
+        out: &mut Vec<u8>,
+    ) -> Result<(), Refusal> {
+        let Inquiry {
+            since,
+            expression,
+            fields,
+            empty_on_fresh,
+        } = inquiry;
+        let mut query = Query {
+            since: None,
+            test: expression,
+            empty_on_fresh,
+        };
+        if let Some(ClockSpec::Cursor(name)) = since {
+            let mut cursors = self.cursors.lock(rt);
+            return tell_by(alloc, viewer, &mut cursors, name, query, &fields, out);
+        }
+        if let Some(ClockSpec::Clock(clock)) = since {
+            query.since = Some(clock);
+        }
+        tell(alloc, viewer, &query, &fields, out)?;
+        Ok(())
+    }
+}
+
+fn copied(alloc: Global, triggers: &[Trigger]) -> Result<Vec<Trigger>, NoMemory> {
+    let mut copies = Vec::new(alloc);
+    for trigger in triggers {
+        copies.push(trigger.copy()?)?;
+    }
+    Ok(copies)
+}

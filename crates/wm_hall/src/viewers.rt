@@ -1,0 +1,68 @@
+//! The viewers of a session: one of each root that it asked about.
+//! Tests: serve_tests/src/sessions.rt.
+use crate::hall::RootHall;
+use std::alloc::Global;
+use std::sync::Wait;
+use wm_disk::Refusal;
+use wm_share::{Naming, Viewer};
+
+/// The viewers of a session. One is taken from its root's pool at the first question, and given back at the session's end.
+#[derive(Drop)]
+pub struct Viewers<J: Naming> {
+    all: Vec<Viewer<J>>,
+}
+
+impl<J: Naming> Viewers<J> {
+    /// No viewers yet. It takes no memory.
+    pub fn new(alloc: Global) -> Viewers<J> {
+        Viewers {
+            all: Vec::new(alloc),
+        }
+    }
+
+    /// The viewer of a root. At the first question it is taken from the root's pool: `NoPlace` where that is empty, and
+    /// `NoMemory`.
+    pub fn of_root<R: Wait, K: Wait + Drop>(
+        &mut self,
+        rt: &R,
+        hall: &RootHall<J, K>,
+    ) -> Result<&mut Viewer<J>, Refusal> {
+        if self.place(hall.number).is_none() {
+            self.all.try_reserve(1)?;
+            self.all.push(hall.lend(rt)?)?;
+        }
+        match self.place(hall.number) {
+            Some(place) if place < self.all.len() => Ok(&mut self.all[place]),
+            _ => Err(Refusal::NoPlace),
+        }
+    }
+
+    /// The viewer of a root, if there is one, learns what was published last.
+    pub fn learn<R: Wait, K: Wait + Drop>(&mut self, rt: &R, hall: &RootHall<J, K>) {
+        if let Some(place) = self.place(hall.number)
+            && place < self.all.len()
+        {
+            hall.teach(rt, &mut self.all[place]);
+        }
+    }
+
+    /// Lets the viewer of a root go that isn't watched any longer.
+    pub fn forget(&mut self, root: u64) {
+        if let Some(place) = self.place(root)
+            && place < self.all.len()
+        {
+            self.all.swap_remove(place);
+        }
+    }
+
+    /// The viewers, to be given back.
+    pub fn into_vec(self) -> Vec<Viewer<J>> {
+        self.all
+    }
+
+    fn place(&self, root: u64) -> Option<usize> {
+        self.all
+            .iter()
+            .position(|viewer| viewer.share().root == root)
+    }
+}
