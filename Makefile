@@ -5,6 +5,7 @@ STATE ?= watchmand.state
 SOCKET ?= watchmand.socket
 PROGRAM := crates/watchmand/out/watchmand
 CLIENT := crates/wmctl/out/wmctl
+FEED := crates/wmfeed/out/wmfeed
 BENCH := crates/bench/out/bench
 SHARE_BENCH := crates/share_bench/out/share_bench
 FILES ?= 100000
@@ -16,17 +17,17 @@ UNIT_PREFIX ?= $(PREFIX)
 PAGES := GUIDE.md QUERIES.md FORMATS.md PROMISES.md
 SOURCES := crates.txt $(shell find crates -name out -prune -o -type f \( -name '*.rt' -o -name '*.antt' \) -print)
 
-.PHONY: help clean uninstall test lint build run lines serve-use install bench bench-journal bench-store bench-desk idle-desk bench-crawl bench-view bench-share bench-match bench-peer bench-plots clients crawl-tree session examples examples-use dist dist-use kill faults state-file file-calls
+.PHONY: help clean uninstall test lint build run lines serve-use feed-use install bench bench-journal bench-store bench-desk idle-desk bench-crawl bench-view bench-share bench-match bench-peer bench-plots clients crawl-tree session examples examples-use dist dist-use kill faults state-file file-calls
 
 help:
 	@echo "make test          the whole gate: each proof from nothing, edits that must be refused, tests, programs (rt; two hours on two cores)"
 	@echo "make lint          what the gate doesn't see: no definition's name in the specs of two crates, and no use of another crate's proofs/ (sh, awk; at once)"
 	@echo "make build         builds watchmand (rt; some 45 minutes the first time, since it proves it)"
 	@echo "make run           serves SOCKET=$(SOCKET) over STATE=$(STATE), which it makes where it isn't there, and tells what to try next"
-	@echo "                   (it and all below build watchmand, wmctl or bench first: rt alone, no network)"
+	@echo "                   (it and all below build watchmand, wmctl, wmfeed or bench first: rt alone, no network)"
 	@echo "make lines         answers request lines from standard input over STATE=$(STATE)"
-	@echo "make install       puts watchmand and wmctl into PREFIX/bin (PREFIX=$(PREFIX)), with man pages, completion, a systemd user unit and"
-	@echo "                   docs (UNIT_PREFIX: where the unit is to find the program, if not in PREFIX); make uninstall takes them away"
+	@echo "make install       puts watchmand, wmctl and wmfeed into PREFIX/bin (PREFIX=$(PREFIX)), with man pages, completion, systemd user units and"
+	@echo "                   docs (UNIT_PREFIX: where the units are to find the programs, if not in PREFIX); make uninstall takes them away"
 	@echo "make dist          makes dist/$(ARCHIVE).tar.gz and its .sha256 (tar, gzip, strip); make dist-use tries the archive"
 	@echo "make session       a first session by the built program; make examples: those of README.md and docs/QUERIES.md;"
 	@echo "                   make examples-use: the programs of examples/ and docs/GUIDE.md; docs/QUERIES.md and limits over a socket (cc,"
@@ -35,6 +36,7 @@ help:
 	@echo "make serve-use     rough use of a server by the built program (python3; setpriv, if root); make clients: Watchman's own clients talk"
 	@echo "                   to it; make bench-peer: it beside Watchman 4.9.0 (both python3; apt-get, where Watchman isn't installed; cc);"
 	@echo "                   make bench-plots: the same, and the plots of bench/README.md"
+	@echo "make feed-use      a feed beside a server: its views against fresh crawls, its latency, its ends (python3, git, inotify-tools)"
 	@echo "make kill          kills the built program again and again, and looks for what it answered (python3); make faults: each call"
 	@echo "                   that it makes of its state file fails once (python3, strace)"
 	@echo "make bench         a million lines beside Python's json (python3, GNU time)"
@@ -64,13 +66,18 @@ $(CLIENT): $(SOURCES)
 	cd crates/wmctl && rt run -- --help </dev/null >&2
 	@touch $@
 
+$(FEED): $(SOURCES)
+	cd crates/wmfeed && rt run -- --help </dev/null >&2
+	@touch $@
+
 # What a crawl or a long reply took goes back to the system by the C library's setting. A `format` that fails ends it, and has taken its file away. A part that a killed one left is answered `14 Damaged`.
-run: $(PROGRAM) $(CLIENT)
+run: $(PROGRAM) $(CLIENT) $(FEED)
 	@test -e $(STATE) || $(PROGRAM) format $(STATE) >&2
 	@echo "Try in another shell of this folder:"
 	@echo "  $(CLIENT) $(SOCKET) '[\"watch\",\"$(CURDIR)\"]'"
 	@echo "  $(CLIENT) $(SOCKET) '[\"query\",\"$(CURDIR)\",{\"expression\":[\"suffix\",\"md\"],\"fields\":[\"name\"]}]'"
 	@echo "  $(CLIENT) $(SOCKET) '[\"subscribe\",\"$(CURDIR)\",\"s\",{\"expression\":[\"suffix\",\"md\"],\"fields\":[\"name\"]}]' --follow 1"
+	@echo "  $(FEED) $(SOCKET) '$(CURDIR)'   # tells it what changes here (inotify-tools)"
 	@MALLOC_TRIM_THRESHOLD_=131072 $(PROGRAM) serve $(STATE) $(SOCKET)
 
 lines: $(PROGRAM)
@@ -81,29 +88,36 @@ lines: $(PROGRAM)
 serve-use: $(PROGRAM)
 	tools/rough_use.py $(PROGRAM)
 
-install: $(PROGRAM) $(CLIENT)
+# A feed beside a server: random changes, checkouts of 10,000 files, lost events, ends and starts.
+feed-use: $(PROGRAM) $(CLIENT) $(FEED)
+	tools/feed_use.py $(PROGRAM) $(CLIENT) $(FEED)
+
+install: $(PROGRAM) $(CLIENT) $(FEED)
 	install -d $(DESTDIR)$(PREFIX)/bin $(DESTDIR)$(PREFIX)/share/man/man1 $(DESTDIR)$(PREFIX)/share/bash-completion/completions
 	install -d $(DESTDIR)$(PREFIX)/lib/systemd/user $(DESTDIR)$(PREFIX)/share/doc/watchmand/docs
 	install -m 755 $(PROGRAM) $(DESTDIR)$(PREFIX)/bin/watchmand
 	install -m 755 $(CLIENT) $(DESTDIR)$(PREFIX)/bin/wmctl
-	install -m 644 man/watchmand.1 man/wmctl.1 $(DESTDIR)$(PREFIX)/share/man/man1
+	install -m 755 $(FEED) $(DESTDIR)$(PREFIX)/bin/wmfeed
+	install -m 644 man/watchmand.1 man/wmctl.1 man/wmfeed.1 $(DESTDIR)$(PREFIX)/share/man/man1
 	install -m 644 completion/watchmand.bash $(DESTDIR)$(PREFIX)/share/bash-completion/completions/watchmand
 	ln -sf watchmand $(DESTDIR)$(PREFIX)/share/bash-completion/completions/wmctl
+	ln -sf watchmand $(DESTDIR)$(PREFIX)/share/bash-completion/completions/wmfeed
 	sed 's|@PREFIX@|$(UNIT_PREFIX)|' systemd/watchmand.service > $(DESTDIR)$(PREFIX)/lib/systemd/user/watchmand.service
-	chmod 644 $(DESTDIR)$(PREFIX)/lib/systemd/user/watchmand.service
+	sed 's|@PREFIX@|$(UNIT_PREFIX)|' systemd/wmfeed@.service > $(DESTDIR)$(PREFIX)/lib/systemd/user/wmfeed@.service
+	chmod 644 $(addprefix $(DESTDIR)$(PREFIX)/lib/systemd/user/,watchmand.service wmfeed@.service)
 	install -m 644 LICENSE README.md CHANGELOG.md $(DESTDIR)$(PREFIX)/share/doc/watchmand
 	install -m 644 $(addprefix docs/,$(PAGES)) $(DESTDIR)$(PREFIX)/share/doc/watchmand/docs
 
 uninstall:
-	rm -f $(DESTDIR)$(PREFIX)/bin/watchmand $(DESTDIR)$(PREFIX)/bin/wmctl
-	rm -f $(DESTDIR)$(PREFIX)/share/man/man1/watchmand.1 $(DESTDIR)$(PREFIX)/share/man/man1/wmctl.1
-	rm -f $(addprefix $(DESTDIR)$(PREFIX)/share/bash-completion/completions/,watchmand wmctl)
-	rm -f $(DESTDIR)$(PREFIX)/lib/systemd/user/watchmand.service
+	rm -f $(addprefix $(DESTDIR)$(PREFIX)/bin/,watchmand wmctl wmfeed)
+	rm -f $(addprefix $(DESTDIR)$(PREFIX)/share/man/man1/,watchmand.1 wmctl.1 wmfeed.1)
+	rm -f $(addprefix $(DESTDIR)$(PREFIX)/share/bash-completion/completions/,watchmand wmctl wmfeed)
+	rm -f $(addprefix $(DESTDIR)$(PREFIX)/lib/systemd/user/,watchmand.service wmfeed@.service)
 	rm -rf $(DESTDIR)$(PREFIX)/share/doc/watchmand
 
 # An archive of what `install` puts into a prefix, with stripped programs, for a machine with the GNU C library alone.
-dist: $(PROGRAM) $(CLIENT)
-	tools/dist.sh $(PROGRAM) $(CLIENT) $(VERSION) dist/$(ARCHIVE)
+dist: $(PROGRAM) $(CLIENT) $(FEED)
+	tools/dist.sh $(PROGRAM) $(CLIENT) $(FEED) $(VERSION) dist/$(ARCHIVE)
 
 # The archive as a user has it, without the kit.
 dist-use: dist

@@ -1,4 +1,4 @@
-# Completion for watchmand and wmctl in bash. Tests: tools/completion.sh
+# Completion for watchmand, wmctl and wmfeed in bash. Tests: tools/completion.sh
 
 # The commands of a server that wmctl completes, without those that a feeder sends.
 _wmctl_requests='version watch watch-del watch-list clock since query recrawl subscribe unsubscribe trigger trigger-del trigger-list age-out'
@@ -59,5 +59,15 @@ _wmctl_json() {
     done
 }
 
+_wmfeed() {
+    COMPREPLY=()
+    if [[ ${COMP_WORDS[COMP_CWORD]} == -* ]]; then
+        _watchmand_words '--help --version'
+    elif ((COMP_CWORD < 3)); then
+        _watchmand_files
+    fi
+}
+
 complete -F _watchmand watchmand
 complete -F _wmctl wmctl
+complete -F _wmfeed wmfeed

@@ -38,4 +38,8 @@ offers "'[\"watch-list\"]'" wmctl socket "'[\"watch-l"
 offers "'[\"recrawl\",\"$folder\"" wmctl socket "'[\"rec"
 offers '--follow' wmctl socket x --f
 offers '1 4294967295' wmctl socket x --follow ''
+offers 'socket' wmfeed so
+offers 'state' wmfeed socket st
+offers '' wmfeed socket state s
+offers '--help --version' wmfeed --
 [ "$failed" = 0 ] && echo "the completion offers what it has to"

@@ -1,9 +1,9 @@
 #!/bin/sh
 # Makes ARCHIVE.tar.gz of what `make install` puts into a prefix, with stripped programs, and ARCHIVE.tar.gz.sha256. The same files make the
 # same bytes.
-# usage: tools/dist.sh WATCHMAND WMCTL VERSION ARCHIVE
+# usage: tools/dist.sh WATCHMAND WMCTL WMFEED VERSION ARCHIVE
 set -eu
-program=$1 client=$2 version=$3 archive=$4
+program=$1 client=$2 feed=$3 version=$4 archive=$5
 [ "$("$program" --version)" = "watchmand $version" ] || { echo "$program isn't of version $version" >&2 && exit 1; }
 name=$(basename "$archive")
 folder=$(mktemp -d)
@@ -11,8 +11,9 @@ trap 'rm -rf "$folder"' EXIT
 mkdir "$folder/built" "$folder/$name"
 strip -o "$folder/built/watchmand" "$program"
 strip -o "$folder/built/wmctl" "$client"
-make -s install -o "$folder/built/watchmand" -o "$folder/built/wmctl" PROGRAM="$folder/built/watchmand" CLIENT="$folder/built/wmctl" \
-  DESTDIR="$folder/$name" PREFIX= UNIT_PREFIX=%h/.local
+strip -o "$folder/built/wmfeed" "$feed"
+make -s install -o "$folder/built/watchmand" -o "$folder/built/wmctl" -o "$folder/built/wmfeed" PROGRAM="$folder/built/watchmand" \
+  CLIENT="$folder/built/wmctl" FEED="$folder/built/wmfeed" DESTDIR="$folder/$name" PREFIX= UNIT_PREFIX=%h/.local
 cp LICENSE README.md "$folder/$name"
 mkdir -p "$(dirname "$archive")"
 moment=$(git log -1 --format=%ct 2> /dev/null || stat -c %Y CHANGELOG.md)

@@ -1,6 +1,6 @@
 #!/bin/sh
 # Tries an archive as a user has it: its sum, what its programs link against, a first session by them without the kit, and its man pages and
-# unit. As root the programs run in a folder that has nothing but the libraries that they name (chroot), else with an empty environment.
+# units. As root the programs run in a folder that has nothing but the libraries that they name (chroot), else with an empty environment.
 # usage: tools/dist_use.sh ARCHIVE.tar.gz
 set -eu
 archive=$(realpath "$1")
@@ -9,7 +9,7 @@ folder=$(mktemp -d)
 trap 'rm -rf "$folder"' EXIT
 (cd "$(dirname "$archive")" && sha256sum -c "$(basename "$archive").sha256")
 tar -xzf "$archive" -C "$folder" --strip-components=1
-for program in watchmand wmctl; do
+for program in watchmand wmctl wmfeed; do
   echo "$program links against:"
   ldd "$folder/bin/$program" | sed 's/ (0x.*//'
   # what stands before an arrow, or the loader, by its path
@@ -29,6 +29,7 @@ done
 mkdir -p "$folder/tmp"
 alone watchmand --version
 alone wmctl --version
+alone wmfeed --version
 at=$([ "$(id -u)" = 0 ] && echo /tmp || echo tmp)
 alone watchmand format "$at/state"
 alone watchmand lines "$at/state" < "$here/first_session.lines" > "$folder/replies"
@@ -38,8 +39,10 @@ if command -v mandoc > "$folder/found"; then mandoc -Tlint -Wwarning "$folder"/s
 if command -v systemd-analyze > "$folder/found"; then
   mkdir -p "$folder/home/.local"
   ln -s "$folder/bin" "$folder/home/.local/bin"
-  HOME=$folder/home XDG_RUNTIME_DIR=$folder MANPATH=$folder/share/man systemd-analyze verify --user "$folder/lib/systemd/user/watchmand.service"
-  echo "the unit has no fault"
+  HOME=$folder/home XDG_RUNTIME_DIR=$folder MANPATH=$folder/share/man systemd-analyze verify --user "$folder/lib/systemd/user/watchmand.service" \
+    "$folder/lib/systemd/user/wmfeed@.service"
+  echo "the units have no fault"
 fi
 bash -n "$folder/share/bash-completion/completions/wmctl"
+bash -n "$folder/share/bash-completion/completions/wmfeed"
 "$here/completion.sh"

@@ -1,0 +1,84 @@
+//! All of `wmfeed`, with its status. Tests: tools/feed_use.py.
+
+use crate::feeding::feed_root;
+use crate::server::Server;
+use crate::stop::Stop;
+use crate::words::Words;
+use std::alloc::Global;
+use std::fs::Files;
+use std::io::Write;
+use std::net::Net;
+use std::process::Processes;
+use std::time::Clock;
+use wm_disk::{NoMemory, Refusal};
+use wm_names::RootPath;
+
+/// Runs `wmfeed` with the words after its own name, and gives its status: 0 where the root isn't watched any longer;
+/// 1 where inotifywait couldn't be started or ended, or the server refused a request; 2 where the words aren't
+/// understood; 3 where the server ended.
+pub fn wmfeed<R: Net + Processes + Files + Clock + AllocGlobal, W: Write, E: Write>(
+    alloc: Global,
+    rt: &R,
+    words: &[&str],
+    printer: &mut W,
+    faults: &mut E,
+) -> u8 {
+    match Words::read(alloc, words) {
+        Ok(Words::Shown { text, status: 0 }) => show(text.as_str(), printer),
+        Ok(Words::Shown { text, status }) => {
+            // Where even this can't be told, the status tells it.
+            let _shown = show(text.as_str(), faults);
+            status
+        }
+        Ok(Words::Feed { socket, root }) => match RootPath::read(alloc, root.as_str()) {
+            Ok(root) => end(feed_at(alloc, rt, socket.as_str(), &root), faults),
+            Err(Refusal::NoMemory) => end(Stop::NoMemory, faults),
+            Err(_) => {
+                let _shown = show("wmfeed: ROOT is no root's path (4 BadPath)\n", faults);
+                2
+            }
+        },
+        Err(NoMemory) => end(Stop::NoMemory, faults),
+    }
+}
+
+/// Shows a text: 0, or 1 where that fails.
+fn show<W: Write>(text: &str, writer: &mut W) -> u8 {
+    match writer.write_all(text.as_bytes()) {
+        Ok(()) => 0,
+        Err(_) => 1,
+    }
+}
+
+/// A feed of a root over the socket of a path.
+fn feed_at<R: Net + Processes + Files + Clock + AllocGlobal>(
+    alloc: Global,
+    rt: &R,
+    socket: &str,
+    root: &RootPath,
+) -> Stop {
+    match Server::connect(alloc, rt, socket) {
+        Ok(mut server) => feed_root(rt, alloc, &mut server, root),
+        Err(stop) => stop,
+    }
+}
+
+/// The status of an end, with what is told of it on `faults`.
+fn end<E: Write>(stop: Stop, faults: &mut E) -> u8 {
+    let (status, told) = match stop {
+        Stop::WatchGone => (0, "wmfeed: the root isn't watched any longer\n"),
+        Stop::ServerGone => (3, "wmfeed: the server ended\n"),
+        Stop::Refused => (1, "wmfeed: the server refused a request\n"),
+        Stop::Unwatched => (1, "wmfeed: inotifywait couldn't be started\n"),
+        Stop::Doubt | Stop::Ended | Stop::Unwatchable => {
+            (
+                1,
+                "wmfeed: inotifywait ends, or folders stay without a watch\n",
+            )
+        }
+        Stop::NoMemory => (1, "wmfeed: 16 NoMemory\n"),
+    };
+    // Where even this can't be told, the status tells it.
+    let _shown = show(told, faults);
+    status
+}

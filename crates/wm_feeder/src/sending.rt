@@ -1,0 +1,136 @@
+//! A batch told to the server. Tests: tools/feed_use.py.
+
+use crate::looking::Looking;
+use crate::server::{Asked, Server};
+use crate::stop::Stop;
+use serde_json::json;
+use std::alloc::Global;
+use std::fs::Files;
+use wm_feed::{Batch, observe_line};
+use wm_lines::MAX_LINE;
+use wm_names::{Meta, RelPath, RootPath, Subtree};
+
+/// The most pairs of a line, and of one in place of a line that was too long: a pair has at most some 6,300
+/// bytes, by a path of 1,024 bytes of which each takes six.
+const MANY: usize = 4_096;
+
+const FEW: usize = 128;
+
+/// The most folders of a batch that are crawled by themselves: of more the root is.
+const MAX_FOLDERS: usize = 32;
+
+/// Whether a batch asks for a crawl of the whole root.
+pub(crate) fn is_wide(batch: &Batch) -> bool {
+    batch.is_whole() || batch.folders().len() > MAX_FOLDERS
+}
+
+/// Asks for what has to be met, or has to be tried anew.
+fn tell(alloc: Global, server: &mut Server, request: &str) -> Result<(), Stop> {
+    match server.ask(alloc, request)? {
+        Asked::Told => Ok(()),
+        Asked::NotReady | Asked::Failed => Err(Stop::Doubt),
+        Asked::Refused => Err(Stop::Refused),
+    }
+}
+
+/// Crawls a part of the root.
+pub(crate) fn recrawl(
+    alloc: Global,
+    server: &mut Server,
+    root: &RootPath,
+    subtree: &Subtree,
+) -> Result<(), Stop> {
+    let root = root.as_str();
+    let value = match subtree {
+        Subtree::Whole => json!(in alloc; ["recrawl", root])?,
+        Subtree::Below(path) => json!(in alloc; ["recrawl", root, path.as_str()])?,
+    };
+    let request = value.to_string(alloc)?;
+    tell(alloc, server, request.as_str())
+}
+
+/// Tells pairs, in lines of so many.
+fn observe(
+    alloc: Global,
+    server: &mut Server,
+    root: &RootPath,
+    pairs: &[(RelPath, Option<Meta>)],
+) -> Result<(), Stop> {
+    for part in pairs.chunks(MANY) {
+        let line = observe_line(alloc, root.as_str(), part)?;
+        if line.len() < MAX_LINE {
+            tell(alloc, server, line.as_str())?;
+        } else {
+            observe_few(alloc, server, root, part)?;
+        }
+    }
+    Ok(())
+}
+
+/// Tells pairs, in short lines.
+fn observe_few(
+    alloc: Global,
+    server: &mut Server,
+    root: &RootPath,
+    pairs: &[(RelPath, Option<Meta>)],
+) -> Result<(), Stop> {
+    for part in pairs.chunks(FEW) {
+        let line = observe_line(alloc, root.as_str(), part)?;
+        tell(alloc, server, line.as_str())?;
+    }
+    Ok(())
+}
+
+/// What stands at the paths of a batch now.
+fn look<F: Files + Drop>(
+    alloc: Global,
+    files: F,
+    root: &RootPath,
+    batch: &Batch,
+) -> Result<Vec<(RelPath, Option<Meta>)>, Stop> {
+    let mut looking = Looking::new(alloc, files, root.copy(alloc)?);
+    let mut pairs = Vec::new(alloc);
+    for path in batch.paths() {
+        let meta = looking.look(alloc, path)?;
+        pairs.push((path.copy()?, meta))?;
+    }
+    Ok(pairs)
+}
+
+/// Crawls the folders of a batch, or the root where they are many.
+fn recrawl_folders(
+    alloc: Global,
+    server: &mut Server,
+    root: &RootPath,
+    batch: &Batch,
+) -> Result<(), Stop> {
+    if is_wide(batch) {
+        return recrawl(alloc, server, root, &Subtree::Whole);
+    }
+    let mut last: Option<RelPath> = None;
+    for folder in batch.folders() {
+        let is_done = match &last {
+            Some(top) => folder.under(top),
+            None => false,
+        };
+        if is_done {
+            continue;
+        }
+        recrawl(alloc, server, root, &Subtree::Below(folder.copy()?))?;
+        last = Some(folder.copy()?);
+    }
+    Ok(())
+}
+
+/// Looks up what a batch asks for and tells it.
+pub(crate) fn send<F: Files + Drop>(
+    alloc: Global,
+    files: F,
+    server: &mut Server,
+    root: &RootPath,
+    batch: &Batch,
+) -> Result<(), Stop> {
+    let pairs = look(alloc, files, root, batch)?;
+    observe(alloc, server, root, &pairs)?;
+    recrawl_folders(alloc, server, root, batch)
+}

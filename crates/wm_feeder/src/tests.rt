@@ -1,0 +1,4 @@
+//! The tests of this crate.
+mod flows;
+mod watches;
+mod words;
