@@ -10,8 +10,8 @@ import argparse, contextlib, json, os, random, shutil, signal, socket, stat, sub
 
 sys.dont_write_bytecode = True
 from feed_changes import Changer
+from served import Session, check, failed, until
 
-failed = []
 words = argparse.ArgumentParser()
 for word in ("watchmand", "wmctl", "wmfeed"):
     words.add_argument(word, type=os.path.abspath)
@@ -21,29 +21,7 @@ words.add_argument("cases", nargs="*")
 words = words.parse_intermixed_args()
 
 
-def check(what, holds, seen=""):
-    print(("ok    " if holds else "FAILS ") + what + ("" if holds else f": {seen!r}"), flush=True)
-    if not holds:
-        failed.append(what)
-
-
-def until(look, seconds=20):
-    end = time.time() + seconds
-    while time.time() < end:
-        seen = look()
-        if seen:
-            return seen
-        time.sleep(0.02)
-    return look()
-
-
-class Client:
-    def __init__(self, path):
-        self.socket = socket.socket(socket.AF_UNIX)
-        self.socket.settimeout(60)
-        self.socket.connect(path)
-        self.lines = self.socket.makefile("rb")
-
+class Client(Session):
     def ask(self, *request):
         self.socket.sendall(json.dumps(request).encode() + b"\n")
         return json.loads(self.lines.readline())

@@ -2,26 +2,16 @@
 """Asks a server at and beyond the limits that docs/FORMATS.md tells: tools/limits_over_socket.py WATCHMAND
 
 For each it tells whether it is so; the status is 1 where one isn't."""
-import json, os, socket, subprocess, sys, tempfile, time
+import json, os, socket, sys, tempfile, time
+
+sys.dont_write_bytecode = True
+from served import Session, check, failed, serving
 
 FILE = {"mtime_ms": 0, "size": 0, "type": "f"}
-failed = []
 
 
-def check(what, holds, seen=""):
-    print(("ok    " if holds else "FAILS ") + what + ("" if holds else f": {seen!r}"))
-    if not holds:
-        failed.append(what)
-
-
-class Client:
+class Client(Session):
     """A session; lines that are told unasked are passed over."""
-
-    def __init__(self, path):
-        self.socket = socket.socket(socket.AF_UNIX)
-        self.socket.settimeout(20)
-        self.socket.connect(path)
-        self.lines = self.socket.makefile("rb")
 
     def reply(self):
         while True:
@@ -110,21 +100,13 @@ def roots(path, a, root):
 
 
 def main():
-    program = os.path.abspath(sys.argv[1])
-    with tempfile.TemporaryDirectory() as folder:
-        subprocess.run([program, "format", f"{folder}/state"], check=True, stdout=subprocess.DEVNULL)
-        server = subprocess.Popen([program, "serve", f"{folder}/state", f"{folder}/socket"], stdout=subprocess.PIPE)
-        try:
-            server.stdout.readline()
-            a, root = Client(f"{folder}/socket"), f"{folder}/root"
-            os.mkdir(root)
-            a.ask("watch", root)
-            a.ask("recrawl", root)
-            for group in (lines, clocks, expressions, triggers, subscriptions, ages, observations, roots):
-                group(f"{folder}/socket", a, root)
-        finally:
-            server.kill()
-            server.wait()
+    with tempfile.TemporaryDirectory() as folder, serving(os.path.abspath(sys.argv[1]), folder) as path:
+        a, root = Client(path), f"{folder}/root"
+        os.mkdir(root)
+        a.ask("watch", root)
+        a.ask("recrawl", root)
+        for group in (lines, clocks, expressions, triggers, subscriptions, ages, observations, roots):
+            group(path, a, root)
     print(f"{len(failed)} failed")
     return 1 if failed else 0
 

@@ -2,7 +2,10 @@
 """Sends the requests of docs/QUERIES.md to a server, and compares its replies with the page's: tools/page_over_socket.py WATCHMAND
 
 A server looks at the page's root, which mustn't be there, before the first line is told. So each tick is greater by one than on the page."""
-import os, re, socket, subprocess, sys, tempfile
+import os, re, socket, sys, tempfile
+
+sys.dont_write_bytecode = True
+from served import serving
 
 PAGE = os.path.join(os.path.dirname(os.path.abspath(__file__)), "../docs/QUERIES.md")
 
@@ -29,16 +32,8 @@ def examples():
 
 def main():
     assert not os.path.exists("/src"), "there is a /src, of which the page speaks"
-    program = os.path.abspath(sys.argv[1])
-    with tempfile.TemporaryDirectory() as folder:
-        subprocess.run([program, "format", f"{folder}/state"], check=True, stdout=subprocess.DEVNULL)
-        server = subprocess.Popen([program, "serve", f"{folder}/state", f"{folder}/socket"], stdout=subprocess.PIPE)
-        try:
-            server.stdout.readline()
-            return compare(f"{folder}/socket")
-        finally:
-            server.kill()
-            server.wait()
+    with tempfile.TemporaryDirectory() as folder, serving(os.path.abspath(sys.argv[1]), folder) as path:
+        return compare(path)
 
 
 def compare(path):

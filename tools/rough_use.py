@@ -5,35 +5,15 @@ Each case starts a server of its own under a temporary folder, and tells for eac
 The status is 1 where one isn't. Some 60 seconds for all."""
 import contextlib, json, os, random, resource, shutil, signal, socket, stat, subprocess, sys, tempfile, threading, time
 
+sys.dont_write_bytecode = True
+from served import Session, check, failed, until
+
 PROGRAM = os.path.abspath(sys.argv[1])
 VERSION = b'{"version":"w1"}\n'
 TOO_MANY = b'{"error":"17 TooMany","version":"w1"}\n'
-failed = []
 
 
-def check(what, holds, seen=""):
-    print(("ok    " if holds else "FAILS ") + what + ("" if holds else f": {seen!r}"), flush=True)
-    if not holds:
-        failed.append(what)
-
-
-def until(look, seconds=20):
-    end = time.time() + seconds
-    while time.time() < end:
-        seen = look()
-        if seen:
-            return seen
-        time.sleep(0.02)
-    return look()
-
-
-class Client:
-    def __init__(self, path, seconds=60):
-        self.socket = socket.socket(socket.AF_UNIX)
-        self.socket.settimeout(seconds)
-        self.socket.connect(path)
-        self.lines = self.socket.makefile("rb")
-
+class Client(Session):
     def send(self, request):
         self.socket.sendall((request if isinstance(request, bytes) else json.dumps(request).encode()) + b"\n")
 
@@ -46,10 +26,6 @@ class Client:
 
     def tell(self, request):
         return json.loads(self.ask(request))
-
-    def close(self):
-        self.lines.close()
-        self.socket.close()
 
 
 class Server:
