@@ -3,12 +3,10 @@
 mod areas;
 mod group;
 mod records;
-#[cfg(test)]
-mod tests;
 
 use crate::measured::Medians;
 use anyhow::{Context, Result, ensure};
-use areas::Areas;
+pub use areas::Areas;
 use group::SIZES;
 use std::fmt;
 use wm_file::{FileDisk, Unknown};

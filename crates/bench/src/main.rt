@@ -1,9 +1,10 @@
 //! Times the journal, the store, the desk, crawls, views and `match`: which of them, and how often, its words say.
 //! The journal and the store are timed beside the same writes and syncs by hand (by_hand.rt).
-//! Tests stand beside what they test: words.rt, memory.rt, and a tests.rt in three of the folders.
+//! What they make by themselves is looked at by the task `check` (checks.rt), which the gate runs.
 #![tactic(auto)]
 
 mod by_hand;
+mod checks;
 mod crawling;
 mod desk;
 mod journal;
@@ -29,6 +30,7 @@ use wm_names::RootPath;
 /// host's.
 fn bench<R: Threads + Wait + Sync>(rt: &HostRuntime, host: &R, task: &Task<'_>) -> Result<()> {
     match task {
+        Task::Check => checks::check(rt),
         Task::Journal(file, rounds) => journal::bench(rt, file, *rounds),
         Task::Store(file, rounds) => store::bench(rt, file, *rounds),
         Task::Desk(file, rounds) => desk::bench(rt, host, file, *rounds),

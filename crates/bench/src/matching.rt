@@ -1,12 +1,11 @@
 //! How long `match` takes for patterns that are hard to refuse, on paths of growing length.
 
 mod shapes;
-#[cfg(test)]
-mod tests;
 mod timing;
 
 use anyhow::Result;
-use shapes::{LENGTHS, SHAPES};
+use shapes::LENGTHS;
+pub use shapes::SHAPES;
 use std::rt::Runtime;
 use timing::measure;
 

@@ -14,7 +14,7 @@ pub struct Memory {
 }
 
 /// The bytes that the line of this name tells, in kB of 1,024 bytes.
-fn told(status: &str, name: &str) -> Option<u64> {
+pub fn told(status: &str, name: &str) -> Option<u64> {
     for line in status.lines() {
         if let Some(rest) = line.strip_prefix(name) {
             let number = rest.trim().strip_suffix(" kB")?;
@@ -32,28 +32,5 @@ impl Memory {
         let now = told(status.as_str(), "VmRSS:").context("no VmRSS")?;
         let most = told(status.as_str(), "VmHWM:").context("no VmHWM")?;
         Ok(Memory { now, most })
-    }
-}
-
-#[cfg(test)]
-mod tests {
-    use super::*;
-
-    const STATUS: &str = "Name:\tbench\nVmHWM:\t   2048 kB\nVmRSS:\t      3 kB\nVmData:\t12\n";
-
-    /// Names of lines, and the bytes that they tell.
-    const TOLD: &[(&str, Option<u64>)] = &[
-        ("VmHWM:", Some(2_097_152)),
-        ("VmRSS:", Some(3_072)),
-        ("VmData:", None),
-        ("Name:", None),
-        ("VmPeak:", None),
-    ];
-
-    #[test]
-    fn reads_lines_of_a_status(rt: HostRuntime) {
-        for (name, wanted) in TOLD {
-            assert_eq!(rt; told(STATUS, name), *wanted);
-        }
     }
 }

@@ -87,30 +87,3 @@ pub fn beside(alloc: Global, files: u64, state: Option<Meta>) -> Result<Pairs> {
     }
     Ok(Pairs::new(pairs))
 }
-
-#[cfg(test)]
-mod tests {
-    use super::*;
-    use std::test::Fail;
-
-    /// The numbers of files, and their paths.
-    const PATHS: &[(u64, &str)] = &[
-        (0, "srv/project/source/d0000000/f00000000000"),
-        (12_345, "srv/project/source/d0000123/f00000012345"),
-        (99_999_999, "srv/project/source/d0999999/f00099999999"),
-    ];
-
-    /// Whether a file has this path, of 40 bytes.
-    fn has_path(alloc: Global, number: u64, text: &str) -> Result<bool, Fail> {
-        let path = path(alloc, number)?;
-        Ok(path.as_str() == text && text.len() == 40)
-    }
-
-    #[test]
-    fn makes_paths_of_40_bytes(rt: HostRuntime) -> Result<(), Fail> {
-        for (number, text) in PATHS {
-            assert!(rt; has_path(rt.alloc(), *number, text)?);
-        }
-        Ok(())
-    }
-}

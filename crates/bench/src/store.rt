@@ -5,14 +5,13 @@ mod area;
 mod batches;
 mod processor;
 mod rounds;
-#[cfg(test)]
-mod tests;
 
 use crate::measured::Medians;
 use anyhow::{Context, Result, ensure};
+pub use area::{END, START};
 use batches::SIZES;
 use processor::{REGISTRIES, measured_costs};
-use rounds::Sides;
+pub use rounds::Sides;
 use std::fmt;
 use wm_disk::MemDisk;
 use wm_file::{FileDisk, Unknown};

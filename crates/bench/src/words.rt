@@ -5,11 +5,13 @@ use wm_crawler::MAX_WORKERS;
 
 /// What wrong words are answered.
 pub const USAGE: &str =
-    "usage: bench (journal FILE ROUNDS | store FILE ROUNDS | desk FILE ROUNDS | crawl FOLDER WORKERS | match ROUNDS | view FILES | memory FILES)..";
+    "usage: bench (check | journal FILE ROUNDS | store FILE ROUNDS | desk FILE ROUNDS | crawl FOLDER WORKERS | match ROUNDS | view FILES | memory FILES)..";
 
 /// What is measured.
 #[derive(Drop)]
 pub enum Task<'a> {
+    /// What the benches make, looked at.
+    Check,
     /// A journal on a file that must not be there yet, and how many groups of each size: 1 to 2^32 - 1.
     Journal(&'a str, u32),
     /// A store on a file that must not be there yet, nor that with `.by_hand` behind its name, and how
@@ -69,6 +71,7 @@ impl<'a> Task<'a> {
                 "memory" => Some(Task::Memory(files(number)?)),
                 _ => None,
             },
+            ["check"] => Some(Task::Check),
             _ => None,
         }
     }
@@ -91,51 +94,4 @@ pub fn tasks<'a>(alloc: Global, words: &[&'a str]) -> Result<Option<Vec<Task<'a>
         return Ok(None);
     }
     Ok(Some(tasks))
-}
-
-#[cfg(test)]
-mod tests {
-    use super::*;
-    use std::test::Fail;
-
-    /// Words, and how many tasks they name.
-    const NAMED: &[(&[&str], Option<usize>)] = &[
-        (&["match", "1"], Some(1)),
-        (&["view", "1000", "memory", "100000000"], Some(2)),
-        (
-            &["journal", "match", "1", "store", "f", "2", "match", "3"],
-            Some(3),
-        ),
-        (&[], None),
-        (&["match"], None),
-        (&["match", "0"], None),
-        (&["journal", "f"], None),
-        (&["journal", "f", "0"], None),
-        (&["desk", "f", "1"], Some(1)),
-        (&["desk", "f", "0"], None),
-        (&["crawl", "/", "1", "crawl", "/", "16"], Some(2)),
-        (&["crawl", "/", "0"], None),
-        (&["crawl", "/", "17"], None),
-        (&["store", "f", "4294967296"], None),
-        (&["view", "999"], None),
-        (&["memory", "100000001"], None),
-        (&["view", "1000", "match"], None),
-        (&["list", "1000"], None),
-    ];
-
-    /// How many tasks the words name.
-    fn count(alloc: Global, words: &[&str]) -> Result<Option<usize>, Fail> {
-        match tasks(alloc, words)? {
-            Some(tasks) => Ok(Some(tasks.len())),
-            None => Ok(None),
-        }
-    }
-
-    #[test]
-    fn reads_tasks(rt: HostRuntime) -> Result<(), Fail> {
-        for (words, wanted) in NAMED {
-            assert_eq!(rt; count(rt.alloc(), words)?, *wanted);
-        }
-        Ok(())
-    }
 }

@@ -122,7 +122,7 @@ fn leaves_out_paths_that_are_too_long(rt: HostRuntime) -> Result<(), Fail> {
         let path = format!(in alloc; "f/{name}")?;
         let mut tree = tree_of(alloc, &[("", "f", 0)], &[("f", Kind::Folder)])?;
         let mut dir = Dir::new(alloc);
-        dir.add(name)?;
+        dir.add(alloc, &name)?;
         tree.hold(part(alloc, "f")?, dir)?;
         if let Ok(path) = RelPath::read(alloc, &path) {
             tree.put(path, crate::trees::meta(Kind::File, 7))?;
@@ -144,7 +144,7 @@ fn goes_as_deep_as_paths_do(rt: HostRuntime) -> Result<(), Fail> {
         let place = RelPath::read(alloc, &path)?;
         tree.put(place.copy()?, crate::trees::meta(Kind::Folder, 0))?;
         let mut dir = Dir::new(alloc);
-        dir.add(String::from_str(alloc, "folder7")?)?;
+        dir.add(alloc, "folder7")?;
         tree.hold(Subtree::Below(place), dir)?;
         path.push_str("/folder7")?;
     }
@@ -206,7 +206,7 @@ fn lists_a_wide_folder(rt: HostRuntime) -> Result<(), Fail> {
             RelPath::read(alloc, &name)?,
             crate::trees::meta(Kind::File, i),
         )?;
-        dir.add(name)?;
+        dir.add(alloc, &name)?;
     }
     tree.hold(Subtree::Whole, dir)?;
     for workers in [1, 3, 16] {

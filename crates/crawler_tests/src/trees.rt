@@ -29,8 +29,7 @@ pub(crate) type Folder<'a> = (&'a str, &'a str, u64);
 fn dir_of(alloc: Global, names: &str, others: u64) -> Result<Dir, NoMemory> {
     let mut dir = Dir::new(alloc);
     for name in names.split('|') {
-        let name = String::from_str(alloc, name)?;
-        dir.add(name)?;
+        dir.add(alloc, name)?;
     }
     for _ in 0..others {
         dir.add_other();

@@ -9,6 +9,8 @@ mod client;
 #[cfg(test)]
 mod crawls;
 #[cfg(test)]
+mod halls;
+#[cfg(test)]
 mod places;
 #[cfg(test)]
 mod requests;

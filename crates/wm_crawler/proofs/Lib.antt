@@ -2,7 +2,6 @@ mod Elements
 mod Levels
 mod Readable
 mod Results
-mod Sorted
 mod Steps
 mod Unfit
 mod Walks

@@ -10,8 +10,8 @@ use Rattle.wm_names.specs.Paths.{Path}
 use Rattle.wm_names.specs.declared.entry.Meta.{Meta}
 use Rattle.wm_names.specs.declared.subtree.Subtree.{Subtree}
 use Rattle.wm_names.specs.declared.subtree.Subtree.TheVariants.{Below}
-use Rattle.wm_crawler.specs.Trees.{Content, Among, join, is_fit, unfit_in}
-use Rattle.wm_crawler.specs.Levels.{path_of, paths_in, paired, paired_each, counted, unfit_of, all_held, all_told, AreMetas, AreRead, AreTold, AllFrom, AllAmong, SomeFails}
+use Rattle.wm_crawler.specs.Trees.{Content, Among, join, is_fit, unfit_in, AreMetas, SomeFails}
+use Rattle.wm_crawler.specs.Levels.{path_of, paths_in, paired, paired_each, counted, unfit_of, all_held, all_told, AreRead, AreTold, AllFrom, AllAmong}
 use Rattle.wm_crawler.proofs.Elements.{among_left, among_right, among_either, among_get, among_map, made}
 
 -- one more element of a filtered list
@@ -25,13 +25,12 @@ mapped_more f xs i x l e =
     ap (map f) (take_more xs i x l ∙ ap (λ y. take i xs ++ y ∷ []) (sym e))
     ∙ map-append f (take i xs) (x ∷ [])
 
-pub named_more : {X Y Z : Type 0} (h : Y → Option Z) (f : X → Y) (xs : List X) (i : ℕ) (x : X) → i < length xs → x ≡ get_or xs i x → filter_map h (map f (take (i + 1) xs)) ≡ filter_map h (map f (take i xs)) ++ cons_option (h (f x)) []
-named_more h f xs i x l e = ap (filter_map h) (mapped_more f xs i x l e) ∙ filter_map-append h (map f (take i xs)) (f x ∷ [])
+pub count_more : {X : Type 0} (p : X → Bool) (xs : List X) (i : ℕ) (x : X) → i < length xs → x ≡ get_or xs i x → count_by p (take (i + 1) xs) ≡ count_by p (take i xs) + count_by p (x ∷ [])
+count_more p xs i x l e =
+    ap (count_by p) (take_more xs i x l ∙ ap (λ y. take i xs ++ y ∷ []) (sym e))
+    ∙ sum_by-append (λ y. cond (p y) 1 0) (take i xs) (x ∷ [])
 
-pub count_more : {X Y : Type 0} (p : Y → Bool) (f : X → Y) (xs : List X) (i : ℕ) (x : X) → i < length xs → x ≡ get_or xs i x → count_by p (map f (take (i + 1) xs)) ≡ count_by p (map f (take i xs)) + count_by p (f x ∷ [])
-count_more p f xs i x l e = ap (count_by p) (mapped_more f xs i x l e) ∙ sum_by-append (λ y. cond (p y) 1 0) (map f (take i xs)) (f x ∷ [])
-
-pub ruleset one_more = (filtered_more, named_more, count_more, mapped_more, filter_map-append)
+pub ruleset one_more = (filtered_more, count_more, mapped_more, filter_map-append)
 
 -- ---- counts
 

@@ -8,6 +8,10 @@ use Rattle.wm_names.specs.declared.subtree.Subtree.TheVariants.{Below}
 use Rattle.wm_view.specs.Files.{Files, at}
 use Rattle.wm_crawler.specs.Trees.{Content, Among, join, is_fit, names_held, unfit_in, is_folder}
 
+-- the most workers of a crawl
+abbrev pub max_workers : ℕ
+max_workers = 16
+
 -- the folder holds the name, and the name fits
 pub record HoldsName (c : Content) (folder : Subtree) (name : Path) : Type 0 where
   pub held : Among name (names_held (c.held folder))

@@ -80,14 +80,6 @@ pub record AreRead (c : Content) (fs : List Subtree) (paths : List Path) (unfit 
 abbrev pub AllFrom : List Subtree → List Path → Type 0
 AllFrom fs paths = (p : Path) → Among p paths → (f : Subtree) × Among f fs × (name : Path) × (p ≡ join f name)
 
--- of one of these places reading may fail
-abbrev pub SomeFails : (Subtree → Type 0) → List Subtree → Type 0
-SomeFails may_fail places = (place : Subtree) × Among place places × may_fail place
-
--- what asking for these paths gave, one after another; of each it could be told
-abbrev pub AreMetas : Content → List Path → List (Option Meta) → Type 0
-AreMetas c paths metas = map Some metas ≡ map c.meta paths
-
 -- what asking for these paths gave: what is there, with its metadata; of each it could be told
 pub record AreTold (c : Content) (paths : List Path) (entries : List (Path × Meta)) : Type 0 where
   pub found : entries ≡ with_meta c paths

@@ -1,5 +1,5 @@
 -- What a tree of files holds that stays as it is.
-use Rattle.std.specs.Prelude.{◌≡◌, ◌⊎◌, ℕ, ◌+◌, Bool, ◌==◌, not, ◌&&◌, List, [], ◌∷◌, ◌++◌, Option, Some, None}
+use Rattle.std.specs.Prelude.{◌≡◌, ◌⊎◌, ℕ, ◌+◌, Bool, ◌==◌, not, ◌&&◌, List, [], ◌∷◌, ◌++◌, map, Option, Some, None}
 use Rattle.std.specs.List.{list_all, count_by}
 use Rattle.wm_names.specs.Paths.{Path, is_rel_path}
 use Rattle.wm_names.specs.Entries.{same_kind}
@@ -50,6 +50,14 @@ is_folder meta = same_kind meta.kind Folder
 abbrev pub Among : {A : Type 0} → A → List A → Type 0
 Among x [] = ⊥
 Among x (y ∷ ys) = (x ≡ y) ⊎ Among x ys
+
+-- of one of these places reading may fail
+abbrev pub SomeFails : (Subtree → Type 0) → List Subtree → Type 0
+SomeFails may_fail places = (place : Subtree) × Among place places × may_fail place
+
+-- what asking for these paths gave, one after another; of each it could be told
+abbrev pub AreMetas : Content → List Path → List (Option Meta) → Type 0
+AreMetas c paths metas = map Some metas ≡ map c.meta paths
 
 -- for a tree that stays as no content says: of nothing is anything told
 abbrev pub nothing_known : Content

@@ -2,7 +2,7 @@
 //! Definitions: specs/Crawls.antt, specs/Levels.antt. Tests: crawler_tests/src/crawls.rt.
 ghost use Rattle.std.specs.Prelude.{◌≡◌, ◌≢◌, ◌<◌, ◌≤◌, ◌∷◌, [], IfOk, IfErr};
 ghost use Rattle.wm_disk.specs.declared.refusal.Refusal.TheVariants.{DeviceFailed, NoMemory as no_memory};
-ghost use Rattle.wm_crawler.specs.Crawls.{IsCrawl, IsReadable, FailsIn, faults_below};
+ghost use Rattle.wm_crawler.specs.Crawls.{IsCrawl, IsReadable, FailsIn, faults_below, max_workers};
 ghost use Rattle.wm_crawler.specs.Levels.{AreLevels, AreRead, AllIn, IsOneLevel};
 
 use crate::gate::Turnstile;
@@ -120,7 +120,7 @@ pub fn crawl<R: Threads + Sync, T: Tree + Sync, G: Turnstile + Sync>(
     workers: usize,
     gate: &G,
 ) -> Result<Crawled, Refusal>
-    requires { (1 ≤ workers) × (workers ≤ 16) }
+    requires { (1 ≤ workers) × (workers ≤ max_workers) }
     ensures part { IfOk result (λ c. c.listing.subtree ≡ subtree.now) }
     ensures files { IfOk result (λ c. T.stays tree.now → IsCrawl (T.content tree.now) subtree.now c.listing.files) }
     ensures faults { IfOk result (λ c. T.stays tree.now → c.faults ≡ faults_below (T.content tree.now) subtree.now) }

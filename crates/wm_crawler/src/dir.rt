@@ -1,10 +1,11 @@
 //! What a folder holds.
 //! Definitions: specs/Trees.antt. Tests: crawler_tests/src/crawls.rt.
-ghost use Rattle.std.specs.Prelude.{◌≡◌, ◌+◌, ◌-◌, ◌*◌, ◌^◌, ◌++◌, ◌∷◌, [], min, map, string_bytes, IfOk, OnOk, OnErr};
+ghost use Rattle.std.specs.Prelude.{◌≡◌, ◌+◌, ◌-◌, ◌*◌, ◌^◌, ◌++◌, ◌∷◌, [], min, IfOk, OnOk, OnErr};
 ghost use Rattle.std.specs.List.Sorted.{IsPermutation, IsSorted};
 ghost use Rattle.wm_names.specs.Paths.{path_cmp};
 ghost use Rattle.wm_crawler.specs.Trees.{Held};
 
+use crate::name::Name;
 use std::alloc::Global;
 use std::marker::Model;
 use wm_disk::NoMemory;
@@ -12,17 +13,16 @@ use wm_disk::NoMemory;
 /// What a folder holds: the names that are text, and how many names aren't.
 #[derive(Drop)]
 pub struct Dir {
-    names: Vec<String>,
+    names: Vec<Name>,
     others: u64,
 }
 
 impl Model for Dir {
-    ghost use Rattle.std.specs.Prelude.{map, string_bytes as bytes_of_string};
     ghost use Rattle.wm_crawler.specs.Trees.{Held as HeldHere};
 
     ghost Value = { HeldHere };
 
-    ghost view = { λ d. record { names = map bytes_of_string d.names.items; others = d.others } };
+    ghost view = { λ d. record { names = d.names.items; others = d.others } };
 }
 
 impl Dir {
@@ -37,10 +37,11 @@ impl Dir {
     }
 
     /// Adds a name. Without memory nothing is changed.
-    pub fn add(&mut self, name: String) -> Result<(), NoMemory>
-        ensures ok { OnOk result (self.new ≡ record self.old { names = self.old.names ++ string_bytes name ∷ [] }) }
+    pub fn add(&mut self, alloc: Global, name: &str) -> Result<(), NoMemory>
+        ensures ok { OnOk result (self.new ≡ record self.old { names = self.old.names ++ name.now ∷ [] }) }
         ensures err { OnErr result (self.new ≡ self.old) }
     {
+        let name = Name::new(alloc, name)?;
         self.names.push(name)?;
         Ok(())
     }
@@ -70,8 +71,8 @@ impl Dir {
     }
 
     /// The names that are text.
-    pub(crate) fn names(&self) -> &[String]
-        ensures { map string_bytes result.now ≡ self.now.names }
+    pub(crate) fn names(&self) -> &[Name]
+        ensures { result.now ≡ self.now.names }
     {
         &self.names
     }
@@ -90,12 +91,12 @@ impl Dir {
 
 /// The same names again.
 #[tactic(auto, using(crate::proofs::Steps::one_more))]
-fn copied(alloc: Global, names: &[String]) -> Result<Vec<String>, NoMemory>
-    ensures { IfOk result (λ v. map string_bytes v.items ≡ map string_bytes names.now) }
+fn copied(alloc: Global, names: &[Name]) -> Result<Vec<Name>, NoMemory>
+    ensures { IfOk result (λ v. v.items ≡ names.now) }
 {
     let mut copies = Vec::with_capacity(alloc, names.len())?;
     for name in names {
-        let name = String::from_str(alloc, name)?;
+        let name = name.copy(alloc)?;
         copies.push(name)?;
     }
     Ok(copies)

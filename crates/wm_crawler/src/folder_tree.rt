@@ -1,7 +1,9 @@
 //! The real tree: a folder of the file system. No contract can say what it holds.
 //! Tests: crawler_tests/src/folders.rt.
-ghost use Rattle.std.specs.Prelude.{◌≡◌, ◌≢◌, ⊤, ◌<◌, ◌^◌, Some, None, IfErr};
+ghost use Rattle.std.specs.Prelude.{◌≡◌, ◌≢◌, ⊤, ◌<◌, ◌^◌, Some, None, map, IfErr};
 ghost use Rattle.wm_disk.specs.declared.refusal.Refusal.TheVariants.{DeviceFailed, NoMemory as no_memory};
+ghost use Rattle.wm_names.specs.declared.subtree.Subtree.TheVariants.{Below};
+ghost use Rattle.wm_crawler.specs.Trees.{SomeFails};
 
 use crate::dir::Dir;
 use crate::tree::Tree;
@@ -85,10 +87,7 @@ fn add_names(alloc: Global, dir: &mut Dir, names: &[u8]) -> Result<(), NoMemory>
             continue;
         }
         match str::from_utf8(name) {
-            Ok(name) => {
-                let name = String::from_str(alloc, name)?;
-                dir.add(name)?;
-            }
+            Ok(name) => dir.add(alloc, name)?,
             Err(_) => dir.add_other(),
         }
     }
@@ -123,25 +122,38 @@ impl<F: Files + Drop> FolderTree<F> {
         FolderTree { files, root }
     }
 
-    /// The text of a place's path. That of the root ends with a slash, so that a link is followed.
-    fn path_of(&self, alloc: Global, place: &str) -> Result<String, NoMemory> {
-        let root = self.root.as_str();
-        let mut text = String::with_capacity(alloc, root.len() + place.len() + 1)?;
-        text.push_str(root)?;
+    /// Makes the text that of a place's path. That of the root ends with a slash, so that a link is followed.
+    fn write_path(&self, text: &mut String, place: &str) -> Result<(), NoMemory> {
+        text.clear();
+        text.push_str(self.root.as_str())?;
         text.push('/')?;
         text.push_str(place)?;
-        Ok(text)
+        Ok(())
     }
 
-    fn meta_at(&self, alloc: Global, place: &str) -> Result<Option<Meta>, Refusal>
+    /// What stands at a path. The text is room to write it in.
+    fn meta_at(&self, text: &mut String, path: &RelPath) -> Result<Option<Meta>, Refusal>
         ensures { IfErr result (λ e. e ≢ no_memory → e ≡ DeviceFailed) }
     {
-        let path = self.path_of(alloc, place)?;
-        match self.files.symlink_metadata(&path) {
+        self.write_path(text, path.as_str())?;
+        match self.files.symlink_metadata(text) {
             Ok(found) => Ok(Some(meta_of(&found))),
             Err(e) if is_missing(&e) => Ok(None),
             Err(_) => Err(Refusal::DeviceFailed),
         }
+    }
+
+    /// What stands at each of the paths. One text has room for all of them, one after another.
+    fn meta_each(&self, alloc: Global, paths: &[RelPath]) -> Result<Vec<Option<Meta>>, Refusal>
+        ensures { IfErr result (λ e. e ≢ no_memory → (e ≡ DeviceFailed) × SomeFails (λ _. ⊤) (map Below paths.now)) }
+    {
+        let mut text = String::new(alloc);
+        let mut metas = Vec::with_capacity(alloc, paths.len())?;
+        for path in paths {
+            let there = self.meta_at(&mut text, path)?;
+            metas.push(there)?;
+        }
+        Ok(metas)
     }
 }
 
@@ -155,11 +167,12 @@ impl<F: Files + Drop> Tree for FolderTree<F> {
     ghost may_fail = { λ _ _. ⊤ };
 
     fn read_dir(&self, alloc: Global, folder: &Subtree) -> Result<Option<Dir>, Refusal> {
-        let path = match folder {
-            Subtree::Whole => self.path_of(alloc, "")?,
-            Subtree::Below(path) => self.path_of(alloc, path.as_str())?,
-        };
-        match self.files.open_dir(&path) {
+        let mut text = String::new(alloc);
+        match folder {
+            Subtree::Whole => self.write_path(&mut text, "")?,
+            Subtree::Below(path) => self.write_path(&mut text, path.as_str())?,
+        }
+        match self.files.open_dir(&text) {
             Ok(mut names) => {
                 let dir = read_names(alloc, &mut names)?;
                 Ok(Some(dir))
@@ -170,6 +183,11 @@ impl<F: Files + Drop> Tree for FolderTree<F> {
     }
 
     fn meta(&self, alloc: Global, path: &RelPath) -> Result<Option<Meta>, Refusal> {
-        self.meta_at(alloc, path.as_str())
+        let mut text = String::new(alloc);
+        self.meta_at(&mut text, path)
+    }
+
+    fn metas(&self, alloc: Global, paths: &[RelPath]) -> Result<Vec<Option<Meta>>, Refusal> {
+        self.meta_each(alloc, paths)
     }
 }

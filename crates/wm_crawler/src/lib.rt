@@ -10,6 +10,7 @@ mod folder_tree;
 mod gate;
 mod listed;
 mod memory;
+mod name;
 mod naming;
 mod reading;
 mod telling;

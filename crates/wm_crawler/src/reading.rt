@@ -1,15 +1,16 @@
 //! Folders read by several threads: the paths of what they hold.
 //! Definitions: specs/Levels.antt. Tests: crawler_tests/src/crawls.rt.
-ghost use Rattle.std.specs.Prelude.{◌∷◌, ◌≡◌, ◌≢◌, ◌+◌, ◌-◌, ◌*◌, ◌^◌, ◌<◌, ◌≤◌, ◌++◌, ◌⊎◌, ℕ, [], List, Some, min, map, not, is_some, string_bytes, IfOk, IfErr, OnOk, OnErr, true};
+ghost use Rattle.std.specs.Prelude.{◌∷◌, ◌≡◌, ◌≢◌, ◌+◌, ◌-◌, ◌*◌, ◌^◌, ◌<◌, ◌≤◌, ◌++◌, ◌⊎◌, ℕ, [], List, Some, min, not, is_some, IfOk, IfErr, OnOk, OnErr, true};
 ghost use Rattle.std.specs.List.{cons_option, count_by, filter_map, flat_map};
 ghost use Rattle.std.specs.Thread.{IsSync};
 ghost use Rattle.wm_disk.specs.declared.refusal.Refusal.TheVariants.{DeviceFailed, NoMemory as no_memory};
 ghost use Rattle.wm_names.specs.Paths.{Path};
-ghost use Rattle.wm_crawler.specs.Trees.{Among, is_fit, join, names_held, others_held, unfit_in};
-ghost use Rattle.wm_crawler.specs.Levels.{path_of as path_of_lem, paths_in, counted, AreRead, AllFrom, SomeFails};
+ghost use Rattle.wm_crawler.specs.Trees.{Among, is_fit, join, names_held, others_held, unfit_in, SomeFails};
+ghost use Rattle.wm_crawler.specs.Levels.{path_of as path_of_lem, paths_in, counted, AreRead, AllFrom};
 
 use crate::dir::Dir;
 use crate::gate::Turnstile;
+use crate::name::Name;
 use crate::naming::path_of;
 use crate::tree::Tree;
 use std::alloc::Global;
@@ -50,14 +51,14 @@ fn add_names(
     alloc: Global,
     level: &mut Level,
     folder: &Subtree,
-    names: &[String],
+    names: &[Name],
 ) -> Result<(), NoMemory>
-    ensures paths { OnOk result (level.new.paths.items ≡ level.old.paths.items ++ filter_map (path_of_lem folder.now) (map string_bytes names.now)) }
-    ensures faults { OnOk result (level.new.faults ≡ counted (level.old.faults + count_by (λ n. not (is_fit folder.now n)) (map string_bytes names.now))) }
+    ensures paths { OnOk result (level.new.paths.items ≡ level.old.paths.items ++ filter_map (path_of_lem folder.now) names.now) }
+    ensures faults { OnOk result (level.new.faults ≡ counted (level.old.faults + count_by (λ n. not (is_fit folder.now n)) names.now)) }
 {
     let mut text = String::new(alloc);
     for name in names {
-        add_name(alloc, level, &mut text, folder, name)?;
+        add_name(alloc, level, &mut text, folder, name.as_str())?;
     }
     Ok(())
 }

@@ -5,8 +5,8 @@ ghost use Rattle.std.specs.List.{cons_option};
 ghost use Rattle.std.specs.Thread.{IsSync};
 ghost use Rattle.wm_disk.specs.declared.refusal.Refusal.TheVariants.{DeviceFailed, NoMemory as no_memory};
 ghost use Rattle.wm_names.specs.declared.subtree.Subtree.TheVariants.{Below};
-ghost use Rattle.wm_crawler.specs.Trees.{is_folder as is_folder_lem};
-ghost use Rattle.wm_crawler.specs.Levels.{paired_each as paired_each_lem, folder_at, folders, AreMetas, AreTold, AllAmong, SomeFails};
+ghost use Rattle.wm_crawler.specs.Trees.{is_folder as is_folder_lem, AreMetas, SomeFails};
+ghost use Rattle.wm_crawler.specs.Levels.{paired_each as paired_each_lem, folder_at, folders, AreTold, AllAmong};
 
 use crate::tree::Tree;
 use std::alloc::Global;
@@ -17,23 +17,6 @@ use wm_names::{Kind, Meta, RelPath, Subtree};
 
 /// How many paths a thread takes at least.
 const SHARE: usize = 64;
-
-/// What stands at each of the paths.
-fn meta_each<T: Tree>(
-    alloc: Global,
-    tree: &T,
-    paths: &[RelPath],
-) -> Result<Vec<Option<Meta>>, Refusal>
-    ensures read { IfOk result (λ v. T.stays tree.now → AreMetas (T.content tree.now) paths.now v.items) }
-    ensures refused { IfErr result (λ e. e ≢ no_memory → (e ≡ DeviceFailed) × SomeFails (T.may_fail tree.now) (map Below paths.now)) }
-{
-    let mut metas = Vec::with_capacity(alloc, paths.len())?;
-    for path in paths {
-        let there = tree.meta(alloc, path)?;
-        metas.push(there)?;
-    }
-    Ok(metas)
-}
 
 /// What stands at each of the paths, asked by so many threads.
 fn meta_all<R: Threads + Sync, T: Tree + Sync>(
@@ -47,7 +30,7 @@ fn meta_all<R: Threads + Sync, T: Tree + Sync>(
     ensures refused { IfErr result (λ e. e ≢ no_memory → (e ≡ DeviceFailed) × SomeFails (T.may_fail tree.now) (map Below paths.now)) }
 {
     if workers < 2 || paths.len() < SHARE {
-        return meta_each(alloc, tree, paths);
+        return tree.metas(alloc, paths);
     }
     let (left, right) = paths.split_at(paths.len() / 2);
     let half = workers / 2;

@@ -1,10 +1,10 @@
 //! What a crawl reads.
 //! Definitions: specs/Trees.antt. Tests: crawler_tests/src/crawls.rt.
-ghost use Rattle.std.specs.Prelude.{◌≡◌, ◌≢◌, Some, IfOk, IfErr};
+ghost use Rattle.std.specs.Prelude.{◌≡◌, ◌≢◌, Some, map, IfOk, IfErr};
 ghost use Rattle.wm_disk.specs.declared.refusal.Refusal.TheVariants.{DeviceFailed, NoMemory};
 ghost use Rattle.wm_names.specs.declared.subtree.Subtree.{Subtree as Place};
 ghost use Rattle.wm_names.specs.declared.subtree.Subtree.TheVariants.{Below};
-ghost use Rattle.wm_crawler.specs.Trees.{Content};
+ghost use Rattle.wm_crawler.specs.Trees.{Content, AreMetas, SomeFails};
 
 use crate::dir::Dir;
 use std::alloc::Global;
@@ -32,4 +32,18 @@ pub trait Tree {
     fn meta(&self, alloc: Global, path: &RelPath) -> Result<Option<Meta>, Refusal>
         ensures read { IfOk result (λ m. stays self.now → (content self.now).meta path.now ≡ Some m) }
         ensures refused { IfErr result (λ e. e ≢ NoMemory → (e ≡ DeviceFailed) × may_fail self.now (Below path.now)) };
+
+    /// What is known of each of the paths, as `meta` tells it. A tree that takes less work for many paths
+    /// together than for one after another has a body of its own.
+    fn metas(&self, alloc: Global, paths: &[RelPath]) -> Result<Vec<Option<Meta>>, Refusal>
+        ensures read { IfOk result (λ v. stays self.now → AreMetas (content self.now) paths.now v.items) }
+        ensures refused { IfErr result (λ e. e ≢ NoMemory → (e ≡ DeviceFailed) × SomeFails (may_fail self.now) (map Below paths.now)) }
+    {
+        let mut metas = Vec::with_capacity(alloc, paths.len())?;
+        for path in paths {
+            let there = self.meta(alloc, path)?;
+            metas.push(there)?;
+        }
+        Ok(metas)
+    }
 }

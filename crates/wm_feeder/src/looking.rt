@@ -25,7 +25,7 @@ impl<F: Files + Drop> Looking<F> {
         }
     }
 
-    /// What stands at a path, links followed.
+    /// What stands at a path; of a link, the link itself.
     fn meta(&self, alloc: Global, text: &str) -> Result<Option<Meta>, Stop> {
         let path = match RelPath::read(alloc, text) {
             Ok(path) => path,

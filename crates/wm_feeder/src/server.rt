@@ -1,4 +1,5 @@
 //! A session with the server, one request at a time.
+//! Tests: tools/feed_use.py.
 
 use crate::stop::Stop;
 use std::alloc::Global;

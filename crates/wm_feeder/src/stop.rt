@@ -1,4 +1,5 @@
 //! Why a feed stops.
+//! Tests: tools/feed_use.py.
 
 use std::alloc::{AllocError, AllocFailed};
 use wm_disk::NoMemory;

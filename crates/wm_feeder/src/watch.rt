@@ -1,5 +1,6 @@
 //! inotifywait as a program of the system: its start, and the records that it writes.
 //! Both of its streams come through one socket, since a socket can be read for so long and no longer.
+//! Tests: src/tests/watches.rt, tools/feed_use.py.
 
 use crate::flow::Flow;
 use crate::stop::Stop;

@@ -13,6 +13,10 @@ pub record LockedState (D : Type 0) : Type 0 where
   pub counts : List ℕ
   pub has_flusher : Bool
 
+-- the most seats of a desk
+abbrev pub seats : ℕ
+seats = 64
+
 -- each seat's list is a prefix of the one list
 abbrev pub AllLater : List ReplyView → Option State → List Call → Type 0
 AllLater [] base list = Unit {0}

@@ -1,4 +1,5 @@
 //! The book: the store beside the list of what it accepted.
+//! Definitions: specs/BookState.antt, specs/Books.antt. Tests: desk_tests/src/rows.rt.
 ghost use Rattle.std.specs.Prelude.{◌≡◌, ◌⊎◌, ◌≤◌, ◌<◌, ◌+◌, [], ◌++◌, length, vec_capacity, vec_len, IfOk, IfErr, IfSome, OnErr, OnOk, true};
 ghost use Rattle.wm_disk.specs.declared.refusal.Refusal.TheVariants.{DeviceFailed as device_failed, NoMemory as no_memory, StoreFailed as store_failed};
 ghost use Rattle.wm_registry.specs.Limits.{max_batch};
@@ -112,7 +113,7 @@ impl<D: Disk + Drop> Book<D> {
 
     /// Commits the calls' commands, and answers each call.
     pub fn commit(&mut self, alloc: Global, calls: Vec<Call>, answers: &mut Vec<Answer>)
-        requires few { length calls.items ≤ 64 }
+        requires few { length calls.items ≤ max_batch }
         requires room { (answers.old.items ≡ []) × (length calls.items ≤ vec_capacity answers.old) }
         ensures commits { IsCommit D.Disk self.old self.new calls.items answers.new.items }
         ensures right { AllRight self.new.base self.new.list answers.new.items }

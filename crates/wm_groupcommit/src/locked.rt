@@ -1,4 +1,5 @@
 //! What lies under the lock: the book, and the flusher's ends of the reply queues.
+//! Definitions: specs/LockedState.antt. Tests: desk_tests/src/rows.rt.
 ghost use Rattle.std.specs.Prelude.{◌≡◌, ◌≤◌, ◌<◌, ◌⊎◌, ◌+◌, ◌++◌, ◌∷◌, ℕ, true, false, Some, None, List, [], length, vec_capacity, vec_len, IfOk, IfErr, IfSome, OnOk};
 ghost use Rattle.wm_disk.specs.declared.refusal.Refusal.TheVariants.{NoMemory as no_memory, NoPlace as no_place};
 ghost use Rattle.wm_store.specs.Calls.{CallsStore};
@@ -7,7 +8,8 @@ ghost use Rattle.wm_groupcommit.specs.Commits.{IsCommit};
 ghost use Rattle.wm_groupcommit.specs.Counting.{newer_of, kept_newer, counts_after, counts_with};
 ghost use Rattle.wm_groupcommit.specs.Submits.{StandsInBook};
 ghost use Rattle.wm_groupcommit.specs.ReplyQueues.{reply_view, newcomer};
-ghost use Rattle.wm_groupcommit.specs.LockedState.{AllLater};
+ghost use Rattle.wm_registry.specs.Limits.{max_batch};
+ghost use Rattle.wm_groupcommit.specs.LockedState.{AllLater, seats};
 
 mod call_queue;
 mod call_rule;
@@ -25,7 +27,7 @@ use std::alloc::Global;
 use std::marker::Model;
 use std::sync::Wait;
 use wm_disk::{Disk, NoMemory, Refusal};
-use wm_registry::{Command, Registry};
+use wm_registry::{Command, MAX_BATCH, Registry};
 use wm_store::Store;
 
 /// The most seats of a desk.
@@ -69,8 +71,8 @@ impl<D: Disk + Drop> LockedDesk<D> {
     /// A new seat's number and its end of its reply queue.
     pub fn seat(&mut self, alloc: Global) -> Result<(u64, ReplyReceiver), Refusal>
         ensures ok { IfOk result (λ r. (r.0 ≡ length self.old.ends) × (r.1 ≡ newcomer) × (self.new.ends ≡ self.old.ends ++ reply_view true None [] [] ∷ [])) }
-        ensures free { IfOk result (λ _. length self.old.ends < 64) }
-        ensures err { IfErr result (λ e. (self.new.ends ≡ self.old.ends) × (((e ≡ no_place) × (64 ≤ length self.old.ends)) ⊎ (e ≡ no_memory))) }
+        ensures free { IfOk result (λ _. length self.old.ends < seats) }
+        ensures err { IfErr result (λ e. (self.new.ends ≡ self.old.ends) × (((e ≡ no_place) × (seats ≤ length self.old.ends)) ⊎ (e ≡ no_memory))) }
         ensures book { (self.new.book ≡ self.old.book) × (self.new.has_flusher ≡ self.old.has_flusher) }
     {
         if self.ends.len() >= SEATS {
@@ -148,7 +150,7 @@ impl<D: Disk + Drop> LockedDesk<D> {
         popped: PoppedCalls,
         room: Room,
     ) -> usize
-        requires few { length popped.calls.items ≤ 64 }
+        requires few { length popped.calls.items ≤ max_batch }
         ensures commits { (answers : List Answer) × IsCommit D.Disk self.old.book self.new.book (newer_of self.old.counts popped.calls.items) answers × AllRight self.new.book.base self.new.book.list answers × (result ≡ length answers) }
         ensures counts { self.new.counts ≡ counts_after self.old.counts popped.calls.items }
     {
@@ -170,13 +172,13 @@ pub struct Room {
     calls: Vec<Call>,
     answers: Vec<Answer>,
     ghost empty: { (calls.items ≡ []) × (answers.items ≡ []) },
-    ghost size: { (64 ≤ vec_capacity calls) × (64 ≤ vec_capacity answers) },
+    ghost size: { (max_batch ≤ vec_capacity calls) × (max_batch ≤ vec_capacity answers) },
 }
 
 impl Room {
     pub fn new(alloc: Global) -> Result<Room, NoMemory> {
-        let calls = Vec::with_capacity(alloc, 64)?;
-        let answers = Vec::with_capacity(alloc, 64)?;
+        let calls = Vec::with_capacity(alloc, MAX_BATCH)?;
+        let answers = Vec::with_capacity(alloc, MAX_BATCH)?;
         Ok(Room { calls, answers })
     }
 }

@@ -1,4 +1,5 @@
 //! Receipts.
+//! Definitions: specs/Submits.antt. Tests: desk_tests/src/rows.rt.
 
 use wm_registry::Command;
 

@@ -69,18 +69,17 @@ impl<J: Naming, K: Wait + Drop> RootHall<J, K> {
         copied(alloc, &self.triggers.lock(rt))
     }
 
-    /// Performs an operation, publishes it, and tells where the view stands then. What the view refuses, `Exhausted`, and `NoMemory`,
+    /// Performs an operation, whose moment is the second that it is performed at, publishes it, and tells where the view stands then. What the view refuses, `Exhausted`, and `NoMemory`,
     /// after which it may still be published with the next one.
     pub fn operate<R: Wait>(
         &self,
         rt: &R,
-        moment: u64,
         forgetting: Forgetting,
         op: Op,
     ) -> Result<Progress, Refusal> {
         let mut keeper = self.keeper.lock(rt);
         let mut aged_at = self.aged_at.lock(rt);
-        let told = operate(&mut keeper, &mut aged_at, moment, forgetting, op)?;
+        let told = operate(&mut keeper, &mut aged_at, forgetting, op)?;
         let met = progress_of(&told);
         *self.told.lock(rt) = Some(told);
         drop(aged_at);

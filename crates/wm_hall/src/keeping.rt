@@ -76,14 +76,23 @@ fn age_out<J: Naming, T: Listed<J> + Drop, R: Wait + Drop>(
     }
 }
 
+/// The moment of an operation, in seconds.
+fn moment_of(op: &Op) -> u64 {
+    match op {
+        Op::Observe(moment, _) => *moment,
+        Op::Recrawl(moment, _, _) => *moment,
+        Op::AgeOut(moment, _) => *moment,
+    }
+}
+
 /// Publishes an operation, and before it what is to be forgotten. A view that became ready counts its interval from then.
 pub(crate) fn operate<J: Naming, T: Listed<J> + Drop, R: Wait + Drop>(
     keeper: &mut RootKeeper<J, T, R>,
     aged_at: &mut Option<u64>,
-    moment: u64,
     forgetting: Forgetting,
     op: Op,
 ) -> Result<Told<J>, Refusal> {
+    let moment = moment_of(&op);
     age_out(keeper, aged_at, moment, forgetting);
     let told = publish(keeper, op)?;
     if aged_at.is_none() && told.clock().is_some() {

@@ -1,5 +1,7 @@
 //! The viewers of a session: one of each root that it asked about.
-//! Tests: serve_tests/src/sessions.rt.
+//! Tests: serve_tests/src/halls.rt, serve_tests/src/sessions.rt.
+ghost use Rattle.std.specs.Prelude.{◌≡◌, IfOk};
+
 use crate::hall::RootHall;
 use std::alloc::Global;
 use std::sync::Wait;
@@ -26,15 +28,18 @@ impl<J: Naming> Viewers<J> {
         &mut self,
         rt: &R,
         hall: &RootHall<J, K>,
-    ) -> Result<&mut Viewer<J>, Refusal> {
+    ) -> Result<&mut Viewer<J>, Refusal>
+        ensures own { IfOk result (λ viewer. viewer.now.share.root ≡ hall.now.number) }
+    {
         if self.place(hall.number).is_none() {
             self.all.try_reserve(1)?;
             self.all.push(hall.lend(rt)?)?;
         }
-        match self.place(hall.number) {
-            Some(place) if place < self.all.len() => Ok(&mut self.all[place]),
-            _ => Err(Refusal::NoPlace),
-        }
+        let own = self
+            .all
+            .iter_mut()
+            .find(|viewer| viewer.share().root == hall.number);
+        own.ok_or(Refusal::NoPlace)
     }
 
     /// The viewer of a root, if there is one, learns what was published last.

@@ -1,4 +1,5 @@
 //! What the workers of a root are asked: crawls, and to look whether a trigger is due.
+//! Tests: serve_tests/src/crawls.rt.
 use std::alloc::Global;
 use std::sync::{Condvar, Mutex, Wait};
 use wm_disk::{NoMemory, Refusal};

@@ -8,6 +8,7 @@ use Rattle.clap.specs.Words.{App, IsAmong, Row, Rule, Text, fault_of, first_of, 
 use Rattle.clap.specs.declared.builder.ArgAction.TheVariants.{Set}
 use Rattle.clap.specs.declared.error.ErrorKind.{ErrorKind}
 use Rattle.clap.specs.declared.error.ErrorKind.TheVariants as kind
+use Rattle.wm_crawler.specs.Crawls.{max_workers}
 use Rattle.wm_serve.specs.declared.serving.Settings.{Settings}
 use Rattle.wm_server.specs.program.Words.{watchmand_app}
 use Rattle.wm_program.specs.declared.words.Words.{Words}
@@ -68,7 +69,7 @@ endless = 2 ^ 64 - 1
 -- these words are there for the options, and tell this
 pub record TellsSettings (workers_word age_word interval_word sessions_word : Option Text) (s : Settings) : Type 0 where
   pub workers : TellsNumber 4 workers_word s.workers
-  pub allowed : (1 ≤ s.workers) × (s.workers ≤ 16)
+  pub allowed : (1 ≤ s.workers) × (s.workers ≤ max_workers)
   pub age : TellsNumber 43200 age_word s.gc_age
   pub interval : TellsNumber 86400 interval_word s.gc_interval
   pub sessions : TellsNumber endless sessions_word s.sessions

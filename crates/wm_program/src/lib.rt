@@ -3,7 +3,7 @@
 //! [`Words`] is what its words ask for (specs/ProgramWords.antt). `format` and `lines` are met by `wm_server`,
 //! `serve` by `wm_serve`, and [`watchmand`] is the whole program.
 //!
-//! Tests: serve_tests/src/words.rt, serve_tests/src/started.
+//! Tests: serve_tests/src/words.rt; of the built program tools/first_session.sh and tools/rough_use.py.
 #![tactic(auto)]
 
 mod program;

@@ -1,5 +1,5 @@
 //! All of `watchmand`, with its status.
-//! Tests: serve_tests/src/started.
+//! Tests: tools/first_session.sh, tools/rough_use.py.
 use crate::words::Words;
 use std::alloc::Global;
 use std::fs::{File, Files};

@@ -6,12 +6,14 @@ ghost use Rattle.std.specs.Str.{bytes_eq};
 ghost use Rattle.clap.specs.Values.{kind_of};
 ghost use Rattle.clap.specs.Words.{app_of, found_of, rows_of, rule_of, subcommand_rows_of};
 ghost use Rattle.clap.specs.declared.builder.Command.TheViews.{out-Command};
+ghost use Rattle.wm_crawler.specs.Crawls.{max_workers};
 ghost use Rattle.wm_serve.specs.declared.serving.Settings.{Settings as settings_lem};
 ghost use Rattle.wm_program.specs.ProgramWords.{AsksProgram, FindsServe, MeetsFor, NamedFor, ServesBy, TellsNumber, TellsSettings, place_rule, number_rule, program_app, serve_app, told_for_kind, shown_status, word_text, program_wanted};
 
 use clap::error::ErrorKind;
 use clap::{Arg, ArgAction, ArgMatches, Command, Error};
 use std::alloc::Global;
+use wm_crawler::MAX_WORKERS;
 use wm_disk::NoMemory;
 use wm_serve::Settings;
 use wm_server::words;
@@ -224,12 +226,12 @@ fn settings_of(
     })
 }
 
-// How many threads are to crawl a root: 1 to 16.
+// How many threads are to crawl a root: 1 to `MAX_WORKERS`.
 fn workers_of(told: Option<&str>) -> Option<usize>
-    ensures { MatchOption result ((n : ℕ) → TellsNumber 4 (word_text told.entry) n → (1 ≤ n) × (n ≤ 16) → ⊥) (λ n. TellsNumber 4 (word_text told.entry) n × ((1 ≤ n) × (n ≤ 16))) }
+    ensures { MatchOption result ((n : ℕ) → TellsNumber 4 (word_text told.entry) n → (1 ≤ n) × (n ≤ max_workers) → ⊥) (λ n. TellsNumber 4 (word_text told.entry) n × ((1 ≤ n) × (n ≤ max_workers))) }
 {
     let workers = number_of(told, 4)?;
-    if workers < 1 || workers > 16 {
+    if workers < 1 || workers > MAX_WORKERS as u64 {
         return None;
     }
     Some(workers as usize)

@@ -151,7 +151,7 @@ impl Trigger {
     }
 
     /// Whether the other is defined in the same way.
-    pub(crate) fn is_same(&self, other: &Trigger) -> bool
+    pub fn is_same(&self, other: &Trigger) -> bool
         ensures { result ≡ same_definition self.now other.now }
     {
         self.name() == other.name()

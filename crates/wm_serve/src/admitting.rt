@@ -1,4 +1,5 @@
 //! The threads of a server, and who is let in.
+//! Tests: serve_tests/src/sessions.rt.
 use crate::door::CHAIRS;
 use crate::house::House;
 use crate::leading::lead;

@@ -1,4 +1,5 @@
 //! A session: its lines and its replies.
+//! Tests: serve_tests/src/sessions.rt.
 use crate::chair::Chair;
 use crate::meeting::meet;
 use crate::place::Place;
@@ -16,9 +17,8 @@ use wm_lines::{Request, ServerRequest};
 use wm_names::{RootPath, Subtree};
 use wm_server::Input;
 use wm_server::input::{LineRead, read_line};
+use wm_server::run::NO_MEMORY;
 use wm_share::Naming;
-
-const NO_MEMORY: &str = "{\"error\":\"16 NoMemory\",\"version\":\"w1\"}\n";
 
 /// How long a client may leave a reply unread before its session ends.
 const WRITE_SECONDS: u64 = 10;

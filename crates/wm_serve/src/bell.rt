@@ -1,4 +1,5 @@
 //! What wakes the thread that tells a session's subscriptions.
+//! Tests: serve_tests/src/sessions.rt.
 use std::sync::{Condvar, Mutex, Wait};
 
 /// Rung where a subscription may be due, or where the server closes.

@@ -1,4 +1,5 @@
 //! A session's chair: what its two threads share.
+//! Tests: serve_tests/src/sessions.rt.
 use crate::bell::Bell;
 use std::alloc::Global;
 use std::mem;

@@ -1,4 +1,5 @@
 //! A command of the registry from a session.
+//! Tests: serve_tests/src/sessions.rt.
 use crate::place::Place;
 use crate::shared::Shared;
 use std::alloc::Global;

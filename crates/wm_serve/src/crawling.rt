@@ -1,5 +1,7 @@
 //! Crawls a root when that is asked for.
+//! Tests: serve_tests/src/crawls.rt.
 ghost use Rattle.std.specs.Prelude.{◌≤◌};
+ghost use Rattle.wm_crawler.specs.Crawls.{max_workers};
 
 use crate::house::{Crawl, House};
 use crate::system::Folders;
@@ -37,6 +39,10 @@ impl<F: Folders> Tree for Rooted<'_, F> {
     fn meta(&self, alloc: Global, path: &RelPath) -> Result<Option<Meta>, Refusal> {
         self.folders.meta(alloc, &self.root, path)
     }
+
+    fn metas(&self, alloc: Global, paths: &[RelPath]) -> Result<Vec<Option<Meta>>, Refusal> {
+        self.folders.metas(alloc, &self.root, paths)
+    }
 }
 
 /// All that is there below a part of a root.
@@ -48,7 +54,7 @@ fn list<R: Threads + Sync, F: Folders + Sync, G: Turnstile + Sync>(
     asked: &Crawl,
     workers: usize,
 ) -> Result<Listing, Refusal>
-    requires { (1 ≤ workers) × (workers ≤ 16) }
+    requires { (1 ≤ workers) × (workers ≤ max_workers) }
 {
     let root = asked.path.copy(alloc)?;
     let tree = Rooted { folders, root };
@@ -67,7 +73,7 @@ fn crawl_once<R: Threads + Wait + Clock + Sync, H: House, F: Folders + Sync, G: 
     root: u64,
     asked: &Crawl,
 ) -> Result<Progress, Refusal>
-    requires { (1 ≤ workers) × (workers ≤ 16) }
+    requires { (1 ≤ workers) × (workers ≤ max_workers) }
 {
     let begun_at = house.tick(rt, root);
     let found = list(rt, alloc, folders, gate, asked, workers)?;
@@ -85,7 +91,7 @@ fn crawl_asked<R: Threads + Wait + Clock + Sync, H: House, F: Folders + Sync, G:
     root: u64,
     asked: &Crawl,
 )
-    requires { (1 ≤ workers) × (workers ≤ 16) }
+    requires { (1 ≤ workers) × (workers ≤ max_workers) }
 {
     let mut ended = crawl_once(rt, alloc, house, folders, gate, workers, root, asked);
     if let Err(Refusal::BadClock) = ended {
@@ -94,7 +100,7 @@ fn crawl_asked<R: Threads + Wait + Clock + Sync, H: House, F: Folders + Sync, G:
     house.crawled(rt, root, asked.ticket, ended);
 }
 
-/// The worker that crawls a root, by so many threads of 1 to 16.
+/// The worker that crawls a root, by so many threads of 1 to `MAX_WORKERS`.
 pub fn crawl_for<
     R: Threads + Wait + Clock + Sync,
     H: House,

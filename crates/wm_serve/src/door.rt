@@ -1,4 +1,5 @@
 //! Where sessions wait for a chair.
+//! Tests: serve_tests/src/sessions.rt.
 use std::alloc::Global;
 use std::os::unix::net::UnixStream;
 use std::sync::{Condvar, Mutex, Wait};

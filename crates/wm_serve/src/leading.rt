@@ -1,4 +1,5 @@
 //! Starts the workers of each root.
+//! Tests: serve_tests/src/sessions.rt.
 use crate::crawling::crawl_for;
 use crate::house::{House, Worker};
 use crate::system::{Folders, Programs};

@@ -1,6 +1,6 @@
 //! The socket server: sessions in threads over one desk, and a hall for each watched root.
 //!
-//! [`serve`] opens a state file and serves a Unix socket. Each thread starts in [`serving`] or
+//! [`serve`] opens a state file and serves a Unix socket. Each thread starts in [`admitting`] or
 //! [`leading`] and sees the server as a [`House`]. A command goes to the desk, an operation to the keeper of its
 //! root, and a question to the session's own viewer of the root (`wm_hall`), which waits for nobody.
 #![tactic(auto)]

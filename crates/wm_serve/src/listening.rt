@@ -1,4 +1,5 @@
 //! The socket.
+//! Tests: serve_tests/src/sockets.rt.
 use std::fs::{File, Files, Permissions};
 use std::io::ErrorKind;
 use std::net::Net;

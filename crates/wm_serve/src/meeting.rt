@@ -1,4 +1,5 @@
 //! Where a request is met: on the registry, by the keeper of its root or the session's viewer of it, at the desk, or on the chair of its session.
+//! Tests: serve_tests/src/sessions.rt.
 use crate::chair::Chair;
 use crate::commanding::command;
 use crate::place::Place;
@@ -29,20 +30,31 @@ fn meet_registry(
     Ok(())
 }
 
+/// Meets a request on the desk's registry as it is now.
+fn list<R: Wait, D: Disk + Drop, J: Naming, K: Wait + Copy + Drop>(
+    rt: &R,
+    alloc: Global,
+    shared: &Shared<D, J, K>,
+    request: Request,
+    out: &mut Vec<u8>,
+) -> Result<(), Refusal> {
+    let registry = shared.desk.registry(rt)?;
+    meet_registry(alloc, registry, request, out)
+}
+
 /// Performs an operation, and appends where the view stands after it. The session's viewer learns of it before that is told.
 fn operate<R: Wait + Clock, D: Disk + Drop, J: Naming, K: Wait + Copy + Drop>(
     rt: &R,
     shared: &Shared<D, J, K>,
     chair: &Chair<J>,
     path: &RootPath,
-    moment: u64,
     op: Op,
     out: &mut Vec<u8>,
 ) -> Result<(), Refusal> {
     out.try_reserve(PROGRESS_ROOM)?;
     let tells_floor = matches!(op, Op::AgeOut(_, _));
     let hall = shared.hall(rt, path)?;
-    let met = hall.operate(rt, moment, shared.forgetting, op);
+    let met = hall.operate(rt, shared.forgetting, op);
     chair.viewers.lock(rt).learn(rt, &hall);
     shared.ring(rt);
     let progress = met?;
@@ -99,57 +111,35 @@ pub fn meet<R: Wait + Clock, D: Disk + Drop, J: Naming, K: Wait + Copy + Drop>(
 ) -> Result<(), Refusal> {
     match request {
         Request::Version => meet_registry(alloc, Registry::new(alloc), Request::Version, out),
-        Request::WatchList => {
-            meet_registry(alloc, shared.desk.registry(rt)?, Request::WatchList, out)
-        }
-        Request::TriggerList(path) => {
-            let registry = shared.desk.registry(rt)?;
-            meet_registry(alloc, registry, Request::TriggerList(path), out)
-        }
+        Request::WatchList => list(rt, alloc, shared, Request::WatchList, out),
+        Request::TriggerList(path) => list(rt, alloc, shared, Request::TriggerList(path), out),
         Request::Watch(path) => command(rt, alloc, shared, place, Command::Watch(path), out),
         Request::WatchDel(path) => command(rt, alloc, shared, place, Command::WatchDel(path), out),
         Request::Trigger(path, trigger) => {
-            command(
-                rt,
-                alloc,
-                shared,
-                place,
-                Command::Trigger(path, trigger),
-                out,
-            )
+            let defined = Command::Trigger(path, trigger);
+            command(rt, alloc, shared, place, defined, out)
         }
         Request::TriggerDel(path, name) => {
-            command(
-                rt,
-                alloc,
-                shared,
-                place,
-                Command::TriggerDel(path, name),
-                out,
-            )
+            let deleted = Command::TriggerDel(path, name);
+            command(rt, alloc, shared, place, deleted, out)
         }
         Request::Subscribe(root, name, inquiry) => {
-            subscribe(rt, alloc, shared, chair, root, name, inquiry, out)?;
-            chair.ring(rt);
-            Ok(())
+            subscribe(rt, alloc, shared, chair, root, name, inquiry, out)
         }
         Request::Unsubscribe(root, name) => {
             unsubscribe(rt, alloc, shared, chair, &root, &name, out)
         }
         Request::Observe(path, pairs) => {
-            let moment = second(rt);
-            let op = Op::Observe(moment, pairs);
-            operate(rt, shared, chair, &path, moment, op, out)
+            let op = Op::Observe(second(rt), pairs);
+            operate(rt, shared, chair, &path, op, out)
         }
         Request::Listing(path, begun_at, listing) => {
-            let moment = second(rt);
-            let op = Op::Recrawl(moment, begun_at, listing);
-            operate(rt, shared, chair, &path, moment, op, out)
+            let op = Op::Recrawl(second(rt), begun_at, listing);
+            operate(rt, shared, chair, &path, op, out)
         }
         Request::AgeOut(path, age) => {
-            let moment = second(rt);
-            let op = Op::AgeOut(moment, age);
-            operate(rt, shared, chair, &path, moment, op, out)
+            let op = Op::AgeOut(second(rt), age);
+            operate(rt, shared, chair, &path, op, out)
         }
         Request::Clock(path) => clock(rt, alloc, shared, chair, &path, out),
         Request::Query(path, inquiry) => inquire(rt, alloc, shared, chair, &path, inquiry, out),

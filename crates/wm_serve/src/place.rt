@@ -1,4 +1,5 @@
 //! A session's seat at the desk.
+//! Tests: serve_tests/src/places.rt.
 ghost use Rattle.wm_groupcommit.specs.Seats.{IsSeatOf};
 
 use std::sync::Wait;

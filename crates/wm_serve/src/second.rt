@@ -1,4 +1,5 @@
 //! The moment of an operation.
+//! Tests: serve_tests/src/sessions.rt.
 use std::time::{Clock, SystemTime};
 
 /// The second that the clock gives, since 1970; 0 where it gives none.

@@ -1,4 +1,5 @@
 //! `serve`: the whole server, from its state file and its socket to the close of the file.
+//! Tests: serve_tests/src/restarts.rt.
 ghost use Rattle.std.specs.Prelude.{◌≡◌};
 
 use crate::admitting::serve_on;

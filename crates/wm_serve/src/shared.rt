@@ -1,4 +1,5 @@
 //! What all threads of a server share: the desk, the halls, the chairs and the door.
+//! Tests: serve_tests/src/sessions.rt.
 use crate::chair::Chair;
 use crate::door::{CHAIRS, Door};
 use crate::house::Worker;

@@ -1,4 +1,5 @@
 //! What threads are given of a server: `Shared` as a house.
+//! Tests: serve_tests/src/sessions.rt.
 ghost use Rattle.wm_groupcommit.specs.Seats.{IsFlusherOf};
 
 use crate::answering::sit_on;
@@ -138,7 +139,7 @@ impl<D: Disk + Drop, J: Naming, K: Wait + Copy + Drop> House for Shared<D, J, K>
         };
         let moment = second(rt);
         let op = Op::Recrawl(moment, begun_at, found);
-        let met = hall.operate(rt, moment, self.forgetting, op);
+        let met = hall.operate(rt, self.forgetting, op);
         self.ring(rt);
         met
     }

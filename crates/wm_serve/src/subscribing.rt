@@ -1,4 +1,5 @@
 //! `subscribe` and `unsubscribe` of a session.
+//! Tests: serve_tests/src/sessions.rt.
 use crate::chair::Chair;
 use crate::shared::Shared;
 use std::alloc::Global;
@@ -67,6 +68,8 @@ pub fn subscribe<R: Wait, D: Disk + Drop, J: Naming, K: Wait + Copy + Drop>(
     })?;
     chair.recount(all.as_slice().len());
     out.extend_from_slice(&told)?;
+    drop(all);
+    chair.ring(rt);
     Ok(())
 }
 

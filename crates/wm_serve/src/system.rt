@@ -1,6 +1,9 @@
 //! What a server reads and starts of its system: traits that threads see, in place of the runtime's own.
-ghost use Rattle.std.specs.Prelude.{◌≡◌, ◌≢◌, IfErr};
+//! Tests: serve_tests/src/sessions.rt.
+ghost use Rattle.std.specs.Prelude.{◌≡◌, ◌≢◌, ⊤, map, IfErr};
 ghost use Rattle.wm_disk.specs.declared.refusal.Refusal.TheVariants.{DeviceFailed, NoMemory as no_memory};
+ghost use Rattle.wm_names.specs.declared.subtree.Subtree.TheVariants.{Below};
+ghost use Rattle.wm_crawler.specs.Trees.{SomeFails};
 
 use std::alloc::Global;
 use std::fs::Files;
@@ -25,6 +28,15 @@ pub trait Folders {
     /// As `Tree::meta` of the root.
     fn meta(&self, alloc: Global, root: &RootPath, path: &RelPath) -> Result<Option<Meta>, Refusal>
         ensures refused { IfErr result (λ e. e ≢ no_memory → e ≡ DeviceFailed) };
+
+    /// As `Tree::metas` of the root.
+    fn metas(
+        &self,
+        alloc: Global,
+        root: &RootPath,
+        paths: &[RelPath],
+    ) -> Result<Vec<Option<Meta>>, Refusal>
+        ensures refused { IfErr result (λ e. e ≢ no_memory → (e ≡ DeviceFailed) × SomeFails (λ _. ⊤) (map Below paths.now)) };
 }
 
 /// The folders of the file system.
@@ -59,6 +71,17 @@ impl<R: Files + Drop> Folders for SystemFolders<R> {
     ) -> Result<Option<Meta>, Refusal> {
         let tree = FolderTree::new(&self.files, root.copy(alloc)?);
         let read = tree.meta(alloc, path);
+        read
+    }
+
+    fn metas(
+        &self,
+        alloc: Global,
+        root: &RootPath,
+        paths: &[RelPath],
+    ) -> Result<Vec<Option<Meta>>, Refusal> {
+        let tree = FolderTree::new(&self.files, root.copy(alloc)?);
+        let read = tree.metas(alloc, paths);
         read
     }
 }

@@ -1,4 +1,5 @@
 //! Tells the subscriptions of a session.
+//! Tests: serve_tests/src/sessions.rt.
 use crate::chair::Chair;
 use crate::shared::Shared;
 use std::alloc::Global;

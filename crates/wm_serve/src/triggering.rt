@@ -1,10 +1,11 @@
 //! Runs the triggers of a root.
+//! Tests: serve_tests/src/sessions.rt.
 use crate::system::Programs;
 use std::alloc::Global;
 use std::sync::Wait;
 use wm_disk::Refusal;
 use wm_hall::RootHall;
-use wm_registry::{Stdin, Trigger};
+use wm_registry::Trigger;
 use wm_share::{Naming, Viewer};
 use wm_triggers::TriggerRun;
 
@@ -15,36 +16,11 @@ struct Kept {
     runs: TriggerRun,
 }
 
-fn same_stdin(one: Stdin, other: Stdin) -> bool {
-    matches!(
-        (one, other),
-        (Stdin::NamePerLine, Stdin::NamePerLine) | (Stdin::DevNull, Stdin::DevNull)
-    )
-}
-
-fn same_words(one: &Trigger, other: &Trigger) -> bool {
-    let words = one.command();
-    let others = other.command();
-    words.len() == others.len()
-        && words
-            .iter()
-            .zip(others.iter())
-            .all(|(word, other)| word.as_str() == other.as_str())
-}
-
-fn is_same(one: &Trigger, other: &Trigger) -> bool {
-    one.name() == other.name()
-        && one.expression() == other.expression()
-        && one.append_files() == other.append_files()
-        && same_stdin(one.stdin(), other.stdin())
-        && same_words(one, other)
-}
-
 /// The runs of a trigger: those that were kept, or none yet.
 fn runs_of(alloc: Global, trigger: &Trigger, kept: &mut Vec<Kept>) -> Result<Kept, Refusal> {
     let mut place = None;
     for (i, old) in kept.iter().enumerate() {
-        if is_same(&old.trigger, trigger) {
+        if old.trigger.is_same(trigger) {
             place = Some(i);
         }
     }

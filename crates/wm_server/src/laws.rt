@@ -14,7 +14,7 @@ ghost use Rattle.wm_server.specs.session.Inquiries.{has_place, inquired, questio
 ghost use Rattle.wm_server.specs.session.PartLaws.{MeetsOnPart};
 ghost use Rattle.wm_server.specs.session.Watched.{AreOfHistories, first_views, of_history, unless, view_after};
 ghost use Rattle.wm_server.specs.program.Programs.{KeepsAccepted};
-ghost use Rattle.wm_server.specs.session.Sessions.{SessionState, Standing, line_met};
+ghost use Rattle.wm_server.specs.session.Sessions.{SessionState, WithSubscriptions, line_met};
 ghost use Rattle.wm_registry.specs.Roots as registry;
 ghost use Rattle.wm_registry.specs.declared.command.Command.{Command};
 
@@ -33,7 +33,7 @@ pub fn every_line()
     ensures no_place { (h : History) (cursors : CursorList) (q : Inquiry) → IsMade h → is_ready h ≡ true → has_place q.since cursors ≡ false → inquired (Some (of_history h cursors)) q ≡ Err TooMany }
     ensures due { (h : History) (cursors : CursorList) (s : Subscriber Term) → IsMade h → due_of (Some (of_history h cursors)) s ≡ due_answer (holds s.query.test) h s }
     ensures begun { (r : registry.State) → AreOfHistories (first_views r) }
-    ensures stays { (s : Standing SessionState) (moment : ℕ) (line : List ℕ) → AreOfHistories s.front.views → AreOfHistories (line_met s moment line).state.views }
+    ensures stays { (s : WithSubscriptions SessionState) (moment : ℕ) (line : List ℕ) → AreOfHistories s.front.views → AreOfHistories (line_met s moment line).state.views }
 {
     every_operation();
     every_answer();

@@ -5,8 +5,8 @@
 //! answered, and the state after it, is `line_met` of specs/session/Sessions.antt.
 //!
 //! The rooms, each with a folder in src, specs and proofs: `session` answers lines on a front, `local` is
-//! the front of one thread over a disk, `program` is all of `watchmand`. What serves sockets is to be a
-//! room `serve` beside them, above `session` and below `program`.
+//! the front of one thread over a disk, `program` is `format` and `lines`. Sockets are `wm_serve`'s, and all
+//! the words of `watchmand` are `wm_program`'s.
 //!
 //! Tests: session_tests/src (lines, requests, programs, ends.rt).
 #![tactic(auto)]

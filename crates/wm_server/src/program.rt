@@ -1,4 +1,4 @@
-//! What the program's main calls. Its definitions are in specs/program.
+//! `format` and `lines` whole, as `wm_program` calls them. Its definitions are in specs/program.
 //! Tests: session_tests/src/programs.
 ghost use Rattle.std.specs.Prelude.{◌≡◌, ◌⊎◌, ◌<◌, [], true, MatchResult, OnOk, codes, map};
 ghost use Rattle.std.specs.Io.KnownBytes.{Appends};

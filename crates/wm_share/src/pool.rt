@@ -1,7 +1,7 @@
 //! The viewers of a share that nobody has.
-//! Definitions: specs/PublishedLists.antt. Tests: share_tests/src/shares.rt.
+//! Definitions: specs/Pools.antt. Tests: share_tests/src/pools.rt.
 ghost use Rattle.std.specs.Prelude.{◌≡◌, ◌≢◌, ◌+◌, ◌<◌, ◌≤◌, MatchResult};
-ghost use Rattle.wm_share.specs.Pools.{PoolState};
+ghost use Rattle.wm_share.specs.Pools.{PoolState, max_viewers};
 ghost use Rattle.wm_share.specs.declared.share_id.ShareId.{ShareId as Id};
 
 use crate::book::Naming;
@@ -23,13 +23,13 @@ pub struct Pool<J: Naming> {
 
 impl<J: Naming> Model for Pool<J> {
     ghost use Rattle.std.specs.Prelude.{◌≡◌, ◌≤◌, All, length, vec_capacity};
-    ghost use Rattle.wm_share.specs.Pools.{PoolState};
+    ghost use Rattle.wm_share.specs.Pools.{PoolState, max_viewers};
 
     ghost Value = { PoolState };
 
     ghost view = { λ p. record { share = p.share; viewers = length p.viewers.items } };
 
-    ghost invariant = { λ p. (length p.viewers.items ≤ 32) × (32 ≤ vec_capacity p.viewers) × All (λ v. v.share ≡ p.share) p.viewers.items };
+    ghost invariant = { λ p. (length p.viewers.items ≤ max_viewers) × (max_viewers ≤ vec_capacity p.viewers) × All (λ v. v.share ≡ p.share) p.viewers.items };
 }
 
 impl<J: Naming> Pool<J> {
@@ -61,12 +61,12 @@ impl<J: Naming> Pool<J> {
         }
     }
 
-    /// Takes in a viewer of this share. It takes no memory. A pool that has 32 viewers lets another one go,
+    /// Takes in a viewer of this share. It takes no memory. A pool that has `MAX_VIEWERS` lets another one go,
     /// and each pool lets go a viewer of another share.
     pub fn give(&mut self, viewer: Viewer<J>)
         ensures share { self.new.share ≡ self.old.share }
-        ensures given { viewer.share ≡ self.old.share → self.old.viewers < 32 → self.new.viewers ≡ self.old.viewers + 1 }
-        ensures full { 32 ≤ self.old.viewers → self.new.viewers ≡ self.old.viewers }
+        ensures given { viewer.share ≡ self.old.share → self.old.viewers < max_viewers → self.new.viewers ≡ self.old.viewers + 1 }
+        ensures full { max_viewers ≤ self.old.viewers → self.new.viewers ≡ self.old.viewers }
         ensures other { viewer.share ≢ self.old.share → self.new.viewers ≡ self.old.viewers }
     {
         if self.viewers.len() < MAX_VIEWERS && viewer.share().same(&self.share) {

@@ -19,7 +19,7 @@
 //!
 //! Not promised: when a device fails (a cut row asks that the count of failures rose, but a disk may fail
 //! at any call), and that memory suffices: `16` ends a drive. A clean close is a [`Event::Stop`] here; the
-//! file itself is `wm_store`'s and `wm_server`'s affair.
+//! file itself is `wm_store`'s and `wm_file`'s affair.
 //!
 //! Tests: session_tests/src/world.
 #![tactic(auto)]

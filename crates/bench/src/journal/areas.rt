@@ -52,7 +52,6 @@ impl<D: Disk + Drop> Areas<D> {
     }
 
     /// Puts a group into the journal where it has room there; tells whether it had.
-    #[cfg(test)]
     pub fn put(&mut self, alloc: Global, records: &[Command]) -> Result<bool, Refusal> {
         if !fits(records, self.region.room()) {
             return Ok(false);
@@ -63,7 +62,6 @@ impl<D: Disk + Drop> Areas<D> {
     }
 
     /// Reads the first bytes of the journal. An error where the disk failed, or has fewer.
-    #[cfg(test)]
     pub fn read_start(&mut self, bytes: &mut [u8]) -> Result<(), DeviceFailed> {
         reaches(&mut self.region.disk, bytes.len() as u64)?;
         self.region.disk.read_at(0, bytes)

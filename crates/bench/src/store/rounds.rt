@@ -116,7 +116,6 @@ impl<D: Disk + Drop> Sides<D> {
     }
 
     /// Both disks.
-    #[cfg(test)]
     pub fn into_disks(self) -> (D, D) {
         (self.store.into_disk(), self.by_hand.disk)
     }

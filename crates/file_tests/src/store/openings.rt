@@ -1,6 +1,6 @@
 //! Files whose opening is refused, and spent numbers.
 use super::calls::{fill, many};
-use super::{JOURNAL_A, Kept, accept, formatted, meet, open, watching};
+use super::{JOURNAL_A, Kept, SLOT_B, accept, formatted, meet, open, watching};
 use crate::disks::{content_of, disk_of, overwrite};
 use std::alloc::{AllocError, Global};
 use std::test::Fail;
@@ -10,6 +10,9 @@ use wm_store::Store;
 
 /// The last value of a number.
 const LAST: &[u8] = b"\x7f\xff\xff\xff\xff\xff\xff\xff";
+
+/// Where slot A stands.
+const SLOT_A: usize = 4_096;
 
 /// Where the number of slot A stands.
 const NUMBER: usize = 4_097;
@@ -46,17 +49,41 @@ fn hands_back(
     }
 }
 
-/// The header, the retired gate, and the incarnation.
+/// The header, the retired gate, both slots closed, both open with number 1, the incarnation, and journals: of no command, of a
+/// path that is none, and of a watch that changes nothing.
 const REFUSED: &[(usize, &[u8], Refusal)] = &[
     (0, b"\x00", Refusal::Damaged),
     (12, b"\xa5", Refusal::Retired),
+    (SLOT_A, b"\x00", Refusal::Damaged),
+    (
+        SLOT_B,
+        b"\xa5\x00\x00\x00\x00\x00\x00\x00\x01",
+        Refusal::Damaged,
+    ),
     (INCARNATION, LAST, Refusal::Exhausted),
+    (JOURNAL_A, b"\xa5\x05\x00", Refusal::Damaged),
+    (
+        JOURNAL_A,
+        b"\xa5\x01\x00\x00\x00\x01\x2f\x00",
+        Refusal::Damaged,
+    ),
+    (
+        JOURNAL_A,
+        b"\xa5\x01\x00\x00\x00\x02\x2f\x72\xa5\x01\x00\x00\x00\x02\x2f\x72\x00",
+        Refusal::Damaged,
+    ),
 ];
 
 #[test]
 fn hands_a_disk_back(rt: HostRuntime) -> Result<(), Fail> {
     for row in REFUSED {
-        assert!(rt; hands_back(rt.alloc(), *row)?, "{:?}", row.2);
+        assert!(rt;
+            hands_back(rt.alloc(), *row)?,
+            "{:?} at {}: {:?}",
+            row.1,
+            row.0,
+            row.2
+        );
     }
     Ok(())
 }

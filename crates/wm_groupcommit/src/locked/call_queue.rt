@@ -1,7 +1,9 @@
 //! The queue in which the seats put their calls and from which the flusher takes them.
+//! Definitions: specs/CallQueues.antt. Tests: desk_tests/src/rows.rt.
 ghost use Rattle.std.specs.Prelude.{◌≡◌, ◌≤◌, List, [], ◌∷◌, ◌++◌, length, vec_capacity, IfOk, OnErr, MatchResult};
 ghost use Rattle.crossbeam_queue.specs.SegTies.{IsSegPassOf};
 ghost use Rattle.crossbeam_queue.specs.SegBatches.{Holds};
+ghost use Rattle.wm_registry.specs.Limits.{max_batch};
 ghost use Rattle.wm_groupcommit.specs.CallQueues.{call_view};
 
 use super::call_rule::{CallView, Merges, Puts, Takes};
@@ -10,6 +12,7 @@ use crossbeam_queue::{RuledSegQueue, SegBatch, SegPass};
 use std::alloc::{AllocError, Global};
 use std::sync::Wait;
 use std::thread;
+use wm_registry::MAX_BATCH;
 
 /// The queue.
 pub type CallQueue = RuledSegQueue<Call, CallView, Merges>;
@@ -54,7 +57,7 @@ pub fn push<R: Wait>(rt: &R, queue: &CallQueue, pass: &mut CallPass, call: Call)
     queue.push_as::<Puts, R>(rt, pass, call)
 }
 
-/// Takes up to 64 calls from the front, in one step.
+/// Takes as many calls from the front as a batch may have, in one step.
 pub fn pop<R: Wait>(
     rt: &R,
     alloc: Global,
@@ -64,13 +67,13 @@ pub fn pop<R: Wait>(
     requires { IsSegPassOf queue.now pass.old }
     ensures queue { IsSegPassOf queue.now pass.new × (pass.new.id ≡ pass.old.id) }
     ensures popped { IfOk result (λ p. pass.new.me.view.client ≡ call_view pass.old.me.view.client.pushed (pass.old.me.view.client.popped ++ p.calls.items)) }
-    ensures few { IfOk result (λ p. length p.calls.items ≤ 64) }
+    ensures few { IfOk result (λ p. length p.calls.items ≤ max_batch) }
     ensures err { OnErr result (pass.new.me.view.client ≡ pass.old.me.view.client) }
 {
-    let mut calls = Vec::with_capacity(alloc, 64)?;
+    let mut calls = Vec::with_capacity(alloc, MAX_BATCH)?;
     for _ in rt.forever() {
         let head = queue.head(pass);
-        match queue.try_pop_batch::<Takes, R>(rt, pass, head, 64) {
+        match queue.try_pop_batch::<Takes, R>(rt, pass, head, MAX_BATCH as u64) {
             Ok(Some(batch)) => {
                 move_out(rt, queue, pass, batch, &mut calls);
                 return Ok(PoppedCalls { calls });
@@ -91,8 +94,8 @@ fn move_out<R: Wait>(
     calls: &mut Vec<Call>,
 )
     requires pass { IsSegPassOf queue.now pass.old }
-    requires batch { (batch.len ≤ 64) × ((xs : List Call) × Holds queue.now pass.old batch xs) }
-    requires room { (calls.old.items ≡ []) × (64 ≤ vec_capacity calls.old) }
+    requires batch { (batch.len ≤ max_batch) × ((xs : List Call) × Holds queue.now pass.old batch xs) }
+    requires room { (calls.old.items ≡ []) × (max_batch ≤ vec_capacity calls.old) }
     ensures same { IsSegPassOf queue.now pass.new × (pass.new.id ≡ pass.old.id) × (pass.new.me.view.client ≡ pass.old.me.view.client) }
     ensures moved { (xs : List Call) → Holds queue.now pass.old batch xs → calls.new.items ≡ xs }
 {

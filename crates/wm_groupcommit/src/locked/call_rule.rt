@@ -1,4 +1,5 @@
 //! The rule of the calls' queue.
+//! Definitions: specs/CallQueues.antt. Tests: desk_tests/src/rows.rt.
 use crate::queued::Call;
 use crossbeam_queue::protocol::{Lesson, Outcome, Outcomes, Protocol};
 use std::collections::LinkedList;

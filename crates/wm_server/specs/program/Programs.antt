@@ -17,7 +17,7 @@ use Rattle.wm_disk.specs.Parts.{IsPartOf}
 use Rattle.wm_server.specs.local.Stores.{IsKeptOn}
 use Rattle.wm_server.specs.session.Asked.{asked_in}
 use Rattle.wm_server.specs.session.Inputs.{lines_of}
-use Rattle.wm_server.specs.session.Sessions.{SessionState, Standing}
+use Rattle.wm_server.specs.session.Sessions.{SessionState, WithSubscriptions}
 use Rattle.wm_server.specs.session.Faults.{FrontState, Meeting, Way, Defined, Device, Memory, Spent}
 use Rattle.wm_server.specs.session.Runs.{RunsLines}
 use Rattle.wm_server.specs.session.Stands.{without_subscriptions}
@@ -70,7 +70,7 @@ pub record LinesMet {D : Type 0} (disk : Ghosts D) (old : D) (lines : List (List
   pub number : ℕ
   pub meetings : List Meeting
   pub quiet : AllByRecursion (λ meeting. IsQuiet meeting.way) meetings
-  pub left : Standing FrontState
+  pub left : WithSubscriptions FrontState
   pub run : RunsLines (without_subscriptions (record { state = first_state was; failures = before; number = number })) line_number 0 lines meetings bytes left
   pub kept : KeepsAccepted disk old was left.front.state.registry (asked_in lines) new
   -- a start raises the number of the file's slot by one at most
@@ -100,7 +100,7 @@ pub record LinesCut {D : Type 0} (disk : Ghosts D) (old : D) (input : List ℕ) 
   pub number : ℕ
   pub meetings : List Meeting
   pub bytes : List ℕ
-  pub left : Standing FrontState
+  pub left : WithSubscriptions FrontState
   pub run : RunsLines (without_subscriptions (record { state = first_state was; failures = before; number = number })) line_number 0 prefix meetings bytes left
   pub cut : CutShort disk old was left.front.state.registry (asked_in prefix) new
   pub number_is : number ≤ cut.means.number + 1
@@ -121,6 +121,6 @@ pub record LinesAnswered (input : List ℕ) (held holds : Option (List ℕ)) : T
   pub views : begun.state.views ≡ first_views begun.state.registry
   pub meetings : List Meeting
   pub bytes : List ℕ
-  pub left : Standing FrontState
+  pub left : WithSubscriptions FrontState
   pub run : RunsLines (without_subscriptions begun) line_number 0 (lines_of input) meetings bytes left
   pub appends : Appends held holds bytes

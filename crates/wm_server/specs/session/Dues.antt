@@ -8,7 +8,7 @@ use Rattle.wm_subs.specs.declared.subscribed.Subscribed.{Subscribed}
 use Rattle.wm_lines.specs.Lines.{request_of_line}
 use Rattle.wm_lines.specs.Replies.{due_data, line_text, reply_bytes}
 use Rattle.wm_server.specs.declared.local.root_views.RootView.{RootView}
-use Rattle.wm_server.specs.session.Sessions.{SessionState, Standing, SubscriptionList, line_met, subscriptions_after, view_of}
+use Rattle.wm_server.specs.session.Sessions.{SessionState, WithSubscriptions, SubscriptionList, line_met, subscriptions_after, view_of}
 
 -- what a root's view has to tell
 abbrev pub due_of : Option RootView → Subscriber Term → Option Answer
@@ -36,12 +36,12 @@ after_due_lines s xs = map (λ x. after_telling x (due_in s x)) xs
 
 -- ---- a line, with what is due after it
 
-abbrev pub line_bytes : Standing SessionState → ℕ → List ℕ → List ℕ
+abbrev pub line_bytes : WithSubscriptions SessionState → ℕ → List ℕ → List ℕ
 line_bytes s moment line =
     let here = line_met s moment line in
     reply_bytes here.reply ++ due_lines here.state (subscriptions_after here.reply s (request_of_line line))
 
-abbrev pub after_line : Standing SessionState → ℕ → List ℕ → Standing SessionState
+abbrev pub after_line : WithSubscriptions SessionState → ℕ → List ℕ → WithSubscriptions SessionState
 after_line s moment line =
     let here = line_met s moment line in
     record { front = here.state; subscriptions = after_due_lines here.state (subscriptions_after here.reply s (request_of_line line)) }

@@ -15,7 +15,7 @@ use Rattle.wm_registry.specs.Registry.{is_change}
 use Rattle.wm_lines.specs.Lines.{request_of_line}
 use Rattle.wm_lines.specs.declared.request.Request.{Request}
 use Rattle.wm_lines.specs.Replies.{reply_bytes}
-use Rattle.wm_server.specs.session.Sessions.{SessionState, Standing, SubscriptionList, handled, line_met, operation_met, reply_to_command, state_after_command, subscriptions_after, view_of}
+use Rattle.wm_server.specs.session.Sessions.{SessionState, WithSubscriptions, SubscriptionList, handled, line_met, operation_met, reply_to_command, state_after_command, subscriptions_after, view_of}
 use Rattle.wm_server.specs.session.Dues.{after_told, are_all_found, told_lines}
 use Rattle.wm_server.specs.session.Watched.{progress_after, view_after}
 
@@ -88,19 +88,19 @@ abbrev pub faults_at : Meeting → ℕ
 faults_at meeting = if are_all_found meeting.finds then faults_of meeting.way else 1
 
 -- what lines see of it
-abbrev pub seen : Standing FrontState → Standing SessionState
+abbrev pub seen : WithSubscriptions FrontState → WithSubscriptions SessionState
 seen s = record { front = s.front.state; subscriptions = s.subscriptions }
 
 -- the reply to a line that was met in this way
-abbrev pub told_by : Way → Standing FrontState → ℕ → List ℕ → Result Data Refusal
+abbrev pub told_by : Way → WithSubscriptions FrontState → ℕ → List ℕ → Result Data Refusal
 told_by way old moment line = refusal_or way (line_met (seen old) moment line).reply
 
 -- the subscriptions after that reply
-abbrev pub subscriptions_told : Way → Standing FrontState → ℕ → List ℕ → SubscriptionList
+abbrev pub subscriptions_told : Way → WithSubscriptions FrontState → ℕ → List ℕ → SubscriptionList
 subscriptions_told way old moment line = subscriptions_after (told_by way old moment line) (seen old) (request_of_line line)
 
 -- the line was answered with these bytes: its reply, and what is due after it
-pub record RepliesTo (meeting : Meeting) (old : Standing FrontState) (moment : ℕ) (line bytes : List ℕ) (new : Standing FrontState) : Type 0 where
+pub record RepliesTo (meeting : Meeting) (old : WithSubscriptions FrontState) (moment : ℕ) (line bytes : List ℕ) (new : WithSubscriptions FrontState) : Type 0 where
   pub cause : HasCause meeting.way (line_met (seen old) moment line).accepts old.front new.front
   pub state_is : new.front.state ≡ state_or meeting.way (line_met (seen old) moment line).state old.front.state
   pub marks : length meeting.finds ≡ length (subscriptions_told meeting.way old moment line)
@@ -108,7 +108,7 @@ pub record RepliesTo (meeting : Meeting) (old : Standing FrontState) (moment : �
   pub subscriptions_are : new.subscriptions ≡ after_told new.front.state meeting.finds (subscriptions_told meeting.way old moment line)
 
 -- a request was answered with these bytes, and what is due after it isn't told yet
-pub record RepliesAs (way : Way) (old : Standing FrontState) (moment : ℕ) (request : Request) (bytes : List ℕ) (new : Standing FrontState) : Type 0 where
+pub record RepliesAs (way : Way) (old : WithSubscriptions FrontState) (moment : ℕ) (request : Request) (bytes : List ℕ) (new : WithSubscriptions FrontState) : Type 0 where
   pub cause : HasCause way (handled old.front.state old.subscriptions moment request).accepts old.front new.front
   pub bytes_are : bytes ≡ reply_bytes (refusal_or way (handled old.front.state old.subscriptions moment request).reply)
   pub state_is : new.front.state ≡ state_or way (handled old.front.state old.subscriptions moment request).state old.front.state

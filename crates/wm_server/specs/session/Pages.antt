@@ -6,7 +6,7 @@ use Rattle.wm_since.specs.declared.field.Field.{Field}
 use Rattle.wm_since.specs.declared.query.Answer.{Answer}
 use Rattle.wm_server.specs.session.Faults.{FrontState, Way, Defined, HasCause, refusal_or, seen, state_or, subscriptions_told, told_by}
 use Rattle.wm_lines.specs.Replies.{line_text, query_reply, reply_bytes}
-use Rattle.wm_server.specs.session.Sessions.{Outcome, Standing, line_met}
+use Rattle.wm_server.specs.session.Sessions.{Outcome, WithSubscriptions, line_met}
 
 -- a front's state and the bytes written so far
 pub record Page : Type 0 where
@@ -40,7 +40,7 @@ Handles defined old (Ok granted) new = Grants defined old new
 Handles defined old (Err r) new = Refuses defined r old new
 
 -- a line was answered, and what is due after it not yet told
-pub record Replied (way : Way) (old : Standing FrontState) (moment : ℕ) (line before after : List ℕ) (new : Standing FrontState) : Type 0 where
+pub record Replied (way : Way) (old : WithSubscriptions FrontState) (moment : ℕ) (line before after : List ℕ) (new : WithSubscriptions FrontState) : Type 0 where
   pub cause : HasCause way (line_met (seen old) moment line).accepts old.front new.front
   pub state_is : new.front.state ≡ state_or way (line_met (seen old) moment line).state old.front.state
   pub bytes_are : after ≡ before ++ reply_bytes (told_by way old moment line)

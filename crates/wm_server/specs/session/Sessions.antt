@@ -186,12 +186,12 @@ met_or_refused s subscriptions moment (Ok request) = handled s subscriptions mom
 met_or_refused s subscriptions moment (Err r) = refused r s
 
 -- where a session stands: its front, of which this is said, and its subscriptions
-pub record Standing (A : Type 0) : Type 0 where
+pub record WithSubscriptions (A : Type 0) : Type 0 where
   pub front : A
   pub subscriptions : SubscriptionList
 
 -- a line at a moment: what it is answered, and what the front holds after it
-abbrev pub line_met : Standing SessionState → ℕ → List ℕ → Outcome
+abbrev pub line_met : WithSubscriptions SessionState → ℕ → List ℕ → Outcome
 line_met s moment line = met_or_refused s.front s.subscriptions moment (request_of_line line)
 
 abbrev pub by_request : SessionState → SubscriptionList → Result Request Refusal → SubscriptionList
@@ -199,6 +199,6 @@ by_request s subscriptions (Ok request) = subscriptions_by s subscriptions reque
 by_request s subscriptions (Err r) = subscriptions
 
 -- the subscriptions after a request that was answered so; a refusal changes none
-abbrev pub subscriptions_after : Result Data Refusal → Standing SessionState → Result Request Refusal → SubscriptionList
+abbrev pub subscriptions_after : Result Data Refusal → WithSubscriptions SessionState → Result Request Refusal → SubscriptionList
 subscriptions_after (Ok reply) s request = by_request s.front s.subscriptions request
 subscriptions_after (Err r) s request = s.subscriptions

@@ -72,7 +72,7 @@ impl LineNumbers {
 }
 
 /// The line of the refusal `16 NoMemory`.
-const NO_MEMORY: &str = "{\"error\":\"16 NoMemory\",\"version\":\"w1\"}\n";
+pub const NO_MEMORY: &str = "{\"error\":\"16 NoMemory\",\"version\":\"w1\"}\n";
 
 /// Answers a line with `16 NoMemory`, which is one fault.
 fn answer_no_memory<W: Write>(writer: &mut Output<W>) -> io::Result<u64>

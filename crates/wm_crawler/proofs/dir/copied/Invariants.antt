@@ -1,5 +1,5 @@
-use Rattle.std.proofs.Common.{◌≡◌, map, string_bytes, take}
+use Rattle.std.proofs.Common.{◌≡◌, take}
 use Rattle.wm_crawler.proofs.dir.copied.Given as goal
 
 abbrev pub invariant-loop-name : goal.invariant-loop-name
-invariant-loop-name l = map string_bytes l.copies.items ≡ map string_bytes (take l.name-index l.names)
+invariant-loop-name l = l.copies.items ≡ take l.name-index l.names

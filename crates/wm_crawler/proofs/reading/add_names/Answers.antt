@@ -1,9 +1,9 @@
-use Rattle.std.proofs.Common.{◌+◌, ◌++◌, [], ◌∷◌, not, map, take, string_bytes, ap, sym, ◌∙◌, append_assoc}
+use Rattle.std.proofs.Common.{◌+◌, ◌++◌, [], ◌∷◌, not, take, ap, sym, ◌∙◌, append_assoc}
 use Rattle.std.specs.List.{cons_option, count_by, filter_map}
 use Rattle.wm_names.specs.Paths.{Path}
 use Rattle.wm_crawler.specs.Trees.{is_fit}
 use Rattle.wm_crawler.specs.Levels.{counted, path_of}
-use Rattle.wm_crawler.proofs.Steps.{count_more, counted_step, named_more}
+use Rattle.wm_crawler.proofs.Steps.{count_more, counted_step, filtered_more}
 use Rattle.wm_crawler.proofs.reading.add_names.Goals as goal
 
 pub loop-name-preserved : goal.loop-name-preserved
@@ -13,16 +13,16 @@ loop-name-preserved c =
     let i = c.loop-name.name-index in
     let name = c.name-item.result in
     let old = c.args.level.now in
-    let so_far = filter_map (path_of folder) (map string_bytes (take i names)) in
+    let so_far = filter_map (path_of folder) (take i names) in
     let unfit = λ (n : Path). not (is_fit folder n) in
     record {
       paths = c.in_ok-add_name.ensures.paths
-          ∙ ap (λ (n : Path). c.loop-name.level.paths.items ++ cons_option (path_of folder n) []) c.deref.ensures
-          ∙ ap (λ v. v ++ cons_option (path_of folder (string_bytes name)) []) c.loop-name.invariant.paths
-          ∙ append_assoc old.paths.items so_far (cons_option (path_of folder (string_bytes name)) [])
-          ∙ ap (λ v. old.paths.items ++ v) (sym (named_more (path_of folder) string_bytes names i name c.loop-name-test.true c.name-item.is));
-      faults = counted_step old.faults (count_by unfit (map string_bytes (take i names))) (count_by unfit (string_bytes name ∷ [])) (count_by unfit (map string_bytes (take (i + 1) names)))
+          ∙ ap (λ (n : Path). c.loop-name.level.paths.items ++ cons_option (path_of folder n) []) c.as_str.ensures
+          ∙ ap (λ v. v ++ cons_option (path_of folder name) []) c.loop-name.invariant.paths
+          ∙ append_assoc old.paths.items so_far (cons_option (path_of folder name) [])
+          ∙ ap (λ v. old.paths.items ++ v) (sym (filtered_more (path_of folder) names i name c.loop-name-test.true c.name-item.is));
+      faults = counted_step old.faults (count_by unfit (take i names)) (count_by unfit (name ∷ [])) (count_by unfit (take (i + 1) names))
           c.loop-name.level.faults c.add_name.new.level.faults c.loop-name.invariant.faults
-          (c.in_ok-add_name.ensures.faults ∙ ap (λ (n : Path). counted (c.loop-name.level.faults + count_by unfit (n ∷ []))) c.deref.ensures)
-          (count_more unfit string_bytes names i name c.loop-name-test.true c.name-item.is);
+          (c.in_ok-add_name.ensures.faults ∙ ap (λ (n : Path). counted (c.loop-name.level.faults + count_by unfit (n ∷ []))) c.as_str.ensures)
+          (count_more unfit names i name c.loop-name-test.true c.name-item.is);
     }

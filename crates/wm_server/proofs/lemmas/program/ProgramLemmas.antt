@@ -45,7 +45,7 @@ use Rattle.wm_server.specs.local.Locals.{CloseRefused}
 use Rattle.wm_server.specs.declared.local.local_front.LocalFront.{LocalFront}
 use Rattle.wm_subs.specs.SessionLists.{may_subscribe}
 use Rattle.wm_server.specs.session.Stands.{without_subscriptions}
-use Rattle.wm_server.specs.session.Sessions.{SessionState, Standing, SubscriptionList, refused, replied, subscribe_met, unsubscribe_met, question_met, line_met, met_or_refused, operation_outcome, operation_met, answered, cursor_moved, inquiry_met, triggers_met, view_of}
+use Rattle.wm_server.specs.session.Sessions.{SessionState, WithSubscriptions, SubscriptionList, refused, replied, subscribe_met, unsubscribe_met, question_met, line_met, met_or_refused, operation_outcome, operation_met, answered, cursor_moved, inquiry_met, triggers_met, view_of}
 use Rattle.wm_server.specs.local.Stores.{IsKeptOn, Later, LeadsTo, StartCut, StartRefused, front_state_with, state_with}
 use Rattle.wm_lines.specs.Replies.{clock_reply, subscribe_reply}
 use Rattle.wm_server.specs.session.Watched.{clock_answer, first_views, view_after}
@@ -113,14 +113,14 @@ met_failed s subs moment (Ok (Subscribe root name q)) e = subscribed_failed s su
 met_failed s subs moment (Ok (Unsubscribe root name)) e = unsubscribed_failed s subs root name (registry.root_at root s.registry) ∙ e
 met_failed s subs moment (Err r) e = e
 
-way_failed : (way : Way) (s : Standing SessionState) (moment : ℕ) (line : List ℕ) → s.front.has_failed ≡ true → (state_or way (line_met s moment line).state s.front).has_failed ≡ true
+way_failed : (way : Way) (s : WithSubscriptions SessionState) (moment : ℕ) (line : List ℕ) → s.front.has_failed ≡ true → (state_or way (line_met s moment line).state s.front).has_failed ≡ true
 way_failed Defined s moment line e = met_failed s.front s.subscriptions moment (request_of_line line) e
 way_failed Device s moment line e = refl
 way_failed Memory s moment line e = e
 way_failed Spent s moment line e = e
 
-stays_failed : (old : Standing FrontState) (moment : ℕ → ℕ) (k : ℕ) (lines : List (List ℕ)) (meetings : List Meeting) (bytes : List ℕ) (new : Standing FrontState) → old.front.state.has_failed ≡ true → RunsLines old moment k lines meetings bytes new → new.front.state.has_failed ≡ true
-stays_failed old moment k [] [] bytes new e r = ap (λ (s : Standing FrontState). s.front.state.has_failed) r.1 ∙ e
+stays_failed : (old : WithSubscriptions FrontState) (moment : ℕ → ℕ) (k : ℕ) (lines : List (List ℕ)) (meetings : List Meeting) (bytes : List ℕ) (new : WithSubscriptions FrontState) → old.front.state.has_failed ≡ true → RunsLines old moment k lines meetings bytes new → new.front.state.has_failed ≡ true
+stays_failed old moment k [] [] bytes new e r = ap (λ (s : WithSubscriptions FrontState). s.front.state.has_failed) r.1 ∙ e
 stays_failed old moment k [] (meeting ∷ meetings) bytes new e r = absurd r
 stays_failed old moment k (line ∷ lines) [] bytes new e r = absurd r
 stays_failed old moment k (line ∷ lines) (meeting ∷ meetings) bytes new e r =
@@ -128,13 +128,13 @@ stays_failed old moment k (line ∷ lines) (meeting ∷ meetings) bytes new e r 
     stays_failed r.2 moment (k + 1) lines meetings r.1 new next r.5
 
 -- so in a run that ends with a working store the device never failed
-quiet_way : (way : Way) (s : Standing SessionState) (moment : ℕ) (line : List ℕ) → ((state_or way (line_met s moment line).state s.front).has_failed ≡ true → ⊥) → IsQuiet way
+quiet_way : (way : Way) (s : WithSubscriptions SessionState) (moment : ℕ) (line : List ℕ) → ((state_or way (line_met s moment line).state s.front).has_failed ≡ true → ⊥) → IsQuiet way
 quiet_way Defined s moment line works = tt
 quiet_way Device s moment line works = works refl
 quiet_way Memory s moment line works = tt
 quiet_way Spent s moment line works = tt
 
-quiet_run : (old : Standing FrontState) (moment : ℕ → ℕ) (k : ℕ) (lines : List (List ℕ)) (meetings : List Meeting) (bytes : List ℕ) (new : Standing FrontState) → new.front.state.has_failed ≡ false → RunsLines old moment k lines meetings bytes new → AllByRecursion (λ (meeting : Meeting). IsQuiet meeting.way) meetings
+quiet_run : (old : WithSubscriptions FrontState) (moment : ℕ → ℕ) (k : ℕ) (lines : List (List ℕ)) (meetings : List Meeting) (bytes : List ℕ) (new : WithSubscriptions FrontState) → new.front.state.has_failed ≡ false → RunsLines old moment k lines meetings bytes new → AllByRecursion (λ (meeting : Meeting). IsQuiet meeting.way) meetings
 quiet_run old moment k [] [] bytes new e r = tt
 quiet_run old moment k [] (meeting ∷ meetings) bytes new e r = absurd r
 quiet_run old moment k (line ∷ lines) [] bytes new e r = absurd r

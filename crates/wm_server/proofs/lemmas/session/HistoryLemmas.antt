@@ -26,7 +26,7 @@ use Rattle.wm_lines.specs.Lines.{request_of_line}
 use Rattle.wm_lines.specs.Replies.{clock_reply, command_reply, subscribe_reply}
 use Rattle.wm_disk.specs.declared.refusal.Refusal.TheVariants.{TooMany}
 use Rattle.wm_subs.specs.SessionLists.{may_subscribe}
-use Rattle.wm_server.specs.session.Sessions.{SessionState, Standing, SubscriptionList, subscribe_met, unsubscribe_met, replied, refused, accepted, answered, commanded, cursor_moved, inquiry_met, question_met, line_met, met_or_refused, operation_outcome, operation_met, reply_to_command, state_after_command, triggers_met, view_of, views_after}
+use Rattle.wm_server.specs.session.Sessions.{SessionState, WithSubscriptions, SubscriptionList, subscribe_met, unsubscribe_met, replied, refused, accepted, answered, commanded, cursor_moved, inquiry_met, question_met, line_met, met_or_refused, operation_outcome, operation_met, reply_to_command, state_after_command, triggers_met, view_of, views_after}
 use Rattle.wm_server.specs.session.Watched.{AreOfHistories, IsOfHistory, of_history, clock_answer, first_views, new_view, unless, view_after, root_view_at, with_cursor, with_view, without_view}
 use Rattle.wm_server.proofs.lemmas.session.SessionLemmas.{left_so}
 
@@ -173,5 +173,5 @@ module _ (operated_so : (h : History) (cursors : CursorList) (o : Op) → IsMade
   met_are s subs moment (Ok (Unsubscribe root name)) are = unsubscribed_are s subs root name (roots.root_at root s.registry) are
   met_are s subs moment (Err e) are = are
 
-  pub line_are : (s : Standing SessionState) (moment : ℕ) (line : List ℕ) → AreOfHistories s.front.views → AreOfHistories (line_met s moment line).state.views
+  pub line_are : (s : WithSubscriptions SessionState) (moment : ℕ) (line : List ℕ) → AreOfHistories s.front.views → AreOfHistories (line_met s moment line).state.views
   line_are s moment line are = met_are s.front s.subscriptions moment (request_of_line line) are

@@ -58,7 +58,7 @@ use Rattle.wm_clock.specs.declared.clock_id.ClockId.{ClockId}
 use Rattle.wm_lines.specs.TriggerLines.{by_rules, definition_in, trigger_at, trigger_del_with, trigger_in, trigger_keeping, trigger_with}
 use Rattle.wm_server.specs.session.Faults.{FrontState, Way, Defined, Device, Memory, Spent, RepliesAs, is_fault, faults_of, refusal_or, seen}
 use Rattle.wm_server.specs.session.Pages.{Refuses, Replied, page}
-use Rattle.wm_server.specs.session.Sessions.{SessionState, Standing, SubscriptionList, handled, subscriptions_after, subscribe_met, unsubscribe_met, replied, refused, question_met, line_met, met_or_refused, commanded, by_reply, operation_outcome, operation_met, reply_to_command, inquiry_met, state_after_command, triggers_met, view_of}
+use Rattle.wm_server.specs.session.Sessions.{SessionState, WithSubscriptions, SubscriptionList, handled, subscriptions_after, subscribe_met, unsubscribe_met, replied, refused, question_met, line_met, met_or_refused, commanded, by_reply, operation_outcome, operation_met, reply_to_command, inquiry_met, state_after_command, triggers_met, view_of}
 use Rattle.wm_server.specs.session.Watched.{clock_in, clock_answer, unless, view_after}
 use Rattle.wm_lines.specs.Replies.{clock_reply, command_reply, subscribe_reply, line_text, refusal_reply, reply_bytes}
 
@@ -388,7 +388,7 @@ no_fault Memory defined r plain e = let bad : true ≡ false = ap (λ (x : Resul
 no_fault Spent defined r plain e = refl
 
 -- a refusal was told, and changed no subscription
-replied_so : (old new : Standing FrontState) (moment : ℕ) (line before mid after : List ℕ) (r : Refusal) (told : Refuses (line_met (seen old) moment line) r (page old.front before) (page new.front mid)) → new.subscriptions ≡ old.subscriptions
+replied_so : (old new : WithSubscriptions FrontState) (moment : ℕ) (line before mid after : List ℕ) (r : Refusal) (told : Refuses (line_met (seen old) moment line) r (page old.front before) (page new.front mid)) → new.subscriptions ≡ old.subscriptions
     → after ≡ mid ++ line_text (refusal_reply r) → Replied told.way old moment line before after new
 replied_so old new moment line before mid after r told kept put = record {
   cause = told.cause;
@@ -398,7 +398,7 @@ replied_so old new moment line before mid after r told kept put = record {
 }
 
 -- a fault that is told is one
-pub fault_told : (old new : Standing FrontState) (moment : ℕ) (line before mid after : List ℕ) (r : Refusal) → is_fault r ≡ true → Refuses (line_met (seen old) moment line) r (page old.front before) (page new.front mid) → new.subscriptions ≡ old.subscriptions
+pub fault_told : (old new : WithSubscriptions FrontState) (moment : ℕ) (line before mid after : List ℕ) (r : Refusal) → is_fault r ≡ true → Refuses (line_met (seen old) moment line) r (page old.front before) (page new.front mid) → new.subscriptions ≡ old.subscriptions
     → after ≡ mid ++ line_text (refusal_reply r)
     → (way : Way) × (1 ≡ faults_of way) × Replied way old moment line before after new
 fault_told old new moment line before mid after r fault told kept put = (
@@ -408,7 +408,7 @@ fault_told old new moment line before mid after r fault told kept put = (
 )
 
 -- so is any refusal
-pub plain_told : (old new : Standing FrontState) (moment : ℕ) (line before mid after : List ℕ) (r : Refusal) → is_fault r ≡ false → Refuses (line_met (seen old) moment line) r (page old.front before) (page new.front mid) → new.subscriptions ≡ old.subscriptions
+pub plain_told : (old new : WithSubscriptions FrontState) (moment : ℕ) (line before mid after : List ℕ) (r : Refusal) → is_fault r ≡ false → Refuses (line_met (seen old) moment line) r (page old.front before) (page new.front mid) → new.subscriptions ≡ old.subscriptions
     → after ≡ mid ++ line_text (refusal_reply r)
     → (way : Way) × (0 ≡ faults_of way) × Replied way old moment line before after new
 plain_told old new moment line before mid after r plain told kept put = (
@@ -418,7 +418,7 @@ plain_told old new moment line before mid after r plain told kept put = (
 )
 
 -- a refusal of a request was told, and changed no subscription
-replied_as : (old new : Standing FrontState) (moment : ℕ) (request : Request) (before mid : List ℕ) (r : Refusal) (told : Refuses (handled old.front.state old.subscriptions moment request) r (page old.front before) (page new.front mid)) → new.subscriptions ≡ old.subscriptions
+replied_as : (old new : WithSubscriptions FrontState) (moment : ℕ) (request : Request) (before mid : List ℕ) (r : Refusal) (told : Refuses (handled old.front.state old.subscriptions moment request) r (page old.front before) (page new.front mid)) → new.subscriptions ≡ old.subscriptions
     → RepliesAs told.way old moment request (line_text (refusal_reply r)) new
 replied_as old new moment request before mid r told kept = record {
   cause = told.cause;
@@ -428,7 +428,7 @@ replied_as old new moment request before mid r told kept = record {
 }
 
 -- a fault that a request is told is one
-pub fault_told_as : (old new : Standing FrontState) (moment : ℕ) (request : Request) (before mid : List ℕ) (r : Refusal) → is_fault r ≡ true → Refuses (handled old.front.state old.subscriptions moment request) r (page old.front before) (page new.front mid) → new.subscriptions ≡ old.subscriptions
+pub fault_told_as : (old new : WithSubscriptions FrontState) (moment : ℕ) (request : Request) (before mid : List ℕ) (r : Refusal) → is_fault r ≡ true → Refuses (handled old.front.state old.subscriptions moment request) r (page old.front before) (page new.front mid) → new.subscriptions ≡ old.subscriptions
     → (way : Way) × (1 ≡ faults_of way) × RepliesAs way old moment request (line_text (refusal_reply r)) new
 fault_told_as old new moment request before mid r fault told kept = (
   told.way,
@@ -437,7 +437,7 @@ fault_told_as old new moment request before mid r fault told kept = (
 )
 
 -- so is any refusal
-pub plain_told_as : (old new : Standing FrontState) (moment : ℕ) (request : Request) (before mid : List ℕ) (r : Refusal) → is_fault r ≡ false → Refuses (handled old.front.state old.subscriptions moment request) r (page old.front before) (page new.front mid) → new.subscriptions ≡ old.subscriptions
+pub plain_told_as : (old new : WithSubscriptions FrontState) (moment : ℕ) (request : Request) (before mid : List ℕ) (r : Refusal) → is_fault r ≡ false → Refuses (handled old.front.state old.subscriptions moment request) r (page old.front before) (page new.front mid) → new.subscriptions ≡ old.subscriptions
     → (way : Way) × (0 ≡ faults_of way) × RepliesAs way old moment request (line_text (refusal_reply r)) new
 plain_told_as old new moment request before mid r plain told kept = (
   told.way,

@@ -16,7 +16,7 @@ use Rattle.wm_lines.specs.Lines.{value_of_line, max_line, request_of_line, reque
 use Rattle.wm_lines.specs.Replies.{line_text, refusal_reply, reply_bytes}
 use Rattle.wm_disk.specs.declared.refusal.Refusal.{Refusal}
 use Rattle.wm_lines.specs.declared.request.Request.{Request}
-use Rattle.wm_server.specs.session.Sessions.{SessionState, Standing, SubscriptionList, line_met, met_or_refused, subscriptions_after}
+use Rattle.wm_server.specs.session.Sessions.{SessionState, WithSubscriptions, SubscriptionList, line_met, met_or_refused, subscriptions_after}
 use Rattle.wm_server.specs.session.Dues.{after_due_lines, after_line, after_telling, after_told, are_all_found, due_in, due_line, due_lines, line_bytes, told_lines}
 use Rattle.wm_server.specs.session.Faults.{FrontState, Meeting, faults_at, seen, subscriptions_told, told_by, Way, Defined, Device, Memory, Spent, HasCause, Lasts, RepliesTo, faults_of, refusal_or, state_or}
 use Rattle.wm_server.specs.session.Runs.{RunsLines, HandlesPrefix, Served, ServedCleanly, Serves, Untold, output_of, state_after, faults_in}
@@ -70,10 +70,10 @@ pub same_request : (kept whole : List ℕ) → kept ≡ take max_kept whole → 
 same_request kept whole e = ap request_of_text (same_text kept whole e)
 
 -- the subscriptions after a request
-abbrev after_request : Meeting → Standing FrontState → ℕ → Result Request Refusal → SubscriptionList
+abbrev after_request : Meeting → WithSubscriptions FrontState → ℕ → Result Request Refusal → SubscriptionList
 after_request meeting old moment q = subscriptions_after (refusal_or meeting.way (met_or_refused old.front.state old.subscriptions moment q).reply) (seen old) q
 
-answers_kept : (meeting : Meeting) (old new : Standing FrontState) (moment : ℕ) (kept whole bytes : List ℕ) → kept ≡ take max_kept whole → RepliesTo meeting old moment kept bytes new → RepliesTo meeting old moment whole bytes new
+answers_kept : (meeting : Meeting) (old new : WithSubscriptions FrontState) (moment : ℕ) (kept whole bytes : List ℕ) → kept ≡ take max_kept whole → RepliesTo meeting old moment kept bytes new → RepliesTo meeting old moment whole bytes new
 answers_kept meeting old new moment kept whole bytes e a =
     let same = same_request kept whole e in
     record {
@@ -84,11 +84,11 @@ answers_kept meeting old new moment kept whole bytes e a =
       subscriptions_are = subst (λ (q : Result Request Refusal). new.subscriptions ≡ after_told new.front.state meeting.finds (after_request meeting old moment q)) same a.subscriptions_are;
     }
 
-pub stands_kept : (old new : Standing FrontState) (moment n : ℕ) (kept whole : List ℕ) (held holds : Option (List ℕ)) → kept ≡ take max_kept whole → Serves old moment kept n held holds new → Serves old moment whole n held holds new
+pub stands_kept : (old new : WithSubscriptions FrontState) (moment n : ℕ) (kept whole : List ℕ) (held holds : Option (List ℕ)) → kept ≡ take max_kept whole → Serves old moment kept n held holds new → Serves old moment whole n held holds new
 stands_kept old new moment n kept whole held holds e s =
     record { meeting = s.meeting; bytes = s.bytes; faults_are = s.faults_are; appends = s.appends; answers = answers_kept s.meeting old new moment kept whole s.bytes e s.answers }
 
-pub untold_kept : (old new : Standing FrontState) (moment : ℕ) (kept whole : List ℕ) → kept ≡ take max_kept whole → Untold old moment kept new → Untold old moment whole new
+pub untold_kept : (old new : WithSubscriptions FrontState) (moment : ℕ) (kept whole : List ℕ) → kept ≡ take max_kept whole → Untold old moment kept new → Untold old moment whole new
 untold_kept old new moment kept whole e u = record { meeting = u.meeting; bytes = u.bytes; answers = answers_kept u.meeting old new moment kept whole u.bytes e u.answers }
 
 pub no_memory_line : codes "{\"error\":\"16 NoMemory\",\"version\":\"w1\"}\n" ≡ line_text (refusal_reply refusals.NoMemory)
@@ -118,10 +118,10 @@ unfolding none_found
 none_after s [] = refl
 none_after s (x ∷ xs) = ap (λ (l : SubscriptionList). x ∷ l) (none_after s xs)
 
-unmet : Standing FrontState → Meeting
+unmet : WithSubscriptions FrontState → Meeting
 unmet old = record { way = Memory; finds = none_found old.subscriptions }
 
-unmet_fault : (old : Standing FrontState) → faults_at (unmet old) ≡ 1
+unmet_fault : (old : WithSubscriptions FrontState) → faults_at (unmet old) ≡ 1
 unfolding unmet
 unmet_fault old =
     elim (are_all_found (none_found old.subscriptions)) as (λ b. cond b (faults_of Memory) 1 ≡ 1) [
@@ -129,23 +129,23 @@ unmet_fault old =
       | false ↦ refl
     ]
 
-answered_no_memory : (old new : Standing FrontState) (moment : ℕ) (line : List ℕ) → new ≡ old → RepliesTo (unmet old) old moment line (reply_bytes (Err refusals.NoMemory)) new
+answered_no_memory : (old new : WithSubscriptions FrontState) (moment : ℕ) (line : List ℕ) → new ≡ old → RepliesTo (unmet old) old moment line (reply_bytes (Err refusals.NoMemory)) new
 unfolding unmet
 answered_no_memory old new moment line same = record {
-  cause = (stood old.front new.front (ap (λ (s : Standing FrontState). s.front) same), ap (λ (s : Standing FrontState). s.front.failures) same);
-  state_is = ap (λ (s : Standing FrontState). s.front.state) same;
+  cause = (stood old.front new.front (ap (λ (s : WithSubscriptions FrontState). s.front) same), ap (λ (s : WithSubscriptions FrontState). s.front.failures) same);
+  state_is = ap (λ (s : WithSubscriptions FrontState). s.front.state) same;
   marks = none_marks old.subscriptions;
   bytes_are = sym (ap (λ (l : List ℕ). reply_bytes (Err refusals.NoMemory) ++ l) (none_lines new.front.state old.subscriptions) ∙ append-nil (reply_bytes (Err refusals.NoMemory)));
-  subscriptions_are = ap (λ (s : Standing FrontState). s.subscriptions) same ∙ sym (none_after new.front.state old.subscriptions);
+  subscriptions_are = ap (λ (s : WithSubscriptions FrontState). s.subscriptions) same ∙ sym (none_after new.front.state old.subscriptions);
 }
 
 -- a line that was answered with out of memory, with nothing changed
-pub no_memory : (old new : Standing FrontState) (moment n : ℕ) (line : List ℕ) (held holds : Option (List ℕ)) → new ≡ old → n ≡ 1 → Appends held holds (reply_bytes (Err refusals.NoMemory)) → Serves old moment line n held holds new
+pub no_memory : (old new : WithSubscriptions FrontState) (moment n : ℕ) (line : List ℕ) (held holds : Option (List ℕ)) → new ≡ old → n ≡ 1 → Appends held holds (reply_bytes (Err refusals.NoMemory)) → Serves old moment line n held holds new
 no_memory old new moment n line held holds same one appends =
     record { meeting = unmet old; bytes = reply_bytes (Err refusals.NoMemory); faults_are = one ∙ sym (unmet_fault old); appends = appends; answers = answered_no_memory old new moment line same }
 
 -- not even that was told
-pub untold_no_memory : (old new : Standing FrontState) (moment : ℕ) (line : List ℕ) → new ≡ old → Untold old moment line new
+pub untold_no_memory : (old new : WithSubscriptions FrontState) (moment : ℕ) (line : List ℕ) → new ≡ old → Untold old moment line new
 untold_no_memory old new moment line same = record { meeting = unmet old; bytes = reply_bytes (Err refusals.NoMemory); answers = answered_no_memory old new moment line same }
 
 -- ---- what two steps appended
@@ -169,8 +169,8 @@ lasts Memory accepts old new c = c.0
 lasts Spent accepts old new c = c.1
 
 -- no line takes the slot's number back
-rises : (old : Standing FrontState) (moment : ℕ → ℕ) (k : ℕ) (lines : List (List ℕ)) (ways : List Meeting) (bytes : List ℕ) (new : Standing FrontState) → RunsLines old moment k lines ways bytes new → old.front.number ≤ new.front.number
-rises old moment k [] [] bytes new r = omega (arith, ap (λ (s : Standing FrontState). s.front.number) r.1)
+rises : (old : WithSubscriptions FrontState) (moment : ℕ → ℕ) (k : ℕ) (lines : List (List ℕ)) (ways : List Meeting) (bytes : List ℕ) (new : WithSubscriptions FrontState) → RunsLines old moment k lines ways bytes new → old.front.number ≤ new.front.number
+rises old moment k [] [] bytes new r = omega (arith, ap (λ (s : WithSubscriptions FrontState). s.front.number) r.1)
 rises old moment k [] (way ∷ ways) bytes new r = absurd r
 rises old moment k (line ∷ lines) [] bytes new r = absurd r
 rises old moment k (line ∷ lines) (way ∷ ways) bytes new r =
@@ -203,7 +203,7 @@ all_after s (b ∷ finds) [] n e = absurd (omega (arith, n))
 all_after s (true ∷ finds) (x ∷ xs) n e = ap (λ (l : SubscriptionList). after_telling x (due_in s x) ∷ l) (all_after s finds xs (omega (arith, n)) e)
 all_after s (false ∷ finds) (x ∷ xs) n e = absurd cc
 
-clean_line : (meeting : Meeting) (old next : Standing FrontState) (moment : ℕ) (line prefix : List ℕ) → meeting.way ≡ Defined → are_all_found meeting.finds ≡ true → RepliesTo meeting old moment line prefix next
+clean_line : (meeting : Meeting) (old next : WithSubscriptions FrontState) (moment : ℕ) (line prefix : List ℕ) → meeting.way ≡ Defined → are_all_found meeting.finds ≡ true → RepliesTo meeting old moment line prefix next
     → (prefix ≡ line_bytes (seen old) moment line) × (seen next ≡ after_line (seen old) moment line)
 clean_line meeting old next moment line prefix e all a =
     let here = line_met (seen old) moment line in
@@ -218,9 +218,9 @@ clean_line meeting old next moment line prefix e all a =
       λ i. record { front = state i; subscriptions = (a.subscriptions_are ∙ after ∙ ap (λ (l : SubscriptionList). after_due_lines next.front.state l) subs ∙ ap (λ (s : SessionState). after_due_lines s left) state) i },
     )
 
-clean : (old : Standing FrontState) (moment : ℕ → ℕ) (k : ℕ) (lines : List (List ℕ)) (ways : List Meeting) (bytes : List ℕ) (new : Standing FrontState) → faults_in ways ≡ 0 → new.front.number < max_counter → RunsLines old moment k lines ways bytes new
+clean : (old : WithSubscriptions FrontState) (moment : ℕ → ℕ) (k : ℕ) (lines : List (List ℕ)) (ways : List Meeting) (bytes : List ℕ) (new : WithSubscriptions FrontState) → faults_in ways ≡ 0 → new.front.number < max_counter → RunsLines old moment k lines ways bytes new
     → (bytes ≡ output_of (seen old) moment k lines) × (seen new ≡ state_after (seen old) moment k lines)
-clean old moment k [] [] bytes new none below r = (r.0, ap (λ (s : Standing FrontState). seen s) r.1)
+clean old moment k [] [] bytes new none below r = (r.0, ap (λ (s : WithSubscriptions FrontState). seen s) r.1)
 clean old moment k [] (way ∷ ways) bytes new none below r = absurd r
 clean old moment k (line ∷ lines) [] bytes new none below r = absurd r
 clean old moment k (line ∷ lines) (way ∷ ways) bytes new none below r =
@@ -228,8 +228,8 @@ clean old moment k (line ∷ lines) (way ∷ ways) bytes new none below r =
     let fine = no_fault_at way.way (are_all_found way.finds) (omega (arith, none)) in
     let here = clean_line way old r.2 (moment k) line r.0 (no_faults way.way (line_met (seen old) (moment k) line).accepts old.front r.2.front fine.0 r.4.cause next) fine.1 r.4 in
     let rest = clean r.2 moment (k + 1) lines ways r.1 new (omega (arith, none)) below r.5 in (
-      r.3 ∙ ap (λ (t : List ℕ). t ++ r.1) here.0 ∙ ap (λ (t : List ℕ). line_bytes (seen old) (moment k) line ++ t) (rest.0 ∙ ap (λ (s : Standing SessionState). output_of s moment (k + 1) lines) here.1),
-      rest.1 ∙ ap (λ (s : Standing SessionState). state_after s moment (k + 1) lines) here.1,
+      r.3 ∙ ap (λ (t : List ℕ). t ++ r.1) here.0 ∙ ap (λ (t : List ℕ). line_bytes (seen old) (moment k) line ++ t) (rest.0 ∙ ap (λ (s : WithSubscriptions SessionState). output_of s moment (k + 1) lines) here.1),
+      rest.1 ∙ ap (λ (s : WithSubscriptions SessionState). state_after s moment (k + 1) lines) here.1,
     )
 
 -- ---- the loop
@@ -240,12 +240,12 @@ on_err (Ok t) p = tt
 on_err (Err e) p = p
 
 -- a run of one line more
-run_more : (old : Standing FrontState) (moment : ℕ → ℕ) (k : ℕ) (met : List (List ℕ)) (ways : List Meeting) (bytes : List ℕ) (now : Standing FrontState) (line : List ℕ) (way : Meeting) (prefix : List ℕ) (next : Standing FrontState)
+run_more : (old : WithSubscriptions FrontState) (moment : ℕ → ℕ) (k : ℕ) (met : List (List ℕ)) (ways : List Meeting) (bytes : List ℕ) (now : WithSubscriptions FrontState) (line : List ℕ) (way : Meeting) (prefix : List ℕ) (next : WithSubscriptions FrontState)
     → RunsLines old moment k met ways bytes now → RepliesTo way now (moment (k + length met)) line prefix next
     → RunsLines old moment k (met ++ line ∷ []) (ways ++ way ∷ []) (bytes ++ prefix) next
 run_more old moment k [] [] bytes now line way prefix next r a =
     let at_k : RepliesTo way now (moment k) line prefix next = subst (λ (m : ℕ). RepliesTo way now (moment m) line prefix next) (omega arith) a in
-    let from_old : RepliesTo way old (moment k) line prefix next = subst (λ (s : Standing FrontState). RepliesTo way s (moment k) line prefix next) r.1 at_k in
+    let from_old : RepliesTo way old (moment k) line prefix next = subst (λ (s : WithSubscriptions FrontState). RepliesTo way s (moment k) line prefix next) r.1 at_k in
     (prefix, [], next, ap (λ (t : List ℕ). t ++ prefix) r.0 ∙ sym (append-nil prefix), from_old, (refl, refl))
 run_more old moment k [] (w ∷ ways) bytes now line way prefix next r a = absurd r
 run_more old moment k (l ∷ met) [] bytes now line way prefix next r a = absurd r
@@ -254,7 +254,7 @@ run_more old moment k (l ∷ met) (w ∷ ways) bytes now line way prefix next r 
     (r.0, r.1 ++ prefix, r.2, ap (λ (t : List ℕ). t ++ prefix) r.3 ∙ append_assoc r.0 r.1 prefix, r.4, run_more r.2 moment (k + 1) met ways r.1 now line way prefix next r.5 later)
 
 -- the lines of the input in front of the rest were met
-pub record Underway (old : Standing FrontState) (moment : ℕ → ℕ) (input : List ℕ) (asked : List Command) (ways : List Meeting) (now : Standing FrontState) (place : ℕ) (rest written : List ℕ) : Type 0 where
+pub record Underway (old : WithSubscriptions FrontState) (moment : ℕ → ℕ) (input : List ℕ) (asked : List Command) (ways : List Meeting) (now : WithSubscriptions FrontState) (place : ℕ) (rest written : List ℕ) : Type 0 where
   pub met : List (List ℕ)
   pub asked_is : asked ≡ asked_in met
   pub lines : lines_of input ≡ met ++ lines_of rest
@@ -270,7 +270,7 @@ asked_behind (line ∷ first) second = ap (λ (l : List Command). asked_by (requ
 asked_next : (met : List (List ℕ)) (line : List ℕ) → asked_in (met ++ line ∷ []) ≡ asked_in met ++ asked_by (request_of_line line)
 asked_next met line = asked_behind met (line ∷ []) ∙ ap (λ (l : List Command). asked_in met ++ l) (append-nil (asked_by (request_of_line line)))
 
-one_more : (old : Standing FrontState) (moment : ℕ → ℕ) (input : List ℕ) (asked : List Command) (ways : List Meeting) (now next : Standing FrontState) (place : ℕ) (rest written prefix : List ℕ) (way : Meeting)
+one_more : (old : WithSubscriptions FrontState) (moment : ℕ → ℕ) (input : List ℕ) (asked : List Command) (ways : List Meeting) (now next : WithSubscriptions FrontState) (place : ℕ) (rest written prefix : List ℕ) (way : Meeting)
     → Underway old moment input asked ways now place rest written → rest ≢ [] → RepliesTo way now (moment place) (take_through 10 rest) prefix next
     → Underway old moment input (asked ++ asked_by (request_of_line (take_through 10 rest))) (ways ++ way ∷ []) next (place + 1) (drop_through 10 rest) (written ++ prefix)
 one_more old moment input asked ways now next place rest written prefix way u ne a =
@@ -285,7 +285,7 @@ one_more old moment input asked ways now next place rest written prefix way u ne
     }
 
 -- a run that is underway is cut
-cut : (old : Standing FrontState) (moment : ℕ → ℕ) (input : List ℕ) (asked : List Command) (ways : List Meeting) (now : Standing FrontState) (place : ℕ) (rest written : List ℕ) → Underway old moment input asked ways now place rest written → HandlesPrefix old moment input asked now
+cut : (old : WithSubscriptions FrontState) (moment : ℕ → ℕ) (input : List ℕ) (asked : List Command) (ways : List Meeting) (now : WithSubscriptions FrontState) (place : ℕ) (rest written : List ℕ) → Underway old moment input asked ways now place rest written → HandlesPrefix old moment input asked now
 cut old moment input asked ways now place rest written u = record { met = u.met; more = lines_of rest; lines = u.lines; asked_is = u.asked_is; meetings = ways; bytes = written; run = u.run }
 
 sum-one : (ways : List Meeting) (way : Meeting) → faults_in (ways ++ way ∷ []) ≡ faults_in ways + faults_at way
@@ -293,7 +293,7 @@ sum-one [] way = omega arith
 sum-one (w ∷ ways) way = omega (arith, sum-one ways way)
 
 -- one turn
-pub record Loop (old : Standing FrontState) (moment : ℕ → ℕ) (input : List ℕ) (asked : List Command) (held : Option (List ℕ)) (faults : ℕ) (now : Standing FrontState) (place : ℕ) (left holds : Option (List ℕ)) : Type 0 where
+pub record Loop (old : WithSubscriptions FrontState) (moment : ℕ → ℕ) (input : List ℕ) (asked : List Command) (held : Option (List ℕ)) (faults : ℕ) (now : WithSubscriptions FrontState) (place : ℕ) (left holds : Option (List ℕ)) : Type 0 where
   pub meetings : List Meeting
   pub rest : List ℕ
   pub written : List ℕ
@@ -302,7 +302,7 @@ pub record Loop (old : Standing FrontState) (moment : ℕ → ℕ) (input : List
   pub appends : Appends held holds written
   pub underway : Underway old moment input asked meetings now place rest written
 
-pub begins : (old : Standing FrontState) (moment : ℕ → ℕ) (input : List ℕ) (held left : Option (List ℕ)) (place : ℕ) → place ≡ 0 → left ≡ Some input → Loop old moment input [] held 0 old place left held
+pub begins : (old : WithSubscriptions FrontState) (moment : ℕ → ℕ) (input : List ℕ) (held left : Option (List ℕ)) (place : ℕ) → place ≡ 0 → left ≡ Some input → Loop old moment input [] held 0 old place left held
 begins old moment input held left place first e = record {
   meetings = [];
   rest = input;
@@ -320,7 +320,7 @@ some_line reads.Kept kept rest left' more r = r
 some_line reads.Lost kept rest left' more r = (r.0, tt, r.1)
 some_line reads.End kept rest left' more r = absurd (more refl)
 
-pub turns : (old : Standing FrontState) (moment now_moment : ℕ → ℕ) (input : List ℕ) (asked : List Command) (held : Option (List ℕ)) (faults : ℕ) (now next : Standing FrontState) (place place' m n : ℕ) (left left' holds holds' : Option (List ℕ)) (reading : LineRead) (kept : List ℕ)
+pub turns : (old : WithSubscriptions FrontState) (moment now_moment : ℕ → ℕ) (input : List ℕ) (asked : List Command) (held : Option (List ℕ)) (faults : ℕ) (now next : WithSubscriptions FrontState) (place place' m n : ℕ) (left left' holds holds' : Option (List ℕ)) (reading : LineRead) (kept : List ℕ)
     → Loop old moment input asked held faults now place left holds
     → reading ≢ reads.End → ((rest : List ℕ) → left ≡ Some rest → ReadsLine rest reading kept left')
     → now_moment ≡ moment → m ≡ now_moment place → place' ≡ place + 1
@@ -345,7 +345,7 @@ turns old moment now_moment input asked held faults now next place place' m n le
       leads (take_through 10 l.rest) r.1,
     )
 
-pub ends : (old : Standing FrontState) (moment : ℕ → ℕ) (input : List ℕ) (asked : List Command) (held : Option (List ℕ)) (faults : ℕ) (now : Standing FrontState) (place : ℕ) (left holds : Option (List ℕ)) (reading : LineRead) (kept : List ℕ) (left' : Option (List ℕ))
+pub ends : (old : WithSubscriptions FrontState) (moment : ℕ → ℕ) (input : List ℕ) (asked : List Command) (held : Option (List ℕ)) (faults : ℕ) (now : WithSubscriptions FrontState) (place : ℕ) (left holds : Option (List ℕ)) (reading : LineRead) (kept : List ℕ) (left' : Option (List ℕ))
     → Loop old moment input asked held faults now place left holds → reading ≡ reads.End → ((rest : List ℕ) → left ≡ Some rest → ReadsLine rest reading kept left')
     → Served old moment 0 input faults held holds now
 ends old moment input asked held faults now place left holds reading kept left' l end read =
@@ -360,11 +360,11 @@ ends old moment input asked held faults now place left holds reading kept left' 
     }
 
 -- a prefix of the lines was met
-pub breaks : (old : Standing FrontState) (moment : ℕ → ℕ) (input : List ℕ) (asked : List Command) (held : Option (List ℕ)) (faults : ℕ) (now : Standing FrontState) (place : ℕ) (left holds : Option (List ℕ)) → Loop old moment input asked held faults now place left holds → HandlesPrefix old moment input asked now
+pub breaks : (old : WithSubscriptions FrontState) (moment : ℕ → ℕ) (input : List ℕ) (asked : List Command) (held : Option (List ℕ)) (faults : ℕ) (now : WithSubscriptions FrontState) (place : ℕ) (left holds : Option (List ℕ)) → Loop old moment input asked held faults now place left holds → HandlesPrefix old moment input asked now
 breaks old moment input asked held faults now place left holds l = cut old moment input asked l.meetings now place l.rest l.written l.underway
 
 -- the writer failed
-pub breaks_untold : (old : Standing FrontState) (moment now_moment : ℕ → ℕ) (input : List ℕ) (asked : List Command) (held : Option (List ℕ)) (faults : ℕ) (now next : Standing FrontState) (place m : ℕ) (left left' holds : Option (List ℕ)) (reading : LineRead) (kept : List ℕ)
+pub breaks_untold : (old : WithSubscriptions FrontState) (moment now_moment : ℕ → ℕ) (input : List ℕ) (asked : List Command) (held : Option (List ℕ)) (faults : ℕ) (now next : WithSubscriptions FrontState) (place m : ℕ) (left left' holds : Option (List ℕ)) (reading : LineRead) (kept : List ℕ)
     → Loop old moment input asked held faults now place left holds
     → reading ≢ reads.End → ((rest : List ℕ) → left ≡ Some rest → ReadsLine rest reading kept left')
     → now_moment ≡ moment → m ≡ now_moment place
@@ -382,7 +382,7 @@ breaks_untold old moment now_moment input asked held faults now next place m lef
       leads (take_through 10 l.rest) r.1,
     )
 
-pub cleanly : (old : Standing FrontState) (moment : ℕ → ℕ) (input : List ℕ) (held : Option (List ℕ)) (faults : ℕ) (now : Standing FrontState) (holds : Option (List ℕ))
+pub cleanly : (old : WithSubscriptions FrontState) (moment : ℕ → ℕ) (input : List ℕ) (held : Option (List ℕ)) (faults : ℕ) (now : WithSubscriptions FrontState) (holds : Option (List ℕ))
     → Served old moment 0 input faults held holds now → faults ≡ 0 → now.front.number < max_counter → ServedCleanly (seen old) moment 0 input held holds (seen now)
 cleanly old moment input held faults now holds s none below =
     let c = clean old moment 0 (lines_of input) s.meetings s.bytes now (sym s.faults_are ∙ none) below s.run in

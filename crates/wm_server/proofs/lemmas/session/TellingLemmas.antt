@@ -8,7 +8,7 @@ use Rattle.wm_subs.specs.declared.subscribed.Subscribed.{Subscribed}
 use Rattle.wm_lines.specs.Replies.{reply_bytes}
 use Rattle.wm_server.specs.session.Faults.{FrontState, HasCause, Meeting, RepliesTo, Way, faults_at, faults_of, seen, state_or, subscriptions_told, told_by}
 use Rattle.wm_server.specs.session.Pages.{Replied}
-use Rattle.wm_server.specs.session.Sessions.{SessionState, Standing, SubscriptionList, line_met}
+use Rattle.wm_server.specs.session.Sessions.{SessionState, WithSubscriptions, SubscriptionList, line_met}
 use Rattle.wm_server.specs.session.Dues.{after_telling, after_told, are_all_found, due_in, due_line, told_lines}
 use Rattle.wm_server.specs.session.Telling.{TellsAll, TellsAt, told_in}
 
@@ -145,7 +145,7 @@ failed (Err x) e p = p
 -- ---- a line
 
 -- a line was answered, and then what is due after it was told
-pub line_told : (way : Way) (old mid new : Standing FrontState) (moment : ℕ) (line before between after : List ℕ) (faults : ℕ) (is_whole : Bool) → Replied way old moment line before between mid
+pub line_told : (way : Way) (old mid new : WithSubscriptions FrontState) (moment : ℕ) (line before between after : List ℕ) (faults : ℕ) (is_whole : Bool) → Replied way old moment line before between mid
     → TellsAll mid.front.state mid.subscriptions between is_whole new.subscriptions after → new.front ≡ mid.front → faults ≡ faults_of way
     → (meeting : Meeting) × (bytes : List ℕ) × (cond is_whole faults 1 ≡ faults_at meeting) × (after ≡ before ++ bytes) × RepliesTo meeting old moment line bytes new
 line_told way old mid new moment line before between after faults is_whole r t front by_way =

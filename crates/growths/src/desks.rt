@@ -1,0 +1,84 @@
+//! A command at a desk over a disk in memory.
+ghost use Rattle.std.specs.Thread.{IsSync};
+
+use crate::met::{Met, Twice, by_reply, has_right};
+use crate::stores::{ending, watch, watching_one};
+use std::alloc::Global;
+use std::sync::Wait;
+use std::sync::atomic::{AtomicBool, Ordering};
+use std::thread;
+use std::thread::Threads;
+use wm_disk::{MemDisk, Refusal};
+use wm_groupcommit::Desk;
+use wm_registry::Command;
+
+/// Flushes until the submitting is done.
+fn flush<R: Wait>(rt: &R, desk: &Desk<MemDisk>, is_done: &AtomicBool) {
+    let Ok(mut flusher) = desk.flusher(rt) else {
+        return;
+    };
+    for _ in rt.forever() {
+        if is_done.load(Ordering::SeqCst) {
+            break;
+        }
+        match desk.flush_once(rt, &mut flusher) {
+            Ok(0) => desk.wait_for_calls(rt, &mut flusher),
+            Ok(_) | Err(_) => {}
+        }
+    }
+}
+
+/// The command that watches `/a`, from a new seat.
+fn submit<R: Wait>(rt: &R, desk: &Desk<MemDisk>, command: Command, was_watched: bool) -> Met {
+    let Ok(mut seat) = desk.seat(rt) else {
+        return Met::Refused(Refusal::NoMemory);
+    };
+    match desk.submit(rt, &mut seat, command) {
+        Ok((reply, _)) => by_reply(reply, was_watched),
+        Err(refusal) => Met::Refused(refusal),
+    }
+}
+
+fn submit_both<R: Wait>(rt: &R, desk: &Desk<MemDisk>, commands: (Command, Command)) -> [Met; 2] {
+    let first = submit(rt, desk, commands.0, false);
+    let was_watched = matches!(first, Met::Right);
+    [first, submit(rt, desk, commands.1, was_watched)]
+}
+
+/// Submits both beside a thread that flushes. Where that one can't be started nothing was submitted.
+fn submit_beside<R: Threads + Wait + Sync>(
+    rt: &R,
+    desk: &Desk<MemDisk>,
+    commands: (Command, Command),
+    is_done: &AtomicBool,
+) -> Twice {
+    thread::scope(
+        thread::scope_env(),
+        rt,
+        |scope|
+            requires { IsSync R.row }
+        {
+            if scope.spawn(move || flush(rt, desk, is_done)).is_err() {
+                return Err(Refusal::NoMemory);
+            }
+            let both = submit_both(rt, desk, commands);
+            is_done.store(true, Ordering::SeqCst);
+            // where the device failed the close is refused too, but wakes the flusher all the same
+            let _closed = desk.close(rt);
+            Ok(both)
+        },
+    )
+}
+
+pub(crate) fn submitting<R: Threads + Wait + Sync>(rt: &R, alloc: Global) -> Twice {
+    let commands = (watch(alloc, "/a")?, watch(alloc, "/a")?);
+    let desk = match Desk::new(alloc, watching_one(alloc)?) {
+        Ok(desk) => desk,
+        Err((refusal, _)) => return Err(refusal),
+    };
+    let is_done = AtomicBool::new(false);
+    let both = submit_beside(rt, &desk, commands, &is_done);
+    let store = desk.into_store();
+    let both = both?;
+    ending(alloc, both, store, (has_right(both), false))
+}

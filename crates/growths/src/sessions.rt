@@ -1,0 +1,145 @@
+//! Lines of a session over a disk in memory, and the start of a server, behind which the triggers are those that were answered.
+use crate::met::{Met, Twice, are_right, has_failed, has_right};
+use crate::stores::watching_one;
+use std::alloc::Global;
+use wm_disk::{MemDisk, NoMemory, Refusal};
+use wm_server::{LocalFront, Session};
+
+type MemSession = Session<LocalFront<MemDisk>>;
+
+/// A session over a file with the root `/r`, which has one file.
+fn session(alloc: Global) -> Result<MemSession, Refusal> {
+    let disk = watching_one(alloc)?.into_disk();
+    let front = match LocalFront::open(alloc, disk) {
+        Ok(front) => front,
+        Err((refusal, _)) => return Err(refusal),
+    };
+    let mut session = Session::new(alloc, front);
+    let mut out = Vec::new(alloc);
+    session.line(alloc, 1, LISTING, &mut out)?;
+    if out.as_slice() == LISTED {
+        Ok(session)
+    } else {
+        Err(Refusal::NoMemory)
+    }
+}
+
+const LISTING: &[u8] =
+    b"[\"listing\",\"/r\",0,\"\",[[\"a.c\",{\"mtime_ms\":0,\"size\":3,\"type\":\"f\"}]]]\n";
+
+const LISTED: &[u8] = b"{\"clock\":\"c:2:1:1\",\"version\":\"w1\"}\n";
+
+const NO_MEMORY: &[u8] = b"{\"error\":\"16 NoMemory\",\"version\":\"w1\"}\n";
+
+const DEVICE_FAILED: &[u8] = b"{\"error\":\"13 DeviceFailed\",\"version\":\"w1\"}\n";
+
+const STORE_FAILED: &[u8] = b"{\"error\":\"12 StoreFailed\",\"version\":\"w1\"}\n";
+
+/// What a line is replied, where that is right or a refusal.
+fn line(alloc: Global, session: &mut MemSession, moment: u64, line: &[u8], reply: &[u8]) -> Met {
+    let mut out = Vec::new(alloc);
+    match session.line(alloc, moment, line, &mut out) {
+        Err(NoMemory) if out.is_empty() => return Met::Refused(Refusal::NoMemory),
+        Err(NoMemory) => return Met::Wrong,
+        Ok(_) => {}
+    }
+    match out.as_slice() {
+        text if text == reply => Met::Right,
+        NO_MEMORY => Met::Refused(Refusal::NoMemory),
+        DEVICE_FAILED => Met::Refused(Refusal::DeviceFailed),
+        STORE_FAILED => Met::Refused(Refusal::StoreFailed),
+        _ => Met::Wrong,
+    }
+}
+
+/// A line that was answered twice, with its reply and its reply once it was met, and the disk after it.
+fn twice(
+    alloc: Global,
+    text: &[u8],
+    (reply, later): (&[u8], &[u8]),
+) -> Result<([Met; 2], MemDisk), Refusal> {
+    let mut session = session(alloc)?;
+    let first = line(alloc, &mut session, 2, text, reply);
+    let again = if matches!(first, Met::Right) {
+        later
+    } else {
+        reply
+    };
+    let both = [first, line(alloc, &mut session, 3, text, again)];
+    let (_, disk) = session.front.close();
+    Ok((both, disk))
+}
+
+const LIST: &[u8] = b"[\"trigger-list\",\"/r\"]\n";
+
+const NONE: &[u8] = b"{\"triggers\":[],\"version\":\"w1\"}\n";
+
+const BUILD: &[u8] =
+    b"{\"triggers\":[{\"append_files\":false,\"command\":[\"cc\",\"-c\"],\"expression\":[\"suffix\",\"c\"],\"name\":\"build\",\"stdin\":\"/dev/null\"}],\"version\":\"w1\"}\n";
+
+/// A start, and whether the triggers are then listed so.
+fn started(alloc: Global, disk: MemDisk, listed: &[u8]) -> (Met, MemDisk) {
+    let front = match LocalFront::open(alloc, disk) {
+        Ok(front) => front,
+        Err((refusal, disk)) => return (Met::Refused(refusal), disk),
+    };
+    let mut session = Session::new(alloc, front);
+    let met = line(alloc, &mut session, 1, LIST, listed);
+    let (_, disk) = session.front.close();
+    (met, disk)
+}
+
+/// The answers, where the triggers behind another start are listed so; after a failure of the device also with the one that
+/// was refused.
+fn ending(alloc: Global, both: [Met; 2], disk: MemDisk, listed: &[u8]) -> Twice {
+    let (met, disk) = started(alloc, disk, listed);
+    let met = match met {
+        Met::Wrong if has_failed(both) => started(alloc, disk, BUILD).0,
+        _ => met,
+    };
+    match met {
+        Met::Right => Ok(both),
+        // the growth was this look's
+        Met::Refused(refusal) if are_right(both) => Err(refusal),
+        _ => Ok([Met::Wrong; 2]),
+    }
+}
+
+/// A question with an expression.
+pub(crate) fn asking(alloc: Global) -> Twice {
+    let text =
+        b"[\"query\",\"/r\",{\"expression\":[\"anyof\",[\"suffix\",\"c\"],[\"name\",[\"b\"]]],\"fields\":[\"name\",\"size\"]}]\n";
+    let reply =
+        b"{\"clock\":\"c:2:1:1\",\"files\":[{\"name\":\"a.c\",\"size\":3}],\"is_fresh_instance\":true,\"version\":\"w1\"}\n";
+    let (both, disk) = twice(alloc, text, (reply, reply))?;
+    ending(alloc, both, disk, NONE)
+}
+
+/// The command that makes a trigger, with its reply and its reply once it was met.
+const TRIGGER: &[u8] =
+    b"[\"trigger\",\"/r\",{\"command\":[\"cc\",\"-c\"],\"expression\":[\"suffix\",\"c\"],\"name\":\"build\"}]\n";
+
+const CREATED: &[u8] =
+    b"{\"disposition\":\"created\",\"triggerid\":\"build\",\"version\":\"w1\"}\n";
+
+const DEFINED: &[u8] =
+    b"{\"disposition\":\"already_defined\",\"triggerid\":\"build\",\"version\":\"w1\"}\n";
+
+/// A command, which changes the registry once.
+pub(crate) fn commanding(alloc: Global) -> Twice {
+    let (both, disk) = twice(alloc, TRIGGER, (CREATED, DEFINED))?;
+    let listed = if has_right(both) { BUILD } else { NONE };
+    ending(alloc, both, disk, listed)
+}
+
+/// Two starts over a file with a trigger.
+pub(crate) fn starting(alloc: Global) -> Twice {
+    let mut session = session(alloc)?;
+    let Met::Right = line(alloc, &mut session, 2, TRIGGER, CREATED) else {
+        return Err(Refusal::NoMemory);
+    };
+    let (_, disk) = session.front.close();
+    let (first, disk) = started(alloc, disk, BUILD);
+    let (second, disk) = started(alloc, disk, BUILD);
+    ending(alloc, [first, second], disk, BUILD)
+}

@@ -1,0 +1,253 @@
+//! One watched root by itself: what two sessions are told by viewers of their own, and what a root has a limit of.
+ghost use Rattle.std.specs.Prelude.{◌≡◌};
+
+use std::alloc::{Alloc, Global};
+use std::marker::Brand;
+use std::process::Abort;
+use std::sync::Wait;
+use std::test::*;
+use wm_disk::Refusal;
+use wm_hall::{Forgetting, RootHall, Viewers};
+use wm_lines::{Inquiry, Request, reply};
+use wm_names::RootPath;
+use wm_share::{MAX_VIEWERS, Naming, Opened, Shares};
+use wm_since::MAX_CURSORS;
+use wm_view::Op;
+
+/// Lines of two sessions, and what each is told. A root forgets nothing here by itself.
+const TOLD: &[(usize, &str, &str)] = &[
+    (0, "[\"clock\",\"/r\"]\n", "6 NotReady"),
+    (
+        0,
+        "[\"query\",\"/r\",{\"since\":\"n:x\",\"fields\":[\"name\"]}]\n",
+        "6 NotReady",
+    ),
+    (0, "[\"observe\",\"/r\",[[\"a.c\",null]]]\n", "6 NotReady"),
+    (
+        0,
+        "[\"listing\",\"/r\",0,\"\",[[\"b.c\",{\"type\":\"f\",\"size\":1,\"mtime_ms\":0}],[\"a.c\",{\"type\":\"f\",\"size\":1,\"mtime_ms\":0}]]]\n",
+        "{\"clock\":\"c:1:5:1\",\"version\":\"w1\"}\n",
+    ),
+    (
+        1,
+        "[\"clock\",\"/r\"]\n",
+        "{\"clock\":\"c:1:5:1\",\"version\":\"w1\"}\n",
+    ),
+    (
+        1,
+        "[\"query\",\"/r\",{\"since\":\"n:x\",\"fields\":[\"name\"]}]\n",
+        "{\"clock\":\"c:1:5:1\",\"files\":[\"a.c\",\"b.c\"],\"is_fresh_instance\":true,\"version\":\"w1\"}\n",
+    ),
+    (
+        0,
+        "[\"query\",\"/r\",{\"since\":\"n:x\",\"fields\":[\"name\"]}]\n",
+        "{\"clock\":\"c:1:5:1\",\"files\":[],\"is_fresh_instance\":false,\"version\":\"w1\"}\n",
+    ),
+    (
+        0,
+        "[\"observe\",\"/r\",[[\"c.c\",{\"type\":\"f\",\"size\":1,\"mtime_ms\":0}],[\"a.c\",null]]]\n",
+        "{\"clock\":\"c:1:5:2\",\"version\":\"w1\"}\n",
+    ),
+    (
+        0,
+        "[\"query\",\"/r\",{\"since\":\"c:1:5:1\",\"fields\":[\"name\"]}]\n",
+        "{\"clock\":\"c:1:5:2\",\"files\":[\"a.c\",\"c.c\"],\"is_fresh_instance\":false,\"version\":\"w1\"}\n",
+    ),
+    (
+        1,
+        "[\"query\",\"/r\",{\"since\":\"n:x\",\"fields\":[\"name\"]}]\n",
+        "{\"clock\":\"c:1:5:2\",\"files\":[\"a.c\",\"c.c\"],\"is_fresh_instance\":false,\"version\":\"w1\"}\n",
+    ),
+    (
+        1,
+        "[\"age-out\",\"/r\",0]\n",
+        "{\"floor\":2,\"version\":\"w1\"}\n",
+    ),
+    (
+        0,
+        "[\"query\",\"/r\",{\"since\":\"c:1:5:1\",\"fields\":[\"name\"]}]\n",
+        "{\"clock\":\"c:1:5:2\",\"files\":[\"c.c\",\"b.c\"],\"is_fresh_instance\":true,\"version\":\"w1\"}\n",
+    ),
+];
+
+/// Each operation is at this second.
+const MOMENT: u64 = 10;
+
+const FORGETTING: Forgetting = Forgetting {
+    age: 1_000,
+    interval: 1_000,
+};
+
+/// A hall of the root 5.
+fn opened_hall<'a, J: Naming, R: Wait>(
+    rt: &'a R,
+    alloc: Global,
+    mut shares: Shares<J>,
+) -> Result<RootHall<J, &'a R>, Refusal> {
+    let (keeper, pool) = shares.share(rt, alloc, 1, 5)?;
+    let path = RootPath::read(alloc, "/r")?;
+    let hall = RootHall::new(alloc, &path, 5, keeper, pool)?;
+    Ok(hall)
+}
+
+/// Performs an operation, and tells where the view stands then.
+fn operate<J: Naming, R: Wait, K: Wait + Drop>(
+    rt: &R,
+    hall: &RootHall<J, K>,
+    op: Op,
+    out: &mut Vec<u8>,
+) -> Result<(), Refusal> {
+    out.try_reserve(reply::PROGRESS_ROOM)?;
+    let tells_floor = matches!(op, Op::AgeOut(_, _));
+    let met = hall.operate(rt, FORGETTING, op)?;
+    if tells_floor {
+        reply::put_floor(met.floor, out);
+    } else {
+        reply::put_clock(met.clock, out);
+    }
+    Ok(())
+}
+
+/// Tells the clock that a session sees.
+fn tell_clock<J: Naming, R: Wait, K: Wait + Drop>(
+    rt: &R,
+    alloc: Global,
+    hall: &RootHall<J, K>,
+    viewers: &mut Viewers<J>,
+    out: &mut Vec<u8>,
+) -> Result<(), Refusal> {
+    out.try_reserve(reply::PROGRESS_ROOM)?;
+    let viewer = viewers.of_root(rt, hall)?;
+    let clock = hall.clock(rt, alloc, viewer)?;
+    reply::put_clock(clock, out);
+    Ok(())
+}
+
+/// Tells the answer that a session sees.
+fn tell_answer<J: Naming, R: Wait, K: Wait + Drop>(
+    rt: &R,
+    alloc: Global,
+    hall: &RootHall<J, K>,
+    viewers: &mut Viewers<J>,
+    inquiry: Inquiry,
+    out: &mut Vec<u8>,
+) -> Result<(), Refusal> {
+    let viewer = viewers.of_root(rt, hall)?;
+    hall.inquire(rt, alloc, viewer, inquiry, out)
+}
+
+/// Meets a request of the session that has these viewers.
+fn meet<J: Naming, R: Wait, K: Wait + Drop>(
+    rt: &R,
+    alloc: Global,
+    hall: &RootHall<J, K>,
+    viewers: &mut Viewers<J>,
+    request: Request,
+    out: &mut Vec<u8>,
+) -> Result<(), Refusal> {
+    match request {
+        Request::Observe(_, pairs) => operate(rt, hall, Op::Observe(MOMENT, pairs), out),
+        Request::Listing(_, begun_at, found) => {
+            operate(rt, hall, Op::Recrawl(MOMENT, begun_at, found), out)
+        }
+        Request::AgeOut(_, age) => operate(rt, hall, Op::AgeOut(MOMENT, age), out),
+        Request::Clock(_) => tell_clock(rt, alloc, hall, viewers, out),
+        Request::Query(_, inquiry) => tell_answer(rt, alloc, hall, viewers, inquiry, out),
+        _ => Err(Refusal::BadCommand),
+    }
+}
+
+/// Meets a line, after which the session's viewer knows of it.
+fn meet_line<J: Naming, R: Wait, K: Wait + Drop>(
+    rt: &R,
+    alloc: Global,
+    hall: &RootHall<J, K>,
+    viewers: &mut Viewers<J>,
+    line: &str,
+    out: &mut Vec<u8>,
+) -> Result<(), Refusal> {
+    let request = Request::read(alloc, line.as_bytes())?;
+    meet(rt, alloc, hall, viewers, request, out)?;
+    viewers.learn(rt, hall);
+    Ok(())
+}
+
+/// What a line is told: its reply, or the refusal.
+fn is_told(met: Result<(), Refusal>, out: &[u8], told: &str) -> bool {
+    match met {
+        Ok(()) => out == told.as_bytes(),
+        Err(refusal) => refusal.text() == told,
+    }
+}
+
+fn tells_two_sessions<J: Naming, R: Wait + Abort>(
+    rt: &R,
+    alloc: Global,
+    opened: Opened,
+) -> Result<(), Fail>
+    requires { opened.seen.book ≡ J.book }
+{
+    let shares: Shares<J> = Shares::new(opened);
+    let hall = opened_hall(rt, alloc, shares)?;
+    let mut first = Viewers::new(alloc);
+    let mut second = Viewers::new(alloc);
+    let mut out = Vec::new(alloc);
+    for (session, line, told) in TOLD {
+        out.clear();
+        let met = if *session == 0 {
+            meet_line(rt, alloc, &hall, &mut first, line, &mut out)
+        } else {
+            meet_line(rt, alloc, &hall, &mut second, line, &mut out)
+        };
+        assert!(rt; is_told(met, &out, told), "{line}");
+    }
+    assert_eq!(rt; hall.tick(rt), 2);
+    Ok(())
+}
+
+#[test]
+fn two_sessions_are_told(rt: HostRuntime) -> Result<(), Fail> {
+    tells_two_sessions::<Brand, _>(&rt, rt.alloc(), Opened::new())
+}
+
+fn keeps_limits<J: Naming, R: Wait + Abort>(
+    rt: &R,
+    alloc: Global,
+    opened: Opened,
+) -> Result<(), Fail>
+    requires { opened.seen.book ≡ J.book }
+{
+    let shares: Shares<J> = Shares::new(opened);
+    let hall = opened_hall(rt, alloc, shares)?;
+    let mut viewers = Viewers::new(alloc);
+    let mut out = Vec::new(alloc);
+    let listing = "[\"listing\",\"/r\",0,\"\",[]]\n";
+    meet_line(rt, alloc, &hall, &mut viewers, listing, &mut out)?;
+    for number in 0..MAX_CURSORS {
+        let line = format!(in alloc; "[\"since\",\"/r\",\"n:{number}\"]\n")?;
+        meet_line(rt, alloc, &hall, &mut viewers, &line, &mut out)?;
+    }
+    let more = "[\"since\",\"/r\",\"n:more\"]\n";
+    let refused = meet_line(rt, alloc, &hall, &mut viewers, more, &mut out);
+    assert_eq!(rt; refused, Err(Refusal::TooMany));
+    let known = "[\"since\",\"/r\",\"n:7\"]\n";
+    meet_line(rt, alloc, &hall, &mut viewers, known, &mut out)?;
+    // The session has the first viewer of the pool.
+    let mut lent = Vec::new(alloc);
+    for _ in 1..MAX_VIEWERS {
+        lent.push(hall.lend(rt)?)?;
+    }
+    let mut other = Viewers::new(alloc);
+    let refused = tell_clock(rt, alloc, &hall, &mut other, &mut out);
+    assert_eq!(rt; refused, Err(Refusal::NoPlace));
+    for viewer in viewers.into_vec() {
+        hall.take_back(rt, viewer);
+    }
+    tell_clock(rt, alloc, &hall, &mut other, &mut out)?;
+    Ok(())
+}
+
+#[test]
+fn cursors_and_viewers_have_limits(rt: HostRuntime) -> Result<(), Fail> {
+    keeps_limits::<Brand, _>(&rt, rt.alloc(), Opened::new())
+}

@@ -1,0 +1,8 @@
+-- For private clauses: the bytes of a name's text.
+use Rattle.std.specs.Prelude.{ℕ, List, string_bytes}
+use Rattle.wm_crawler.specs.declared.name.NameText.{NameText}
+use Rattle.wm_crawler.specs.declared.name.NameText.TheVariants.{Short, Long}
+
+abbrev pub name_bytes : NameText → List ℕ
+name_bytes (Short text) = text.bytes
+name_bytes (Long text) = string_bytes text
