@@ -8,16 +8,17 @@ CLIENT := crates/wmctl/out/wmctl
 FEED := crates/wmfeed/out/wmfeed
 BENCH := crates/bench/out/bench
 SHARE_BENCH := crates/share_bench/out/share_bench
+GROWTHS := crates/growths/out/growths
 FILES ?= 100000
 # The version, where the programs have it.
 VERSION := $(shell sed -n 's/^pub const VERSION: &str = "\(.*\)";$$/\1/p' crates/wm_lines/src/reply.rt)
 ARCHIVE := watchmand-$(VERSION)-linux-$(shell uname -m)
 # Where the installed unit finds the program.
 UNIT_PREFIX ?= $(PREFIX)
-PAGES := GUIDE.md QUERIES.md FORMATS.md PROMISES.md
+PAGES := GUIDE.md QUERIES.md FORMATS.md PROMISES.md DEFINITIONS.md
 SOURCES := crates.txt $(shell find crates -name out -prune -o -type f \( -name '*.rt' -o -name '*.antt' \) -print)
 
-.PHONY: help clean uninstall test lint build run lines serve-use feed-use install bench bench-journal bench-store bench-desk idle-desk bench-crawl bench-view bench-share bench-match bench-peer bench-plots clients crawl-tree session examples examples-use dist dist-use kill faults state-file file-calls
+.PHONY: help clean uninstall test lint build run lines serve-use feed-use install bench bench-journal bench-store bench-desk idle-desk bench-crawl bench-view bench-share bench-match bench-peer bench-plots clients crawl-tree session examples examples-use dist dist-use kill faults growths fuzz hostile state-file file-calls
 
 help:
 	@echo "make test          the whole gate: each proof from nothing, edits that must be refused, tests, programs (rt; two hours on two cores)"
@@ -35,10 +36,14 @@ help:
 	@echo "make state-file    a file with two owners, a format that fails, a killed one; make file-calls: its calls (strace)"
 	@echo "make serve-use     rough use of a server by the built program (python3; setpriv, if root); make clients: Watchman's own clients talk"
 	@echo "                   to it; make bench-peer: it beside Watchman 4.9.0 (both python3; apt-get, where Watchman isn't installed; cc);"
-	@echo "                   make bench-plots: the same, and the plots of bench/README.md"
+	@echo "                   make bench-plots: the same in three runs, and the plots and the table of bench/README.md"
 	@echo "make feed-use      a feed beside a server: its views against fresh crawls, its latency, its ends (python3, git, inotify-tools)"
 	@echo "make kill          kills the built program again and again, and looks for what it answered (python3); make faults: each call"
-	@echo "                   that it makes of its state file fails once (python3, strace)"
+	@echo "                   that it makes of its state file fails once (python3, strace); make growths: each growth of memory in eleven"
+	@echo "                   calls is refused once (rt, python3, cc)"
+	@echo "make fuzz          random lines, state files and clients, each reply beside a model's in Python (python3; some two minutes;"
+	@echo "                   tools/fuzz/fuzz.py --count 3000 for an hour, --seed for other ones)"
+	@echo "make hostile       the memory of a server beside 31 clients that ask for as much as they can (python3; some two minutes, 4 GB)"
 	@echo "make bench         a million lines beside Python's json (python3, GNU time)"
 	@echo "make bench-journal, bench-store, bench-desk, bench-view, bench-share, bench-match   times by the programs bench and share_bench (rt; bench-store also sqlite3,"
 	@echo "                   if installed; bench-desk python3)"
@@ -145,9 +150,25 @@ examples-use: $(PROGRAM) $(CLIENT)
 faults: $(PROGRAM)
 	tools/faults.py $(PROGRAM)
 
+$(GROWTHS): $(SOURCES)
+	cd crates/growths && rt run -- open >&2
+	@touch $@
+
+# Each growth of memory that eleven calls ask for is refused once: the answer is 16 or 13, or right, and what stands after it is as answered.
+growths: $(GROWTHS)
+	tools/growths.py $(GROWTHS)
+
 # Kills the built program in the midst of commands, again and again, and looks for what it answered.
 kill: $(PROGRAM)
 	tools/kill_loop.py $(PROGRAM)
+
+# Random lines, state files and clients of a server, by the built program, and a model of the definitions beside it.
+fuzz: $(PROGRAM)
+	tools/fuzz/fuzz.py $(PROGRAM)
+
+# 31 clients that ask for as much as they can, and what memory a server takes beside them.
+hostile: $(PROGRAM)
+	tools/hostile_clients.py $(PROGRAM)
 
 # The built program over a state file that another has open, and where `format` fails or is killed.
 state-file: $(PROGRAM)
@@ -199,12 +220,12 @@ bench-share: $(SHARE_BENCH)
 	$(SHARE_BENCH) $(FILES) 3000
 
 # A server beside Watchman 4.9.0, which is installed from Debian's packages where it isn't there.
-bench-peer: $(PROGRAM)
-	bench/peer.sh $(PROGRAM)
+bench-peer: $(PROGRAM) $(FEED)
+	bench/peer.sh $(PROGRAM) --feed $(FEED)
 
-# The same, and the two plots of bench/README.md from that run's own numbers.
-bench-plots: $(PROGRAM)
-	bench/peer.sh $(PROGRAM) --json bench/peer.json
+# The same in three runs, and the two plots of bench/README.md from their own numbers.
+bench-plots: $(PROGRAM) $(FEED)
+	bench/peer.sh $(PROGRAM) --feed $(FEED) --runs 3 --json bench/peer.json
 	bench/plots.py bench/peer.json bench
 
 # Watchman's own clients, `watchman` and pywatchman, talk to a server.

@@ -1,10 +1,11 @@
 #!/usr/bin/env python3
-"""watchmand beside Watchman, in one run: peer.py WATCHMAND ASK [--sizes 1000,20000,100000] [--seconds 1] [--json FILE]
+"""watchmand beside Watchman: peer.py WATCHMAND ASK [--feed WMFEED] [--sizes 1000,20000,100000] [--seconds 1] [--runs 1] [--json FILE]
 
 Both are asked in JSON over their sockets by the same clients: a second's answers by the program of ask.c, all else from here. Each
-figure is printed as ours, theirs and the ratio ours / theirs. With --json all of it stands in FILE too, with the machine, the date and its load:
-bench/plots.py draws from that. bench/peer.sh installs Watchman, builds ask.c and runs this."""
+figure is printed as ours, theirs and the ratio ours / theirs, medians of so many runs. With --feed a feed runs beside our server for the last row. With --json the figures of each run stand in FILE too, with the
+machine, the date and its load: bench/plots.py draws from that. bench/peer.sh installs Watchman, builds ask.c and runs this."""
 import argparse
+import contextlib
 import json
 import os
 import platform
@@ -58,6 +59,22 @@ class Watchmand:
     def take_in(self, client, root, since):
         client.ask("recrawl", root)
 
+    @contextlib.contextmanager
+    def feeding(self, feed, client, root):
+        """A feed of the root, which has begun to tell what changes."""
+        process = subprocess.Popen([feed, self.path, root])
+        try:
+            mark, is_told = f"{root}/mark", False
+            while not is_told:
+                open(mark, "w").close()
+                time.sleep(0.05)
+                found = client.ask("query", root, {"expression": ["name", ["mark"]], "fields": ["name"]})
+                is_told = found.get("files") == ["mark"]
+            yield process
+        finally:
+            process.kill()
+            process.wait()
+
 
 class Watchman:
     name = "watchman"
@@ -77,8 +94,17 @@ class Watchman:
         return client.ask("query", root, query)
 
     def take_in(self, client, root, since):
-        while len(client.ask("query", root, {"since": since, "fields": ["name"]})["files"]) < 1000:
-            time.sleep(0.001)
+        await_changes(client, root, since)
+
+    @contextlib.contextmanager
+    def feeding(self, feed, client, root):
+        """The kernel feeds it."""
+        yield self.process
+
+
+def await_changes(client, root, since):
+    while len(client.ask("query", root, {"since": since, "expression": ["suffix", "c"], "fields": ["name"]})["files"]) < 1000:
+        time.sleep(0.001)
 
 
 def make_tree(root, size):
@@ -133,9 +159,9 @@ def touch(root, size, stamp):
                 return
 
 
-def measure(server, ask, root, size, seconds, rows):
+def measure(server, ask, feed, root, size, seconds, rows):
     client, fields = Client(server.path), ["name", "exists", "new", "size"]
-    note = lambda what, value: rows.setdefault(what, {}).__setitem__(server.name, value)
+    note = lambda what, value: rows.setdefault(what, {}).setdefault(server.name, []).append(value)
     took, reply = timed(lambda: server.first_answer(client, root, {"fields": ["name"]}))
     note("watch to first answer, ms", took)
     note("files in it", len(reply["files"]))
@@ -162,6 +188,28 @@ def measure(server, ask, root, size, seconds, rows):
     before = ticks(server.process)
     time.sleep(3)
     note("processor ticks idle for 3 s", ticks(server.process) - before)
+    if feed:
+        with server.feeding(feed, client, root):
+            since = client.ask("clock", root)["clock"]
+            touch(root, size, time.time() - 2 * size)
+            took, _ = timed(lambda: await_changes(client, root, since))
+            note("1,000 files touched until known, with a feed, ms", took)
+
+
+def measure_both(chosen, size, rows):
+    """One run: a new server each on a new tree each."""
+    with tempfile.TemporaryDirectory(prefix="peer-", dir=os.environ.get("PEER_FOLDER")) as folder:
+        servers = [make(program, folder) for make, program in ((Watchmand, chosen.program), (Watchman, chosen.peer)) if program and program != "none"]
+        try:
+            for server in servers:
+                root = f"{folder}/{server.name}"
+                os.mkdir(root)
+                make_tree(root, size)
+                measure(server, chosen.ask, chosen.feed, root, size, chosen.seconds, rows)
+        finally:
+            for server in servers:
+                server.process.kill()
+                server.process.wait()
 
 
 def machine(chosen):
@@ -174,10 +222,10 @@ def machine(chosen):
 
 
 def show(rows):
-    """Prints the figures of a size."""
+    """Prints the figures of a size, medians of its runs."""
     told = lambda value: "-" if value is None else f"{value:,.3f}" if value < 10 else f"{value:,.0f}"
     for what, found in rows.items():
-        ours, theirs = found.get("watchmand"), found.get("watchman")
+        ours, theirs = (statistics.median(found[name]) if name in found else None for name in ("watchmand", "watchman"))
         ratio = f"{ours / theirs:.2f}" if ours is not None and theirs else "-"
         print(f"  {what:40} {told(ours):>12} {told(theirs):>12} {ratio:>6}")
 
@@ -188,24 +236,16 @@ def main():
     words.add_argument("ask")
     words.add_argument("--sizes", default="1000,20000,100000")
     words.add_argument("--seconds", type=float, default=1.0)
+    words.add_argument("--runs", type=int, default=1)
+    words.add_argument("--feed")
     words.add_argument("--peer", default=shutil.which("watchman"))
     words.add_argument("--json")
     chosen = words.parse_args()
     run = {**machine(chosen), "sizes": {}}
     for size in map(int, chosen.sizes.split(",")):
         rows = {}
-        with tempfile.TemporaryDirectory(prefix="peer-", dir=os.environ.get("PEER_FOLDER")) as folder:
-            servers = [make(program, folder) for make, program in ((Watchmand, chosen.program), (Watchman, chosen.peer)) if program and program != "none"]
-            try:
-                for server in servers:
-                    root = f"{folder}/{server.name}"
-                    os.mkdir(root)
-                    make_tree(root, size)
-                    measure(server, chosen.ask, root, size, chosen.seconds, rows)
-            finally:
-                for server in servers:
-                    server.process.kill()
-                    server.process.wait()
+        for _ in range(chosen.runs):
+            measure_both(chosen, size, rows)
         print(f"{size} files")
         show(rows)
         run["sizes"][size] = rows

@@ -1,7 +1,7 @@
 #!/usr/bin/env bash
 # watchmand beside Watchman 4.9.0 in one run: the first answer after a watch, since, clients at once, memory and an idle server. Installs
 # Watchman from Debian's packages where it isn't there (apt-get, as root), and wants python3 and a C compiler.
-# Usage: bench/peer.sh WATCHMAND [--sizes 1000,20000,100000] [--seconds 1] [--json FILE]
+# Usage: bench/peer.sh WATCHMAND [--feed WMFEED] [--sizes 1000,20000,100000] [--seconds 1] [--runs 1] [--json FILE]
 set -eu
 program=$(realpath "$1")
 shift

@@ -1,10 +1,11 @@
 #!/usr/bin/env python3
-"""Draws the plots of bench/README.md from the numbers of one run: bench/plots.py RUN.json FOLDER
+"""Draws the plots of bench/README.md from the medians of some runs, and prints its table: bench/plots.py RUNS.json FOLDER
 
-RUN.json is what bench/peer.py --json wrote. It makes FOLDER/since_by_clients.svg, answers a second by clients at the middle size, and
-FOLDER/cost_by_files.svg, the cost of a question by files, on a logarithmic scale. Under each stands where and when the run was made."""
+RUNS.json is what bench/peer.py --json wrote. It makes FOLDER/since_by_clients.svg, answers a second by clients at the middle size, and
+FOLDER/cost_by_files.svg, the cost of a question by files, on a logarithmic scale. Under each stands where and when the runs were made."""
 import json
 import math
+import statistics
 import sys
 from xml.sax.saxutils import escape
 
@@ -57,9 +58,35 @@ class Plot:
                        f"<title>{escape(self.title)}</title>\n" + f'<rect width="{WIDTH}" height="{HEIGHT}" fill="white"/>\n' + "\n".join(self.parts) + "\n</svg>\n")
 
 
+def medians(row):
+    return {name: statistics.median(found) for name, found in row.items()}
+
+
+def spread(found):
+    """The least and the greatest of some runs."""
+    told = [f"{value:,.3f}" if value < 1 else f"{value:,.1f}" if value < 100 else f"{value:,.0f}" for value in (min(found), max(found))]
+    return told[0] if told[0] == told[1] else f"{told[0]} to {told[1]}"
+
+
+def cell(row):
+    ours, theirs = (statistics.median(row[name]) for name in COLOURS)
+    ratio = f"**{ours / theirs:.2f}**" if theirs else "-"
+    return f"{spread(row['watchmand'])}; {spread(row['watchman'])}; {ratio}"
+
+
+def show_table(run):
+    """The table in Markdown: each cell has ours, theirs and the ratio of the medians."""
+    sizes = sorted(run["sizes"], key=int)
+    print("| | " + " | ".join(f"{int(size):,} files" for size in sizes) + " |")
+    print("|---" * (1 + len(sizes)) + "|")
+    for what in run["sizes"][sizes[0]]:
+        if not what.startswith("files in"):
+            print(f"| {what} | " + " | ".join(cell(run["sizes"][size][what]) for size in sizes) + " |")
+
+
 def clients_plot(run):
     size = sorted(run["sizes"], key=int)[len(run["sizes"]) // 2]
-    rows = {count: run["sizes"][size][f"since a second, {count} clients"] for count in (1, 8, 31)}
+    rows = {count: medians(run["sizes"][size][f"since a second, {count} clients"]) for count in (1, 8, 31)}
     most = max(max(row.values()) for row in rows.values())
     top = math.ceil(most / 50000) * 50000
     plot = Plot(f"Answers to since a second, {int(size):,} files, nothing changed", run, lambda value: value / top)
@@ -76,7 +103,8 @@ def clients_plot(run):
 
 def files_plot(run):
     sizes = sorted(run["sizes"], key=int)
-    values = [run["sizes"][size][row][name] for size in sizes for row in ROWS for name in COLOURS]
+    found = {(size, row): medians(run["sizes"][size][row]) for size in sizes for row in ROWS}
+    values = [value for row in found.values() for value in row.values()]
     low, high = math.floor(math.log10(min(values))), math.ceil(math.log10(max(values)))
     plot = Plot("Milliseconds by files, on a logarithmic scale", run, lambda value: (math.log10(value) - low) / (high - low))
     for power in range(low, high + 1):
@@ -87,7 +115,7 @@ def files_plot(run):
     for place, (row, told) in enumerate(ROWS.items()):
         dashes = ("", "9 4", "4 4", "1 3")[place]
         for name, colour in COLOURS.items():
-            plot.line([(x, run["sizes"][size][row][name]) for x, size in zip(places, sizes)], colour, dashes)
+            plot.line([(x, found[size, row][name]) for x, size in zip(places, sizes)], colour, dashes)
         x, y = LEFT + 225 * (place % 2), HEIGHT - BOTTOM + 38 + 18 * (place // 2)
         plot.parts.append(f'<line x1="{x}" y1="{y - 4}" x2="{x + 34}" y2="{y - 4}" stroke="#222" stroke-width="2" stroke-dasharray="{dashes}"/>')
         plot.text(x + 40, y, told, 11)
@@ -101,6 +129,7 @@ def main():
         run = json.load(file)
     clients_plot(run).save(f"{folder}/since_by_clients.svg")
     files_plot(run).save(f"{folder}/cost_by_files.svg")
+    show_table(run)
 
 
 if __name__ == "__main__":

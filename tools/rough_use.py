@@ -174,6 +174,10 @@ def lines_that_are_wrong():
         check("one who sends half a line holds nobody up", a.ask(["version"]) == VERSION)
         half.socket.shutdown(socket.SHUT_WR)
         check("and is answered at its end", b'"1 BadLine"' in half.line() and half.line() == b"")
+        broken = s.client()
+        broken.socket.sendall(b'["version"]\n["watch","/')
+        broken.close()
+        check("one whose socket breaks inside a line", a.ask(["version"]) == s.client().ask(["version"]) == VERSION)
 
 
 def clients_that_do_not_read():

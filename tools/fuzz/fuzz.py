@@ -1,0 +1,84 @@
+#!/usr/bin/env python3
+"""Compares the built program with a model of its definitions, for random input: tools/fuzz/fuzz.py [--seed N] [--count N] [--only lines|files|sockets|together] PROGRAM
+
+One seed is one run of each kind, which `--seed N --count 1` repeats; each difference is printed, shortened, and the status is then 1. The
+model is that of fuzz_model.py, fuzz_state.py and what they use. An hour takes some `--count 3000`."""
+import argparse, contextlib, os, random, shutil, signal, string, subprocess, sys, time
+
+sys.dont_write_bytecode = True
+sys.setrecursionlimit(20000)
+sys.path.insert(1, os.path.dirname(os.path.dirname(os.path.abspath(__file__))))  # for served.py
+import fuzz_files, fuzz_lines, fuzz_page, fuzz_shorten, fuzz_sockets, fuzz_together
+
+KINDS = {"lines": fuzz_lines, "files": fuzz_files, "sockets": fuzz_sockets, "together": fuzz_together}
+
+
+def words():
+    reader = argparse.ArgumentParser(description="Compares the built program with a model of its definitions.")
+    reader.add_argument("--seed", type=int, default=1, help="the first seed (1)")
+    reader.add_argument("--count", type=int, default=100, help="how many seeds (100)")
+    reader.add_argument("--seconds", type=int, default=10**9, help="begin no run after so many seconds")
+    reader.add_argument("--only", choices=sorted(KINDS), help="one kind of run alone")
+    reader.add_argument("program")
+    return reader.parse_args()
+
+
+def differs(runs, program, folder, case):
+    try:
+        return runs.difference(program, folder, case)
+    except subprocess.TimeoutExpired as problem:
+        return str(problem)
+
+
+def tried(program, kind, seed, folder, totals):
+    """One run of a kind; whether it met no difference."""
+    runs = KINDS[kind]
+    case = runs.run_by(random.Random(f"{kind} {seed}"))
+    problem = differs(runs, program, folder, case)
+    for name, number in runs.counts(case).items():
+        totals[name] = totals.get(name, 0) + number
+    if problem is None:
+        return True
+    short, problem = fuzz_shorten.shortened(lambda part: differs(runs, program, folder, part), case, problem)
+    print(f"DIFFERENCE by --only {kind} --seed {seed} --count 1: {problem}\n{runs.shown(short)}", flush=True)
+    return False
+
+
+@contextlib.contextmanager
+def own_folder():
+    """A folder in memory where there is one, whose name has one length, so that seeds make the same lines."""
+    place = "/dev/shm" if os.path.isdir("/dev/shm") else "/tmp"
+    name = next(name for name in (f"{place}/watchmand-fuzz-{letter}" for letter in string.ascii_lowercase) if made(name))
+    try:
+        yield name
+    finally:
+        shutil.rmtree(name, ignore_errors=True)
+
+
+def made(name):
+    try:
+        os.mkdir(name)
+        return True
+    except FileExistsError:
+        return False
+
+
+def main():
+    asked, stopped = words(), []
+    signal.signal(signal.SIGTERM, lambda *_: stopped.append(True))
+    kinds = [asked.only] if asked.only else list(KINDS)
+    wrong = fuzz_page.differences()
+    print("".join(f"DIFFERENCE of the model and docs/QUERIES.md, {problem}\n" for problem in wrong), end="")
+    end, totals, differences, tries = time.time() + asked.seconds, {}, len(wrong), 0
+    with own_folder() as folder:
+        fuzz_sockets.PLACE = folder + "/run"
+        for seed in range(asked.seed, asked.seed + asked.count):
+            if stopped or time.time() > end:
+                break
+            differences += sum(not tried(os.path.abspath(asked.program), kind, seed, folder, totals) for kind in kinds)
+            tries += 1
+    print(f"{tries} seeds from {asked.seed} on: " + ", ".join(f"{number} {name}" for name, number in totals.items()) + f", {differences} differences")
+    return 1 if differences else 0
+
+
+sys.exit(main())

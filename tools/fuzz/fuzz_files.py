@@ -1,0 +1,257 @@
+"""State files that sessions left, spoilt or made by hand, which `watchmand lines` then opens, for tools/fuzz/fuzz.py.
+
+What a file means is read anew from docs/FORMATS.md: the refusal that a start tells, or the registry, which the file means afterwards too."""
+import os, random, subprocess
+import fuzz_lines, fuzz_state
+from fuzz_json import written
+from fuzz_registry import EMPTY, begun, with_trigger, with_watch, without_trigger, without_watch
+from fuzz_state import HEADER, JOURNAL_BYTES, OPEN, RETIRED_GATE, SIZE, SLOT_BYTES, SLOTS
+from fuzz_terms import LARGEST
+
+REFUSALS = {14: "14 Damaged", 15: "15 Exhausted", 20: "20 Retired"}
+CHANGES = {0: begun, 1: with_watch, 2: without_watch, 3: with_trigger, 4: without_trigger}
+# Texts that a trigger may keep in a file: expressions in other spellings than a line leaves, and what is none.
+TEXTS = ["true", '"true"', '["true"]', ' [ "suffix" , "c" ] ', '["name","\\u0061"]', "[", "", '["match","["]', '"\\ud800"', '["size","eq",1.0]', '["not",' * 31 + '"true"' + "]" * 31,
+         '["not",' * 32 + '"true"' + "]" * 32, '{"a":1}', '["name","' + "n" * 4085 + '"]', '["name","' + "n" * 4086 + '"]', '["size","eq",9223372036854775808]', "[" * 128 + "]" * 128]
+
+
+def some_path(rng):
+    return rng.choice(["/r", "/s", "/t", "/\u00e9", "/" + "p" * 1023, "/r%d" % rng.randrange(300)] + ["/", "r", "/a//b", "/a\0", "/" + "p" * 1024, ""] * (rng.random() < 0.02))
+
+
+def some_name(rng):
+    return rng.choice(["t", "u", "n" * 64, "\0"] + ["", "n" * 65] * (rng.random() < 0.02))
+
+
+def some_trigger(rng):
+    words = [rng.choice(["a", "", "w" * 1024]) for _ in range(rng.choice([1, 2, 16]))]
+    words[0] = words[0] or "a"
+    if rng.random() < 0.02:
+        words = rng.choice([[], [""], ["a"] * 17, ["w" * 1025]])
+    text = rng.choice(TEXTS[1:5]) if rng.random() < 0.8 else rng.choice(TEXTS)
+    return words, text if rng.random() < 0.4 else None, rng.random() < 0.5, rng.choice(fuzz_state.STDIN)
+
+
+def command_by(rng):
+    """A command as a list: its tag and what it is of."""
+    tag = rng.choice([0, 1, 1, 1, 2, 3, 3, 4])
+    return [tag] + ([some_path(rng)] if tag else []) + ([some_name(rng)] if tag > 2 else []) + ([some_trigger(rng)] if tag == 3 else [])
+
+
+def after(state, command):
+    """The state after a command, or nothing where it isn't accepted."""
+    try:
+        changed = CHANGES[command[0]](state, *command[1:])
+    except fuzz_state.Refused:
+        return None
+    return None if changed == state else changed
+
+
+def commands_by(rng, state, count, keeps=0.97):
+    """Commands, mostly those alone that change something, and the state that they lead to."""
+    made = []
+    for _ in range(count):
+        command = command_by(rng)
+        changed = after(state, command)
+        if changed or rng.random() > keeps:
+            made.append(command)
+        state = changed or state
+    return made, state
+
+
+def journal_of(commands, rng):
+    """Records behind open gates, a closed gate of any other value, and what isn't read."""
+    records = b"".join(bytes([OPEN]) + fuzz_state.record_bytes(command) for command in commands)
+    return records + bytes([rng.choice([0, 0, 0, 1, 0xA4, 0xFF])]) + rng.choice([b"", b"\xa5\x00\xa5", rng.randbytes(30)])
+
+
+def full_journal(missing):
+    """Records that end so many bytes before the journal does: a watch and its end again and again, and one longer path."""
+    pair = [[1, "/" + "p" * 499], [2, "/" + "p" * 499]]
+    size = sum(1 + len(fuzz_state.record_bytes(command)) for command in pair)
+    left = JOURNAL_BYTES - 1 - missing
+    commands = pair * (left // size - 1)
+    left -= (left // size - 1) * size
+    while left > 0:
+        taken = left if left < 1000 else 500
+        commands = commands + ([[1, "/" + "q" * (taken - 7)]] if taken > 7 else [[0]] * (taken // 2))
+        left = left - taken if taken > 7 else 0
+    return commands
+
+
+def number_by(rng):
+    return rng.choice([1, 2, 3, 7, 2**31, LARGEST - 1, LARGEST, 2**63, 2**64 - 1]) if rng.random() < 0.3 else rng.randint(1, 4)
+
+
+def first_state(rng):
+    """A state that commands led to; now and then its counters stand near their ends."""
+    _, (incarnation, following, roots) = commands_by(rng, EMPTY, rng.choice([0, 1, 5, 20]))
+    if rng.random() < 0.15:
+        incarnation = rng.choice([LARGEST - 2, LARGEST - 1, LARGEST])
+    if rng.random() < 0.1:
+        following = rng.choice([LARGEST - 1, LARGEST])
+    return (incarnation, following, roots)
+
+
+def slot_and_journal(rng, state):
+    """An open slot with a state, and behind it its journal, which is full to the last bytes now and then."""
+    full = rng.random() < 0.08
+    commands = full_journal(rng.choice([0, 1, 2, 3, 4])) if full else commands_by(rng, state, rng.choice([0, 1, 3, 10]))[0]
+    slot = fuzz_state.slot_bytes(number_by(rng), state)
+    return slot.ljust(SLOT_BYTES, b"\0") + journal_of(commands, rng)[:JOURNAL_BYTES].ljust(JOURNAL_BYTES, b"\0")
+
+
+def built(rng):
+    """A file made by hand: one slot in use, or two, with journals."""
+    content = bytearray(SIZE)
+    content[0:12] = bytes([OPEN]) + HEADER
+    content[RETIRED_GATE] = rng.choice([0, 0, 0, 0, 0, 0, 1, 0xFF, 0xA4, OPEN])
+    places = rng.choice([SLOTS[:1], SLOTS[1:], SLOTS, SLOTS])
+    for place in places:
+        content[place:place + SLOT_BYTES + JOURNAL_BYTES] = slot_and_journal(rng, first_state(rng))
+    return bytes(content)
+
+
+def used_places(content):
+    """Places that matter: the header, and the fronts of slots and journals that hold something."""
+    places = list(range(16))
+    for place in SLOTS:
+        length = min(int.from_bytes(content[place + 9:place + 13], "big"), SLOT_BYTES)
+        places += [place + at for at in range(min(13 + length, 400))]
+        journal = place + SLOT_BYTES
+        end = len(content[journal:journal + JOURNAL_BYTES].rstrip(b"\0"))
+        places += [journal + at for at in range(min(end + 3, 400))] + [journal + end, journal + JOURNAL_BYTES - 1]
+    return [place for place in places if place < len(content)]
+
+
+def spoilt_once(content, rng):
+    """A flipped bit, another byte, a cut, a tail, a gate, swapped parts, a number at its end, or bytes put in or taken out."""
+    kind, made = rng.randrange(10), bytearray(content)
+    at = rng.choice(used_places(content) or [0])
+    if not made:
+        return content
+    if kind < 3:
+        made[at] ^= 1 << rng.randrange(8)
+    elif kind == 3:
+        made[at] = rng.choice([0, OPEN, 0xFF, 1, rng.randrange(256)])
+    elif kind == 4:
+        made = made[:rng.choice([SIZE - 1, SIZE, at, rng.randrange(SIZE), 0])]
+    elif kind == 5:
+        made += rng.randbytes(rng.choice([1, 1000]))
+    elif kind == 6:
+        gate = rng.choice([*SLOTS, SLOTS[0] + SLOT_BYTES, SLOTS[1] + SLOT_BYTES, 0, RETIRED_GATE])
+        made[gate:gate + 1] = bytes([rng.choice([OPEN, 0, 0xA4])])
+    elif kind == 7:
+        made = spliced(made, rng)
+    elif kind == 8:
+        made[at:at + 8] = rng.choice([b"\0" * 8, b"\xff" * 8, b"\x7f" + b"\xff" * 7, b"\0" * 7 + b"\1", rng.randbytes(8)])
+    else:
+        made = moved(made, at, rng)
+    return bytes(made)
+
+
+def spliced(made, rng):
+    """Slots swapped, journals swapped, or one of two copied over the other."""
+    size, offset = rng.choice([(SLOT_BYTES, 0), (JOURNAL_BYTES, SLOT_BYTES), (SLOT_BYTES + JOURNAL_BYTES, 0)])
+    a, b = (slice(place + offset, place + offset + size) for place in SLOTS)
+    first, second = bytes(made[a]), bytes(made[b])
+    if len(first) == len(second) == size:
+        made[b] = first
+        made[a] = second if rng.random() < 0.5 else first
+    return made
+
+
+def moved(made, at, rng):
+    """Bytes put in, or taken out, in the midst; what lies behind the next area stays."""
+    count, end = rng.choice([1, 1, 2, 5, 9]), min(len(made), at + 1000)
+    if rng.random() < 0.5:
+        made[at:end] = (rng.randbytes(count) + made[at:end])[:end - at]
+    else:
+        made[at:end] = (made[at + count:end] + b"\0" * count)[:end - at]
+    return made
+
+
+def run_by(rng):
+    """One case: the sessions that leave the file, or none where it is made by hand, and the seed of what spoils it."""
+    sessions = [] if rng.random() < 0.5 else fuzz_lines.run_by(rng)[:2]
+    return [(sessions, rng.randrange(2**62))]
+
+
+def left_by(program, path, sessions):
+    """The content of a new file after some sessions."""
+    if os.path.exists(path):
+        os.remove(path)
+    subprocess.run([program, "format", path], check=True, stdout=subprocess.DEVNULL)
+    for lines, _ in sessions:
+        subprocess.run([program, "lines", path], input=b"".join(lines), stdout=subprocess.DEVNULL, timeout=fuzz_lines.SECONDS)
+    with open(path, "rb") as file:
+        return file.read()
+
+
+def content_of(program, folder, case):
+    """The content of a case's file; what sessions leave is left by the program, so it is spoilt by a seed of its own."""
+    sessions, seed = case
+    rng = random.Random(seed)
+    content = left_by(program, os.path.join(folder, "made"), sessions) if sessions else built(rng)
+    for _ in range(rng.choice([0, 1, 1, 1, 2, 3])):
+        content = spoilt_once(content, rng)
+    return content
+
+
+def asked(state):
+    """Lines that show all of a registry that can be asked for: roots, triggers, and by the first clocks the roots' numbers."""
+    requests = [["watch-list"]] + [request for root in state[2] for request in (["trigger-list", root], ["listing", root, 0, "", []])]
+    return [(written(request) + "\n").encode() for request in requests + [["watch", "/new"], ["listing", "/new", 0, "", []]]]
+
+
+def served(program, path):
+    """What a server tells that is started over a file which it refuses."""
+    return subprocess.run([program, "serve", path, path + ".socket"], capture_output=True, timeout=fuzz_lines.SECONDS)
+
+
+def refused(number, content, after_start, seen, left):
+    told = f"watchmand: {REFUSALS[number]}\n".encode()
+    if (seen.returncode, seen.stdout, seen.stderr) != (1, b"", told):
+        raise fuzz_lines.Difference(f"expected {told!r} and status 1, seen {seen.returncode} {seen.stdout[:300]!r} {seen.stderr[:300]!r}")
+    if after_start is None and left != content:
+        raise fuzz_lines.Difference("a refused start wrote to the file")
+    if after_start is not None and not fuzz_state.is_same(fuzz_state.meaning(left)[0], after_start):
+        raise fuzz_lines.Difference("a start that was refused for an expression left another registry than with its Begin")
+
+
+def opened(program, path, content):
+    """Opens a file and compares what is told, and what is left."""
+    number, state = fuzz_state.started(content)
+    with open(path, "wb") as file:
+        file.write(content)
+    before = None if state is None else (state[0] - 1, *state[1:])
+    lines = asked(state) if state is not None else asked(EMPTY)
+    is_served = number and len(content) % 3 == 0
+    seen = served(program, path) if is_served else subprocess.run([program, "lines", path], input=b"".join(lines), capture_output=True, timeout=fuzz_lines.SECONDS)
+    with open(path, "rb") as file:
+        left = file.read()
+    if number:
+        return refused(number, content, state, seen, left)
+    wanted, _, states = fuzz_lines.expected(b"".join(lines), before)
+    if (seen.returncode, seen.stdout, seen.stderr) != (0, wanted, b""):
+        raise fuzz_lines.Difference(fuzz_lines.place(seen.stdout, wanted) + f"; status {seen.returncode} {seen.stderr[:300]!r}")
+    if not fuzz_state.is_same(fuzz_state.meaning(left)[0], states[-1]) or left[SIZE:] != content[SIZE:]:
+        raise fuzz_lines.Difference("the file doesn't mean the registry afterwards")
+
+
+def difference(program, folder, cases):
+    for case in cases:
+        content = content_of(program, folder, case)
+        try:
+            opened(program, os.path.join(folder, "spoilt"), content)
+        except fuzz_lines.Difference as problem:
+            return str(problem)
+    return None
+
+
+def shown(cases):
+    return "".join(f"-- a file by hand or after sessions, spoilt by {seed}\n" + fuzz_lines.shown(sessions) for sessions, seed in cases)
+
+
+def counts(cases):
+    return {"files": len(cases)}

@@ -1,0 +1,116 @@
+"""What a state file's registry means, for the fuzzer's model: docs/DEFINITIONS.md, Registry step; docs/FORMATS.md, Spellings.
+
+A state is a plain value: (incarnation, next root number, roots), roots a dict from path to (number, triggers), in order of watching;
+triggers a dict from name to (words, expression's text or None, append_files, stdin), in order of first definition."""
+from fuzz_history import Refused
+from fuzz_terms import LARGEST
+
+MOST_BYTES = 1048563
+STDIN = ("/dev/null", "NAME_PER_LINE")
+EMPTY = (0, 1, {})
+
+
+def is_path(text, most=1024):
+    """Components that aren't empty, `.` or `..`, without a zero byte, at most 1,024 bytes together."""
+    parts = text.split("/")
+    return 0 < len(text.encode()) <= most and "\0" not in text and not any(part in ("", ".", "..") for part in parts)
+
+
+def is_root_path(text):
+    return text[:1] == "/" and len(text.encode()) <= 1024 and is_path(text[1:])
+
+
+def is_name(text):
+    return 1 <= len(text.encode()) <= 64
+
+
+def is_command(words):
+    return 1 <= len(words) <= 16 and words[0] != "" and all(len(word.encode()) <= 1024 for word in words)
+
+
+def text_spelling(text):
+    content = text.encode()
+    return len(content).to_bytes(4, "big") + content
+
+
+def list_spelling(parts):
+    return len(parts).to_bytes(4, "big") + b"".join(parts)
+
+
+def trigger_spelling(name, definition):
+    words, expression, append, stdin = definition
+    kept = b"\0" if expression is None else b"\1" + text_spelling(expression)
+    return text_spelling(name) + list_spelling([text_spelling(word) for word in words]) + kept + bytes([append, STDIN.index(stdin)])
+
+
+def root_spelling(path, number, triggers):
+    return text_spelling(path) + number.to_bytes(8, "big") + list_spelling([trigger_spelling(*trigger) for trigger in triggers.items()])
+
+
+def state_spelling(state):
+    incarnation, following, roots = state
+    return incarnation.to_bytes(8, "big") + following.to_bytes(8, "big") + list_spelling([root_spelling(path, *root) for path, root in roots.items()])
+
+
+def trigger_size(name, definition):
+    words, expression, _, _ = definition
+    return 11 + len(name.encode()) + sum(4 + len(word.encode()) for word in words) + (0 if expression is None else 4 + len(expression.encode()))
+
+
+def state_size(state):
+    return 20 + sum(16 + len(path.encode()) + sum(trigger_size(*trigger) for trigger in triggers.items()) for path, (_, triggers) in state[2].items())
+
+
+def watched(state, path):
+    if path not in state[2]:
+        raise Refused(5)
+    return state[2][path]
+
+
+def with_room(state):
+    if state_size(state) > MOST_BYTES:
+        raise Refused(11)
+    return state
+
+
+def begun(state):
+    if state[0] == LARGEST:
+        raise Refused(15)
+    return (state[0] + 1, state[1], state[2])
+
+
+def with_watch(state, path):
+    """A path that is watched already changes nothing, whatever the counters say; then 17, 15, 11."""
+    incarnation, following, roots = state
+    if path in roots:
+        return state
+    if len(roots) >= 256:
+        raise Refused(17)
+    if following == LARGEST:
+        raise Refused(15)
+    return with_room((incarnation, following + 1, {**roots, path: (following, {})}))
+
+
+def without_watch(state, path):
+    watched(state, path)
+    return (state[0], state[1], {other: root for other, root in state[2].items() if other != path})
+
+
+def with_triggers(state, path, triggers):
+    number, _ = watched(state, path)
+    return (state[0], state[1], {**state[2], path: (number, triggers)})
+
+
+def with_trigger(state, path, name, definition):
+    """A replaced trigger keeps its place; an equal definition changes nothing."""
+    _, triggers = watched(state, path)
+    if triggers.get(name) == definition:
+        return state
+    if name not in triggers and len(triggers) >= 64:
+        raise Refused(17)
+    return with_room(with_triggers(state, path, {**triggers, name: definition}))
+
+
+def without_trigger(state, path, name):
+    _, triggers = watched(state, path)
+    return with_triggers(state, path, {other: kept for other, kept in triggers.items() if other != name})

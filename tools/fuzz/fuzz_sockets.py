@@ -1,0 +1,295 @@
+"""Several clients of one `watchmand serve` at once, each on a root of its own, for tools/fuzz/fuzz.py: lines whole, split and joined, and early ends.
+
+A client is its lines and how it ends. Each whole reply is the model's, each line of a subscription is an answer of the root's history,
+and the watched roots and triggers, asked by a fresh client and read from the file behind a kill, are those that were acknowledged."""
+import contextlib, json, os, random, shutil, signal, socket, stat, struct, threading
+import fuzz_files, fuzz_lines, fuzz_state
+from fuzz_history import History, Refused
+from fuzz_json import written
+from fuzz_lines import Difference, Session as Model, made_line
+from fuzz_make import Maker
+from fuzz_model import lines_of, trigger_shown
+from fuzz_registry import with_watch
+from fuzz_requests import SERVED, request_of
+from served import Session, serving, until
+
+NAMES = ["alpha", "bravo", "charlie", "delta", "echo"]
+# The folder of the runs. It is told first, and has one name, so that a seed makes the same lines each time.
+PLACE = ""
+OF_REGISTRY = ("watch", "watch-del", "trigger", "trigger-del", "trigger-list")
+SECONDS = 30
+# How a client ends that kills the server once half of its lines are answered.
+KILLS = "kills the server"
+
+
+class Cut(Exception):
+    """A stream ended before a line did."""
+
+
+def make_tree(root):
+    os.makedirs(root + "/a")
+    os.makedirs(root + "/b")
+    for name, content in (("a/b", "1"), ("a.c", ""), ("b/c.PHP", "php"), (".hid", "2")):
+        with open(f"{root}/{name}", "w") as file:
+            file.write(content)
+    os.symlink("a.c", root + "/ab")
+
+
+def crawled(root, top=""):
+    """What stands below a folder: each path with its kind, size and time; links aren't followed."""
+    start, found = (f"{root}/{top}" if top else root), {}
+    if os.path.islink(start) or not os.path.isdir(start):
+        return found
+    for folder, folders, files in os.walk(start):
+        for name in folders + files:
+            seen = os.lstat(f"{folder}/{name}")
+            kind = "d" if stat.S_ISDIR(seen.st_mode) else "l" if stat.S_ISLNK(seen.st_mode) else "f" if stat.S_ISREG(seen.st_mode) else "o"
+            found[os.path.relpath(f"{folder}/{name}", root)] = (kind, seen.st_size, seen.st_mtime_ns // 10**6)
+    return found
+
+
+class Server(Model):
+    """The model of a session that is alone on its root, which a server has crawled."""
+
+    def __init__(self, root, number, files):
+        super().__init__()
+        self.state = with_watch((1, number, {}), root)
+        self.root, self.commands, self.floors, self.asked = root, SERVED, {0}, []
+        history = History(1, number)
+        history.listing(0, 0, "", files.items())
+        self.histories, self.cursors = {root: history}, {root: {}}
+
+    def recrawl(self, root, top):
+        history = self.history(root)
+        history.listing(self.moment, history.tick(), top, crawled(root, top).items())
+        return self.clock(root)
+
+    def met(self, line):
+        """The reply alone: what is due to subscriptions comes when it comes; until the reply is there, to those from before the line."""
+        reply = super().met(line)
+        self.floors.add(self.histories[self.root].floor)
+        return reply
+
+    def is_answered(self):
+        self.asked = list(self.subscriptions)
+
+    def due(self):
+        return b""
+
+    def tell(self, line):
+        """A line that came unasked: an answer that is due to its subscription at the clock that it tells, under a floor that was."""
+        seen, history = json.loads(line), self.histories[self.root]
+        tick = int(seen["clock"].rsplit(":", 1)[1])
+        asked = [told for told in self.asked if (told.root, told.name) == (seen["root"], seen["subscription"])]
+        for told in asked if 1 <= tick <= history.tick() else []:
+            answers = [history.answer(told.since, told.expression, told.empty, tick, floor) for floor in self.floors]
+            if line in [told.told(answer) for answer in answers if told.is_due(answer)]:
+                told.since, told.is_first = (1, history.number, tick), False
+                return
+        raise Difference(f"a line of a subscription that is asked since {[told.since for told in asked]}: {line[:1000]!r}")
+
+    def is_told(self):
+        """Whether nothing is due any more."""
+        history = self.histories[self.root]
+        return not any(told.is_due(history.answer(told.since, told.expression, told.empty)) for told in self.subscriptions)
+
+
+def is_judged(line, model):
+    """Whether the model knows the reply: it knows one ready root, and the registry's commands on roots below it."""
+    try:
+        command, arguments = request_of(line, SERVED)
+    except Refused:
+        return True
+    if command in OF_REGISTRY:
+        return arguments[0].startswith(model.root) and (command, arguments[0]) != ("watch-del", model.root)
+    if command == "age-out" and 0 < arguments[1] < 2**31 - 1:
+        return False
+    return command != "watch-list" and (command == "version" or arguments[0] == model.root)
+
+
+def client_by(rng, number):
+    """The lines of one client, which speak of a root of its own in PLACE, and how it ends."""
+    model = Server(f"{PLACE}/{NAMES[number]}", number + 1, {})
+    maker, spoils, made = Maker(rng, model), rng.choice([0, 0.05, 0.2]), []
+    maker.roots = [model.root, model.root + "/w", model.root + "/x"]
+    for _ in range(rng.choice([5, 20, 50])):
+        line = made_line(maker, rng, spoils, made)
+        if all(is_judged(part, model) for part in lines_of(line)):
+            made.append(line)
+            for part in lines_of(line):
+                model.met(part)
+    return made, rng.choice(["read to its end", "read to its end", "cut in a line", "left in a reply"])
+
+
+def run_by(rng):
+    """The clients of a run; now and then the first of them kills the server in the midst of its lines."""
+    clients = [client_by(rng, number) for number in range(rng.randint(1, len(NAMES)))]
+    return [(clients[0][0], KILLS)] + clients[1:] if rng.random() < 0.25 else clients
+
+
+class Client(threading.Thread):
+    """One client: a thread that writes, another that reads and compares. Of all clients of a run one knows whether the server was killed."""
+
+    def __init__(self, path, root, number, killed, lines, end):
+        super().__init__()
+        self.session, self.killed, self.sure = Session(path, SECONDS), killed, 0
+        self.model, self.end, self.problem = Server(root, number, crawled(root)), end, None
+        self.lines = [line for line in lines_of(b"".join(lines)) if line.endswith(b"\n")]
+        self.states = [self.model.state]
+
+    def run(self):
+        try:
+            self.talk()
+        except Exception as problem:
+            is_cut = self.killed.is_set() and isinstance(problem, (Cut, OSError))
+            self.problem = None if is_cut else problem
+        self.session.close()
+
+    def kill(self):
+        """Kills the server, which is the process at the other end of the socket."""
+        self.killed.set()
+        process, _, _ = struct.unpack("3i", self.session.socket.getsockopt(socket.SOL_SOCKET, socket.SO_PEERCRED, 12))
+        os.kill(process, signal.SIGKILL)
+
+    def write(self, content):
+        """The bytes in pieces: single ones, some, many, all that are left."""
+        rng, at = random.Random(len(content)), 0
+        try:
+            while at < len(content):
+                size = rng.choice([1, 7, 100, 5000, len(content)]) if len(content) < 200000 else len(content)
+                self.session.socket.sendall(content[at:at + size])
+                at += size
+        except OSError:
+            pass
+
+    def talk(self):
+        judged, read = self.judged()
+        writer = threading.Thread(target=self.write, args=(b"".join(judged) + (b'["ver' if self.end == "cut in a line" else b""),))
+        writer.start()
+        try:
+            for line in judged[:read]:
+                self.reply(line)
+            while self.end == "read to its end" and not self.model.is_told():
+                self.model.tell(self.line())
+            if self.end == KILLS:
+                self.kill()
+        finally:
+            with contextlib.suppress(OSError):
+                self.session.socket.shutdown(socket.SHUT_RDWR)
+            writer.join()
+
+    def judged(self):
+        """The lines whose replies the model knows, and how many of these are read; of all of them the states that they lead to."""
+        going, judged = Server(self.model.root, self.model.histories[self.model.root].number, self.model.histories[self.model.root].maps[1]), []
+        for line in self.lines:
+            if is_judged(line, going):
+                going.met(line)
+                judged.append(line)
+                self.states.append(going.state)
+        return judged, len(judged) // 2 if self.end in (KILLS, "left in a reply") else len(judged)
+
+    def line(self):
+        line = self.session.lines.readline()
+        if not line.endswith(b"\n"):
+            raise Cut(f"a reply was cut: {line[:500]!r}")
+        return line
+
+    def reply(self, line):
+        wanted, seen = self.model.met(line), self.line()
+        while b'"unilateral":true' in seen:
+            self.model.tell(seen)
+            seen = self.line()
+        self.model.is_answered()
+        self.sure += 1
+        if seen != wanted:
+            raise Difference(f"to {line[:1000]!r}:\n  expected {wanted[:1000]!r}\n  seen     {seen[:1000]!r}")
+
+
+def ask(session, *request):
+    session.socket.sendall((written(list(request)) + "\n").encode())
+    return json.loads(session.lines.readline())
+
+
+def watched_first(path, roots):
+    """Watches the clients' roots in order, and waits until each is ready."""
+    session = Session(path, SECONDS)
+    for number, root in enumerate(roots, 1):
+        make_tree(root)
+        ask(session, "watch", root)
+        clock = until(lambda: ask(session, "clock", root).get("clock"), SECONDS)
+        if clock != f"c:1:{number}:1":
+            raise Difference(f"the first clock of root {number} is {clock}")
+    session.close()
+
+
+def kept(client, roots):
+    """Whether the roots below a client's, with their triggers, are those after some line from the last that was answered for sure."""
+    own = [(root, triggers) for root, triggers in roots if root.startswith(client.model.root)]
+    return any(own == [(root, [trigger_shown(*trigger) for trigger in triggers.items()]) for root, (_, triggers) in state[2].items()]
+               for state in client.states[client.sure:])
+
+
+def found(content):
+    return [(root, [trigger_shown(*trigger) for trigger in triggers.items()]) for root, (_, triggers) in fuzz_state.meaning(content)[0][2].items()]
+
+
+def run_all(threads):
+    """Starts all, and waits for all."""
+    for thread in threads:
+        thread.start()
+    for thread in threads:
+        thread.join()
+
+
+def talked(path, place, clients):
+    """Runs all clients at once; then what a fresh one is told of the registry, unless the server was killed."""
+    roots = [f"{place}/{NAMES[number]}" for number in range(len(clients))]
+    watched_first(path, roots)
+    killed = threading.Event()
+    talks = [Client(path, root, number, killed, *client) for number, (root, client) in enumerate(zip(roots, clients), 1)]
+    run_all(talks)
+    if killed.is_set():
+        return talks, None
+    session = Session(path, SECONDS)
+    told = [(root, ask(session, "trigger-list", root).get("triggers")) for root in ask(session, "watch-list")["roots"]]
+    session.close()
+    return talks, told
+
+
+def judge(talks, told, content):
+    for number, talk in enumerate(talks, 1):
+        if talk.problem:
+            raise Difference(f"client {number}: {talk.problem if isinstance(talk.problem, Difference) else repr(talk.problem)}")
+        if not kept(talk, found(content)) or told is not None and not kept(talk, told):
+            raise Difference(f"client {number}: a fresh client is told {told!r}, the file means {found(content)!r}, expected {talk.states[talk.sure:]}")
+
+
+@contextlib.contextmanager
+def new_folder(place):
+    os.mkdir(place)
+    try:
+        yield place
+    finally:
+        shutil.rmtree(place)
+
+
+def difference(program, folder, clients):
+    try:
+        with new_folder(PLACE):
+            with serving(program, PLACE) as path:
+                talks, told = talked(path, PLACE, clients)
+            with open(PLACE + "/state", "rb") as file:
+                content = file.read()
+            judge(talks, told, content)
+            fuzz_files.opened(program, PLACE + "/again", content)
+    except Difference as problem:
+        return str(problem)
+    return None
+
+
+def shown(clients):
+    return "".join(f"-- a client, {end}\n" + "".join(fuzz_lines.line_shown(line) for line in lines) for lines, end in clients)
+
+
+def counts(clients):
+    return {"clients": len(clients), "lines of clients": sum(len(lines) for lines, _ in clients)}

@@ -1,0 +1,191 @@
+"""What a state file means, read anew from docs/FORMATS.md, Spellings, Journal and Slots, for the fuzzer's model (tools/fuzz/fuzz.py)."""
+from fuzz_history import Refused
+from fuzz_json import NoJson, read
+from fuzz_registry import (MOST_BYTES, STDIN, begun, is_command, is_name, is_root_path, state_spelling, text_spelling, trigger_spelling,
+                           with_trigger, with_watch, without_trigger, without_watch)
+from fuzz_terms import LARGEST, is_expression
+
+SIZE = 2625536
+OPEN = 0xA5
+SLOTS = (4096, 1314816)
+SLOT_BYTES = 1048576
+JOURNAL_BYTES = 262144
+HEADER = b"WMSTATE\0\0\0\1"
+RETIRED_GATE = 12
+
+
+class Damaged(Exception):
+    """The content means nothing (14)."""
+
+
+class Spelled:
+    """Bytes that are read from the front, each value by its spelling."""
+
+    def __init__(self, content):
+        self.content, self.at = content, 0
+
+    def take(self, count):
+        if self.at + count > len(self.content):
+            raise Damaged
+        self.at += count
+        return self.content[self.at - count:self.at]
+
+    def number(self, count):
+        return int.from_bytes(self.take(count), "big")
+
+    def one_of(self, count):
+        number = self.number(1)
+        if number >= count:
+            raise Damaged
+        return number
+
+    def text(self, keeps):
+        """A text within its rules."""
+        try:
+            text = self.take(self.number(4)).decode("utf-8", "strict")
+        except UnicodeDecodeError:
+            raise Damaged
+        if not keeps(text):
+            raise Damaged
+        return text
+
+    def items(self, take, most):
+        count = self.number(4)
+        if count > most:
+            raise Damaged
+        return [take() for _ in range(count)]
+
+    def named(self, take, most):
+        """A list of pairs, no two of one name, as a dict."""
+        items = self.items(take, most)
+        if len(dict(items)) < len(items):
+            raise Damaged
+        return dict(items)
+
+
+def is_short(most):
+    return lambda text: len(text.encode()) <= most
+
+
+def take_trigger(spelled):
+    name = spelled.text(is_name)
+    words = spelled.items(lambda: spelled.text(is_short(1024)), 16)
+    if not is_command(words):
+        raise Damaged
+    expression = spelled.text(is_short(4096)) if spelled.one_of(2) else None
+    return name, (words, expression, bool(spelled.one_of(2)), STDIN[spelled.one_of(2)])
+
+
+def take_root(spelled):
+    path = spelled.text(is_root_path)
+    number = spelled.number(8)
+    return path, (number, spelled.named(lambda: take_trigger(spelled), 64))
+
+
+def take_state(content):
+    """The state whose one spelling the bytes are."""
+    spelled = Spelled(content)
+    incarnation, following = spelled.number(8), spelled.number(8)
+    roots = spelled.named(lambda: take_root(spelled), 256)
+    numbers = [number for number, _ in roots.values()]
+    if not (1 <= following <= LARGEST and incarnation <= LARGEST and spelled.at == len(content) <= MOST_BYTES):
+        raise Damaged
+    if len(set(numbers)) < len(numbers) or any(not 0 < number < following for number in numbers):
+        raise Damaged
+    return (incarnation, following, roots)
+
+
+def after_record(spelled, state):
+    """The state after the record that stands next."""
+    command = (begun, with_watch, without_watch, with_trigger, without_trigger)[spelled.one_of(5)]
+    arguments = [] if command is begun else [spelled.text(is_root_path)]
+    if command is with_trigger:
+        arguments += take_trigger(spelled)
+    if command is without_trigger:
+        arguments.append(spelled.text(is_name))
+    try:
+        after = command(state, *arguments)
+    except Refused:
+        raise Damaged
+    return after
+
+
+def replayed(journal, state):
+    """The state after the records before the first closed gate, and where that gate is. Each record changes something."""
+    spelled = Spelled(journal)
+    while spelled.take(1)[0] == OPEN:
+        after = after_record(spelled, state)
+        if after == state:
+            raise Damaged
+        state = after
+    return state, spelled.at - 1
+
+
+def order(state):
+    """Roots and triggers in their order, which two dicts don't compare."""
+    return [(path, list(triggers)) for path, (_, triggers) in state[2].items()]
+
+
+def is_same(state, other):
+    return state == other and order(state) == order(other)
+
+
+def slot_of(content, place):
+    """(number, place) of an open slot, or nothing."""
+    return [(int.from_bytes(content[place + 1:place + 9], "big"), place)] if content[place] == OPEN else []
+
+
+def meaning(content):
+    """(state, place of the closed gate in its journal, number of its slot); Damaged, or Refused(20)."""
+    if len(content) < SIZE or content[0] != OPEN or content[1:12] != HEADER:
+        raise Damaged
+    if content[RETIRED_GATE] == OPEN:
+        raise Refused(20)
+    slots = sorted(slot_of(content, SLOTS[0]) + slot_of(content, SLOTS[1]))
+    if not slots or len(slots) == 2 and slots[0][0] == slots[1][0]:
+        raise Damaged
+    number, place = slots[-1]
+    length = int.from_bytes(content[place + 9:place + 13], "big")
+    if length > MOST_BYTES:
+        raise Damaged
+    state = take_state(content[place + 13:place + 13 + length])
+    journal = content[place + SLOT_BYTES:place + SLOT_BYTES + JOURNAL_BYTES]
+    return (*replayed(journal, state), number)
+
+
+def has_expressions(state):
+    """Whether each text that a trigger keeps is an expression."""
+    return all(expression is None or is_text_of_one(expression) for _, triggers in state[2].values() for _, expression, _, _ in triggers.values())
+
+
+def is_text_of_one(text):
+    try:
+        return is_expression(read(text))
+    except NoJson:
+        return False
+
+
+def started(content):
+    """What a start finds: (the refusal it tells or 0, the state of the file after it or nothing where it isn't written)."""
+    try:
+        state, end, number = meaning(content)
+        after = begun(state)
+    except Damaged:
+        return 14, None
+    except Refused as refused:
+        return refused.args[0], None
+    if end + 2 > JOURNAL_BYTES - 1 and number >= LARGEST:
+        return 15, None
+    return (0 if has_expressions(state) else 14), after
+
+
+def slot_bytes(number, state):
+    """An open slot with a state."""
+    body = state_spelling(state)
+    return bytes([OPEN]) + number.to_bytes(8, "big") + len(body).to_bytes(4, "big") + body
+
+
+def record_bytes(command):
+    """The spelling of a command, which is a list: its tag and what it is of."""
+    parts = [text_spelling(part) for part in command[1:3] if isinstance(part, str)]
+    return bytes([command[0]]) + (text_spelling(command[1]) + trigger_spelling(*command[2:]) if command[0] == 3 else b"".join(parts))
