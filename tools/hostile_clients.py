@@ -28,8 +28,8 @@ def filled(head, part, tail):
 
 
 def subscriptions(root):
-    """32 subscriptions, each with an expression of 100 patterns of 1,002 bytes, which fit no path."""
-    terms = ",".join(json.dumps(["match", "zz" + "*a" * 500]) for _ in range(100))
+    """32 subscriptions, each with an expression of 1,000 patterns of 1,002 bytes, of an empty root."""
+    terms = ",".join(json.dumps(["match", "zz" + "*a" * 500]) for _ in range(1000))
     return [(f'["subscribe",{json.dumps(root)},"s{number}",{{"expression":["anyof",{terms}],"fields":["name"]}}]\n').encode() for number in range(32)]
 
 
@@ -41,10 +41,10 @@ def kinds(root):
         "lists of lists": ([filled('["version",', "[[]]", "]")], True),
         "numbers": ([filled('["version",', "7", "]")], True),
         "objects": ([filled('["version",', '{"a":7}', "]")], True),
-        "a pattern for each term": ([filled(f'["query",{json.dumps(root)},{{"expression":["name",[', '"a"', "]]}]")], True),
+        "names": ([filled('["query","/nowhere",{"expression":["name",[', '"a"', "]]}]")], True),
         "all files, and reads": ([whole], True),
         "all files, and never reads": ([whole], False),
-        "32 great subscriptions": (subscriptions(root), None),
+        "32 great subscriptions": (subscriptions(f"{root}/empty"), None),
     }
 
 
@@ -110,6 +110,7 @@ def tried(program, name, lines, reads, root, seconds):
         try:
             server.stdout.readline()
             crawl(path, root)
+            crawl(path, f"{root}/empty")
             before = memory(server, "VmRSS")
             waits = [troubled(path, lines, reads, seconds) for _ in range(2)]
             most, after = memory(server, "VmHWM"), memory(server, "VmRSS")
@@ -129,6 +130,7 @@ def main():
     words.add_argument("--only", default="")
     chosen = words.parse_args()
     with tempfile.TemporaryDirectory() as root:
+        os.mkdir(f"{root}/empty")
         for number in range(FILES):
             folder = f"{root}/folder{number // 200:03}"
             os.makedirs(folder, exist_ok=True)
