@@ -66,10 +66,12 @@ class Watchmand:
         try:
             mark, is_told = f"{root}/mark", False
             while not is_told:
+                assert process.poll() is None, "the feed ended"
                 open(mark, "w").close()
                 time.sleep(0.05)
                 found = client.ask("query", root, {"expression": ["name", ["mark"]], "fields": ["name"]})
                 is_told = found.get("files") == ["mark"]
+            os.unlink(mark)
             yield process
         finally:
             process.kill()

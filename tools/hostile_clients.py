@@ -16,7 +16,7 @@ import time
 from served import Session, check, failed
 
 CLIENTS, FILES, LINE = 31, 20000, 1048576
-# Megabytes for a client, by docs/PROMISES.md.
+# Megabytes for a client: more than any was seen to take (docs/PROMISES.md).
 LIMIT = 120
 QUERY = json.dumps(["query", "ROOT", {"fields": ["name", "exists", "new", "size", "mtime_ms", "type", "cclock", "oclock"]}])
 
