@@ -15,7 +15,8 @@ VERSION := $(shell sed -n 's/^pub const VERSION: &str = "\(.*\)";$$/\1/p' crates
 ARCHIVE := watchmand-$(VERSION)-linux-$(shell uname -m)
 # Where the installed unit finds the program.
 UNIT_PREFIX ?= $(PREFIX)
-PAGES := GUIDE.md QUERIES.md FORMATS.md PROMISES.md DEFINITIONS.md
+PAGES := GUIDE.md QUERIES.md FORMATS.md PROMISES.md DEFINITIONS.md ARCHITECTURE.md DECISIONS.md
+EXAMPLES := build.sh compile_trigger.sh follow.py test_runner.sh
 SOURCES := crates.txt $(shell find crates -name out -prune -o -type f \( -name '*.rt' -o -name '*.antt' \) -print)
 
 .PHONY: help clean uninstall test lint build run lines serve-use feed-use install bench bench-journal bench-store bench-desk idle-desk bench-crawl bench-view bench-share bench-match bench-peer bench-plots clients crawl-tree session examples examples-use dist dist-use kill faults growths fuzz hostile state-file file-calls
@@ -25,7 +26,7 @@ help:
 	@echo "make lint          what the gate doesn't see: no definition's name in the specs of two crates, and no use of another crate's proofs/ (sh, awk; at once)"
 	@echo "make build         builds watchmand (rt; some 45 minutes the first time, since it proves it)"
 	@echo "make run           serves SOCKET=$(SOCKET) over STATE=$(STATE), which it makes where it isn't there, and tells what to try next"
-	@echo "                   (it and all below build watchmand, wmctl, wmfeed or bench first: rt alone, no network)"
+	@echo "                   (it and all below build what they run first, by rt; only clients and bench-peer use the network)"
 	@echo "make lines         answers request lines from standard input over STATE=$(STATE)"
 	@echo "make install       puts watchmand, wmctl and wmfeed into PREFIX/bin (PREFIX=$(PREFIX)), with man pages, completion, systemd user units and"
 	@echo "                   docs (UNIT_PREFIX: where the units are to find the programs, if not in PREFIX); make uninstall takes them away"
@@ -39,7 +40,7 @@ help:
 	@echo "                   make bench-plots: the same in three runs, and the plots and the table of bench/README.md"
 	@echo "make feed-use      a feed beside a server: its views against fresh crawls, its latency, its ends (python3, git, inotify-tools)"
 	@echo "make kill          kills the built program again and again, and looks for what it answered (python3); make faults: each call"
-	@echo "                   that it makes of its state file fails once (python3, strace); make growths: each growth of memory in eleven"
+	@echo "                   that it makes of its state file fails once (python3, strace); make growths: each growth of memory in thirteen"
 	@echo "                   calls is refused once (rt, python3, cc)"
 	@echo "make fuzz          random lines, state files and clients, each reply beside a model's in Python (python3; some two minutes;"
 	@echo "                   tools/fuzz/fuzz.py --count 3000 for an hour, --seed for other ones)"
@@ -52,8 +53,8 @@ help:
 	@echo "                   finds what was made there (python3; setpriv, if root)"
 	@echo "make clean         removes what was built and proved"
 
-test:
-	rt ci
+test: lint
+	tools/gate.sh
 
 # What the gate doesn't see.
 lint:
@@ -99,7 +100,7 @@ feed-use: $(PROGRAM) $(CLIENT) $(FEED)
 
 install: $(PROGRAM) $(CLIENT) $(FEED)
 	install -d $(DESTDIR)$(PREFIX)/bin $(DESTDIR)$(PREFIX)/share/man/man1 $(DESTDIR)$(PREFIX)/share/bash-completion/completions
-	install -d $(DESTDIR)$(PREFIX)/lib/systemd/user $(DESTDIR)$(PREFIX)/share/doc/watchmand/docs
+	install -d $(DESTDIR)$(PREFIX)/lib/systemd/user $(addprefix $(DESTDIR)$(PREFIX)/share/doc/watchmand/,docs examples bench)
 	install -m 755 $(PROGRAM) $(DESTDIR)$(PREFIX)/bin/watchmand
 	install -m 755 $(CLIENT) $(DESTDIR)$(PREFIX)/bin/wmctl
 	install -m 755 $(FEED) $(DESTDIR)$(PREFIX)/bin/wmfeed
@@ -112,6 +113,8 @@ install: $(PROGRAM) $(CLIENT) $(FEED)
 	chmod 644 $(addprefix $(DESTDIR)$(PREFIX)/lib/systemd/user/,watchmand.service wmfeed@.service)
 	install -m 644 LICENSE README.md CHANGELOG.md $(DESTDIR)$(PREFIX)/share/doc/watchmand
 	install -m 644 $(addprefix docs/,$(PAGES)) $(DESTDIR)$(PREFIX)/share/doc/watchmand/docs
+	install -m 755 $(addprefix examples/,$(EXAMPLES)) $(DESTDIR)$(PREFIX)/share/doc/watchmand/examples
+	install -m 644 bench/README.md $(wildcard bench/*.svg) $(DESTDIR)$(PREFIX)/share/doc/watchmand/bench
 
 uninstall:
 	rm -f $(addprefix $(DESTDIR)$(PREFIX)/bin/,watchmand wmctl wmfeed)
@@ -154,7 +157,7 @@ $(GROWTHS): $(SOURCES)
 	cd crates/growths && rt run -- open >&2
 	@touch $@
 
-# Each growth of memory that eleven calls ask for is refused once: the answer is 16 or 13, or right, and what stands after it is as answered.
+# Each growth of memory that thirteen calls ask for is refused once: the answer is 16 or 13, or right, and what stands after it is as answered.
 growths: $(GROWTHS)
 	tools/growths.py $(GROWTHS)
 

@@ -21,9 +21,8 @@ class Plot:
     def __init__(self, title, run, height):
         self.parts, self.height, self.title = [], height, title
         self.text(LEFT, 28, title, 16)
-        busy = "other programs ran beside it: " if max(run["load before"], run["load after"]) > 1.5 else ""
         self.text(LEFT, HEIGHT - 40, f"{run['date']}, {run['machine']}", 11)
-        self.text(LEFT, HEIGHT - 26, f"{busy}load {run['load before']} before the run and {run['load after']} after it", 11)
+        self.text(LEFT, HEIGHT - 26, f"load {run['load before']} before the run and {run['load after']} after it", 11)
         self.text(LEFT, HEIGHT - 12, f"Watchman {run['watchman']}; made by bench/peer.sh --json and bench/plots.py", 11)
 
     def text(self, x, y, told, size=12, anchor="start", colour="#222"):

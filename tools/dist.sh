@@ -14,7 +14,8 @@ strip -o "$folder/built/wmctl" "$client"
 strip -o "$folder/built/wmfeed" "$feed"
 make -s install -o "$folder/built/watchmand" -o "$folder/built/wmctl" -o "$folder/built/wmfeed" PROGRAM="$folder/built/watchmand" \
   CLIENT="$folder/built/wmctl" FEED="$folder/built/wmfeed" DESTDIR="$folder/$name" PREFIX= UNIT_PREFIX=%h/.local
-cp LICENSE README.md "$folder/$name"
+cp LICENSE "$folder/$name"
+sed 's#](\(docs\|bench\)/#](share/doc/watchmand/\1/#g' README.md > "$folder/$name/README.md"
 mkdir -p "$(dirname "$archive")"
 moment=$(git log -1 --format=%ct 2> /dev/null || stat -c %Y CHANGELOG.md)
 tar --sort=name --owner=0 --group=0 --numeric-owner --mode=u+rw,go=rX --mtime="@$moment" -C "$folder" -cf - "$name" | gzip -9n > "$archive.tar.gz"

@@ -3,6 +3,7 @@
 #![tactic(auto)]
 
 mod desks;
+mod halls;
 mod met;
 mod sessions;
 mod stores;
@@ -30,7 +31,9 @@ fn made<R: Threads + Wait + Sync>(rt: &R, alloc: Global, name: &str) -> Twice {
         "start" => sessions::starting(alloc),
         "query" => sessions::asking(alloc),
         "trigger" => sessions::commanding(alloc),
+        "due" => sessions::telling(alloc),
         "submit" => desks::submitting(rt, alloc),
+        "reading" => halls::reading_behind(rt, alloc),
         _ => Err(Refusal::BadArguments),
     }
 }

@@ -35,21 +35,27 @@ const DEVICE_FAILED: &[u8] = b"{\"error\":\"13 DeviceFailed\",\"version\":\"w1\"
 
 const STORE_FAILED: &[u8] = b"{\"error\":\"12 StoreFailed\",\"version\":\"w1\"}\n";
 
-/// What a line is replied, where that is right or a refusal.
-fn line(alloc: Global, session: &mut MemSession, moment: u64, line: &[u8], reply: &[u8]) -> Met {
-    let mut out = Vec::new(alloc);
-    match session.line(alloc, moment, line, &mut out) {
+/// What was written in answer to a line, where that is right or a refusal.
+fn met(answered: Result<u64, NoMemory>, out: &[u8], reply: &[u8]) -> Met {
+    match answered {
         Err(NoMemory) if out.is_empty() => return Met::Refused(Refusal::NoMemory),
         Err(NoMemory) => return Met::Wrong,
         Ok(_) => {}
     }
-    match out.as_slice() {
+    match out {
         text if text == reply => Met::Right,
         NO_MEMORY => Met::Refused(Refusal::NoMemory),
         DEVICE_FAILED => Met::Refused(Refusal::DeviceFailed),
         STORE_FAILED => Met::Refused(Refusal::StoreFailed),
         _ => Met::Wrong,
     }
+}
+
+/// What a line is replied, where that is right or a refusal.
+fn line(alloc: Global, session: &mut MemSession, moment: u64, line: &[u8], reply: &[u8]) -> Met {
+    let mut out = Vec::new(alloc);
+    let answered = session.line(alloc, moment, line, &mut out);
+    met(answered, &out, reply)
 }
 
 /// A line that was answered twice, with its reply and its reply once it was met, and the disk after it.
@@ -142,4 +148,39 @@ pub(crate) fn starting(alloc: Global) -> Twice {
     let (first, disk) = started(alloc, disk, BUILD);
     let (second, disk) = started(alloc, disk, BUILD);
     ending(alloc, [first, second], disk, BUILD)
+}
+
+const SUBSCRIBE: &[u8] = b"[\"subscribe\",\"/r\",\"s\",{\"fields\":[\"name\"]}]\n";
+
+/// The reply to it, and its first answer.
+const SUBSCRIBED: &[u8] =
+    b"{\"clock\":\"c:2:1:1\",\"subscribe\":\"s\",\"version\":\"w1\"}\n{\"clock\":\"c:2:1:1\",\"files\":[\"a.c\"],\"is_fresh_instance\":true,\"root\":\"/r\",\"subscription\":\"s\",\"unilateral\":true,\"version\":\"w1\"}\n";
+
+const OBSERVE: &[u8] =
+    b"[\"observe\",\"/r\",[[\"b.c\",{\"mtime_ms\":0,\"size\":3,\"type\":\"f\"}]]]\n";
+
+const CLOCK: &[u8] = b"[\"clock\",\"/r\"]\n";
+
+/// The reply to the observation, and to a question for the clock behind it.
+const OBSERVED: &[u8] = b"{\"clock\":\"c:2:1:2\",\"version\":\"w1\"}\n";
+
+/// The same reply, and what is due to the subscription.
+const TOLD: &[u8] =
+    b"{\"clock\":\"c:2:1:2\",\"version\":\"w1\"}\n{\"clock\":\"c:2:1:2\",\"files\":[\"b.c\"],\"is_fresh_instance\":false,\"root\":\"/r\",\"subscription\":\"s\",\"unilateral\":true,\"version\":\"w1\"}\n";
+
+/// An observation behind which a line is due, and the line after it: the same where it was refused, else a question for the clock,
+/// behind which the line is due that had no memory.
+pub(crate) fn telling(alloc: Global) -> Twice {
+    let mut session = session(alloc)?;
+    let Met::Right = line(alloc, &mut session, 2, SUBSCRIBE, SUBSCRIBED) else {
+        return Err(Refusal::NoMemory);
+    };
+    let mut out = Vec::new(alloc);
+    let answered = session.line(alloc, 3, OBSERVE, &mut out);
+    let (first, next, reply) = match met(answered, &out, TOLD) {
+        Met::Right => (Met::Right, CLOCK, OBSERVED),
+        Met::Wrong if out.as_slice() == OBSERVED => (Met::Refused(Refusal::NoMemory), CLOCK, TOLD),
+        refused => (refused, OBSERVE, TOLD),
+    };
+    Ok([first, line(alloc, &mut session, 4, next, reply)])
 }

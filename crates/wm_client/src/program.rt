@@ -9,8 +9,9 @@ use std::net::Net;
 use std::os::unix::net::UnixStream;
 use wm_disk::{NoMemory, Refusal};
 
-/// Runs `wmctl` with the words after its own name, and gives its status: 0; 1 where the reply is a refusal, or
-/// can't be printed; 2 where the words aren't understood; 3 where the socket failed or ended.
+/// Runs `wmctl` with the words after its own name, and gives its status: 0; 1 where the reply is a refusal, memory
+/// ran out, or the reply, help or the version can't be printed; 2 where the words aren't understood; 3 where the
+/// socket failed or ended.
 pub fn wmctl<N: Net, W: Write, E: Write>(
     alloc: Global,
     net: &N,

@@ -37,7 +37,7 @@ impl ClockId {
         put_number(self.tick, out);
     }
 
-    /// The clock's text, `c:I:R:T`.
+    /// The clock's text, `c:I:R:T`. `NoMemory`.
     pub fn text(&self, alloc: Global) -> Result<String, NoMemory>
         ensures { IfOk result (λ t. string_bytes t ≡ clock_text self.now) }
     {

@@ -62,7 +62,7 @@ impl CursorName {
         self.text.as_str()
     }
 
-    /// The same name again.
+    /// The same name again. `NoMemory`.
     pub fn copy(&self, alloc: Global) -> Result<CursorName, NoMemory>
         ensures { IfOk result (λ n. n ≡ self.now) }
     {

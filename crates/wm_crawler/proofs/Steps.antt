@@ -1,5 +1,5 @@
 -- What the loops over one level add, and what halves of it give.
-use Rattle.std.proofs.Common.{◌≡◌, ℕ, zero, suc, ◌+◌, ◌<◌, ◌⊎◌, inl, inr, Bool, true, ◌&&◌, cond, length, get_or, map, List, [], ◌∷◌, ◌++◌, take, drop, Option, Some, None, is_some, refl, sym, ap, ◌∙◌, subst, arith, append-nil, true≢false, false}
+use Rattle.std.proofs.Common.{◌≡◌, ℕ, zero, suc, ◌+◌, ◌<◌, ◌⊎◌, inl, inr, Bool, true, ◌&&◌, cond, length, get_or, map, List, [], ◌∷◌, ◌++◌, take, drop, Option, Some, None, is_some, refl, sym, ap, ◌∙◌, subst, arith, append-nil, length-append, true≢false, false}
 use Rattle.std.specs.List.{cons_option, count_by, filter_map, flat_map}
 use Rattle.std.proofs.lemmas.List.{take_more, map-append}
 use Rattle.std.proofs.lemmas.List.Elements.{filter_map-append}
@@ -124,6 +124,9 @@ pub fails_last : (may_fail : Subtree → Type 0) (n : ℕ) (fs ls ms : List Subt
 fails_last may_fail n fs ls ms l m (f, a, t) = (f, subst (Among f) (parts n fs ls ms l m) (among_right f ls ms a), t)
 
 -- ---- paths one after another
+
+pub length_more : {X : Type 0} (i : ℕ) (xs ys : List X) (x : X) → length xs ≡ i → ys ≡ xs ++ x ∷ [] → length ys ≡ i + 1
+length_more i xs ys x l e = omega (arith, ap length e, length-append xs (x ∷ []), l)
 
 pub metas_more : (c : Content) (ps : List Path) (i : ℕ) (p : Path) (ms ns : List (Option Meta)) (m : Option Meta) → i < length ps → p ≡ get_or ps i p → AreMetas c (take i ps) ms
     → ns ≡ ms ++ m ∷ [] → c.meta p ≡ Some m → AreMetas c (take (i + 1) ps) ns

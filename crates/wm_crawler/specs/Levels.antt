@@ -1,5 +1,5 @@
 -- For private clauses: what is read level by level, the names of all folders of one level, then those of the next.
-use Rattle.std.specs.Prelude.{◌≡◌, ℕ, zero, suc, ◌+◌, ◌-◌, ◌^◌, min, Bool, true, ◌&&◌, List, [], ◌∷◌, ◌++◌, map, Option, Some, None, is_some, cond}
+use Rattle.std.specs.Prelude.{◌≡◌, ℕ, zero, suc, ◌+◌, ◌-◌, ◌^◌, min, Bool, true, ◌&&◌, List, [], ◌∷◌, ◌++◌, Option, Some, None, is_some, cond}
 use Rattle.std.specs.List.{cons_option, filter_map, flat_map, list_all, sum_by}
 use Rattle.wm_names.specs.Paths.{Path, same_path}
 use Rattle.wm_names.specs.declared.entry.Meta.{Meta}

@@ -12,7 +12,7 @@ use crate::telling::{folders_of, told_all};
 use crate::tree::Tree;
 use std::alloc::Global;
 use std::thread::Threads;
-use wm_disk::{NoMemory, Refusal};
+use wm_disk::Refusal;
 use wm_names::{MAX_REL_PATH, Meta, RelPath, Subtree};
 use wm_view::Listing;
 
@@ -25,19 +25,6 @@ pub struct Crawled {
     pub listing: Listing,
     /// Counted up to 2^64 - 1.
     pub faults: u64,
-}
-
-/// The same part of a root again.
-fn copy_of(subtree: &Subtree) -> Result<Subtree, NoMemory>
-    ensures { IfOk result (λ s. s ≡ subtree.now) }
-{
-    match subtree {
-        Subtree::Whole => Ok(Subtree::Whole),
-        Subtree::Below(path) => {
-            let path = path.copy()?;
-            Ok(Subtree::Below(path))
-        }
-    }
 }
 
 /// What stands at these paths, and the paths of the level below.
@@ -130,7 +117,7 @@ pub fn crawl<R: Threads + Sync, T: Tree + Sync, G: Turnstile + Sync>(
     let first = read_top(alloc, tree, subtree)?;
     let (mut files, faults) = read_levels(rt, alloc, tree, first, workers, gate)?;
     files.sort_by(|a, b| a.0.compare(&b.0))?;
-    let subtree = copy_of(subtree)?;
+    let subtree = subtree.copy()?;
     let listing = listed(alloc, subtree, files)?;
     Ok(Crawled { listing, faults })
 }

@@ -77,7 +77,7 @@ impl Dir {
         &self.names
     }
 
-    /// The same names and count again.
+    /// The same names and count again. `NoMemory`.
     pub fn copy(&self, alloc: Global) -> Result<Dir, NoMemory>
         ensures { IfOk result (λ d. d ≡ self.now) }
     {

@@ -1,6 +1,6 @@
 //! The real tree: a folder of the file system. No contract can say what it holds.
 //! Tests: crawler_tests/src/folders.rt.
-ghost use Rattle.std.specs.Prelude.{◌≡◌, ◌≢◌, ⊤, ◌<◌, ◌^◌, Some, None, map, IfErr};
+ghost use Rattle.std.specs.Prelude.{◌≡◌, ◌≢◌, ⊤, ◌+◌, ◌<◌, ◌≤◌, ◌^◌, Some, None, map, length, IfOk, IfErr, OnOk};
 ghost use Rattle.wm_disk.specs.declared.refusal.Refusal.TheVariants.{DeviceFailed, NoMemory as no_memory};
 ghost use Rattle.wm_names.specs.declared.subtree.Subtree.TheVariants.{Below};
 ghost use Rattle.wm_crawler.specs.Trees.{SomeFails};
@@ -14,6 +14,10 @@ use std::marker::Model;
 use std::os::unix::fs::MetadataExt;
 use wm_disk::{MAX_COUNTER, NoMemory, Refusal};
 use wm_names::{Kind, Meta, RelPath, RootPath, Subtree};
+
+/// How many paths are written before the system is asked about the first of them. Between two questions a path
+/// comes slowly from memory, and fast where one is read after another.
+const BATCH: usize = 64;
 
 /// A folder of the file system, with what stands below it. Other programs may change it at any time, so a
 /// crawl of it promises nothing of what it lists; that it lists what is there is tested. Contracts see its root.
@@ -113,9 +117,20 @@ fn read_names(alloc: Global, names: &mut impl Read) -> Result<Dir, Refusal>
     Ok(dir)
 }
 
+/// A text for each path of a batch.
+fn empty_texts(alloc: Global) -> Result<Vec<String>, NoMemory>
+    ensures { IfOk result (λ v. length v.items ≡ 64) }
+{
+    let mut texts = Vec::with_capacity(alloc, BATCH)?;
+    for _ in 0..BATCH {
+        texts.push(String::new(alloc))?;
+    }
+    Ok(texts)
+}
+
 impl<F: Files + Drop> FolderTree<F> {
     /// The tree of the folder at a path. Nothing is read yet. A link that the root's path ends in is
-    /// followed; one inside the tree never is.
+    /// followed, and so is one in the midst of a path that is asked for; one at its end never is.
     pub fn new(files: F, root: RootPath) -> FolderTree<F>
         ensures { result ≡ root }
     {
@@ -131,11 +146,10 @@ impl<F: Files + Drop> FolderTree<F> {
         Ok(())
     }
 
-    /// What stands at a path. The text is room to write it in.
-    fn meta_at(&self, text: &mut String, path: &RelPath) -> Result<Option<Meta>, Refusal>
+    /// What stands at the path that the text is.
+    fn meta_of_text(&self, text: &str) -> Result<Option<Meta>, Refusal>
         ensures { IfErr result (λ e. e ≢ no_memory → e ≡ DeviceFailed) }
     {
-        self.write_path(text, path.as_str())?;
         match self.files.symlink_metadata(text) {
             Ok(found) => Ok(Some(meta_of(&found))),
             Err(e) if is_missing(&e) => Ok(None),
@@ -143,15 +157,42 @@ impl<F: Files + Drop> FolderTree<F> {
         }
     }
 
-    /// What stands at each of the paths. One text has room for all of them, one after another.
-    fn meta_each(&self, alloc: Global, paths: &[RelPath]) -> Result<Vec<Option<Meta>>, Refusal>
-        ensures { IfErr result (λ e. e ≢ no_memory → (e ≡ DeviceFailed) × SomeFails (λ _. ⊤) (map Below paths.now)) }
+    /// Makes the first texts those of the paths.
+    fn write_paths(&self, texts: &mut [String], paths: &[RelPath]) -> Result<(), NoMemory>
+        requires { length paths.now ≤ length texts.old }
+        ensures { length texts.new ≡ length texts.old }
     {
-        let mut text = String::new(alloc);
-        let mut metas = Vec::with_capacity(alloc, paths.len())?;
-        for path in paths {
-            let there = self.meta_at(&mut text, path)?;
+        for i in 0..paths.len() {
+            self.write_path(&mut texts[i], paths[i].as_str())?;
+        }
+        Ok(())
+    }
+
+    /// Adds what stands at each of the paths that the texts are.
+    fn add_metas(&self, metas: &mut Vec<Option<Meta>>, texts: &[String]) -> Result<(), Refusal>
+        ensures each { OnOk result (length metas.new.items ≡ length metas.old.items + length texts.now) }
+        ensures refused { IfErr result (λ e. e ≢ no_memory → e ≡ DeviceFailed) }
+    {
+        for text in texts {
+            let there = self.meta_of_text(text)?;
             metas.push(there)?;
+        }
+        Ok(())
+    }
+
+    /// What stands at each of the paths, so many of which are written before the first of them is asked about.
+    fn meta_each(&self, alloc: Global, paths: &[RelPath]) -> Result<Vec<Option<Meta>>, Refusal>
+        ensures each { IfOk result (λ v. length v.items ≡ length paths.now) }
+        ensures refused { IfErr result (λ e. e ≢ no_memory → (e ≡ DeviceFailed) × SomeFails (λ _. ⊤) (map Below paths.now)) }
+    {
+        let mut texts = empty_texts(alloc)?;
+        let mut metas = Vec::with_capacity(alloc, paths.len())?;
+        let mut rest = paths;
+        while !rest.is_empty() {
+            let (now, later) = rest.split_at(rest.len().min(BATCH));
+            self.write_paths(&mut texts, now)?;
+            self.add_metas(&mut metas, &texts[..now.len()])?;
+            rest = later;
         }
         Ok(metas)
     }
@@ -184,7 +225,8 @@ impl<F: Files + Drop> Tree for FolderTree<F> {
 
     fn meta(&self, alloc: Global, path: &RelPath) -> Result<Option<Meta>, Refusal> {
         let mut text = String::new(alloc);
-        self.meta_at(&mut text, path)
+        self.write_path(&mut text, path.as_str())?;
+        self.meta_of_text(&text)
     }
 
     fn metas(&self, alloc: Global, paths: &[RelPath]) -> Result<Vec<Option<Meta>>, Refusal> {

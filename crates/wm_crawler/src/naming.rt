@@ -29,7 +29,7 @@ fn join_in(text: &mut String, folder: &Subtree, name: &str) -> Result<(), NoMemo
 fn has_no_slash(name: &[u8]) -> bool
     ensures { result ≡ list_all (λ b. not (b == 47)) name.now }
 {
-    name.iter().all(|byte| *byte != b'/')
+    !name.contains(&b'/')
 }
 
 /// The path of a name that fits. The text is room to write it in.

@@ -1,6 +1,6 @@
 //! What a crawl reads.
 //! Definitions: specs/Trees.antt. Tests: crawler_tests/src/crawls.rt.
-ghost use Rattle.std.specs.Prelude.{◌≡◌, ◌≢◌, Some, map, IfOk, IfErr};
+ghost use Rattle.std.specs.Prelude.{◌≡◌, ◌≢◌, Some, map, length, IfOk, IfErr};
 ghost use Rattle.wm_disk.specs.declared.refusal.Refusal.TheVariants.{DeviceFailed, NoMemory};
 ghost use Rattle.wm_names.specs.declared.subtree.Subtree.{Subtree as Place};
 ghost use Rattle.wm_names.specs.declared.subtree.Subtree.TheVariants.{Below};
@@ -34,8 +34,10 @@ pub trait Tree {
         ensures refused { IfErr result (λ e. e ≢ NoMemory → (e ≡ DeviceFailed) × may_fail self.now (Below path.now)) };
 
     /// What is known of each of the paths, as `meta` tells it. A tree that takes less work for many paths
-    /// together than for one after another has a body of its own.
+    /// together than for one after another has a body of its own. `DeviceFailed` where one of them can't be
+    /// told, and `NoMemory`.
     fn metas(&self, alloc: Global, paths: &[RelPath]) -> Result<Vec<Option<Meta>>, Refusal>
+        ensures each { IfOk result (λ v. length v.items ≡ length paths.now) }
         ensures read { IfOk result (λ v. stays self.now → AreMetas (content self.now) paths.now v.items) }
         ensures refused { IfErr result (λ e. e ≢ NoMemory → (e ≡ DeviceFailed) × SomeFails (may_fail self.now) (map Below paths.now)) }
     {

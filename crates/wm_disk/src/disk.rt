@@ -28,7 +28,7 @@ pub trait Disk {
     /// How often the disk has failed.
     ghost failures: { Self → ℕ };
 
-    /// How many bytes there are.
+    /// How many bytes there are. `DeviceFailed` where the call failed, which is counted.
     fn len(&mut self) -> Result<u64, DeviceFailed>
         ensures length { honest self.new → IfOk result (λ n. n ≡ length (seen self.old)) }
         ensures seen { honest self.new → seen self.new ≡ seen self.old }
@@ -37,7 +37,8 @@ pub trait Disk {
         ensures honest { honest self.new → honest self.old }
         ensures count { Counts (failures self.old) (failures self.new) result };
 
-    /// Reads the bytes from a place on.
+    /// Reads the bytes from a place on. `DeviceFailed` where the call failed, which is counted: then `bytes`
+    /// may hold anything.
     fn read_at(&mut self, at: u64, bytes: &mut [u8]) -> Result<(), DeviceFailed>
         requires { honest self.old → at + length bytes.old ≤ length (seen self.old) }
         ensures bytes { honest self.new → OnOk result (bytes.new ≡ take (length bytes.old) (drop at (seen self.old))) }
@@ -48,7 +49,7 @@ pub trait Disk {
         ensures count { Counts (failures self.old) (failures self.new) result };
 
     /// Writes over what is there, and past the end. Until a sync, a crash may leave any bytes in the range,
-    /// also where the write failed.
+    /// also where the write failed: `DeviceFailed`, which is counted. What a read gives isn't known then.
     fn write_at(&mut self, at: u64, bytes: &[u8]) -> Result<(), DeviceFailed>
         requires { honest self.old → at ≤ length (seen self.old) }
         ensures written { honest self.new → OnOk result (seen self.new ≡ overwritten (seen self.old) at bytes.now) }
@@ -57,7 +58,8 @@ pub trait Disk {
         ensures honest { honest self.new → honest self.old }
         ensures count { Counts (failures self.old) (failures self.new) result };
 
-    /// After it, a crash leaves what a read gives.
+    /// After it, a crash leaves what a read gives. `DeviceFailed` where the call failed, which is counted: then
+    /// a crash leaves no more than it might have left before.
     fn sync(&mut self) -> Result<(), DeviceFailed>
         ensures durable { honest self.new → OnOk result (Only (seen self.old) (may_leave self.new)) }
         ensures seen { honest self.new → seen self.new ≡ seen self.old }

@@ -7,7 +7,7 @@ ghost use Rattle.wm_disk.specs.declared.refusal.Refusal.TheVariants as refusals;
 use std::alloc::{AllocError, AllocFailed};
 use thiserror::Error;
 
-/// The disk failed in this call.
+/// The disk failed in this call, or a file couldn't be opened or made.
 #[derive(Clone, Copy, Debug, PartialEq, Eq, Error)]
 #[error("the device failed")]
 pub struct DeviceFailed;
@@ -33,7 +33,7 @@ impl<T: Drop> From<AllocFailed<T>> for NoMemory {
 #[derive(Clone, Copy, Debug, PartialEq, Eq, Error)]
 #[error("{}", self.text())]
 pub enum Refusal {
-    /// The line is no JSON text, is longer than a line may be, or is cut by the end of the stream.
+    /// The line is no JSON text or not UTF-8, is longer than a line may be, or is cut by the end of the stream.
     BadLine,
     /// The line is no array that begins with the name of a command.
     BadCommand,
@@ -57,17 +57,18 @@ pub enum Refusal {
     Full,
     /// The store failed in an earlier call, or is closed.
     StoreFailed,
-    /// The disk failed in this call, or a file couldn't be opened, made, read or written.
+    /// The disk failed in this call; a file couldn't be opened, made, read or written, or a folder read; an
+    /// input, an output or a socket failed; or a program couldn't be started.
     DeviceFailed,
     /// The state file shows damage.
     Damaged,
     /// A counter stands at 2^63 - 1.
     Exhausted,
-    /// Memory ran out.
+    /// Memory ran out, or no thread could be started.
     NoMemory,
     /// More of something than its limit allows.
     TooMany,
-    /// No free place is left.
+    /// No free place is left, or the root went while it was asked.
     NoPlace,
     /// An answer to no open question.
     NoQuestion,

@@ -33,7 +33,7 @@ fn copied(alloc: Global, parts: &[Expr]) -> Result<Vec<Expr>, NoMemory>
 }
 
 impl Expr {
-    /// The same expression again.
+    /// The same expression again. `NoMemory`.
     #[cycle(copy)]
     pub fn copy(&self, alloc: Global) -> Result<Expr, NoMemory>
         ensures { IfOk result (λ copy. term copy ≡ term self.now) }

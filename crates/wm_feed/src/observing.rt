@@ -42,7 +42,7 @@ fn observe(alloc: Global, root: &str, pairs: &[(RelPath, Option<Meta>)]) -> Resu
     Ok(json!(in alloc; ["observe", root, list])?)
 }
 
-/// The text of the `observe` of these pairs, without a newline.
+/// The text of the `observe` of these pairs, without a newline. `NoMemory`.
 pub fn observe_line(
     alloc: Global,
     root: &str,

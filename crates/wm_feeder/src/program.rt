@@ -13,9 +13,10 @@ use std::time::Clock;
 use wm_disk::{NoMemory, Refusal};
 use wm_names::RootPath;
 
-/// Runs `wmfeed` with the words after its own name, and gives its status: 0 where the root isn't watched any longer;
-/// 1 where inotifywait couldn't be started or ended, or the server refused a request; 2 where the words aren't
-/// understood; 3 where the server ended.
+/// Runs `wmfeed` with the words after its own name, and gives its status: 0 where the root isn't watched any longer,
+/// and for help and the version; 1 where inotifywait couldn't be started, ten watches in a row ended before each folder
+/// was seen to be watched, the server refused a request, memory ran out, or help or the version can't be printed; 2 where
+/// the words aren't understood, or ROOT is no root's path; 3 where the server ended, or its socket failed.
 pub fn wmfeed<R: Net + Processes + Files + Clock + AllocGlobal, W: Write, E: Write>(
     alloc: Global,
     rt: &R,
@@ -73,7 +74,7 @@ fn end<E: Write>(stop: Stop, faults: &mut E) -> u8 {
         Stop::Doubt | Stop::Ended | Stop::Unwatchable => {
             (
                 1,
-                "wmfeed: inotifywait ends, or folders stay without a watch\n",
+                "wmfeed: inotifywait ends, folders stay without a watch, or no crawl succeeds\n",
             )
         }
         Stop::NoMemory => (1, "wmfeed: 16 NoMemory\n"),

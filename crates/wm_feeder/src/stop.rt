@@ -13,13 +13,14 @@ pub enum Stop {
     WatchGone,
     /// The server ended, or its socket failed.
     ServerGone,
-    /// The server refused a request that it should have met.
+    /// The server refused a request that it should have met, or its reply can't be read.
     Refused,
     /// inotifywait ended, as it does where a folder goes while it begins: it is started anew.
     Ended,
     /// inotifywait couldn't be started.
     Unwatched,
-    /// inotifywait ended again and again, or folders of the root stay without a watch.
+    /// Ten watches in a row ended before each folder was seen to be watched: inotifywait ended, folders stay
+    /// without a watch, or a request failed each time that may be met later.
     Unwatchable,
     /// Memory ran out.
     NoMemory,

@@ -160,7 +160,9 @@ impl<S: Start> FileDisk<S> {
     }
 
     /// Opens a regular file that is there, to read and write it, and makes what it reads durable. The file
-    /// is locked until the disk is dropped: where another program has its lock, nothing is opened.
+    /// is locked until the disk is dropped. `DeviceFailed` where it isn't there, there is no right to it or it
+    /// can't be opened else, where it is no regular file, where another program has its lock, and where the
+    /// sync failed: then nothing stays open or locked.
     pub fn open(files: &impl Files<File = File>, path: &str) -> Result<FileDisk<S>, DeviceFailed>
         ensures just_opened { IfOk result (λ disk. IsJustOpened disk) }
     {
@@ -180,7 +182,8 @@ impl<S: Start> FileDisk<S> {
     }
 
     /// Makes a new file, which holds nothing, locks it until the disk is dropped, and makes its name
-    /// durable. Where that fails, a file that was made is taken away again.
+    /// durable. `DeviceFailed` where something is there already or it can't be made, and where the lock or the
+    /// sync of its folder failed: then the file that was made is taken away again, or stays where that fails.
     pub fn create(files: &impl Files<File = File>, path: &str) -> Result<FileDisk<S>, DeviceFailed>
         requires empty { S.Start.content ≡ [] }
         ensures just_opened { IfOk result (λ disk. IsJustOpened disk) }

@@ -43,7 +43,7 @@ impl<D: Disk + Drop> Model for Book<D> {
 }
 
 impl<D: Disk + Drop> Book<D> {
-    /// The book of a store that has accepted nothing at the desk yet.
+    /// The book of a store that has accepted nothing at the desk yet. `NoMemory` hands the store back.
     pub fn open(alloc: Global, store: Store<D>) -> Result<Book<D>, (Refusal, Store<D>)>
         ensures ok { IfOk result (λ b. (b.base ≡ store.registry) × (b.list ≡ []) × (b.store ≡ store)) }
         ensures err { IfErr result (λ e. (e.0 ≡ no_memory) × (e.1 ≡ store)) }
@@ -65,14 +65,14 @@ impl<D: Disk + Drop> Book<D> {
         Snapshot::of(&self.history)
     }
 
-    /// The registry after all of the list.
+    /// The registry after all of the list. `NoMemory`.
     pub fn registry(&self, alloc: Global) -> Result<Registry, NoMemory>
         ensures { IfOk result (λ r. r ≡ self.now.store.registry) }
     {
         self.store.registry().copy(alloc)
     }
 
-    /// The receipt's command, where it stands at its number.
+    /// The receipt's command, where it stands at its number. `NoMemory` where its copy finds no room.
     pub fn find(&self, alloc: Global, receipt: &Receipt) -> Result<Option<Command>, NoMemory>
         ensures { IfOk result (λ r. IfSome r (λ c. StandsInBook receipt.now self.now.list c)) }
     {
@@ -95,7 +95,7 @@ impl<D: Disk + Drop> Book<D> {
         Ok(Some(command))
     }
 
-    /// Closes the store.
+    /// Closes the store, and is refused as [`Store::close`] is.
     pub fn close(&mut self) -> Result<(), Refusal>
         ensures list { (self.new.base ≡ self.old.base) × (self.new.list ≡ self.old.list) }
         ensures closed { OnOk result (self.new.store.closed ≡ true) }
@@ -104,6 +104,7 @@ impl<D: Disk + Drop> Book<D> {
         self.store.close()
     }
 
+    /// The store.
     pub fn into_store(self) -> Store<D>
         ensures { result ≡ self.store }
     {

@@ -75,7 +75,8 @@ impl<D: Disk + Drop> Desk<D> {
     }
 
     /// Closes the store, and wakes the flusher's thread. What was submitted and isn't committed by then is
-    /// answered `12 StoreFailed` at the next flush. It is refused as [`Store::close`] is.
+    /// answered `12 StoreFailed` at the next flush, or `16 NoMemory` where there is no room. It is refused as
+    /// [`Store::close`] is.
     pub fn close<R: Wait>(&self, rt: &R) -> Result<(), Refusal> {
         let closed = self.locked.lock(rt).close();
         self.sleeper.unpark();
@@ -112,8 +113,8 @@ impl<D: Disk + Drop> Desk<D> {
 
     /// Puts a command into the queue, wakes the flusher's thread, and sleeps until the answer is there; where no
     /// other command was in the queue, it looks for the answer a bounded number of times first. A
-    /// command that the registry accepts, or that changes nothing, has a receipt. Of the refusals `5`, `10`,
-    /// `11` and `17` are the registry's, after a prefix of the list that is no shorter than what this seat
+    /// command that the registry accepts, or that changes nothing, has a receipt. Of the refusals `5`, `11` and
+    /// `17` are the registry's, after a prefix of the list that is no shorter than what this seat
     /// had seen; `3 BadArguments` comes to a `Begin` alone. `13 DeviceFailed`, `15 Exhausted` and `16 NoMemory`
     /// are what the flush answered; `16` comes also where there is no room for the call, which then isn't made.
     /// `12 StoreFailed` comes once the store has failed or is closed.
@@ -186,12 +187,13 @@ impl<D: Disk + Drop> Desk<D> {
         }
     }
 
-    /// A copy of the registry, as the last flush left it. It waits for a flush that runs.
+    /// A copy of the registry, as the last flush left it. It waits for a flush that runs. `NoMemory`.
     pub fn registry<R: Wait>(&self, rt: &R) -> Result<Registry, NoMemory> {
         self.locked.lock(rt).registry(self.alloc)
     }
 
-    /// The receipt's command, found at its number in the list; none for one that changed nothing.
+    /// The receipt's command, found at its number in the list; none for one that changed nothing. `NoMemory`
+    /// where its copy finds no room.
     pub fn stands<R: Wait>(&self, rt: &R, receipt: &Receipt) -> Result<Option<Command>, NoMemory> {
         self.locked.lock(rt).find(self.alloc, receipt)
     }

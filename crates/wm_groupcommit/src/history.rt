@@ -4,6 +4,7 @@
 use crate::queued::Call;
 use wm_registry::Registry;
 
+/// The registry that the desk found, and the calls accepted since, in their order.
 #[derive(Drop)]
 pub struct History {
     pub base: Registry,

@@ -56,6 +56,7 @@ impl<D: Disk + Drop> Model for LockedDesk<D> {
 }
 
 impl<D: Disk + Drop> LockedDesk<D> {
+    /// The book, with no seat and no flusher yet.
     pub fn new(alloc: Global, book: Book<D>) -> LockedDesk<D>
         requires { book.list ≡ [] }
         ensures { (result.book ≡ book) × (result.ends ≡ []) × (result.counts ≡ []) × (result.has_flusher ≡ false) }
@@ -68,7 +69,7 @@ impl<D: Disk + Drop> LockedDesk<D> {
         }
     }
 
-    /// A new seat's number and its end of its reply queue.
+    /// A new seat's number and its end of its reply queue. `NoPlace` where 64 were given, and `NoMemory`.
     pub fn seat(&mut self, alloc: Global) -> Result<(u64, ReplyReceiver), Refusal>
         ensures ok { IfOk result (λ r. (r.0 ≡ length self.old.ends) × (r.1 ≡ newcomer) × (self.new.ends ≡ self.old.ends ++ reply_view true None [] [] ∷ [])) }
         ensures free { IfOk result (λ _. length self.old.ends < seats) }
@@ -93,7 +94,7 @@ impl<D: Disk + Drop> LockedDesk<D> {
         Ok((number, replies))
     }
 
-    /// The flusher's place, once.
+    /// The flusher's place, once; `NoPlace` from then on.
     pub fn flusher(&mut self) -> Result<(), Refusal>
         ensures book { (self.new.book ≡ self.old.book) × (self.new.ends ≡ self.old.ends) × (self.new.has_flusher ≡ true) }
         ensures err { IfErr result (λ e. (e ≡ no_place) × (self.old.has_flusher ≡ true)) }
@@ -106,21 +107,22 @@ impl<D: Disk + Drop> LockedDesk<D> {
         Ok(())
     }
 
-    /// The registry after all of the list.
+    /// The registry after all of the list. `NoMemory`.
     pub fn registry(&self, alloc: Global) -> Result<Registry, NoMemory>
         ensures { IfOk result (λ r. r ≡ self.now.book.store.registry) }
     {
         self.book.registry(alloc)
     }
 
-    /// The receipt's command, found at its number in the book.
+    /// The receipt's command, found at its number in the book. `NoMemory` where its copy finds no room.
     pub fn find(&self, alloc: Global, receipt: &Receipt) -> Result<Option<Command>, NoMemory>
         ensures { IfOk result (λ r. IfSome r (λ c. StandsInBook receipt.now self.now.book.list c)) }
     {
         self.book.find(alloc, receipt)
     }
 
-    /// Closes the store: from then on each call is answered `12`, or `16` where there is no room.
+    /// Closes the store: from then on each call is answered `12`, or `16` where there is no room. It is refused
+    /// as [`Store::close`] is.
     pub fn close(&mut self) -> Result<(), Refusal>
         ensures list { (self.new.book.base ≡ self.old.book.base) × (self.new.book.list ≡ self.old.book.list) × (self.new.ends ≡ self.old.ends) }
         ensures closed { OnOk result (self.new.book.store.closed ≡ true) }
@@ -129,6 +131,7 @@ impl<D: Disk + Drop> LockedDesk<D> {
         self.book.close()
     }
 
+    /// The store.
     pub fn into_store(self) -> Store<D>
         ensures { result ≡ self.book.store }
     {
@@ -176,6 +179,7 @@ pub struct Room {
 }
 
 impl Room {
+    /// Room for `MAX_BATCH` calls and their answers. `NoMemory`.
     pub fn new(alloc: Global) -> Result<Room, NoMemory> {
         let calls = Vec::with_capacity(alloc, MAX_BATCH)?;
         let answers = Vec::with_capacity(alloc, MAX_BATCH)?;

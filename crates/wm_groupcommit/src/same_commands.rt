@@ -8,7 +8,7 @@ use std::alloc::Global;
 use wm_disk::NoMemory;
 use wm_registry::{Command, Stdin, Trigger};
 
-/// The same command again.
+/// The same command again. `NoMemory`.
 pub fn copied(alloc: Global, command: &Command) -> Result<Command, NoMemory>
     ensures { IfOk result (λ c. c ≡ command.now) }
 {
@@ -35,7 +35,7 @@ pub fn copied(alloc: Global, command: &Command) -> Result<Command, NoMemory>
     }
 }
 
-/// The same call again.
+/// The same call again. `NoMemory`.
 pub fn called_again(alloc: Global, call: &Call) -> Result<Call, NoMemory>
     ensures { IfOk result (λ c. c ≡ call.now) }
 {

@@ -1,7 +1,7 @@
 //! One watched root, shared by sessions and workers: its keeper, its viewers, its cursors and its triggers, each under a lock of
-//! its own. Tests: serve_tests/src/sessions.rt.
+//! its own. Tests: serve_tests/src/sessions.rt, growths/src/halls.rt.
 use crate::asking::{clock, tell, tell_by};
-use crate::keeping::{Forgetting, operate, progress_of};
+use crate::keeping::{Forgetting, Left, operate, pay, progress_of};
 use crate::work::Work;
 use std::alloc::Global;
 use std::sync::{Mutex, Wait};
@@ -22,8 +22,8 @@ pub struct RootHall<J: Naming, K: Wait + Drop> {
     pub work: Work,
     triggers: Mutex<Vec<Trigger>>,
     keeper: Mutex<RootKeeper<J, Shown<J>, K>>,
-    /// The second of the last age-out, or when the view became ready. It is taken under the keeper's lock alone.
-    aged_at: Mutex<Option<u64>>,
+    /// It is taken under the keeper's lock alone.
+    left: Mutex<Left>,
     pool: Mutex<Pool<J>>,
     /// What was published last.
     told: Mutex<Option<Told<J>>>,
@@ -31,7 +31,8 @@ pub struct RootHall<J: Naming, K: Wait + Drop> {
 }
 
 impl<J: Naming, K: Wait + Drop> RootHall<J, K> {
-    /// A root over the keeper of a new view and its viewers. One crawl of it is asked for.
+    /// A root over the keeper of a new view and its viewers. One crawl of it is asked for. `NoMemory` drops the
+    /// keeper and the viewers.
     pub fn new(
         alloc: Global,
         path: &RootPath,
@@ -45,7 +46,7 @@ impl<J: Naming, K: Wait + Drop> RootHall<J, K> {
             work: Work::new(alloc)?,
             triggers: Mutex::new(Vec::new(alloc)),
             keeper: Mutex::new(keeper),
-            aged_at: Mutex::new(None),
+            left: Mutex::new(Left::new()),
             pool: Mutex::new(pool),
             told: Mutex::new(None),
             cursors: Mutex::new(Cursors::new(alloc)?),
@@ -64,13 +65,14 @@ impl<J: Naming, K: Wait + Drop> RootHall<J, K> {
         Ok(())
     }
 
-    /// The triggers as they are.
+    /// The triggers as they are. `NoMemory`.
     pub fn triggers<R: Wait>(&self, rt: &R, alloc: Global) -> Result<Vec<Trigger>, NoMemory> {
         copied(alloc, &self.triggers.lock(rt))
     }
 
-    /// Performs an operation, whose moment is the second that it is performed at, publishes it, and tells where the view stands then. What the view refuses, `Exhausted`, and `NoMemory`,
-    /// after which it may still be published with the next one.
+    /// Performs an operation, whose moment is in seconds, publishes it, and tells where the view stands then. What the view
+    /// refuses, `Exhausted`, and `NoMemory`, after which it may still be published before the next one; a reading that began
+    /// before that is refused `NoMemory` too, since what was observed before it would overtake it.
     pub fn operate<R: Wait>(
         &self,
         rt: &R,
@@ -78,11 +80,14 @@ impl<J: Naming, K: Wait + Drop> RootHall<J, K> {
         op: Op,
     ) -> Result<Progress, Refusal> {
         let mut keeper = self.keeper.lock(rt);
-        let mut aged_at = self.aged_at.lock(rt);
-        let told = operate(&mut keeper, &mut aged_at, forgetting, op)?;
+        let mut left = self.left.lock(rt);
+        if let Some(told) = pay(&mut keeper, &mut left)? {
+            *self.told.lock(rt) = Some(told);
+        }
+        let told = operate(&mut keeper, &mut left, forgetting, op)?;
         let met = progress_of(&told);
         *self.told.lock(rt) = Some(told);
-        drop(aged_at);
+        drop(left);
         drop(keeper);
         self.work.stir(rt);
         met
@@ -123,7 +128,7 @@ impl<J: Naming, K: Wait + Drop> RootHall<J, K> {
         }
     }
 
-    /// Where the root stands, as a viewer sees it.
+    /// Where the root stands, as a viewer sees it. Refused as `asking::clock`.
     pub fn clock<R: Wait>(
         &self,
         rt: &R,
@@ -139,6 +144,7 @@ impl<J: Naming, K: Wait + Drop> RootHall<J, K> {
     }
 
     /// Appends the answer to what is asked, as a viewer sees the root. Questions by a cursor are answered one after the other.
+    /// Refused as `tell`, and by a cursor as `tell_by`: nothing is appended then, and no cursor moves.
     pub fn inquire<R: Wait>(
         &self,
         rt: &R,

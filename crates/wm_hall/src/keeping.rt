@@ -1,8 +1,8 @@
 //! The operations on a root's view: each is published at once, and old deletions are forgotten before one.
-//! Definitions: `with_operations` and `outcome` of wm_share. Tests: serve_tests/src/sessions.rt.
+//! Definitions: `with_operations` and `outcome` of wm_share. Tests: serve_tests/src/sessions.rt, growths/src/halls.rt.
 ghost use Rattle.std.specs.Prelude.{◌≡◌, ◌⊎◌, ◌++◌, ◌∷◌, [], Some, None, IfOk, IfErr, MatchResult};
 ghost use Rattle.wm_since.specs.Answers.{clock_of};
-ghost use Rattle.wm_share.specs.PublishedLists.{clock_shown, history, outcome, with_operations};
+ghost use Rattle.wm_share.specs.PublishedLists.{PublishedList, clock_shown, history, outcome, with_operations};
 
 use std::sync::Wait;
 use wm_disk::Refusal;
@@ -17,6 +17,38 @@ pub struct Forgetting {
     pub age: u64,
     /// The seconds between two age-outs.
     pub interval: u64,
+}
+
+/// What a root's operations leave, beside its keeper, for those that come later.
+#[derive(Drop)]
+pub(crate) struct Left {
+    /// The second of the last age-out by the interval, or when the view became ready.
+    aged_at: Option<u64>,
+    /// Whether memory ran out for a publish, so that operations may wait which were answered `NoMemory`.
+    owes: bool,
+    /// The tick at which what was owed last was published: 0 where nothing ever was.
+    paid_at: u64,
+}
+
+impl Left {
+    /// Of a root without an operation.
+    pub(crate) fn new() -> Left {
+        Left {
+            aged_at: None,
+            owes: false,
+            paid_at: 0,
+        }
+    }
+
+    /// Whether a reading began before what was owed was published. It may have seen a path later than what was observed of it and
+    /// published behind the reading's tick, so it can't be taken in.
+    fn overtakes(&self, op: &Op) -> bool {
+        match op {
+            Op::Recrawl(_, begun_at, _) => *begun_at < self.paid_at,
+            Op::Observe(_, _) => false,
+            Op::AgeOut(_, _) => false,
+        }
+    }
 }
 
 /// Hands in an operation, and publishes it with what still waited. `NoMemory`, and `Exhausted` after 2^63 - 1 operations. Where
@@ -55,24 +87,66 @@ pub(crate) fn progress_of<J: Naming>(told: &Told<J>) -> Result<Progress, Refusal
     }
 }
 
+/// The tick of what was published, 0 before the first whole listing.
+fn tick_of<J: Naming>(told: &Told<J>) -> u64 {
+    match told.clock() {
+        Some(clock) => clock.tick,
+        None => 0,
+    }
+}
+
+/// Publishes what is owed, if anything is, and tells what then is published. `NoMemory` leaves it owed.
+pub(crate) fn pay<J: Naming, T: Listed<J> + Drop, R: Wait + Drop>(
+    keeper: &mut RootKeeper<J, T, R>,
+    left: &mut Left,
+) -> Result<Option<Told<J>>, Refusal>
+    ensures paid { IfOk result (λ paid. (told : PublishedList) → paid ≡ Some told → (told ≡ with_operations keeper.old.published keeper.old.pending) × (keeper.new.published ≡ told) × (keeper.new.pending ≡ [])) }
+    ensures refused { IfErr result (λ e. (e ≡ Refusal.NoMemory) × (keeper.new ≡ keeper.old)) }
+{
+    if !left.owes {
+        return Ok(None);
+    }
+    let told = keeper.publish()?;
+    left.owes = false;
+    left.paid_at = tick_of(&told);
+    Ok(Some(told))
+}
+
+/// Publishes an operation, and notes where it is owed.
+fn perform<J: Naming, T: Listed<J> + Drop, R: Wait + Drop>(
+    keeper: &mut RootKeeper<J, T, R>,
+    left: &mut Left,
+    op: Op,
+) -> Result<Told<J>, Refusal>
+    ensures told { IfOk result (λ told. told ≡ with_operations keeper.old.published (keeper.old.pending ++ op ∷ [])) }
+    ensures published { MatchResult result (λ told. (keeper.new.published ≡ told) × (keeper.new.pending ≡ [])) (λ _. keeper.new.published ≡ keeper.old.published) }
+    ensures refused { IfErr result (λ e. (e ≡ Refusal.NoMemory) ⊎ (e ≡ Refusal.Exhausted)) }
+{
+    let done = publish(keeper, op);
+    if done.is_err() {
+        left.owes = true;
+    }
+    done
+}
+
 /// Forgets what is old enough, where the interval has passed since the last time. One that is refused is tried again before the next
 /// operation.
 fn age_out<J: Naming, T: Listed<J> + Drop, R: Wait + Drop>(
     keeper: &mut RootKeeper<J, T, R>,
-    aged_at: &mut Option<u64>,
+    left: &mut Left,
     moment: u64,
     forgetting: Forgetting,
 ) {
-    let Some(last) = *aged_at else {
+    let Some(last) = left.aged_at else {
         return;
     };
     if moment < last.saturating_add(forgetting.interval) {
         return;
     }
-    if let Ok(told) = publish(keeper, Op::AgeOut(moment, forgetting.age))
+    if let Ok(told) = perform(keeper, left, Op::AgeOut(moment, forgetting.age))
         && told.refusal().is_none()
     {
-        *aged_at = Some(moment);
+        left.aged_at = Some(moment);
     }
 }
 
@@ -85,18 +159,22 @@ fn moment_of(op: &Op) -> u64 {
     }
 }
 
-/// Publishes an operation, and before it what is to be forgotten. A view that became ready counts its interval from then.
+/// Publishes an operation where nothing is owed, and before it what is to be forgotten. A view that became ready counts its interval
+/// from then. `NoMemory` too where a reading began before what was owed was published: it has to be done again.
 pub(crate) fn operate<J: Naming, T: Listed<J> + Drop, R: Wait + Drop>(
     keeper: &mut RootKeeper<J, T, R>,
-    aged_at: &mut Option<u64>,
+    left: &mut Left,
     forgetting: Forgetting,
     op: Op,
 ) -> Result<Told<J>, Refusal> {
+    if left.overtakes(&op) {
+        return Err(Refusal::NoMemory);
+    }
     let moment = moment_of(&op);
-    age_out(keeper, aged_at, moment, forgetting);
-    let told = publish(keeper, op)?;
-    if aged_at.is_none() && told.clock().is_some() {
-        *aged_at = Some(moment);
+    age_out(keeper, left, moment, forgetting);
+    let told = perform(keeper, left, op)?;
+    if left.aged_at.is_none() && told.clock().is_some() {
+        left.aged_at = Some(moment);
     }
     Ok(told)
 }

@@ -46,14 +46,6 @@ fn is_same(one: &Subtree, other: &Subtree) -> bool {
     }
 }
 
-/// A copy of a part.
-fn copied(subtree: &Subtree) -> Result<Subtree, NoMemory> {
-    Ok(match subtree {
-        Subtree::Whole => Subtree::Whole,
-        Subtree::Below(top) => Subtree::Below(top.copy()?),
-    })
-}
-
 impl Asked {
     /// The place of the crawl of this ticket.
     fn place(&self, ticket: u64) -> Option<usize> {
@@ -98,7 +90,7 @@ impl Asked {
         for crawl in self.crawls.iter_mut() {
             if matches!(crawl.stage, Stage::Waiting) {
                 crawl.stage = Stage::Running;
-                return Some((crawl.ticket, copied(&crawl.subtree)));
+                return Some((crawl.ticket, crawl.subtree.copy()));
             }
         }
         None
@@ -152,7 +144,7 @@ pub struct Work {
 }
 
 impl Work {
-    /// One crawl of the whole root is asked for.
+    /// One crawl of the whole root is asked for. `NoMemory`.
     pub fn new(alloc: Global) -> Result<Work, NoMemory> {
         let mut asked = Asked {
             crawls: Vec::new(alloc),
@@ -182,7 +174,8 @@ impl Work {
     }
 
     /// Asks for a crawl of a part, and waits for the end of one that began after that. `NotWatched` where
-    /// the root isn't watched any longer, what the crawl or the view refuses, and `NoMemory`.
+    /// the root isn't watched any longer or the server closes, what the crawl or the view refuses, and
+    /// `NoMemory`.
     pub fn crawl<R: Wait>(&self, rt: &R, subtree: Subtree) -> Result<Progress, Refusal> {
         let mut asked = self.asked.lock(rt);
         let ticket = asked.ask(subtree, 1)?;
@@ -193,7 +186,8 @@ impl Work {
         asked.collect(ticket)
     }
 
-    /// Waits until a crawl is asked for: its ticket and its part; `None` at the end.
+    /// Waits until a crawl is asked for: its ticket and its part; `None` at the end. Where the part can't be
+    /// copied it is `NoMemory`, and the crawl has begun all the same.
     pub fn next_crawl<R: Wait>(&self, rt: &R) -> Option<(u64, Result<Subtree, NoMemory>)> {
         let mut asked = self.stirred.wait_while(rt, self.asked.lock(rt), |asked| {
             !asked.has_waiting() && !asked.has_ended

@@ -69,7 +69,7 @@ impl RootPath {
         self.text.as_str()
     }
 
-    /// The same path again.
+    /// The same path again. `NoMemory`.
     pub fn copy(&self, alloc: Global) -> Result<RootPath, NoMemory>
         ensures { IfOk result (λ p. p ≡ self.now) }
     {

@@ -59,7 +59,7 @@ fn remove_gone(registry: &mut Registry, gone: &mut usize, less: &mut u64)
 impl Draft {
     ghost use Rattle.wm_registry.specs.Roots.{without_root};
 
-    /// A draft of this registry.
+    /// A draft of this registry. `NoMemory` where its copy finds no room.
     pub fn new(alloc: Global, registry: &Registry) -> Result<Draft, NoMemory>
         ensures { IfOk result (λ d. d ≡ registry.now) }
     {
@@ -117,7 +117,7 @@ impl Draft {
         self.registry.reply_to(command)
     }
 
-    /// The registry so far.
+    /// The registry so far. `NoMemory` where its copy finds no room.
     pub fn copy(&self, alloc: Global) -> Result<Registry, NoMemory>
         ensures { IfOk result (λ r. r ≡ self.now) }
     {

@@ -88,7 +88,7 @@ impl Registry {
         &self.roots
     }
 
-    /// The same registry again.
+    /// The same registry again. `NoMemory`.
     pub fn copy(&self, alloc: Global) -> Result<Registry, NoMemory>
         ensures { IfOk result (λ r. r ≡ self.now) }
     {

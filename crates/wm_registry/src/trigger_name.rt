@@ -58,7 +58,7 @@ impl TriggerName {
         self.text.as_str()
     }
 
-    /// The same name again.
+    /// The same name again. `NoMemory`.
     pub fn copy(&self, alloc: Global) -> Result<TriggerName, NoMemory>
         ensures { IfOk result (λ n. n ≡ self.now) }
     {

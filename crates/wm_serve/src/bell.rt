@@ -17,6 +17,7 @@ enum Rung {
 }
 
 impl Bell {
+    /// A bell that wasn't rung yet.
     pub fn new() -> Bell {
         Bell {
             state: Mutex::new(Rung::Silent),
@@ -24,6 +25,7 @@ impl Bell {
         }
     }
 
+    /// Rings it. One that is rung already, or closed, stays so.
     pub fn ring<R: Wait>(&self, rt: &R) {
         let mut state = self.state.lock(rt);
         if *state == Rung::Silent {
@@ -33,6 +35,7 @@ impl Bell {
         }
     }
 
+    /// Closes it, for ever.
     pub fn close<R: Wait>(&self, rt: &R) {
         *self.state.lock(rt) = Rung::Closed;
         self.changed.notify_all();

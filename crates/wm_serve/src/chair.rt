@@ -27,6 +27,7 @@ pub struct Chair<J: Naming> {
 }
 
 impl<J: Naming> Chair<J> {
+    /// A chair on which nobody sits. It takes no memory.
     pub fn new(alloc: Global) -> Chair<J> {
         Chair {
             page: Mutex::new(Vec::new(alloc)),

@@ -22,6 +22,8 @@ fn root_of(command: &Command) -> Option<&RootPath> {
 }
 
 /// Submits a command. Each reply that it may have is made first, with its room, so that an accepted command has its reply.
+/// `NoMemory` where that finds no room, for a session without a seat and for a `Begin`: then nothing is submitted. Else it is
+/// refused as [`Place::submit`] is. A refusal appends nothing.
 pub fn command<R: Wait, D: Disk + Drop, J: Naming, K: Wait + Copy + Drop>(
     rt: &R,
     alloc: Global,

@@ -32,7 +32,7 @@ pub trait House {
     /// So many sessions may be there at once from now on.
     fn open_door<R: Wait>(&self, rt: &R, chairs: u64);
 
-    /// Lets a session in, or hands it back where there is no chair.
+    /// Lets a session in, or hands it back where there is no chair, or memory ran out.
     fn enter<R: Wait>(&self, rt: &R, stream: UnixStream) -> Result<(), UnixStream>;
 
     /// Answers the lines of one session after the other, until no session comes any longer.
@@ -56,7 +56,8 @@ pub trait House {
     /// The tick at which the root of this number stands; 0 before its first listing.
     fn tick<R: Wait>(&self, rt: &R, root: u64) -> u64;
 
-    /// Takes in what a crawl found that began at a tick.
+    /// Takes in what a crawl found that began at a tick. `NotWatched` where no root has the number, and else
+    /// refused as `RootHall::operate`.
     fn take_in<R: Wait + Clock>(
         &self,
         rt: &R,

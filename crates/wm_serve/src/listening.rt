@@ -31,7 +31,9 @@ fn bind<R: Net + Files<File = File>>(rt: &R, path: &str) -> io::Result<UnixListe
     }
 }
 
-/// Makes the socket, for this user alone.
+/// Makes the socket, for this user alone. A socket that nobody serves any longer is taken over. An `Err` where a server
+/// listens there, something else stands there, or the socket can't be made; and where its rights can't be set: then it stays,
+/// and nobody serves it.
 pub fn listen<R: Net + Files<File = File>>(rt: &R, path: &str) -> io::Result<UnixListener> {
     let listener = bind(rt, path)?;
     fs::set_permissions(rt, path, Permissions::from_mode(0o600))?;

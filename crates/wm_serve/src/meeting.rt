@@ -99,7 +99,7 @@ fn inquire<R: Wait, D: Disk + Drop, J: Naming, K: Wait + Copy + Drop>(
     hall.inquire(rt, alloc, viewer, inquiry, out)
 }
 
-/// Meets a request of a session, which is refused or has its reply appended.
+/// Meets a request of a session, which is refused, with nothing appended, or has its reply appended.
 pub fn meet<R: Wait + Clock, D: Disk + Drop, J: Naming, K: Wait + Copy + Drop>(
     rt: &R,
     alloc: Global,

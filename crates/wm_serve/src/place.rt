@@ -1,5 +1,5 @@
 //! A session's seat at the desk.
-//! Tests: serve_tests/src/places.rt.
+//! Tests: serve_tests/src/sessions.rt.
 ghost use Rattle.wm_groupcommit.specs.Seats.{IsSeatOf};
 
 use std::sync::Wait;
@@ -22,7 +22,7 @@ impl<'a, D: Disk + Drop> Place<'a, D> {
         Ok(Place { desk, seat })
     }
 
-    /// How a command was met.
+    /// How a command was met: it is refused as `Desk::submit` refuses it.
     pub fn submit<R: Wait>(&mut self, rt: &R, command: Command) -> Reply {
         match self.desk.submit(rt, &mut self.seat, command) {
             Ok((reply, _)) => reply,

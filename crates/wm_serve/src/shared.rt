@@ -40,6 +40,7 @@ pub struct Shared<D: Disk + Drop, J: Naming, K: Wait + Copy + Drop> {
 }
 
 impl<D: Disk + Drop, J: Naming, K: Wait + Copy + Drop> Shared<D, J, K> {
+    /// What all threads share, with no hall and no worker yet, and a door that lets nobody in. `NoMemory` hands the desk back.
     pub fn new(
         alloc: Global,
         keeping: K,
@@ -86,7 +87,7 @@ impl<D: Disk + Drop, J: Naming, K: Wait + Copy + Drop> Shared<D, J, K> {
         desk
     }
 
-    /// The hall of a watched root.
+    /// The hall of a watched root. `NotWatched` where there is none, and `NoMemory` where it has too many owners.
     pub fn hall<R: Wait>(&self, rt: &R, path: &RootPath) -> Result<Arc<RootHall<J, K>>, Refusal> {
         for hall in self.halls.lock(rt).iter() {
             if hall.path == *path {
@@ -106,7 +107,7 @@ impl<D: Disk + Drop, J: Naming, K: Wait + Copy + Drop> Shared<D, J, K> {
         None
     }
 
-    /// Makes a hall for each root of the registry at the start.
+    /// Makes a hall for each root of the registry at the start. `NoMemory`, and then some may have none.
     pub fn begin<R: Wait>(&self, rt: &R, alloc: Global) -> Result<(), NoMemory> {
         let registry = self.desk.registry(rt)?;
         for (path, root) in registry.roots() {
@@ -164,7 +165,8 @@ impl<D: Disk + Drop, J: Naming, K: Wait + Copy + Drop> Shared<D, J, K> {
         }
     }
 
-    /// The hall of a path follows the registry, after a command that changed it.
+    /// The hall of a path follows the registry, after a command that changed it. `NoMemory`: then it is as it was, or a watched
+    /// root has none.
     pub fn follow<R: Wait>(&self, rt: &R, alloc: Global, path: &RootPath) -> Result<(), NoMemory> {
         let _following = self.following.lock(rt);
         let registry = self.desk.registry(rt)?;

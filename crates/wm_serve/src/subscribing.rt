@@ -27,7 +27,9 @@ fn start<R: Wait, J: Naming, K: Wait + Drop>(
     }
 }
 
-/// Subscribes to a root under a name, in place of a subscription of that root and name, and appends the reply.
+/// Subscribes to a root under a name, in place of a subscription of that root and name, and appends the reply. `NotWatched`,
+/// `NoPlace` where no viewer of the root is left or the root is gone, `NotReady` before the first whole listing, `TooMany` where
+/// the session has no room for one more, and `NoMemory`: then nothing is appended, and the subscriptions are as they were.
 pub fn subscribe<R: Wait, D: Disk + Drop, J: Naming, K: Wait + Copy + Drop>(
     rt: &R,
     alloc: Global,
@@ -73,7 +75,8 @@ pub fn subscribe<R: Wait, D: Disk + Drop, J: Naming, K: Wait + Copy + Drop>(
     Ok(())
 }
 
-/// Ends the subscription of a watched root and a name, where there is one, and appends the reply.
+/// Ends the subscription of a watched root and a name, where there is one, and appends the reply. `NotWatched`, and `NoMemory`:
+/// then nothing is appended, and the subscriptions are as they were.
 pub fn unsubscribe<R: Wait, D: Disk + Drop, J: Naming, K: Wait + Copy + Drop>(
     rt: &R,
     alloc: Global,

@@ -1,6 +1,6 @@
 //! What a server reads and starts of its system: traits that threads see, in place of the runtime's own.
 //! Tests: serve_tests/src/sessions.rt.
-ghost use Rattle.std.specs.Prelude.{◌≡◌, ◌≢◌, ⊤, map, IfErr};
+ghost use Rattle.std.specs.Prelude.{◌≡◌, ◌≢◌, ⊤, map, length, IfOk, IfErr};
 ghost use Rattle.wm_disk.specs.declared.refusal.Refusal.TheVariants.{DeviceFailed, NoMemory as no_memory};
 ghost use Rattle.wm_names.specs.declared.subtree.Subtree.TheVariants.{Below};
 ghost use Rattle.wm_crawler.specs.Trees.{SomeFails};
@@ -36,6 +36,7 @@ pub trait Folders {
         root: &RootPath,
         paths: &[RelPath],
     ) -> Result<Vec<Option<Meta>>, Refusal>
+        ensures each { IfOk result (λ v. length v.items ≡ length paths.now) }
         ensures refused { IfErr result (λ e. e ≢ no_memory → (e ≡ DeviceFailed) × SomeFails (λ _. ⊤) (map Below paths.now)) };
 }
 
@@ -46,6 +47,7 @@ pub struct SystemFolders<R> {
 }
 
 impl<R: Files + Drop> SystemFolders<R> {
+    /// The folders by these files of the system.
     pub fn new(files: R) -> SystemFolders<R> {
         SystemFolders { files }
     }
@@ -88,7 +90,7 @@ impl<R: Files + Drop> Folders for SystemFolders<R> {
 
 /// The programs of triggers.
 pub trait Programs {
-    /// As `Starter::run`.
+    /// As `Starter::run`, but a start that fails isn't counted.
     fn run(
         &self,
         alloc: Global,
@@ -105,6 +107,7 @@ pub struct SystemPrograms<R> {
 }
 
 impl<R: Processes + Drop> SystemPrograms<R> {
+    /// The programs by these processes of the system.
     pub fn new(processes: R) -> SystemPrograms<R> {
         SystemPrograms { processes }
     }

@@ -71,7 +71,7 @@ fn run_all<R: Wait, J: Naming, K: Wait + Drop, P: Programs>(
     Ok(now)
 }
 
-/// The worker that runs the triggers of a root, with a viewer of its own from its start on.
+/// The worker that runs the triggers of a root, with a viewer of its own from its start on. Where none is left then, it runs none.
 pub fn trigger_for<R: Wait, J: Naming, K: Wait + Drop, P: Programs>(
     rt: &R,
     alloc: Global,

@@ -21,6 +21,7 @@ use wm_view::{Listing, Op, Pairs};
 
 /// A copy of what is published, seen as its list of operations.
 pub trait Listed<J: Naming>: Absorb<Step<J>, State = Front<J>> {
+    /// The list, and what the view is after it.
     fn told(&self) -> Told<J>
         ensures { result ≡ Self.state self.now };
 
@@ -98,7 +99,8 @@ impl<J: Naming, T: Listed<J> + Drop, R: Wait + Drop> RootKeeper<J, T, R> {
     }
 
     /// Hands in what was observed at a moment, as `View::observe`. `NoMemory`, and `Exhausted` where the list
-    /// has 2^63 - 1 operations; a refusal changes nothing.
+    /// has 2^63 - 1 operations; a refusal changes nothing. An operation for which the writer had no room is
+    /// `Ok`: it is kept, and waits with the others.
     pub fn observe(&mut self, moment: u64, pairs: Pairs) -> Result<(), Refusal>
         ensures published { self.new.published ≡ self.old.published }
         ensures appended { MatchResult result (λ _. self.new.pending ≡ self.old.pending ++ Observe moment pairs ∷ []) (λ e. ((e ≡ Refusal.NoMemory) ⊎ (e ≡ Refusal.Exhausted)) × (self.new.pending ≡ self.old.pending)) }

@@ -5,7 +5,7 @@ ghost use Rattle.std.specs.Prelude.{◌≡◌, ◌≢◌, MatchBool};
 /// Which share it is, and of which root. No two shares of a process have one number.
 #[derive(Clone, Copy, Debug, PartialEq, Eq)]
 pub struct ShareId {
-    /// How many shares the process had before.
+    /// How many numbers of shares the process had used up before.
     pub number: u64,
     /// The incarnation in which the view began.
     pub incarnation: u64,

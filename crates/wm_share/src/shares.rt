@@ -47,7 +47,7 @@ impl Opened {
     }
 }
 
-/// What makes the shares of a process. Contracts see how many it made.
+/// What makes the shares of a process. Contracts see how many numbers of shares it used up.
 #[derive(Drop)]
 pub struct Shares<J: Naming> {
     made: u64,
@@ -81,7 +81,7 @@ impl<J: Naming> Shares<J> {
             of: PhantomData,
         }
     }
-    /// The beginning of a new share's list, and the share's word. `Exhausted` where 2^63 - 1 shares were made.
+    /// The beginning of a new share's list, and the share's word. `Exhausted` where 2^63 - 1 numbers are used up.
     fn next(&mut self, incarnation: u64, root: u64) -> Result<(Front<J>, Head<J>), Refusal>
         ensures ok { IfOk result (λ s. (s.0 ≡ empty_list (record { number = self.old; incarnation = incarnation; root = root })) × (s.1.number ≡ self.old) × (self.new ≡ self.old + 1)) }
         ensures err { IfErr result (λ e. (e ≡ Refusal.Exhausted) × (self.old ≡ max_shares) × (self.new ≡ self.old)) }
@@ -104,8 +104,9 @@ impl<J: Naming> Shares<J> {
         Ok((Front::new(share, self.seen.again()), head))
     }
 
-    /// A keeper and its viewers, over two new views of the root. `NoMemory`, and `Exhausted` where 2^63 - 1
-    /// shares were made.
+    /// A keeper and its viewers, over two new views of the root; where memory is short, fewer viewers than
+    /// [`MAX_VIEWERS`]. `NoMemory`, which may use up a share's number, and `Exhausted` where 2^63 - 1 of these
+    /// are used up.
     pub fn share<R: Wait + Drop>(
         &mut self,
         rt: R,

@@ -36,7 +36,7 @@ impl Model for Cursors {
 }
 
 impl Cursors {
-    /// No cursors yet, with room for `MAX_CURSORS`: some 20 kilobytes.
+    /// No cursors yet, with room for `MAX_CURSORS`: some 20 kilobytes. `NoMemory` where that isn't found.
     pub fn new(alloc: Global) -> Result<Cursors, NoMemory>
         ensures { IfOk result (λ c. c ≡ []) }
     {

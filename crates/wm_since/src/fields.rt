@@ -77,7 +77,7 @@ fn named(alloc: Global, names: &[&str], fields: &[Field]) -> Result<Vec<Field>, 
 }
 
 impl Fields {
-    /// The fields of a question that names none: `exists`, `name`, `new` and `size`.
+    /// The fields of a question that names none: `exists`, `name`, `new` and `size`. `NoMemory`.
     pub fn default_fields(alloc: Global) -> Result<Fields, NoMemory>
         ensures { IfOk result (λ f. f ≡ default_fields) }
     {

@@ -29,7 +29,7 @@ pub trait Test: Drop {
     fn is_path_only(&self) -> bool
         ensures { result ≡ path_only self.now };
 
-    /// A test that passes the same entries.
+    /// A test that passes the same entries. `NoMemory`.
     fn copy(&self, alloc: Global) -> Result<Self, NoMemory>
         ensures { IfOk result (λ test. (passes test ≡ passes self.now) × (path_only test ≡ path_only self.now)) };
 

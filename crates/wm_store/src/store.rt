@@ -163,7 +163,8 @@ impl<D: Disk + Drop> Store<D> {
     }
 
     /// Makes all durable with a last sync; every later call is answered `12`. `12 StoreFailed` as in
-    /// [`Store::commit_batch`]; `13 DeviceFailed` where the sync failed.
+    /// [`Store::commit_batch`]; `13 DeviceFailed` where the sync failed, and then the disk means the same
+    /// registry.
     pub fn close(&mut self) -> Result<(), Refusal>
         ensures closed { OnOk result (self.new.closed ≡ true) }
         ensures room { self.new.room ≡ self.old.room }

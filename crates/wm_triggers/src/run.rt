@@ -90,7 +90,7 @@ impl Run {
         self.answer.files.as_slice()
     }
 
-    /// The same run again, whose paths share their texts.
+    /// The same run again, whose paths share their texts. `NoMemory`.
     pub fn copy(&self, alloc: Global) -> Result<Run, NoMemory>
         ensures { IfOk result (λ r. r ≡ self.now) }
     {

@@ -67,7 +67,7 @@ fn add_words(command: &mut Command, words: &[&str]) -> Result<(), NoMemory>
 
 /// The command that starts the program of a run: in the root as its working folder and with the
 /// environment of this process, the trigger's words, and behind them the paths of the files where
-/// the trigger appends them. Its streams aren't set.
+/// the trigger appends them. Its streams aren't set. `NoMemory`.
 pub fn run_command(
     alloc: Global,
     root: &RootPath,
@@ -103,7 +103,7 @@ fn path_lines(alloc: Global, files: &[Listed]) -> Result<Vec<u8>, NoMemory>
     Ok(lines)
 }
 
-/// What the program of a run reads, and `None` where it reads `/dev/null`.
+/// What the program of a run reads, and `None` where it reads `/dev/null`. `NoMemory`.
 pub fn run_input(alloc: Global, stdin: Stdin, run: &Run) -> Result<Option<Vec<u8>>, NoMemory>
     ensures { IfOk result (λ input. option_map (λ i. i.items) input ≡ input_for stdin run.now) }
 {

@@ -72,7 +72,7 @@ impl TriggerRun {
     }
 
     /// The question whose answer says which run is due: what changed since the last run that was
-    /// started, and before the first of them all that is there.
+    /// started, and before the first of them all that is there. A refusal is `NoMemory`.
     pub fn ask(&self, alloc: Global) -> Result<Query<Expr>, Refusal>
         ensures question { IfOk result (λ q. question q ≡ next_run self.now) }
         ensures test { IfOk result (λ q. term q.test ≡ chosen_term self.now) }

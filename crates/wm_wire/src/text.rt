@@ -13,7 +13,7 @@ use std::alloc::Global;
 use std::marker::Model;
 use wm_disk::NoMemory;
 
-/// Appends the spelling of a text. Where no room is found the vector stays as it was.
+/// Appends the spelling of a text. `NoMemory` leaves the vector as it was.
 pub fn put_text(text: &str, out: &mut Vec<u8>) -> Result<(), NoMemory>
     requires { length text.now < 2 ^ 16 }
     ensures ok { OnOk result (out.new.items ≡ out.old.items ++ text_lem text.now) }
@@ -61,7 +61,7 @@ impl<const MAX: u16> Model for Text<MAX> {
 }
 
 impl<const MAX: u16> Text<MAX> {
-    /// A copy of the text.
+    /// A copy of the text. `NoMemory`.
     pub fn new(alloc: Global, text: &str) -> Result<Self, NoMemory>
         requires { length text.now ≤ MAX }
         ensures { IfOk result (λ t. t ≡ text.now) }
@@ -78,7 +78,7 @@ impl<const MAX: u16> Text<MAX> {
         self.text.as_str()
     }
 
-    /// The same text again.
+    /// The same text again. `NoMemory`.
     pub fn copy(&self, alloc: Global) -> Result<Self, NoMemory>
         ensures { IfOk result (λ t. t ≡ self.now) }
     {

@@ -17,7 +17,7 @@ pub trait Wire {
     /// The spelling of a value.
     ghost spelling: { Self → List ℕ };
 
-    /// Appends the spelling. Where no room is found the vector stays as it was.
+    /// Appends the spelling. `NoMemory` leaves the vector as it was.
     fn put(&self, out: &mut Vec<u8>) -> Result<(), NoMemory>
         ensures ok { OnOk result (out.new.items ≡ out.old.items ++ spelling self.now) }
         ensures err { OnErr result (out.new.items ≡ out.old.items) };

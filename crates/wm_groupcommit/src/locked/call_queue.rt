@@ -48,7 +48,7 @@ pub fn is_empty(queue: &CallQueue) -> bool {
     queue.is_empty_as::<Takes>(&mut pass)
 }
 
-/// Puts a call at the back.
+/// Puts a call at the back. It comes back where the queue finds no room for it.
 pub fn push<R: Wait>(rt: &R, queue: &CallQueue, pass: &mut CallPass, call: Call) -> Result<(), Call>
     requires { IsSegPassOf queue.now pass.old }
     ensures queue { IsSegPassOf queue.now pass.new × (pass.new.id ≡ pass.old.id) }
@@ -57,7 +57,8 @@ pub fn push<R: Wait>(rt: &R, queue: &CallQueue, pass: &mut CallPass, call: Call)
     queue.push_as::<Puts, R>(rt, pass, call)
 }
 
-/// Takes as many calls from the front as a batch may have, in one step.
+/// Takes as many calls from the front as a batch may have, in one step. An `Err` where there is no room for
+/// so many, and then nothing was taken.
 pub fn pop<R: Wait>(
     rt: &R,
     alloc: Global,

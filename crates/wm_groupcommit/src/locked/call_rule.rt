@@ -22,6 +22,7 @@ impl Protocol<Call, CallView> for Merges {
     ghost first = { call_view [] [] };
 }
 
+/// A place puts a call.
 pub struct Puts;
 
 impl Outcome<Call, CallView> for Puts {
@@ -31,6 +32,7 @@ impl Outcome<Call, CallView> for Puts {
     ghost then = { λ v x w. w ≡ call_view (v.pushed ++ x ∷ []) v.popped };
 }
 
+/// A place takes calls.
 pub struct Takes;
 
 impl Outcomes<Call, CallView> for Takes {

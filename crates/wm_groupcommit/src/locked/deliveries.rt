@@ -37,6 +37,7 @@ pub struct ReplyView {
     pub got: LinkedList<Answer>,
 }
 
+/// The flusher's end knows one list; the seat's has seen a beginning of it, and has answers that are right for that.
 pub struct Replies;
 
 impl Protocol<Delivery, ReplyView> for Replies {
@@ -48,6 +49,7 @@ impl Protocol<Delivery, ReplyView> for Replies {
     ghost first = { reply_view true None [] [] };
 }
 
+/// The flusher's end stays, and the seat's knows nothing yet.
 pub struct Roles;
 
 impl Split<ReplyView> for Roles {
@@ -58,6 +60,7 @@ impl Split<ReplyView> for Roles {
     ghost right = { λ v. newcomer };
 }
 
+/// The flusher's end hands an answer over.
 pub struct Gives;
 
 impl Outcome<Delivery, ReplyView> for Gives {
@@ -70,6 +73,7 @@ impl Lesson<Delivery, ReplyView> for Gives {
     ghost fact = { λ v items. Unit {0} };
 }
 
+/// The seat's end takes an answer.
 pub struct Gets;
 
 impl Outcome<Delivery, ReplyView> for Gets {
@@ -85,4 +89,5 @@ impl Lesson<Delivery, ReplyView> for Gets {
 /// A reply queue.
 pub type ReplyQueue = RuledArrayQueue<Delivery, ReplyView, Replies>;
 
+/// What one end of a reply queue knows of it.
 pub type ReplyPass = Pass<Delivery, ReplyView>;

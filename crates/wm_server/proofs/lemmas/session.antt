@@ -1,8 +1,10 @@
 pub mod HistoryLemmas
 pub mod InputLemmas
 pub mod Inquiring
+pub mod LongLines
 pub mod PartLemmas
 pub mod PlainLemmas
+pub mod PlainReadings
 pub mod RunLemmas
 pub mod SessionLemmas
 pub mod TellingLemmas

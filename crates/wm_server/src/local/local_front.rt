@@ -57,8 +57,9 @@ impl<D: Disk + Drop> LocalFront<D> {
     ghost use Rattle.wm_store.specs.Openings.{IsBegun};
 
     /// Takes up the registry that a disk means, and begins the next incarnation. The refusals are those
-    /// of [`Store::open`], and `Damaged` after it where a trigger keeps a text that is no expression; each
-    /// hands the disk back.
+    /// of [`Store::open`], and after it `Damaged` where a trigger keeps a text that is no expression, and
+    /// `NoMemory` where the views find no room: then the disk means the registry with one more `Begin`.
+    /// Each hands the disk back.
     pub fn open(alloc: Global, disk: D) -> Result<LocalFront<D>, (Refusal, D)>
         ensures begun { IfOk result (λ front. D.honest (disk_of_front front) → IsBegun D.Disk disk front.store) }
         ensures kept { IfOk result (λ front. D.honest (disk_of_front front) → IsKeptOn D.Disk (session_state_of front).registry (disk_of_front front)) }
@@ -79,7 +80,8 @@ impl<D: Disk + Drop> LocalFront<D> {
         }
     }
 
-    /// Closes the store. `StoreFailed` where the device had failed before.
+    /// Closes the store. `StoreFailed` where the device had failed before, and `DeviceFailed` where the last
+    /// sync fails: the disk then means the same registry.
     pub fn close(self) -> (Result<(), Refusal>, D)
         ensures later { Later D.Disk (disk_of_front self) result.1 }
         ensures ok { OnOk result.0 ((session_state_of self).has_failed ≡ false) }

@@ -60,7 +60,8 @@ pub fn serve_lines<D: Disk + Drop, R: BufRead, W: Write>(
     }
 }
 
-/// Tells on `faults` why a program was refused: its name, and the refusal's number and name.
+/// Tells on `faults` why a program was refused: its name, and the refusal's number and name. An `Err` is
+/// that of a call of the writer, which may have written a part.
 pub fn tell<E: Write>(refusal: Refusal, faults: &mut Output<E>) -> io::Result<()>
     ensures told { OnOk result (Appends (E.contents (writer_of faults.old)) (E.contents (writer_of faults.new)) (message_of refusal)) }
     ensures failed { OnErr result (writer_failed faults.new ≡ true) }

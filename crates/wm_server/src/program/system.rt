@@ -24,11 +24,13 @@ pub trait System {
     /// The file of a path was taken away, or that was refused.
     ghost removes: { Self → List ℕ → Self → Type 0 };
 
-    /// Opens a state file that is there.
+    /// Opens a state file that is there. `DeviceFailed` where it isn't there, there is no right to it, another
+    /// program has it, or it can't be opened else: then nothing stays open.
     fn open(&mut self, path: &str) -> Result<Self::File, DeviceFailed>
         ensures { MatchResult result (λ file. opens self.old path.now (Some file) self.new) (λ _. opens self.old path.now None self.new) };
 
-    /// Makes a file that wasn't there.
+    /// Makes a file that wasn't there. `DeviceFailed` where something is there or it can't be made, locked or
+    /// synced: then a file that was made is taken away again, where that can be done.
     fn create(&mut self, path: &str) -> Result<Self::File, DeviceFailed>
         ensures { MatchResult result (λ file. creates self.old path.now (Some file) self.new) (λ _. creates self.old path.now None self.new) };
 
@@ -48,6 +50,7 @@ pub struct Host<'a, F> {
 }
 
 impl<'a, F: Files<File = File>> Host<'a, F> {
+    /// The system with these files.
     pub fn new(files: &'a F) -> Host<'a, F> {
         Host { files }
     }

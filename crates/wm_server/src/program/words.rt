@@ -47,7 +47,7 @@ const STATUSES: &str = "Exit status:
   1  refused, or the input or the output failed; standard error says why
   2  the words aren't understood";
 
-/// The command of the program, with a command for each thing that it does.
+/// The command of the program, with a command for each thing that it does. `NoMemory`.
 pub fn watchmand<'a>(alloc: Global) -> Result<Command<'a>, NoMemory>
     ensures { IfOk result (λ c. app_of c ≡ watchmand_app) }
 {

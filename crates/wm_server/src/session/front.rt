@@ -24,15 +24,17 @@ use wm_view::Op;
 
 /// What a session stands on: where its commands and operations go, and what it can ask.
 pub trait Front {
-    /// What lines read and change, and how often the device under it has failed.
+    /// What lines read and change, how often the device under it has failed, and the number of the slot in use.
     ghost front_state: { Self → FrontState };
 
     /// Holds of an earlier and a later moment of one front, and of the commands that were submitted
     /// between them: what each call keeps, beyond what lines see.
     ghost leads_to: { Self → List commands.Command → Self → Type 0 };
 
-    /// Submits a command; a `Begin` is refused. After a failure of the device each later command is
-    /// refused.
+    /// Submits a command. It is refused as the registry has it; `BadArguments` for a `Begin`; `StoreFailed`
+    /// after a failure of the device; `DeviceFailed` where the device fails now, and the next start may then
+    /// find the command accepted; `Exhausted` where it needs a checkpoint and the slot's number stands at
+    /// 2^63 - 1; and `NoMemory`. After a refusal the registry and the views are as they were.
     fn submit(&mut self, alloc: Global, command: Command) -> Reply
         ensures met { Submits (front_state self.old) command result (front_state self.new) }
         ensures later { leads_to self.old (command ∷ []) self.new };

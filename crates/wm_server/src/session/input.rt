@@ -138,7 +138,8 @@ fn line_off<R: BufRead>(reader: &mut R, line: &mut Vec<u8>) -> io::Result<LineRe
     Err(io::Error::from(ErrorKind::Other))
 }
 
-/// Reads the next line off an input, as far as it may be kept.
+/// Reads the next line off an input, as far as it may be kept. An `Err` is a call of the reader that failed,
+/// or comes of a reader that was interrupted for ever; the input notes it, and `line` may hold a part.
 pub fn read_line<R: BufRead>(input: &mut Input<R>, line: &mut Vec<u8>) -> io::Result<LineRead>
     requires { lines_read input.old < 2 ^ 64 - 1 }
     ensures read { IfOk result (λ read. (rest : List ℕ) → R.remaining (reader_of input.old) ≡ Some rest → ReadsLine rest read line.new.items (R.remaining (reader_of input.new))) }

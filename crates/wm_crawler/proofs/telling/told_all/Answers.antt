@@ -2,7 +2,6 @@ use Rattle.std.proofs.Common.{map, subst}
 use Rattle.std.proofs.lemmas.Result.{err_from_is_err_and}
 use Rattle.wm_names.specs.declared.subtree.Subtree.TheVariants.{Below}
 use Rattle.wm_crawler.specs.Trees.{AreMetas, SomeFails}
-use Rattle.wm_crawler.specs.Levels.{AllAmong, AreTold}
 use Rattle.wm_crawler.proofs.Steps.{among_paired, told_from}
 use Rattle.wm_crawler.proofs.telling.told_all.Goals as goal
 

@@ -1,7 +1,8 @@
 use Rattle.std.proofs.Common.{ap}
 use Rattle.std.proofs.lemmas.Result.{IfOk-weaker}
 use Rattle.wm_server.specs.session.Stands.{standing}
-use Rattle.wm_server.proofs.lemmas.session.RunLemmas.{no_memory, on_err, untold_no_memory}
+use Rattle.wm_server.proofs.lemmas.session.LongLines.{no_memory, untold_no_memory}
+use Rattle.wm_server.proofs.lemmas.session.RunLemmas.{on_err}
 use Rattle.wm_server.proofs.session.run.answer_kept.Goals as goal
 
 pub returns-clause-served : goal.returns-clause-served

@@ -1,7 +1,7 @@
 use Rattle.std.proofs.Common.{◌∙◌, refl, subst, List, ℕ}
 use Rattle.std.specs.Io.KnownBytes.{Appends}
 use Rattle.wm_server.specs.session.Streams.{writer_of}
-use Rattle.wm_server.proofs.lemmas.session.RunLemmas.{no_memory_line}
+use Rattle.wm_server.proofs.lemmas.session.LongLines.{no_memory_line}
 use Rattle.wm_server.proofs.session.run.answer_no_memory.Goals as goal
 
 pub returns-clause-told : goal.returns-clause-told

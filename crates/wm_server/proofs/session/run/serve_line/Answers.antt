@@ -1,7 +1,8 @@
 use Rattle.std.proofs.Common.{refl, subst}
 use Rattle.wm_server.specs.session.Asked.{asked_by}
 use Rattle.wm_server.specs.session.Stands.{standing}
-use Rattle.wm_server.proofs.lemmas.session.RunLemmas.{no_memory, on_err, same_request, stands_kept, untold_kept, untold_no_memory}
+use Rattle.wm_server.proofs.lemmas.session.LongLines.{no_memory, same_request, stands_kept, untold_kept, untold_no_memory}
+use Rattle.wm_server.proofs.lemmas.session.RunLemmas.{on_err}
 use Rattle.wm_server.proofs.session.run.serve_line.Goals as goal
 
 pub returns-in_ok-faults-in-Kept-clause-served : goal.returns-in_ok-faults-in-Kept-clause-served
