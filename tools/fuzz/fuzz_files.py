@@ -8,6 +8,9 @@ from fuzz_registry import EMPTY, begun, with_trigger, with_watch, without_trigge
 from fuzz_state import HEADER, JOURNAL_BYTES, OPEN, RETIRED_GATE, SIZE, SLOT_BYTES, SLOTS
 from fuzz_terms import LARGEST
 
+# What the last two lines of `asked` are answered, where the watch is accepted, and where the file has no room for it.
+WATCHED = b'{"version":"w1","watch":"/new"}\n'
+NO_ROOM = b'{"error":"15 Exhausted","version":"w1"}\n{"error":"5 NotWatched","version":"w1"}\n'
 REFUSALS = {14: "14 Damaged", 15: "15 Exhausted", 20: "20 Retired"}
 CHANGES = {0: begun, 1: with_watch, 2: without_watch, 3: with_trigger, 4: without_trigger}
 # Texts that a trigger may keep in a file: expressions in other spellings than a line leaves, and what is none.
@@ -233,6 +236,9 @@ def opened(program, path, content):
     if number:
         return refused(number, content, state, seen, left)
     wanted, _, states = fuzz_lines.expected(b"".join(lines), before)
+    if wanted.count(WATCHED) == 1 and not fuzz_state.has_room(content, [1, "/new"]):
+        wanted, _, states = fuzz_lines.expected(b"".join(lines[:-2]), before)
+        wanted += NO_ROOM
     if (seen.returncode, seen.stdout, seen.stderr) != (0, wanted, b""):
         raise fuzz_lines.Difference(fuzz_lines.place(seen.stdout, wanted) + f"; status {seen.returncode} {seen.stderr[:300]!r}")
     if not fuzz_state.is_same(fuzz_state.meaning(left)[0], states[-1]) or left[SIZE:] != content[SIZE:]:

@@ -179,6 +179,13 @@ def started(content):
     return (0 if has_expressions(state) else 14), after
 
 
+def has_room(content, command):
+    """Whether a start leaves room for a command: in the journal, or by a checkpoint, which raises the slot's number."""
+    _, end, number = meaning(content)
+    begun_at = end + 2
+    return number < LARGEST or begun_at + 1 + len(record_bytes(command)) <= JOURNAL_BYTES - 1
+
+
 def slot_bytes(number, state):
     """An open slot with a state."""
     body = state_spelling(state)
