@@ -1,7 +1,7 @@
 #!/bin/sh
-# The gate: `rt ci`, then the sweep of growths by the program that it proved and built. The last line is that of `rt ci`, and the status is 0
-# where both are well. A check by one job takes less processor than one by several, and there are crates enough for all processors; four
-# checks at once take up to 20 GB.
+# The gate: `rt ci`, then the sweep of growths by the program that it proved and built. It tells at its end what both took of the processors.
+# The last line is that of `rt ci`, and the status is 0 where both are well. Three checks at once, each by one job: beside three others a check
+# takes nearly twice the processor where two processors share a core, so four at once end no sooner.
 # usage: tools/gate.sh [--anew]
 set -eu
 cd "$(dirname "$0")/.."
@@ -13,7 +13,7 @@ processors() {
     read -r quota period < /sys/fs/cgroup/cpu.max
     if [ "$quota" != max ] && [ $((quota / period)) -lt "$found" ]; then found=$((quota / period)); fi
   fi
-  echo $((found < 1 ? 1 : found > 4 ? 4 : found))
+  echo $((found < 1 ? 1 : found > 3 ? 3 : found))
 }
 
 RT_JOBS=${RT_JOBS:-$(processors)}
@@ -27,5 +27,7 @@ trap 'rm -rf "$room"' EXIT
 } | tee "$room/told"
 status=$(cat "$room/status")
 if [ "$status" = 0 ]; then tools/growths.py crates/growths/out/growths || status=1; fi
+times > "$room/times"
+tr 'ms' '  ' < "$room/times" | awk 'NR == 2 { printf "gate: %d processor minutes\n", $1 + $3 + ($2 + $4) / 60 + 0.5 }'
 tail -n 1 "$room/told"
 exit "$status"

@@ -1,4 +1,4 @@
-//! Tests of shares (`wm_share`), and of subscriptions that follow a viewer (`wm_subs`).
+//! Tests of shares (`wm_share`), and of subscriptions (`wm_subs`), of a view and behind a viewer.
 //!
 //! What each call promises stands in its contract; here is that the calls succeed with ample memory, with what
 //! they tell then written out by hand, and that a viewer on another thread reads what was told.
@@ -12,5 +12,7 @@ mod making;
 mod pools;
 #[cfg(test)]
 mod shares;
+#[cfg(test)]
+mod subscriptions;
 #[cfg(test)]
 mod telling;

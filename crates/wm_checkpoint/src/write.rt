@@ -20,7 +20,7 @@ pub(crate) fn put_durably<D: Disk>(disk: &mut D, at: u64, bytes: &[u8]) -> Resul
     ensures written { D.honest disk.new → OnOk result (D.seen disk.new ≡ overwritten (D.seen disk.old) at bytes.now) }
     ensures long { D.honest disk.new → OnOk result (length (D.seen disk.new) ≡ length (D.seen disk.old)) }
     ensures durable { D.honest disk.new → OnOk result (Only (D.seen disk.new) (D.may_leave disk.new)) }
-    ensures any_moment { (place len : ℕ) (before : List ℕ) → D.honest disk.new → place ≤ at → at + length bytes.now ≤ place + len → place + len ≤ length before → EachLeft D.Disk disk.old (SameOutside place len before) → LeavesOnly D.moment D.left_since disk.old disk.new (SameOutside place len before) }
+    ensures any_moment { (place len : ℕ) (old : List ℕ) → D.honest disk.new → place ≤ at → at + length bytes.now ≤ place + len → place + len ≤ length old → EachLeft D.Disk disk.old (SameOutside place len old) → LeavesOnly D.moment D.left_since disk.old disk.new (SameOutside place len old) }
     ensures device { CallsDevice D.Disk disk.old disk.new result }
 {
     disk.write_at(at, bytes)?;

@@ -11,6 +11,3 @@ mod words;
 pub use program::wmctl;
 pub use talking::{TalkEnd, talk};
 pub use words::Words;
-
-#[cfg(test)]
-mod tests;

@@ -1,5 +1,5 @@
 //! All of `wmctl`, with its status.
-//! Tests: tests/sockets.rt.
+//! Tests: client_tests/src/client/sockets.rt.
 use crate::talking::{TalkEnd, talk};
 use crate::words::Words;
 use std::alloc::Global;

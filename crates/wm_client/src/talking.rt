@@ -1,5 +1,5 @@
 //! A talk with a server: one request, its reply, and lines that come after it. Definitions: specs/Talks.
-//! Tests: tests/talks.rt.
+//! Tests: client_tests/src/client/talks.rt.
 ghost use Rattle.std.specs.Prelude.{◌≡◌, ◌≢◌, ℕ, List, Some, IfOk, Ok};
 ghost use Rattle.std.specs.Io.BufRead.{drop_through, take_through};
 ghost use Rattle.std.specs.Io.KnownBytes.{Appends};

@@ -1,4 +1,5 @@
 mod Elements
+mod Fronts
 mod Levels
 mod Readable
 mod Results

@@ -36,6 +36,16 @@ impl Dir {
         }
     }
 
+    /// An empty folder with room for so many names. `NoMemory`.
+    pub(crate) fn with_room(alloc: Global, names: usize) -> Result<Dir, NoMemory>
+        ensures { IfOk result (λ d. d ≡ record { names = []; others = 0 }) }
+    {
+        Ok(Dir {
+            names: Vec::with_capacity(alloc, names)?,
+            others: 0,
+        })
+    }
+
     /// Adds a name. Without memory nothing is changed.
     pub fn add(&mut self, alloc: Global, name: &str) -> Result<(), NoMemory>
         ensures ok { OnOk result (self.new ≡ record self.old { names = self.old.names ++ name.now ∷ [] }) }

@@ -84,10 +84,15 @@ fn is_missing(error: &Error) -> bool {
     )
 }
 
+/// Whether it is the name of the folder itself, or of the one above.
+fn is_dots(name: &[u8]) -> bool {
+    name.len() < 3 && name.iter().all(|byte| *byte == b'.')
+}
+
 /// Adds what was read of a folder: names, each ended by a zero byte.
 fn add_names(alloc: Global, dir: &mut Dir, names: &[u8]) -> Result<(), NoMemory> {
     for name in names.split(|byte| *byte == 0) {
-        if name.is_empty() || name == b".".as_slice() || name == b"..".as_slice() {
+        if name.is_empty() || is_dots(name) {
             continue;
         }
         match str::from_utf8(name) {
@@ -103,7 +108,7 @@ fn add_names(alloc: Global, dir: &mut Dir, names: &[u8]) -> Result<(), NoMemory>
 fn read_names(alloc: Global, names: &mut impl Read) -> Result<Dir, Refusal>
     ensures { IfErr result (λ e. e ≢ no_memory → e ≡ DeviceFailed) }
 {
-    let mut dir = Dir::new(alloc);
+    let mut dir = Dir::with_room(alloc, BATCH)?;
     let mut buffer = [0u8; 8192];
     for _ in 0..u64::MAX {
         match names.read(&mut buffer) {
@@ -126,6 +131,20 @@ fn empty_texts(alloc: Global) -> Result<Vec<String>, NoMemory>
         texts.push(String::new(alloc))?;
     }
     Ok(texts)
+}
+
+/// Makes the first texts those of the paths, behind the prefix.
+fn write_paths(prefix: &str, texts: &mut [String], paths: &[RelPath]) -> Result<(), NoMemory>
+    requires { length paths.now ≤ length texts.old }
+    ensures { length texts.new ≡ length texts.old }
+{
+    for i in 0..paths.len() {
+        let text = &mut texts[i];
+        text.clear();
+        text.push_str(prefix)?;
+        text.push_str(paths[i].as_str())?;
+    }
+    Ok(())
 }
 
 impl<F: Files + Drop> FolderTree<F> {
@@ -157,15 +176,11 @@ impl<F: Files + Drop> FolderTree<F> {
         }
     }
 
-    /// Makes the first texts those of the paths.
-    fn write_paths(&self, texts: &mut [String], paths: &[RelPath]) -> Result<(), NoMemory>
-        requires { length paths.now ≤ length texts.old }
-        ensures { length texts.new ≡ length texts.old }
-    {
-        for i in 0..paths.len() {
-            self.write_path(&mut texts[i], paths[i].as_str())?;
-        }
-        Ok(())
+    /// The root's path with a slash behind it.
+    fn prefix(&self, alloc: Global) -> Result<String, NoMemory> {
+        let mut prefix = String::new(alloc);
+        self.write_path(&mut prefix, "")?;
+        Ok(prefix)
     }
 
     /// Adds what stands at each of the paths that the texts are.
@@ -185,12 +200,13 @@ impl<F: Files + Drop> FolderTree<F> {
         ensures each { IfOk result (λ v. length v.items ≡ length paths.now) }
         ensures refused { IfErr result (λ e. e ≢ no_memory → (e ≡ DeviceFailed) × SomeFails (λ _. ⊤) (map Below paths.now)) }
     {
+        let prefix = self.prefix(alloc)?;
         let mut texts = empty_texts(alloc)?;
         let mut metas = Vec::with_capacity(alloc, paths.len())?;
         let mut rest = paths;
         while !rest.is_empty() {
             let (now, later) = rest.split_at(rest.len().min(BATCH));
-            self.write_paths(&mut texts, now)?;
+            write_paths(&prefix, &mut texts, now)?;
             self.add_metas(&mut metas, &texts[..now.len()])?;
             rest = later;
         }

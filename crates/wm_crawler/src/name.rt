@@ -1,10 +1,10 @@
 //! The name of a file in its folder; a short one takes no memory of its own.
 //! Definitions: specs/NameTexts.antt. Tests: crawler_tests/src/crawls.rt.
-ghost use Rattle.std.specs.Prelude.{◌≡◌, ℕ, List, nat_eq, refl, IfOk};
+ghost use Rattle.std.specs.Prelude.{◌≡◌, ◌<◌, ℕ, List, nat_eq, refl, slice_index, IfOk};
 ghost use Rattle.std.specs.Ordering.{nat_cmp, as_partial_cmp};
 ghost use Rattle.std.specs.Cmp.{partial_order_from_agreeing_total, partial_equiv_from_equiv};
 ghost use Rattle.std.specs.Cmp.Lexicographic.{slice_cmp, pointwise, nat_list_cmp_total, nat_list_eq_equiv, texts_ties};
-ghost use Rattle.wm_crawler.specs.NameTexts.{name_bytes};
+ghost use Rattle.wm_crawler.specs.NameTexts.{front_number, name_bytes};
 
 use arrayvec::ArrayString;
 use std::alloc::Global;
@@ -24,12 +24,36 @@ pub(crate) enum NameText {
 #[derive(Drop)]
 pub(crate) struct Name {
     text: NameText,
+    /// What the first 16 bytes spell. Where it differs it tells the order of two names, and mostly it does.
+    front: u128,
 }
 
 impl Model for Name {
+    ghost use Rattle.std.specs.Prelude.{List, ℕ};
+    ghost use Rattle.wm_crawler.specs.NameTexts.{IsFront, name_bytes};
+
     ghost Value = { List ℕ };
 
     ghost view = { λ n. name_bytes n.text };
+
+    ghost invariant = { λ n. IsFront n.front (name_bytes n.text) };
+}
+
+/// The first 16 bytes, with zeros behind fewer.
+fn padded(bytes: &[u8]) -> [u8; 16]
+    ensures { (i : ℕ) → i < 16 → slice_index result i ≡ slice_index bytes.now i }
+{
+    let mut front = [0u8; 16];
+    let n = bytes.len().min(16);
+    front[..n].copy_from_slice(&bytes[..n]);
+    front
+}
+
+/// The number that the first 16 bytes spell, the greatest first.
+fn front_of(bytes: &[u8]) -> u128
+    ensures { result ≡ front_number bytes.now }
+{
+    u128::from_be_bytes(padded(bytes))
 }
 
 impl Name {
@@ -37,15 +61,14 @@ impl Name {
     pub(crate) fn new(alloc: Global, name: &str) -> Result<Name, NoMemory>
         ensures { IfOk result (λ n. n ≡ name.now) }
     {
+        let front = front_of(name.as_bytes());
         if let Ok(short) = ArrayString::from(name) {
-            return Ok(Name {
-                text: NameText::Short(short),
-            });
+            let text = NameText::Short(short);
+            return Ok(Name { text, front });
         }
         let long = String::from_str(alloc, name)?;
-        Ok(Name {
-            text: NameText::Long(long),
-        })
+        let text = NameText::Long(long);
+        Ok(Name { text, front })
     }
 
     /// The name's text.
@@ -90,6 +113,9 @@ impl Ord for Name {
     ghost matches_eq = { λ x y. texts_ties x y };
 
     fn cmp(&self, other: &Name) -> Ordering {
+        if self.front != other.front {
+            return self.front.cmp(&other.front);
+        }
         self.as_str().cmp(other.as_str())
     }
 }

@@ -1,5 +1,5 @@
 //! A disk, by what a read gives, what a crash may leave, and how often it has failed.
-//! Definitions: specs/Contents.antt, specs/Moments.antt. Tests: of `MemDisk`, memory/tests.rt.
+//! Definitions: specs/Contents.antt, specs/Moments.antt. Tests: of `MemDisk`, leaf_tests/src/disks/memory.rt.
 ghost use Rattle.std.specs.Prelude.{◌≡◌, ◌≤◌, ◌+◌, ◌↔◌, List, ℕ, Option, Some, None, length, take, drop, IfOk, OnOk};
 ghost use Rattle.wm_disk.specs.Contents.{Only, Follows, NoMore, Torn, overwritten, Counts};
 ghost use Rattle.wm_disk.specs.Moments.{Elapses};

@@ -1,6 +1,6 @@
 //! A disk of which one call fails.
 //! Definitions: specs/OneFaults.antt.
-//! Tests: session_tests/src/ends.rt, session_tests/src/lines/failures.rt.
+//! Tests: leaf_tests/src/disks/faults.rt, session_tests/src/ends.rt, session_tests/src/lines/failures.rt.
 ghost use Rattle.std.specs.Prelude.{◌≡◌, ◌+◌, if◌then◌else◌, false, Some};
 ghost use Rattle.std.specs.Bool.{OnTrue, OnFalse};
 ghost use Rattle.std.proofs.Common.{true};
@@ -100,47 +100,5 @@ impl<D: Disk> Disk for OneFault<D> {
             return Err(DeviceFailed);
         }
         self.disk.sync()
-    }
-}
-
-#[cfg(test)]
-mod tests {
-    use super::*;
-    use crate::MemDisk;
-    use std::test::Fail;
-
-    // After how many calls one fails, which of five pass, and how many writes, syncs and others came
-    // to the disk below.
-    const ROWS: &[(u64, [bool; 5], (u64, u64, u64))] = &[
-        (0, [false, true, true, true, true], (1, 1, 2)),
-        (1, [true, false, true, true, true], (2, 0, 2)),
-        (2, [true, true, false, true, true], (1, 1, 2)),
-        (3, [true, true, true, false, true], (2, 1, 1)),
-        (4, [true, true, true, true, false], (2, 1, 1)),
-        (5, [true, true, true, true, true], (2, 1, 2)),
-    ];
-
-    // Which of five calls pass.
-    fn passing(disk: &mut OneFault<MemDisk>) -> [bool; 5] {
-        [
-            disk.write_at(0, b"a").is_ok(),
-            disk.sync().is_ok(),
-            disk.write_at(0, b"b").is_ok(),
-            disk.len().is_ok(),
-            disk.read_at(0, &mut []).is_ok(),
-        ]
-    }
-
-    #[test]
-    fn one_call_fails(rt: HostRuntime) -> Result<(), Fail> {
-        for (calls, want, came) in ROWS {
-            let mut disk = OneFault::new(MemDisk::new(rt.alloc(), 0), *calls);
-            let passed = passing(&mut disk);
-            assert!(rt;
-                passed == *want && disk.disk.calls() == *came,
-                "after {calls}"
-            );
-        }
-        Ok(())
     }
 }

@@ -4,7 +4,7 @@
 //! reads and crashes bind only while it is honest; the law on the count of failures binds always.
 //! [`MemDisk`] is a disk in memory that is honest always, and [`OneFault`] a disk of which one call fails.
 //!
-//! Tests: memory/tests.rt.
+//! Tests: leaf_tests/src/disks.
 #![tactic(auto)]
 
 mod counter;

@@ -1,5 +1,5 @@
 //! A disk in memory, which keeps a record of its calls and is honest always.
-//! Definitions: specs/MemDisks.antt, specs/Points.antt. Tests: memory/tests.rt.
+//! Definitions: specs/MemDisks.antt, specs/Points.antt. Tests: leaf_tests/src/disks/memory.rt.
 ghost use Rattle.std.specs.Prelude.{◌≡◌, ◌≤◌, ◌<◌, ◌+◌, ◌++◌, [], ◌∷◌, ℕ, ⊤, max, List, length, vec_len, vec_capacity, OnOk, OnErr};
 ghost use Rattle.wm_disk.specs.Contents.{Only, Torn, Rose, overwritten};
 ghost use Rattle.wm_disk.specs.Points.{new_point, reached, TornBy, MayLeave, LeftSince};
@@ -9,9 +9,6 @@ ghost use Rattle.wm_disk.specs.declared.memory.Call.TheVariants.{Wrote, Synced};
 
 use crate::{Crashed, DeviceFailed, Disk, MAX_COUNTER};
 use std::alloc::{AllocError, Global};
-
-#[cfg(test)]
-mod tests;
 
 /// Where a write went.
 #[derive(Clone, Copy, Debug)]
@@ -204,6 +201,13 @@ impl MemDisk {
         ensures counted { ⟦<MemDisk as Disk>⟧.moment self.now ≤ result.0 + result.1 }
     {
         (self.made.writes, self.made.syncs, self.made.others)
+    }
+
+    /// How often a call of [`Disk`] has failed since `new`, up to 2^63 - 1. A crash and a stop keep the number.
+    pub fn failures(&self) -> u64
+        ensures { result ≡ memory_failures self.now }
+    {
+        self.failures
     }
 
     // Room for this many bytes in the copies that a crash fills.

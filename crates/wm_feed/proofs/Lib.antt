@@ -1,3 +1,4 @@
+mod Cutting
 mod Texts
 mod Lines
 mod Written

@@ -2,3 +2,4 @@ pub mod Records
 pub mod Batches
 pub mod Observes
 pub mod Laws
+pub mod Flows

@@ -84,7 +84,7 @@ impl<R: Net + Processes + Files + Clock + AllocGlobal> Feed<'_, R> {
     /// Adds the records that came to a batch.
     fn take(&mut self, batch: &mut Batch) -> Result<(), Stop> {
         for _ in 0..u64::MAX {
-            let Some(record) = self.watch.flow.next() else {
+            let Some(record) = self.watch.flow.record() else {
                 break;
             };
             let told = read_record(self.root.as_str(), record);
@@ -92,6 +92,7 @@ impl<R: Net + Processes + Files + Clock + AllocGlobal> Feed<'_, R> {
                 return Err(Stop::Doubt);
             }
             batch.add(self.alloc, told)?;
+            self.watch.flow.take_record();
         }
         if self.watch.flow.is_lost() {
             return Err(Stop::Doubt);

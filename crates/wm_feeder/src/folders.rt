@@ -1,6 +1,6 @@
 //! Whether inotifywait watches each folder that the server knows. Between its reading of a new folder
 //! and its watch of it, inotifywait misses a folder that is made there; the system's list of its watches tells.
-//! Tests: tests/watches.rt, tools/feed_use.py.
+//! Tests: tools/feed_use.py.
 
 use crate::server::{Asked, Server};
 use crate::stop::Stop;
@@ -10,26 +10,7 @@ use std::collections::BTreeSet;
 use std::fs;
 use std::fs::Files;
 use std::os::unix::fs::MetadataExt;
-
-/// Adds the numbers of the files that a text of /proc tells to be watched.
-pub(crate) fn add_watched(text: &str, watched: &mut BTreeSet<u64>) -> Result<(), Stop> {
-    for line in text.lines() {
-        if !line.starts_with("inotify wd:") {
-            continue;
-        }
-        let Some((_, rest)) = line.split_once(" ino:") else {
-            continue;
-        };
-        let number = match rest.split_once(' ') {
-            Some((number, _)) => number,
-            None => rest,
-        };
-        if let Ok(number) = u64::from_str_radix(number, 16) {
-            watched.insert(number)?;
-        }
-    }
-    Ok(())
-}
+use wm_feed::add_watched;
 
 /// The numbers of all files that a process watches.
 fn watched<R: Files + AllocGlobal>(

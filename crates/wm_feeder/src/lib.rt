@@ -5,7 +5,6 @@
 #![tactic(auto)]
 
 mod feeding;
-mod flow;
 mod folders;
 mod looking;
 mod program;
@@ -17,6 +16,3 @@ mod words;
 
 pub use program::wmfeed;
 pub use words::Words;
-
-#[cfg(test)]
-mod tests;

@@ -1,8 +1,7 @@
 //! inotifywait as a program of the system: its start, and the records that it writes.
 //! Both of its streams come through one socket, since a socket can be read for so long and no longer.
-//! Tests: src/tests/watches.rt, tools/feed_use.py.
+//! Tests: tools/feed_use.py.
 
-use crate::flow::Flow;
 use crate::stop::Stop;
 use std::alloc::Global;
 use std::io;
@@ -12,6 +11,7 @@ use std::os::fd::OwnedFd;
 use std::os::unix::net::UnixStream;
 use std::process::{Child, Command, Processes, Stdio};
 use std::time::Duration;
+use wm_feed::Flow;
 
 /// How a record is written: the folder, the events, and the name with a slash in front, a zero byte
 /// behind each, and a newline at the end. So a zero byte and a newline together stand at ends of records alone.

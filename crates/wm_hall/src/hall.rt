@@ -1,7 +1,7 @@
 //! One watched root, shared by sessions and workers: its keeper, its viewers, its cursors and its triggers, each under a lock of
 //! its own. Tests: serve_tests/src/sessions.rt, growths/src/halls.rt.
 use crate::asking::{clock, tell, tell_by};
-use crate::keeping::{Forgetting, Left, operate, pay, progress_of};
+use crate::keeping::{Forgetting, Left, operate, pay, progress_of, tick_of};
 use crate::work::Work;
 use std::alloc::Global;
 use std::sync::{Mutex, Wait};
@@ -122,10 +122,7 @@ impl<J: Naming, K: Wait + Drop> RootHall<J, K> {
 
     /// The tick that was published last; 0 before the first whole listing.
     pub fn tick<R: Wait>(&self, rt: &R) -> u64 {
-        match self.last_clock(rt) {
-            Some(clock) => clock.tick,
-            None => 0,
-        }
+        tick_of(self.last_clock(rt))
     }
 
     /// Where the root stands, as a viewer sees it. Refused as `asking::clock`.

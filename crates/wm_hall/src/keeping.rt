@@ -1,10 +1,12 @@
 //! The operations on a root's view: each is published at once, and old deletions are forgotten before one.
-//! Definitions: `with_operations` and `outcome` of wm_share. Tests: serve_tests/src/sessions.rt, growths/src/halls.rt.
-ghost use Rattle.std.specs.Prelude.{◌≡◌, ◌⊎◌, ◌++◌, ◌∷◌, [], Some, None, IfOk, IfErr, MatchResult};
+//! Definitions: specs/Readings.antt; `with_operations` and `outcome` of wm_share. Tests: serve_tests/src/sessions.rt, growths/src/halls.rt.
+ghost use Rattle.std.specs.Prelude.{◌≡◌, ◌⊎◌, ◌++◌, ◌∷◌, [], true, false, Some, None, IfOk, IfErr, IsErrOf, MatchResult};
 ghost use Rattle.wm_since.specs.Answers.{clock_of};
-ghost use Rattle.wm_share.specs.PublishedLists.{PublishedList, clock_shown, history, outcome, with_operations};
+ghost use Rattle.wm_hall.specs.Readings.{is_begun_before, tick_shown};
+ghost use Rattle.wm_share.specs.PublishedLists.{EndsWith, PublishedList, clock_shown, history, outcome, with_operations};
 
 use std::sync::Wait;
+use wm_clock::ClockId;
 use wm_disk::Refusal;
 use wm_lines::Progress;
 use wm_share::{Listed, Naming, RootKeeper, Told};
@@ -32,7 +34,9 @@ pub(crate) struct Left {
 
 impl Left {
     /// Of a root without an operation.
-    pub(crate) fn new() -> Left {
+    pub(crate) fn new() -> Left
+        ensures { (result.owes ≡ false) × (result.paid_at ≡ 0) }
+    {
         Left {
             aged_at: None,
             owes: false,
@@ -42,7 +46,9 @@ impl Left {
 
     /// Whether a reading began before what was owed was published. It may have seen a path later than what was observed of it and
     /// published behind the reading's tick, so it can't be taken in.
-    fn overtakes(&self, op: &Op) -> bool {
+    fn overtakes(&self, op: &Op) -> bool
+        ensures { result ≡ is_begun_before self.now.paid_at op.now }
+    {
         match op {
             Op::Recrawl(_, begun_at, _) => *begun_at < self.paid_at,
             Op::Observe(_, _) => false,
@@ -87,9 +93,11 @@ pub(crate) fn progress_of<J: Naming>(told: &Told<J>) -> Result<Progress, Refusal
     }
 }
 
-/// The tick of what was published, 0 before the first whole listing.
-fn tick_of<J: Naming>(told: &Told<J>) -> u64 {
-    match told.clock() {
+/// The tick of a clock, 0 before the first whole listing.
+pub(crate) fn tick_of(clock: Option<ClockId>) -> u64
+    ensures { result ≡ tick_shown clock }
+{
+    match clock {
         Some(clock) => clock.tick,
         None => 0,
     }
@@ -101,14 +109,16 @@ pub(crate) fn pay<J: Naming, T: Listed<J> + Drop, R: Wait + Drop>(
     left: &mut Left,
 ) -> Result<Option<Told<J>>, Refusal>
     ensures paid { IfOk result (λ paid. (told : PublishedList) → paid ≡ Some told → (told ≡ with_operations keeper.old.published keeper.old.pending) × (keeper.new.published ≡ told) × (keeper.new.pending ≡ [])) }
-    ensures refused { IfErr result (λ e. (e ≡ Refusal.NoMemory) × (keeper.new ≡ keeper.old)) }
+    ensures behind { IfOk result (λ paid. (told : PublishedList) → paid ≡ Some told → (left.new.owes ≡ false) × (left.new.paid_at ≡ tick_shown (clock_shown (history told)))) }
+    ensures nothing { IfOk result (λ paid. paid ≡ None → (left.old.owes ≡ false) × (left.new ≡ left.old) × (keeper.new ≡ keeper.old)) }
+    ensures refused { IfErr result (λ e. (e ≡ Refusal.NoMemory) × (left.new ≡ left.old) × (keeper.new ≡ keeper.old)) }
 {
     if !left.owes {
         return Ok(None);
     }
     let told = keeper.publish()?;
     left.owes = false;
-    left.paid_at = tick_of(&told);
+    left.paid_at = tick_of(told.clock());
     Ok(Some(told))
 }
 
@@ -120,6 +130,7 @@ fn perform<J: Naming, T: Listed<J> + Drop, R: Wait + Drop>(
 ) -> Result<Told<J>, Refusal>
     ensures told { IfOk result (λ told. told ≡ with_operations keeper.old.published (keeper.old.pending ++ op ∷ [])) }
     ensures published { MatchResult result (λ told. (keeper.new.published ≡ told) × (keeper.new.pending ≡ [])) (λ _. keeper.new.published ≡ keeper.old.published) }
+    ensures owed { MatchResult result (λ _. left.new ≡ left.old) (λ _. (left.new.owes ≡ true) × (left.new.paid_at ≡ left.old.paid_at)) }
     ensures refused { IfErr result (λ e. (e ≡ Refusal.NoMemory) ⊎ (e ≡ Refusal.Exhausted)) }
 {
     let done = publish(keeper, op);
@@ -166,7 +177,12 @@ pub(crate) fn operate<J: Naming, T: Listed<J> + Drop, R: Wait + Drop>(
     left: &mut Left,
     forgetting: Forgetting,
     op: Op,
-) -> Result<Told<J>, Refusal> {
+) -> Result<Told<J>, Refusal>
+    ensures overtaken { is_begun_before left.old.paid_at op ≡ true → IsErrOf result Refusal.NoMemory × (left.new ≡ left.old) × (keeper.new ≡ keeper.old) }
+    ensures shown { IfOk result (λ told. EndsWith told.operations op × (keeper.new.published ≡ told) × (keeper.new.pending ≡ [])) }
+    ensures owed { is_begun_before left.old.paid_at op ≡ false → IfErr result (λ _. left.new.owes ≡ true) }
+    ensures refused { IfErr result (λ e. (e ≡ Refusal.NoMemory) ⊎ (e ≡ Refusal.Exhausted)) }
+{
     if left.overtakes(&op) {
         return Err(Refusal::NoMemory);
     }

@@ -16,7 +16,7 @@ fn is_dots(part: &[u8]) -> bool
 fn has_no_zero(part: &[u8]) -> bool
     ensures { result ≡ list_all (λ b. not (b == 0)) part.now }
 {
-    part.iter().all(|byte| *byte != 0)
+    !part.contains(&0)
 }
 
 /// Whether a part of a path may stand between slashes.

@@ -1,4 +1,4 @@
-//! The text of a root path; a short one takes no memory of its own.
+//! The text of a path; a short one takes no memory of its own.
 //! Definitions: specs/PathTexts.antt. Tests: leaf_tests/src/names/root_paths.rt.
 ghost use Rattle.std.specs.Prelude.{◌≡◌, IfOk};
 ghost use Rattle.wm_names.specs.PathTexts.{text_bytes};
@@ -10,8 +10,8 @@ use wm_disk::NoMemory;
 /// The text of a path. A short one lies in the value itself, so that its copy takes no memory.
 #[derive(Drop)]
 pub(crate) enum PathText {
-    /// At most 24 bytes.
-    Short(ArrayString<24>),
+    /// At most 48 bytes.
+    Short(ArrayString<48>),
     Long(String),
 }
 

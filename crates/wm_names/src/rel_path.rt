@@ -1,17 +1,18 @@
 //! The path of a file below a root: its rules, its order, and what is below what.
 //! Definitions: specs/Paths.antt. Tests: leaf_tests/src/names/rel_paths.rt.
 ghost use Rattle.std.specs.Prelude.{◌≡◌, ◌≢◌, ◌↔◌, ℕ, List, true, false, nat_eq, refl, string_bytes, IfOk, IfErr, IsErrOf, IsUtf8};
-ghost use Rattle.std.specs.Arc.{arc_str_bytes};
+ghost use Rattle.wm_names.specs.PathTexts.{text_bytes};
 ghost use Rattle.std.specs.Ordering.{nat_cmp, as_partial_cmp};
 ghost use Rattle.std.specs.Cmp.{partial_order_from_agreeing_total, partial_equiv_from_equiv};
 ghost use Rattle.std.specs.Cmp.Lexicographic.{slice_cmp, pointwise, nat_list_cmp_total, nat_list_eq_equiv, texts_ties};
 ghost use Rattle.wm_names.specs.Paths.{basename, is_rel_path, is_under, path_cmp, same_path};
 
 use crate::components::are_components;
+use crate::path_text::PathText;
 use std::alloc::Global;
 use std::cmp::Ordering;
 use std::marker::Model;
-use std::sync::ArcStr;
+use std::sync::Arc;
 use wm_disk::{NoMemory, Refusal};
 
 /// The most bytes of a relative path.
@@ -22,19 +23,19 @@ pub const MAX_REL_PATH: usize = 1024;
 /// A path and its copies share one text, also in several threads. Contracts see the bytes.
 #[derive(Drop)]
 pub struct RelPath {
-    text: ArcStr,
+    text: Arc<PathText>,
 }
 
 impl Model for RelPath {
-    ghost use Rattle.std.specs.Arc.{arc_str_bytes};
+    ghost use Rattle.wm_names.specs.PathTexts.{text_bytes};
     ghost use Rattle.std.specs.Prelude.{List, ℕ, ◌≡◌, true};
     ghost use Rattle.wm_names.specs.Paths.{is_rel_path};
 
     ghost Value = { List ℕ };
 
-    ghost view = { λ p. arc_str_bytes p.text };
+    ghost view = { λ p. text_bytes p.text.value };
 
-    ghost invariant = { λ p. is_rel_path (arc_str_bytes p.text) ≡ true };
+    ghost invariant = { λ p. is_rel_path (text_bytes p.text.value) ≡ true };
 }
 
 impl RelPath {
@@ -48,7 +49,8 @@ impl RelPath {
         if text.len() > MAX_REL_PATH || !are_components(text.as_bytes()) {
             return Err(Refusal::BadPath);
         }
-        let text = ArcStr::from_str(alloc, text)?;
+        let text = PathText::new(alloc, text)?;
+        let text = Arc::new(alloc, text)?;
         Ok(RelPath { text })
     }
 

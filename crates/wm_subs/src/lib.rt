@@ -19,6 +19,3 @@ pub use subscribed::Subscribed;
 pub use subscription::Subscription;
 pub use subscription_name::{MAX_SUBSCRIPTION_NAME, SubscriptionName};
 pub use subscriptions::{MAX_SUBSCRIPTIONS, Subscriptions};
-
-#[cfg(test)]
-mod tests;

@@ -1,5 +1,5 @@
 //! A subscription of a session, with its root and its fields.
-//! Definitions: specs/SessionLists.antt. Tests: src/tests/sessions.rt.
+//! Definitions: specs/SessionLists.antt. Tests: share_tests/src/subscriptions/sessions.rt.
 use crate::subscription::Subscription;
 use wm_names::RootPath;
 use wm_since::Fields;

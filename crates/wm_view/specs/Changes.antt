@@ -1,6 +1,7 @@
 -- What becomes of paths at the next tick. For private clauses.
 use Rattle.std.specs.Prelude.{◌≡◌, ℕ, ◌-◌, List, Bool, true, map, cond, not, ◌&&◌, nat_lt, nat_le, Option, Some, None, is_some, option_and_then}
 use Rattle.std.specs.FinMap.{find}
+use Rattle.std.specs.Option.{option_or}
 use Rattle.wm_disk.specs.Counters.{max_counter}
 use Rattle.wm_names.specs.Paths.{Path, path_cmp}
 use Rattle.wm_names.specs.Entries.{covers, same_state}
@@ -40,6 +41,10 @@ is_unlisted begun_at found p k = nat_lt 0 k.last && (k.exists && (nat_le k.last 
 -- what becomes of it
 abbrev pub gone_change : ℕ → Found → ℕ → ℕ → Path → Known → Option Known
 gone_change begun_at found tick moment p k = cond (is_unlisted begun_at found p k) (change_of k tick moment None) None
+
+-- what becomes of a path of these by the change, and else what the other changes have of it
+abbrev pub becomes_at : (Path → Known → Option Known) → Knowns → Knowns → Path → Option Known
+becomes_at change ks others p = option_or (option_and_then (change p) (find path_cmp p ks)) (find path_cmp p others)
 
 -- ---- a first listing
 

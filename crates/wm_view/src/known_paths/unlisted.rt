@@ -1,14 +1,13 @@
 //! The paths below a listing's folder that it leaves out: gone, unless they changed since it began.
 //! Definitions: specs/Changes.antt, specs/KnownPaths.antt.
 //! Tests: view_tests/src/views/recrawling.rt.
-ghost use Rattle.std.specs.Prelude.{◌≡◌, ◌++◌, ◌∷◌, [], OnOk, IfOk, IfSome, option_and_then, Some};
+ghost use Rattle.std.specs.Prelude.{◌≡◌, ◌++◌, ◌∷◌, [], OnOk, IfOk, IfSome, Some};
 ghost use Rattle.std.specs.BTreeMap.{IsOrdered};
 ghost use Rattle.std.specs.BTreeMap.Range.{IsLeBy, IsLtBy, entries_between};
 ghost use Rattle.std.specs.Range.Bound.{IsForward, bound_map};
 ghost use Rattle.std.specs.FinMap.{find};
-ghost use Rattle.std.specs.Option.{option_or};
 ghost use Rattle.wm_names.specs.Paths.{Path, path_cmp};
-ghost use Rattle.wm_view.specs.Changes.{gone_change as gone_change_lem, is_unlisted as is_unlisted_lem, said, told_change};
+ghost use Rattle.wm_view.specs.Changes.{becomes_at, gone_change as gone_change_lem, is_unlisted as is_unlisted_lem, said, told_change};
 ghost use Rattle.wm_view.specs.Files.{IsMap};
 ghost use Rattle.wm_view.specs.KnownPaths.{IsSound, told};
 ghost use Rattle.wm_view.specs.Steps.{known_or};
@@ -82,7 +81,7 @@ impl KnownPaths {
         requires sound { IsSound self.now }
         requires forward { IsForward (IsLeBy path_cmp) (IsLtBy path_cmp) (bound_map (λ p. p.now) bounds.0) (bound_map (λ p. p.now) bounds.1) }
         requires ordered { IsOrdered path_cmp changes.old }
-        ensures value { OnOk result ((p : Path) → find path_cmp p changes.new.entries ≡ option_or (option_and_then (gone_change_lem begun_at listing.now tick moment p) (find path_cmp p (entries_between path_cmp (bound_map (λ p. p.now) bounds.entry.0) (bound_map (λ p. p.now) bounds.entry.1) self.now.known.entries))) (find path_cmp p changes.old.entries)) }
+        ensures value { OnOk result ((p : Path) → find path_cmp p changes.new.entries ≡ becomes_at (gone_change_lem begun_at listing.now tick moment) (entries_between path_cmp (bound_map (λ p. p.now) bounds.entry.0) (bound_map (λ p. p.now) bounds.entry.1) self.now.known.entries) changes.old.entries p) }
         ensures ordered { OnOk result (IsOrdered path_cmp changes.new) }
     {
         for (path, known) in self.known.range(bounds) {
@@ -106,7 +105,7 @@ impl KnownPaths {
     ) -> Result<(), NoMemory>
         requires sound { IsSound self.now }
         requires ordered { IsOrdered path_cmp changes.old }
-        ensures value { OnOk result ((p : Path) → find path_cmp p changes.new.entries ≡ option_or (option_and_then (gone_change_lem begun_at listing.now tick moment p) (find path_cmp p (told self.now))) (find path_cmp p changes.old.entries)) }
+        ensures value { OnOk result ((p : Path) → find path_cmp p changes.new.entries ≡ becomes_at (gone_change_lem begun_at listing.now tick moment) (told self.now) changes.old.entries p) }
         ensures ordered { OnOk result (IsOrdered path_cmp changes.new) }
     {
         let top = match listing.subtree() {

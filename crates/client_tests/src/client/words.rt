@@ -1,0 +1,45 @@
+//! What the command-line words ask of `wmctl`.
+use std::alloc::{AllocError, Global};
+use std::test::Fail;
+use wm_client::Words;
+
+/// Lists of words, and what they ask for.
+const ASKED: &[(&[&str], &str)] = &[
+    (&["s", "[]"], "talk s [] 0"),
+    (&["s", "[]", "--follow", "3"], "talk s [] 3"),
+    (&["--follow=4294967295", "s", "[]"], "talk s [] 4294967295"),
+    (&["s", "--", "-1"], "talk s -1 0"),
+    (&["s", ""], "talk s  0"),
+    (&["--help"], "shown 0"),
+    (&["s", "-V"], "shown 0"),
+    (&[], "shown 2"),
+    (&["s"], "shown 2"),
+    (&["s", "[]", "t"], "shown 2"),
+    (&["s", "[\n]"], "shown 2"),
+    (&["s", "-1"], "shown 2"),
+    (&["s", "[]", "--follow"], "shown 2"),
+    (&["s", "[]", "--follow", "4294967296"], "shown 2"),
+    (&["s", "[]", "--follow=-1"], "shown 2"),
+    (&["s", "[]", "--follow=1", "--follow=2"], "shown 2"),
+];
+
+fn asked(alloc: Global, words: &Words) -> Result<String, AllocError> {
+    match words {
+        Words::Talk {
+            socket,
+            json,
+            follow,
+        } => format!(in alloc; "talk {socket} {json} {follow}"),
+        Words::Shown { text: _, status } => format!(in alloc; "shown {status}"),
+    }
+}
+
+#[test]
+fn words_of_the_table(rt: HostRuntime) -> Result<(), Fail> {
+    let alloc = rt.alloc();
+    for (words, wanted) in ASKED {
+        let told = asked(alloc, &Words::read(alloc, words)?)?;
+        assert!(rt; told.as_str() == *wanted, "{words:?}: {told}");
+    }
+    Ok(())
+}

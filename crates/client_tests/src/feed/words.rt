@@ -1,0 +1,33 @@
+//! What the command-line words ask of `wmfeed`.
+use std::alloc::{AllocError, Global};
+use std::test::Fail;
+use wm_feeder::Words;
+
+/// Lists of words, and what they ask for.
+const ASKED: &[(&[&str], &str)] = &[
+    (&["s", "/r"], "feed s /r"),
+    (&["--", "-s", "/r"], "feed -s /r"),
+    (&["--help"], "shown 0"),
+    (&["s", "-V"], "shown 0"),
+    (&[], "shown 2"),
+    (&["s"], "shown 2"),
+    (&["s", "/r", "t"], "shown 2"),
+    (&["s", "-r"], "shown 2"),
+];
+
+fn asked(alloc: Global, words: &Words) -> Result<String, AllocError> {
+    match words {
+        Words::Feed { socket, root } => format!(in alloc; "feed {socket} {root}"),
+        Words::Shown { text: _, status } => format!(in alloc; "shown {status}"),
+    }
+}
+
+#[test]
+fn words_of_the_table(rt: HostRuntime) -> Result<(), Fail> {
+    let alloc = rt.alloc();
+    for (words, wanted) in ASKED {
+        let told = asked(alloc, &Words::read(alloc, words)?)?;
+        assert!(rt; told.as_str() == *wanted, "{words:?}: {told}");
+    }
+    Ok(())
+}

@@ -1,0 +1,7 @@
+//! Tests of `wmctl` (`wm_client`), and of `wmfeed` (`wm_feed`, `wm_feeder`), each with its values written out by hand.
+#![tactic(auto)]
+
+#[cfg(test)]
+mod client;
+#[cfg(test)]
+mod feed;

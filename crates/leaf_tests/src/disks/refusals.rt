@@ -1,0 +1,60 @@
+//! The number, the name and the text of each refusal.
+use std::alloc::{AllocError, Global};
+use std::test::Fail;
+use wm_disk::{DeviceFailed, NoMemory, Refusal};
+
+// Each refusal with its number, its name and its text.
+const ROWS: &[(Refusal, u8, &str, &str)] = &[
+    (Refusal::BadLine, 1, "BadLine", "1 BadLine"),
+    (Refusal::BadCommand, 2, "BadCommand", "2 BadCommand"),
+    (Refusal::BadArguments, 3, "BadArguments", "3 BadArguments"),
+    (Refusal::BadPath, 4, "BadPath", "4 BadPath"),
+    (Refusal::NotWatched, 5, "NotWatched", "5 NotWatched"),
+    (Refusal::NotReady, 6, "NotReady", "6 NotReady"),
+    (Refusal::BadClock, 7, "BadClock", "7 BadClock"),
+    (
+        Refusal::BadExpression,
+        8,
+        "BadExpression",
+        "8 BadExpression",
+    ),
+    (Refusal::BadField, 9, "BadField", "9 BadField"),
+    (Refusal::BadTrigger, 10, "BadTrigger", "10 BadTrigger"),
+    (Refusal::Full, 11, "Full", "11 Full"),
+    (Refusal::StoreFailed, 12, "StoreFailed", "12 StoreFailed"),
+    (Refusal::DeviceFailed, 13, "DeviceFailed", "13 DeviceFailed"),
+    (Refusal::Damaged, 14, "Damaged", "14 Damaged"),
+    (Refusal::Exhausted, 15, "Exhausted", "15 Exhausted"),
+    (Refusal::NoMemory, 16, "NoMemory", "16 NoMemory"),
+    (Refusal::TooMany, 17, "TooMany", "17 TooMany"),
+    (Refusal::NoPlace, 18, "NoPlace", "18 NoPlace"),
+    (Refusal::NoQuestion, 19, "NoQuestion", "19 NoQuestion"),
+    (Refusal::Retired, 20, "Retired", "20 Retired"),
+];
+
+// Whether the refusal has this number, name and text, and is shown as the text.
+fn shows(
+    alloc: Global,
+    refusal: Refusal,
+    number: u8,
+    name: &str,
+    text: &str,
+) -> Result<bool, Fail> {
+    let shown = format!(in alloc; "{refusal}")?;
+    let told = refusal.number() == number && refusal.name() == name;
+    Ok(told && refusal.text() == text && shown.as_str() == text)
+}
+
+#[test]
+fn shows_each_refusal(rt: HostRuntime) -> Result<(), Fail> {
+    for (refusal, number, name, text) in ROWS {
+        assert!(rt;
+            shows(rt.alloc(), *refusal, *number, name, text)?,
+            "{number}"
+        );
+    }
+    assert!(rt; Refusal::from(DeviceFailed) == Refusal::DeviceFailed);
+    assert!(rt; Refusal::from(NoMemory) == Refusal::NoMemory);
+    assert!(rt; Refusal::from(AllocError) == Refusal::NoMemory);
+    Ok(())
+}

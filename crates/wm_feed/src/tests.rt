@@ -1,4 +1,0 @@
-//! The tests of this crate.
-mod batches;
-mod observes;
-mod records;

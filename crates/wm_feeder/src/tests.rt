@@ -1,4 +1,0 @@
-//! The tests of this crate.
-mod flows;
-mod watches;
-mod words;
