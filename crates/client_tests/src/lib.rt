@@ -1,4 +1,4 @@
-//! Tests of `wmctl` (`wm_client`), and of `wmfeed` (`wm_feed`, `wm_feeder`), each with its values written out by hand.
+//! Tests of `wmctl` (`wm_client`), and of `wmfeed` (`wm_feed`, and its words), each with its values written out by hand.
 #![tactic(auto)]
 
 #[cfg(test)]

@@ -6,7 +6,7 @@ use std::process::Command;
 use std::test::Fail;
 use std::thread::Threads;
 use std::{env, fs};
-use wm_crawler::{FolderTree, Open, Tree, Turnstile, crawl};
+use wm_crawler::{FolderTree, Open, SystemFolders, Tree, Turnstile, crawl, crawl_root};
 use wm_disk::Refusal;
 use wm_names::{Kind, RelPath, RootPath, Subtree};
 
@@ -68,6 +68,26 @@ fn lists_what_a_file_system_has(rt: HostRuntime) -> Result<(), Fail> {
         assert_eq!(rt; faults, 3);
     }
     assert!(rt; sh(&rt, "rm -rf crawl_all")?);
+    Ok(())
+}
+
+/// By way of the folders of all roots: none or too many workers are as few or as many as may be.
+#[test]
+fn crawls_one_of_many_roots(rt: HostRuntime) -> Result<(), Fail> {
+    let alloc = rt.alloc();
+    assert!(rt;
+        sh(
+            &rt,
+            "rm -rf crawl_root && mkdir -p crawl_root/d && : > crawl_root/d/f"
+        )?
+    );
+    let folders = SystemFolders::new(rt.clone()?);
+    let root = root_of(&rt, "crawl_root")?;
+    for workers in [0, 1, 17] {
+        let listing = crawl_root(&rt, alloc, &folders, &root, &Subtree::Whole, workers, &Open)?;
+        assert_eq!(rt; told(alloc, &listing)?.as_str(), "d:d f:d/f ");
+    }
+    assert!(rt; sh(&rt, "rm -rf crawl_root")?);
     Ok(())
 }
 

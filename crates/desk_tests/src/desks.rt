@@ -3,7 +3,7 @@
 use std::alloc::Global;
 use std::sync::Wait;
 use wm_disk::{MemDisk, Refusal};
-use wm_groupcommit::{Desk, Receipt, Seat};
+use wm_groupcommit::{Desk, Receipt};
 use wm_names::RootPath;
 use wm_registry::{Command, Reply};
 use wm_store::Store;

@@ -7,6 +7,7 @@ mod entries;
 mod rel_paths;
 mod root_paths;
 mod subtrees;
+mod text_orders;
 
 // The text with an `a` for each byte that it lacks of so many.
 fn long(alloc: Global, start: &str, len: usize) -> Result<String, NoMemory> {

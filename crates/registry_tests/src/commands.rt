@@ -2,7 +2,7 @@
 use crate::lines::named;
 use crate::spelling::{is_spelled, taken};
 use std::alloc::Global;
-use wm_disk::{NoMemory, Refusal};
+use wm_disk::Refusal;
 use wm_registry::{Command, Stdin, Trigger};
 
 /// A command by its verb, its path, its trigger's name and its program, and its spelling.

@@ -3,7 +3,7 @@ use crate::lines::applied;
 use crate::plans::{LEAST, MORE, Plan, definition, is_of, made};
 use crate::spelling::{is_spelled, taken};
 use std::alloc::Global;
-use wm_disk::{NoMemory, Refusal};
+use wm_disk::Refusal;
 use wm_registry::{Registry, Reply, Stdin, Trigger};
 
 /// Triggers, each with its spelling.

@@ -8,10 +8,10 @@ use std::sync::Wait;
 use std::test::Fail;
 use std::thread::Threads;
 use std::time::Clock;
-use wm_crawler::Turnstile;
+use wm_crawler::{SystemFolders, Turnstile};
 use wm_disk::Refusal;
 use wm_file::{FileDisk, Unknown};
-use wm_serve::{Settings, SystemFolders, SystemPrograms, serve};
+use wm_serve::{Settings, SystemPrograms, serve};
 
 /// The files of a test's server.
 #[derive(Drop)]

@@ -1,5 +1,5 @@
 //! What is answered about a view, and what a client makes of such answers.
-ghost use Rattle.std.specs.Prelude.{◌≡◌, true, false, nat_lt};
+ghost use Rattle.std.specs.Prelude.{true, false, nat_lt};
 ghost use Rattle.std.proofs.Common.{sym, true≢false};
 
 use serde_json::Value;

@@ -4,8 +4,9 @@
 use std::io::BufReader;
 use std::process::ExitCode;
 use std::{env, io};
+use wm_crawler::SystemFolders;
 use wm_program::watchmand;
-use wm_serve::{SystemFolders, SystemPrograms};
+use wm_serve::SystemPrograms;
 
 fn main(rt: HostRuntime) -> io::Result<ExitCode> {
     let alloc = rt.alloc();

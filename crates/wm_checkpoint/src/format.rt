@@ -1,9 +1,9 @@
 //! Makes a file that means a first state.
 //! Definitions: specs/FirstFile.antt, specs/Formatting.antt.
 //! Tests: file_tests/src/checkpoint/cuts.rt, file_tests/src/checkpoint/files.rt.
-ghost use Rattle.std.specs.Prelude.{◌≡◌, ◌≤◌, ◌<◌, ◌+◌, ◌^◌, ◌↔◌, ◌⊎◌, [], ◌∷◌, List, ℕ, length, slice_index, IfOk, IfErr, OnOk};
+ghost use Rattle.std.specs.Prelude.{◌≡◌, ◌≤◌, ◌<◌, ◌+◌, ◌⊎◌, List, ℕ, length, slice_index, IfOk, IfErr, OnOk};
 ghost use Rattle.wm_disk.specs.Calls.{Calls, CallsDevice};
-ghost use Rattle.wm_disk.specs.Contents.{Only, overwritten};
+ghost use Rattle.wm_disk.specs.Contents.{Only};
 ghost use Rattle.wm_checkpoint.specs.Layout.{file_len, max_slot_text};
 ghost use Rattle.wm_checkpoint.specs.Formatting.{IsZeroTo, laid_out, chunk_len, rest_len};
 ghost use Rattle.wm_disk.specs.declared.refusal.Refusal.TheVariants.{DeviceFailed as device_failed, NoMemory as no_memory};

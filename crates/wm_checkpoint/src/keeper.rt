@@ -1,7 +1,7 @@
 //! A machine's state on a disk.
 //! Definitions: specs/Kept.antt, specs/Meanings.antt, specs/Machines.antt.
 //! Tests: file_tests/src/checkpoint.
-ghost use Rattle.std.specs.Prelude.{false, Some, ◌≡◌, ◌≤◌, ◌<◌, ◌+◌, ◌⊎◌, [], List, ℕ, length, IfOk, IfErr, OnOk};
+ghost use Rattle.std.specs.Prelude.{false, Some, ◌≡◌, ◌≤◌, ◌<◌, ◌+◌, ◌⊎◌, [], length, IfOk, IfErr, OnOk};
 ghost use Rattle.wm_disk.specs.Calls.{Calls, CallsWith, LeavesAtAnyMoment, OnlyReads};
 ghost use Rattle.wm_disk.specs.Contents.{Only};
 ghost use Rattle.wm_disk.specs.Moments.{LeavesOnly};

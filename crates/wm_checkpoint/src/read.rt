@@ -1,7 +1,7 @@
 //! What the bytes of a file mean.
 //! Definitions: specs/Meanings.antt, specs/Found.antt.
 //! Tests: file_tests/src/checkpoint/files.rt, file_tests/src/checkpoint/damage.rt.
-ghost use Rattle.std.specs.Prelude.{true, false, ◌≡◌, ◌≢◌, ◌≤◌, ◌<◌, ◌+◌, ◌-◌, ◌^◌, ◌⊎◌, ◌++◌, [], ◌∷◌, List, ℕ, length, take, drop, slice_index, IfOk, IfErr, OnOk, OnErr, IsErrOf, IfSome, IfNone};
+ghost use Rattle.std.specs.Prelude.{true, false, ◌≡◌, ◌≤◌, ◌<◌, ◌+◌, ◌-◌, ◌^◌, ◌⊎◌, ℕ, length, take, slice_index, IfOk, IfErr, IsErrOf, IfSome, IfNone};
 ghost use Rattle.std.specs.Int.{to_be_bytes, w32, w64};
 ghost use Rattle.wm_journal.specs.Areas.{area};
 ghost use Rattle.wm_checkpoint.specs.Layout.{file_len, header_len, retired_place, front_len, slot_place, slot_len, number_place, size_place, body_place, journal_len, other_slot};

@@ -1,6 +1,6 @@
 //! What stands behind an open slot's gate.
 //! Definitions: specs/Meanings.antt. Tests: file_tests/src/checkpoint/files.rt.
-ghost use Rattle.std.specs.Prelude.{◌≡◌, ◌≤◌, length, IfOk};
+ghost use Rattle.std.specs.Prelude.{◌≤◌, length, IfOk};
 ghost use Rattle.wm_checkpoint.specs.Layout.{max_slot_text};
 ghost use Rattle.wm_checkpoint.specs.Machines.{meaning};
 ghost use Rattle.wm_checkpoint.specs.Meanings.{IsSlotBytes};

@@ -1,7 +1,7 @@
 //! Puts a state into the half of the file that isn't in use, under a gate that is opened last. A half is a slot
 //! and the journal behind it.
 //! Definitions: specs/Halves.antt. Tests: file_tests/src/checkpoint/cuts.rt.
-ghost use Rattle.std.specs.Prelude.{◌≡◌, ◌≢◌, ◌≤◌, ◌<◌, ◌+◌, ◌^◌, ◌↔◌, [], ◌∷◌, List, ℕ, length, OnOk, slice_index};
+ghost use Rattle.std.specs.Prelude.{◌≡◌, ◌≢◌, ◌≤◌, ◌<◌, ◌+◌, ◌^◌, List, ℕ, length, OnOk, slice_index};
 ghost use Rattle.wm_disk.specs.Calls.{CallsDevice, EachLeft};
 ghost use Rattle.wm_disk.specs.Contents.{Only, overwritten};
 ghost use Rattle.wm_disk.specs.Moments.{LeavesOnly};

@@ -1,3 +1,4 @@
-mod Wanting
+mod FeedWanting
 mod Lines
 mod Telling
+mod Wanting

@@ -48,7 +48,7 @@ wmctl_app = with_rule (with_rule (with_rule bare_wmctl (needed_rule (codes "SOCK
 
 -- ---- what clap finds in the words
 
--- the number that `--follow` tells: decimal digits, below 2^32; 0 where it isn't there
+-- the number that `--follow` tells: decimal digits, with a plus before them or none, below 2^32; 0 where it isn't there
 abbrev pub TellsCount : Option Text → ℕ → Type 0
 TellsCount None n = n ≡ 0
 TellsCount (Some text) n = IsNumeral 10 (without_leading_plus text) × (n < 2 ^ 32) × (n ≡ digits_value 10 (without_leading_plus text))

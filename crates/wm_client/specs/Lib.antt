@@ -1,2 +1,3 @@
 pub mod ClientWords
+pub mod FeedWords
 pub mod Talks

@@ -18,7 +18,8 @@ refusal_start = codes "{\"error\":"
 abbrev pub is_refusal_line : List ℕ → Bool
 is_refusal_line line = bytes_eq (take (length refusal_start) line) refusal_start
 
--- By how a talk ended: what was printed of the lines that came, so many after the reply. The reply is a refusal exactly where that is told.
+-- By how a talk ended: what was printed of the lines that came, so many after the reply, where all of it was told, or of the reply alone, where that is a
+-- refusal. Where no reply came, or it couldn't be printed, nothing is said of what was.
 abbrev pub Prints : ℕ → List ℕ → Option (List ℕ) → Option (List ℕ) → TalkEnd → Type 0
 Prints follow input held holds Told = Appends held holds (lines_first (follow + 1) input) × (is_refusal_line (take_through 10 input) ≡ false)
 Prints follow input held holds Refused = Appends held holds (lines_first 1 input) × (is_refusal_line (take_through 10 input) ≡ true)

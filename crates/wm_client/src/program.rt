@@ -7,7 +7,7 @@ use std::io;
 use std::io::{BufReader, Write};
 use std::net::Net;
 use std::os::unix::net::UnixStream;
-use wm_disk::{NoMemory, Refusal};
+use wm_disk::NoMemory;
 
 /// Runs `wmctl` with the words after its own name, and gives its status: 0; 1 where the reply is a refusal, memory
 /// ran out, or the reply, help or the version can't be printed; 2 where the words aren't understood; 3 where the

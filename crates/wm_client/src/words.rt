@@ -1,6 +1,6 @@
 //! What the command-line words ask of `wmctl`. Their definitions are in specs/ClientWords.
 //! Tests: client_tests/src/client/words.rt.
-ghost use Rattle.std.specs.Prelude.{◌≡◌, ℕ, IfOk, None, false, Option, Some, map, option_map};
+ghost use Rattle.std.specs.Prelude.{◌≡◌, ℕ, IfOk, None, false, Option, Some, map};
 ghost use Rattle.std.specs.Option.{MatchOption};
 ghost use Rattle.clap.specs.Values.{kind_of};
 ghost use Rattle.clap.specs.Words.{app_of, found_of, rows_of, rule_of};
@@ -70,7 +70,7 @@ fn command<'a>(alloc: Global) -> Result<Command<'a>, NoMemory>
 }
 
 // A word that has to be there.
-fn needed<'a>(alloc: Global, name: &'a str, help: &'a str) -> Arg<'a>
+pub(crate) fn needed<'a>(alloc: Global, name: &'a str, help: &'a str) -> Arg<'a>
     ensures rule { rule_of result ≡ needed_rule name.entry.now }
     ensures local { result.global ≡ false }
 {

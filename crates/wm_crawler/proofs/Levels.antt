@@ -5,7 +5,8 @@ use Rattle.wm_names.specs.Paths.{Path}
 use Rattle.wm_names.specs.declared.entry.Meta.{Meta}
 use Rattle.wm_names.specs.declared.subtree.Subtree.{Subtree}
 use Rattle.wm_names.specs.declared.subtree.Subtree.TheVariants.{Whole, Below}
-use Rattle.wm_crawler.specs.Trees.{Content, Among, join, is_fit, is_folder, SomeFails}
+use Rattle.wm_names.specs.Entries.{is_fit, join}
+use Rattle.wm_crawler.specs.Trees.{Content, Among, is_folder, SomeFails}
 use Rattle.wm_crawler.specs.Crawls.{FailsIn}
 use Rattle.wm_crawler.specs.Levels.{path_of, with_meta, paths_in, folder_at, folders, next_level, levels, counted, unfit_of, unfit_levels, all_told, all_held, readable_levels, AreRead, AreTold, AreLevels, IsOneLevel, AllIn, AllFrom, AllAmong}
 use Rattle.wm_crawler.proofs.Elements.{made, mapped}

@@ -5,7 +5,8 @@ use Rattle.wm_names.specs.Paths.{Path}
 use Rattle.wm_names.specs.declared.entry.Meta.{Meta}
 use Rattle.wm_names.specs.declared.subtree.Subtree.{Subtree}
 use Rattle.wm_names.specs.declared.subtree.Subtree.TheVariants.{Below}
-use Rattle.wm_crawler.specs.Trees.{Content, Among, join, is_folder}
+use Rattle.wm_names.specs.Entries.{join}
+use Rattle.wm_crawler.specs.Trees.{Content, Among, is_folder}
 use Rattle.wm_crawler.specs.Crawls.{HoldsName, IsFolder, IsWalk, IsBelow, IsEntered, IsReadable}
 use Rattle.wm_crawler.specs.Levels.{with_meta, paths_in, folders, next_level, all_told, all_held, readable_levels}
 use Rattle.wm_crawler.proofs.Walks.{Led, led, led_few, held_for, folder_for, next_for, found_meta}

@@ -10,7 +10,8 @@ use Rattle.wm_names.specs.Paths.{Path}
 use Rattle.wm_names.specs.declared.entry.Meta.{Meta}
 use Rattle.wm_names.specs.declared.subtree.Subtree.{Subtree}
 use Rattle.wm_names.specs.declared.subtree.Subtree.TheVariants.{Below}
-use Rattle.wm_crawler.specs.Trees.{Content, Among, join, is_fit, unfit_in, AreMetas, SomeFails}
+use Rattle.wm_names.specs.Entries.{is_fit, join}
+use Rattle.wm_crawler.specs.Trees.{Content, Among, unfit_in, AreMetas, SomeFails}
 use Rattle.wm_crawler.specs.Levels.{path_of, paths_in, paired, paired_each, counted, unfit_of, all_held, all_told, AreRead, AreTold, AllFrom, AllAmong}
 use Rattle.wm_crawler.proofs.Elements.{among_left, among_right, among_either, among_get, among_map, made}
 

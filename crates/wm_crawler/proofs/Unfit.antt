@@ -7,7 +7,8 @@ use Rattle.wm_names.specs.Paths.{Path}
 use Rattle.wm_names.specs.declared.entry.Meta.{Meta}
 use Rattle.wm_names.specs.declared.subtree.Subtree.{Subtree}
 use Rattle.wm_names.specs.declared.subtree.Subtree.TheVariants.{Below}
-use Rattle.wm_crawler.specs.Trees.{Content, join, is_fit, names_held, unfit_in, is_folder}
+use Rattle.wm_names.specs.Entries.{is_fit, join}
+use Rattle.wm_crawler.specs.Trees.{Content, names_held, unfit_in, is_folder}
 use Rattle.wm_crawler.specs.Crawls.{folder_named, is_folder_told, folders_in, unfit_below, faults_below}
 use Rattle.wm_crawler.specs.Levels.{path_of, paired, with_meta, paths_in, folder_at, folders, unfit_of, unfit_levels, counted}
 use Rattle.wm_crawler.proofs.Steps.{counted_more}

@@ -5,7 +5,8 @@ use Rattle.wm_names.specs.Paths.{Path}
 use Rattle.wm_names.specs.declared.entry.Meta.{Meta}
 use Rattle.wm_names.specs.declared.subtree.Subtree.{Subtree}
 use Rattle.wm_names.specs.declared.subtree.Subtree.TheVariants.{Whole, Below}
-use Rattle.wm_crawler.specs.Trees.{Content, Among, join, is_fit, names_held, is_folder}
+use Rattle.wm_names.specs.Entries.{is_fit, join}
+use Rattle.wm_crawler.specs.Trees.{Content, Among, names_held, is_folder}
 use Rattle.wm_crawler.specs.Crawls.{HoldsName, IsFolder, IsWalk, IsBelow}
 use Rattle.wm_crawler.specs.Levels.{path_of, paired, with_meta, paths_in, folder_at, folders, levels, next_level}
 use Rattle.wm_crawler.proofs.Elements.{among_left, among_right, among_either, made, makes, gathered, gathers}

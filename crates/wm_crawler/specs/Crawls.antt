@@ -6,7 +6,8 @@ use Rattle.wm_names.specs.declared.entry.Meta.{Meta}
 use Rattle.wm_names.specs.declared.subtree.Subtree.{Subtree}
 use Rattle.wm_names.specs.declared.subtree.Subtree.TheVariants.{Below}
 use Rattle.wm_view.specs.Files.{Files, at}
-use Rattle.wm_crawler.specs.Trees.{Content, Among, join, is_fit, names_held, unfit_in, is_folder}
+use Rattle.wm_names.specs.Entries.{is_fit, join}
+use Rattle.wm_crawler.specs.Trees.{Content, Among, names_held, unfit_in, is_folder}
 
 -- the most workers of a crawl
 abbrev pub max_workers : ℕ

@@ -5,7 +5,8 @@ use Rattle.wm_names.specs.Paths.{Path, same_path}
 use Rattle.wm_names.specs.declared.entry.Meta.{Meta}
 use Rattle.wm_names.specs.declared.subtree.Subtree.{Subtree}
 use Rattle.wm_names.specs.declared.subtree.Subtree.TheVariants.{Below}
-use Rattle.wm_crawler.specs.Trees.{Content, Among, join, is_fit, names_held, unfit_in, is_folder}
+use Rattle.wm_names.specs.Entries.{is_fit, join}
+use Rattle.wm_crawler.specs.Trees.{Content, Among, names_held, unfit_in, is_folder}
 
 -- the path of a name that fits
 abbrev pub path_of : Subtree → Path → Option Path

@@ -1,12 +1,12 @@
 -- What a tree of files holds that stays as it is.
-use Rattle.std.specs.Prelude.{◌≡◌, ◌⊎◌, ℕ, ◌+◌, Bool, ◌==◌, not, ◌&&◌, List, [], ◌∷◌, ◌++◌, map, Option, Some, None}
-use Rattle.std.specs.List.{list_all, count_by}
-use Rattle.wm_names.specs.Paths.{Path, is_rel_path}
-use Rattle.wm_names.specs.Entries.{same_kind}
+use Rattle.std.specs.Prelude.{◌≡◌, ◌⊎◌, ℕ, ◌+◌, Bool, not, List, [], ◌∷◌, map, Option, Some, None}
+use Rattle.std.specs.List.{count_by}
+use Rattle.wm_names.specs.Paths.{Path}
+use Rattle.wm_names.specs.Entries.{is_fit, same_kind}
 use Rattle.wm_names.specs.declared.entry.Kind.TheVariants.{Folder}
 use Rattle.wm_names.specs.declared.entry.Meta.{Meta}
 use Rattle.wm_names.specs.declared.subtree.Subtree.{Subtree}
-use Rattle.wm_names.specs.declared.subtree.Subtree.TheVariants.{Whole, Below}
+use Rattle.wm_names.specs.declared.subtree.Subtree.TheVariants.{Below}
 
 -- what a folder holds: the names that are text, and how many names are not
 pub record Held : Type 0 where
@@ -18,15 +18,6 @@ pub record Held : Type 0 where
 pub record Content : Type 0 where
   pub held : Subtree → Option (Option Held)
   pub meta : Path → Option (Option Meta)
-
--- the path of a name in a folder
-abbrev pub join : Subtree → Path → Path
-join Whole name = name
-join (Below folder) name = folder ++ 47 ∷ name
-
--- the name is one part of a path, and its path keeps the rules
-abbrev pub is_fit : Subtree → Path → Bool
-is_fit folder name = list_all (λ b. not (b == 47)) name && is_rel_path (join folder name)
 
 -- the names of a folder, and how many more it has
 abbrev pub names_held : Option (Option Held) → List Path

@@ -1,7 +1,7 @@
 //! The crawl of a root, or of part of it: every path below its top, with its metadata.
 //!
 //! [`crawl`] is generic over a [`Tree`] and proved once. Level by level it reads the folders, and then
-//! what each path has, both by as many threads as it is given workers.
+//! what each path has, both by as many threads as it is given workers. [`crawl_root`] crawls one of many roots.
 #![tactic(auto)]
 
 mod crawling;
@@ -11,8 +11,8 @@ mod gate;
 mod listed;
 mod memory;
 mod name;
-mod naming;
 mod reading;
+mod roots;
 mod telling;
 mod tree;
 
@@ -21,4 +21,5 @@ pub use dir::Dir;
 pub use folder_tree::FolderTree;
 pub use gate::{Open, Turnstile};
 pub use memory::MemTree;
+pub use roots::{Folders, SystemFolders, crawl_root};
 pub use tree::Tree;

@@ -1,17 +1,17 @@
 //! Folders read by several threads: the paths of what they hold.
 //! Definitions: specs/Levels.antt. Tests: crawler_tests/src/crawls.rt.
-ghost use Rattle.std.specs.Prelude.{◌∷◌, ◌≡◌, ◌≢◌, ◌+◌, ◌-◌, ◌*◌, ◌^◌, ◌<◌, ◌≤◌, ◌++◌, ◌⊎◌, ℕ, [], List, Some, min, not, is_some, IfOk, IfErr, OnOk, OnErr, true};
-ghost use Rattle.std.specs.List.{cons_option, count_by, filter_map, flat_map};
+ghost use Rattle.std.specs.Prelude.{◌∷◌, ◌≡◌, ◌≢◌, ◌+◌, ◌-◌, ◌<◌, ◌++◌, [], List, Some, not, is_some, IfOk, IfErr, OnOk, true};
+ghost use Rattle.std.specs.List.{cons_option, count_by, filter_map};
 ghost use Rattle.std.specs.Thread.{IsSync};
 ghost use Rattle.wm_disk.specs.declared.refusal.Refusal.TheVariants.{DeviceFailed, NoMemory as no_memory};
 ghost use Rattle.wm_names.specs.Paths.{Path};
-ghost use Rattle.wm_crawler.specs.Trees.{Among, is_fit, join, names_held, others_held, unfit_in, SomeFails};
-ghost use Rattle.wm_crawler.specs.Levels.{path_of as path_of_lem, paths_in, counted, AreRead, AllFrom};
+ghost use Rattle.wm_names.specs.Entries.{is_fit, join};
+ghost use Rattle.wm_crawler.specs.Trees.{names_held, others_held, unfit_in, SomeFails};
+ghost use Rattle.wm_crawler.specs.Levels.{path_of, paths_in, counted, AreRead, AllFrom};
 
 use crate::dir::Dir;
 use crate::gate::Turnstile;
 use crate::name::Name;
-use crate::naming::path_of;
 use crate::tree::Tree;
 use std::alloc::Global;
 use std::thread;
@@ -27,20 +27,15 @@ pub(crate) struct Level {
 }
 
 /// Adds the path of a name, where it fits.
-fn add_name(
-    alloc: Global,
-    level: &mut Level,
-    text: &mut String,
-    folder: &Subtree,
-    name: &str,
-) -> Result<(), NoMemory>
-    ensures paths { OnOk result (level.new.paths.items ≡ level.old.paths.items ++ cons_option (path_of_lem folder.now name.now) []) }
+fn add_name(alloc: Global, level: &mut Level, folder: &Subtree, name: &str) -> Result<(), NoMemory>
+    ensures paths { OnOk result (level.new.paths.items ≡ level.old.paths.items ++ cons_option (path_of folder.now name.now) []) }
     ensures faults { OnOk result (level.new.faults ≡ counted (level.old.faults + count_by (λ n. not (is_fit folder.now n)) (name.now ∷ []))) }
 {
     let faults = level.faults;
-    match path_of(alloc, text, folder, name)? {
-        Some(path) => level.paths.push(path)?,
-        None => level.faults = faults.saturating_add(1),
+    match folder.join(alloc, name) {
+        Ok(path) => level.paths.push(path)?,
+        Err(Refusal::NoMemory) => return Err(NoMemory),
+        Err(_) => level.faults = faults.saturating_add(1),
     }
     Ok(())
 }
@@ -53,19 +48,18 @@ fn add_names(
     folder: &Subtree,
     names: &[Name],
 ) -> Result<(), NoMemory>
-    ensures paths { OnOk result (level.new.paths.items ≡ level.old.paths.items ++ filter_map (path_of_lem folder.now) names.now) }
+    ensures paths { OnOk result (level.new.paths.items ≡ level.old.paths.items ++ filter_map (path_of folder.now) names.now) }
     ensures faults { OnOk result (level.new.faults ≡ counted (level.old.faults + count_by (λ n. not (is_fit folder.now n)) names.now)) }
 {
-    let mut text = String::new(alloc);
     for name in names {
-        add_name(alloc, level, &mut text, folder, name.as_str())?;
+        add_name(alloc, level, folder, name.as_str())?;
     }
     Ok(())
 }
 
 /// Adds the paths of what was read of a folder.
 fn add_dir(alloc: Global, level: &mut Level, folder: &Subtree, dir: &Dir) -> Result<(), NoMemory>
-    ensures paths { OnOk result (level.new.paths.items ≡ level.old.paths.items ++ filter_map (path_of_lem folder.now) dir.now.names) }
+    ensures paths { OnOk result (level.new.paths.items ≡ level.old.paths.items ++ filter_map (path_of folder.now) dir.now.names) }
     ensures faults { OnOk result (level.new.faults ≡ counted (level.old.faults + (dir.now.others + count_by (λ n. not (is_fit folder.now n)) dir.now.names))) }
 {
     level.faults = level.faults.saturating_add(dir.others());
@@ -94,7 +88,7 @@ pub(crate) fn read_folder<T: Tree>(
     ensures paths { OnOk result (T.stays tree.now → level.new.paths.items ≡ level.old.paths.items ++ paths_in (T.content tree.now) folder.now) }
     ensures faults { OnOk result (T.stays tree.now → level.new.faults ≡ counted (level.old.faults + unfit_in folder.now ((T.content tree.now).held folder.now))) }
     ensures held { OnOk result (T.stays tree.now → is_some ((T.content tree.now).held folder.now) ≡ true) }
-    ensures from { OnOk result ((names : List Path) × (level.new.paths.items ≡ level.old.paths.items ++ filter_map (path_of_lem folder.now) names)) }
+    ensures from { OnOk result ((names : List Path) × (level.new.paths.items ≡ level.old.paths.items ++ filter_map (path_of folder.now) names)) }
     ensures refused { IfErr result (λ e. e ≢ no_memory → (e ≡ DeviceFailed) × T.may_fail tree.now folder.now) }
 {
     let dir = tree.read_dir(alloc, folder)?;

@@ -3,13 +3,13 @@
 use crate::feeding::feed_root;
 use crate::server::Server;
 use crate::stop::Stop;
-use crate::words::Words;
 use std::alloc::Global;
 use std::fs::Files;
 use std::io::Write;
 use std::net::Net;
 use std::process::Processes;
 use std::time::Clock;
+use wm_client::FeedWords;
 use wm_disk::{NoMemory, Refusal};
 use wm_names::RootPath;
 
@@ -24,14 +24,14 @@ pub fn wmfeed<R: Net + Processes + Files + Clock + AllocGlobal, W: Write, E: Wri
     printer: &mut W,
     faults: &mut E,
 ) -> u8 {
-    match Words::read(alloc, words) {
-        Ok(Words::Shown { text, status: 0 }) => show(text.as_str(), printer),
-        Ok(Words::Shown { text, status }) => {
+    match FeedWords::read(alloc, words) {
+        Ok(FeedWords::Shown { text, status: 0 }) => show(text.as_str(), printer),
+        Ok(FeedWords::Shown { text, status }) => {
             // Where even this can't be told, the status tells it.
             let _shown = show(text.as_str(), faults);
             status
         }
-        Ok(Words::Feed { socket, root }) => match RootPath::read(alloc, root.as_str()) {
+        Ok(FeedWords::Feed { socket, root }) => match RootPath::read(alloc, root.as_str()) {
             Ok(root) => end(feed_at(alloc, rt, socket.as_str(), &root), faults),
             Err(Refusal::NoMemory) => end(Stop::NoMemory, faults),
             Err(_) => {

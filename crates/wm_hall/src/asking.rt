@@ -25,6 +25,7 @@ pub fn tell<J: Naming>(
     out: &mut Vec<u8>,
 ) -> Result<ClockId, Refusal>
     ensures seen { Begins viewer.old viewer.new }
+    ensures ready { IfOk result (λ _. is_ready (history viewer.new) ≡ true) }
     ensures clock { IfOk result (λ clock. clock ≡ clock_of_history (history viewer.new)) }
     ensures told { IfOk result (λ _. out.new.items ≡ out.old.items ++ line_text (query_reply fields.now (answer_to (holds query.now.test) (history viewer.new) (question query.now)))) }
     ensures refused { IfErr result (λ e. (e ≡ Refusal.NoMemory) ⊎ (e ≡ Refusal.NoPlace) ⊎ ((e ≡ Refusal.NotReady) × (is_ready (history viewer.new) ≡ false))) }
@@ -49,6 +50,7 @@ pub fn tell_by<J: Naming>(
 ) -> Result<(), Refusal>
     ensures seen { Begins viewer.old viewer.new }
     ensures told { IfOk result (λ _. out.new.items ≡ out.old.items ++ line_text (query_reply fields.now (answer_to (holds query.test) (history viewer.new) (record { since = cursor_at name cursors.old; empty_on_fresh = query.empty_on_fresh })))) }
+    ensures ready { IfOk result (λ _. is_ready (history viewer.new) ≡ true) }
     ensures moved { IfOk result (λ _. cursors.new ≡ moved_to name (clock_of_history (history viewer.new)) cursors.old) }
     ensures refused { IfErr result (λ e. (e ≡ Refusal.NoMemory) ⊎ (e ≡ Refusal.NoPlace) ⊎ ((e ≡ Refusal.NotReady) × (is_ready (history viewer.new) ≡ false)) ⊎ ((e ≡ Refusal.TooMany) × (is_ready (history viewer.new) ≡ true) × (has_room name cursors.old ≡ false))) }
     ensures err { OnErr result ((out.new.items ≡ out.old.items) × (cursors.new ≡ cursors.old)) }

@@ -1,5 +1,7 @@
 //! One watched root, shared by sessions and workers: its keeper, its viewers, its cursors and its triggers, each under a lock of
 //! its own. Tests: serve_tests/src/sessions.rt, growths/src/halls.rt.
+ghost use Rattle.std.specs.Prelude.{◌≡◌, IfErr};
+
 use crate::asking::{clock, tell, tell_by};
 use crate::keeping::{Forgetting, Left, operate, pay, progress_of, tick_of};
 use crate::work::Work;
@@ -84,17 +86,25 @@ impl<J: Naming, K: Wait + Drop> RootHall<J, K> {
         if let Some(told) = pay(&mut keeper, &mut left)? {
             *self.told.lock(rt) = Some(told);
         }
-        let told = operate(&mut keeper, &mut left, forgetting, op)?;
-        let met = progress_of(&told);
-        *self.told.lock(rt) = Some(told);
+        let met = match operate(&mut keeper, &mut left, forgetting, op) {
+            Ok(told) => {
+                let met = progress_of(&told);
+                *self.told.lock(rt) = Some(told);
+                met
+            }
+            Err(refusal) => Err(refusal),
+        };
         drop(left);
         drop(keeper);
+        // also of what was owed, where the operation is refused
         self.work.stir(rt);
         met
     }
 
     /// A viewer, which has learnt what was published last. `NoPlace` where the pool is empty.
-    pub fn lend<R: Wait>(&self, rt: &R) -> Result<Viewer<J>, Refusal> {
+    pub fn lend<R: Wait>(&self, rt: &R) -> Result<Viewer<J>, Refusal>
+        ensures refused { IfErr result (λ e. e ≡ Refusal.NoPlace) }
+    {
         let mut viewer = self.pool.lock(rt).take()?;
         self.teach(rt, &mut viewer);
         Ok(viewer)

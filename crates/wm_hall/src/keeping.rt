@@ -1,9 +1,9 @@
 //! The operations on a root's view: each is published at once, and old deletions are forgotten before one.
-//! Definitions: specs/Readings.antt; `with_operations` and `outcome` of wm_share. Tests: serve_tests/src/sessions.rt, growths/src/halls.rt.
-ghost use Rattle.std.specs.Prelude.{◌≡◌, ◌⊎◌, ◌++◌, ◌∷◌, [], true, false, Some, None, IfOk, IfErr, IsErrOf, MatchResult};
-ghost use Rattle.wm_since.specs.Answers.{clock_of};
+//! Definitions: specs/Readings.antt, specs/Forgetting.antt; `with_operations` and `outcome` of wm_share. Tests: serve_tests/src/sessions.rt, growths/src/halls.rt.
+ghost use Rattle.std.specs.Prelude.{◌≡◌, ◌≢◌, ℕ, ◌⊎◌, ◌++◌, ◌∷◌, [], true, false, cond, is_some, Some, None, IfOk, IfErr, IsErrOf, MatchResult};
+ghost use Rattle.wm_hall.specs.Forgetting.{MayWait, due_age_out, handed_in, moment_of as moment_of_lem};
 ghost use Rattle.wm_hall.specs.Readings.{is_begun_before, tick_shown};
-ghost use Rattle.wm_share.specs.PublishedLists.{EndsWith, PublishedList, clock_shown, history, outcome, with_operations};
+ghost use Rattle.wm_share.specs.PublishedLists.{PublishedList, clock_shown, history, outcome, with_operations};
 
 use std::sync::Wait;
 use wm_clock::ClockId;
@@ -35,7 +35,7 @@ pub(crate) struct Left {
 impl Left {
     /// Of a root without an operation.
     pub(crate) fn new() -> Left
-        ensures { (result.owes ≡ false) × (result.paid_at ≡ 0) }
+        ensures { (result.aged_at ≡ None) × (result.owes ≡ false) × (result.paid_at ≡ 0) }
     {
         Left {
             aged_at: None,
@@ -65,6 +65,7 @@ fn publish<J: Naming, T: Listed<J> + Drop, R: Wait + Drop>(
 ) -> Result<Told<J>, Refusal>
     ensures told { IfOk result (λ told. told ≡ with_operations keeper.old.published (keeper.old.pending ++ op ∷ [])) }
     ensures published { MatchResult result (λ told. (keeper.new.published ≡ told) × (keeper.new.pending ≡ [])) (λ _. keeper.new.published ≡ keeper.old.published) }
+    ensures waits { IfErr result (λ _. (keeper.new.pending ≡ keeper.old.pending) ⊎ (keeper.new.pending ≡ keeper.old.pending ++ op ∷ [])) }
     ensures refused { IfErr result (λ e. (e ≡ Refusal.NoMemory) ⊎ (e ≡ Refusal.Exhausted)) }
 {
     match op {
@@ -110,6 +111,8 @@ pub(crate) fn pay<J: Naming, T: Listed<J> + Drop, R: Wait + Drop>(
 ) -> Result<Option<Told<J>>, Refusal>
     ensures paid { IfOk result (λ paid. (told : PublishedList) → paid ≡ Some told → (told ≡ with_operations keeper.old.published keeper.old.pending) × (keeper.new.published ≡ told) × (keeper.new.pending ≡ [])) }
     ensures behind { IfOk result (λ paid. (told : PublishedList) → paid ≡ Some told → (left.new.owes ≡ false) × (left.new.paid_at ≡ tick_shown (clock_shown (history told)))) }
+    ensures aged { left.new.aged_at ≡ left.old.aged_at }
+    ensures only { IfOk result (λ paid. left.old.owes ≡ false → paid ≡ None) }
     ensures nothing { IfOk result (λ paid. paid ≡ None → (left.old.owes ≡ false) × (left.new ≡ left.old) × (keeper.new ≡ keeper.old)) }
     ensures refused { IfErr result (λ e. (e ≡ Refusal.NoMemory) × (left.new ≡ left.old) × (keeper.new ≡ keeper.old)) }
 {
@@ -130,7 +133,8 @@ fn perform<J: Naming, T: Listed<J> + Drop, R: Wait + Drop>(
 ) -> Result<Told<J>, Refusal>
     ensures told { IfOk result (λ told. told ≡ with_operations keeper.old.published (keeper.old.pending ++ op ∷ [])) }
     ensures published { MatchResult result (λ told. (keeper.new.published ≡ told) × (keeper.new.pending ≡ [])) (λ _. keeper.new.published ≡ keeper.old.published) }
-    ensures owed { MatchResult result (λ _. left.new ≡ left.old) (λ _. (left.new.owes ≡ true) × (left.new.paid_at ≡ left.old.paid_at)) }
+    ensures waits { IfErr result (λ _. (keeper.new.pending ≡ keeper.old.pending) ⊎ (keeper.new.pending ≡ keeper.old.pending ++ op ∷ [])) }
+    ensures owed { MatchResult result (λ _. left.new ≡ left.old) (λ _. (left.new.owes ≡ true) × (left.new.paid_at ≡ left.old.paid_at) × (left.new.aged_at ≡ left.old.aged_at)) }
     ensures refused { IfErr result (λ e. (e ≡ Refusal.NoMemory) ⊎ (e ≡ Refusal.Exhausted)) }
 {
     let done = publish(keeper, op);
@@ -147,7 +151,14 @@ fn age_out<J: Naming, T: Listed<J> + Drop, R: Wait + Drop>(
     left: &mut Left,
     moment: u64,
     forgetting: Forgetting,
-) {
+)
+    ensures forgotten { (handed_in keeper.new ≡ handed_in keeper.old ++ due_age_out left.old.aged_at forgetting moment) ⊎ ((handed_in keeper.new ≡ handed_in keeper.old) × (left.new.owes ≡ true)) }
+    ensures share { keeper.new.published.share ≡ keeper.old.published.share }
+    ensures paid { left.new.paid_at ≡ left.old.paid_at }
+    ensures aged { (left.new.aged_at ≡ left.old.aged_at) ⊎ ((left.new.aged_at ≡ Some moment) × (due_age_out left.old.aged_at forgetting moment ≢ [])) }
+    ensures kept { due_age_out left.old.aged_at forgetting moment ≡ [] → (left.new ≡ left.old) × (keeper.new ≡ keeper.old) }
+    ensures noted { due_age_out left.old.aged_at forgetting moment ≢ [] → left.new.owes ≡ false → outcome keeper.new.published ≡ None → left.new.aged_at ≡ Some moment }
+{
     let Some(last) = left.aged_at else {
         return;
     };
@@ -162,7 +173,9 @@ fn age_out<J: Naming, T: Listed<J> + Drop, R: Wait + Drop>(
 }
 
 /// The moment of an operation, in seconds.
-fn moment_of(op: &Op) -> u64 {
+fn moment_of(op: &Op) -> u64
+    ensures { result ≡ moment_of_lem op.now }
+{
     match op {
         Op::Observe(moment, _) => *moment,
         Op::Recrawl(moment, _, _) => *moment,
@@ -179,8 +192,16 @@ pub(crate) fn operate<J: Naming, T: Listed<J> + Drop, R: Wait + Drop>(
     op: Op,
 ) -> Result<Told<J>, Refusal>
     ensures overtaken { is_begun_before left.old.paid_at op ≡ true → IsErrOf result Refusal.NoMemory × (left.new ≡ left.old) × (keeper.new ≡ keeper.old) }
-    ensures shown { IfOk result (λ told. EndsWith told.operations op × (keeper.new.published ≡ told) × (keeper.new.pending ≡ [])) }
+    ensures shown { IfOk result (λ told. (keeper.new.published ≡ told) × (keeper.new.pending ≡ [])) }
+    ensures whole { IfOk result (λ told. (told.operations ≡ handed_in keeper.old ++ (due_age_out left.old.aged_at forgetting (moment_of_lem op) ++ op ∷ []))
+        ⊎ ((told.operations ≡ handed_in keeper.old ++ op ∷ []) × (left.new.owes ≡ true))) }
+    ensures begins { IfOk result (λ told. left.old.aged_at ≡ None → left.new.aged_at ≡ cond (is_some (clock_shown (history told))) (Some (moment_of_lem op)) None) }
+    ensures aged { (last : ℕ) → left.old.aged_at ≡ Some last → (left.new.aged_at ≡ Some last) ⊎ ((left.new.aged_at ≡ Some (moment_of_lem op)) × (due_age_out left.old.aged_at forgetting (moment_of_lem op) ≢ [])) }
+    ensures paid { left.new.paid_at ≡ left.old.paid_at }
+    ensures owes { IfOk result (λ _. due_age_out left.old.aged_at forgetting (moment_of_lem op) ≡ [] → left.new.owes ≡ left.old.owes) }
     ensures owed { is_begun_before left.old.paid_at op ≡ false → IfErr result (λ _. left.new.owes ≡ true) }
+    ensures waits { IfErr result (λ _. MayWait (due_age_out left.old.aged_at forgetting (moment_of_lem op)) op (handed_in keeper.old) (handed_in keeper.new)) }
+    ensures share { keeper.new.published.share ≡ keeper.old.published.share }
     ensures refused { IfErr result (λ e. (e ≡ Refusal.NoMemory) ⊎ (e ≡ Refusal.Exhausted)) }
 {
     if left.overtakes(&op) {

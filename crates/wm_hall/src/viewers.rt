@@ -1,6 +1,6 @@
 //! The viewers of a session: one of each root that it asked about.
 //! Tests: serve_tests/src/halls.rt, serve_tests/src/sessions.rt.
-ghost use Rattle.std.specs.Prelude.{◌≡◌, IfOk};
+ghost use Rattle.std.specs.Prelude.{◌≡◌, ◌⊎◌, IfOk, IfErr};
 
 use crate::hall::RootHall;
 use std::alloc::Global;
@@ -30,6 +30,7 @@ impl<J: Naming> Viewers<J> {
         hall: &RootHall<J, K>,
     ) -> Result<&mut Viewer<J>, Refusal>
         ensures own { IfOk result (λ viewer. viewer.now.share.root ≡ hall.now.number) }
+        ensures refused { IfErr result (λ e. (e ≡ Refusal.NoMemory) ⊎ (e ≡ Refusal.NoPlace)) }
     {
         if self.place(hall.number).is_none() {
             self.all.try_reserve(1)?;

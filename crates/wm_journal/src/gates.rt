@@ -1,6 +1,6 @@
 //! Gates, and how those of a group are opened.
 //! Definitions: specs/Gates.antt, specs/Areas.antt. Tests: file_tests/src/journal/calls.rt.
-ghost use Rattle.std.specs.Prelude.{◌≡◌, ◌≤◌, ◌<◌, ◌+◌, ◌^◌, ℕ, List, length, slice_index, EachIndex, OnOk};
+ghost use Rattle.std.specs.Prelude.{◌≤◌, ◌<◌, ◌+◌, ◌^◌, ℕ, List, length, slice_index, EachIndex, OnOk};
 ghost use Rattle.wm_disk.specs.Calls.{CallsDevice, EachLeft, LeavesAtAnyMoment};
 ghost use Rattle.wm_journal.specs.Areas.{SameOutside};
 ghost use Rattle.wm_journal.specs.Gates.{AreGatesOf, IsUnderGates, IsOpenTo};

@@ -1,6 +1,6 @@
 //! Lays a group out.
 //! Definitions: specs/Records.antt. Tests: file_tests/src/journal/bytes.rt.
-ghost use Rattle.std.specs.Prelude.{◌≡◌, ◌≤◌, ◌<◌, ◌+◌, ◌^◌, ℕ, List, length, slice_index, EachIndex, IfOk, OnOk};
+ghost use Rattle.std.specs.Prelude.{◌≡◌, ◌<◌, ◌+◌, ◌^◌, length, IfOk};
 ghost use Rattle.std.specs.List.{AllByRecursion};
 ghost use Rattle.wm_journal.specs.Records.{taken, gate_places, group as group_lem};
 

@@ -1,6 +1,6 @@
 //! A journal in an area of a disk.
 //! Definitions: specs/Regions.antt, specs/Records.antt. Tests: file_tests/src/journal.
-ghost use Rattle.std.specs.Prelude.{◌≡◌, ◌≤◌, ◌<◌, ◌+◌, ◌-◌, ◌^◌, ◌⊎◌, ◌++◌, ℕ, List, length, IfOk, IfErr, OnOk, OnErr, IsErrOf, EachIndex, slice_index};
+ghost use Rattle.std.specs.Prelude.{◌≡◌, ◌≤◌, ◌<◌, ◌+◌, ◌-◌, ◌^◌, ◌⊎◌, ◌++◌, List, length, IfOk, IfErr, OnOk, OnErr, IsErrOf, EachIndex, slice_index};
 ghost use Rattle.wm_disk.specs.Calls.{Calls, CallsDevice, OnlyReads};
 ghost use Rattle.wm_disk.specs.Moments.{LeavesOnly};
 ghost use Rattle.wm_journal.specs.Records.{HoldsRecords, taken};

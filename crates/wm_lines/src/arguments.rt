@@ -1,6 +1,6 @@
 //! The arguments of a command, by their places in its array. Their definitions are in specs/Arguments.
 //! Tests: session_tests/src/requests.
-ghost use Rattle.std.specs.Prelude.{◌≡◌, ◌≢◌, Ok, Err, IfOk, IfErr, option_map, option_and_then, is_none};
+ghost use Rattle.std.specs.Prelude.{◌≡◌, ◌≢◌, Ok, Err, IfOk, IfErr, option_map, is_none};
 ghost use Rattle.serde_json.specs.Find.{at};
 ghost use Rattle.serde_json.specs.View.{view};
 ghost use Rattle.wm_lines.specs.Arguments.{count_of, only_root, text_at as text_at_lem};

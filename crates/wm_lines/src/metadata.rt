@@ -1,6 +1,6 @@
 //! The metadata of a file, an object with three keys. Their definitions are in specs/Metadata.
 //! Tests: session_tests/src/requests/observed.rt.
-ghost use Rattle.std.specs.Prelude.{◌≡◌, codes, option_and_then};
+ghost use Rattle.std.specs.Prelude.{◌≡◌, option_and_then};
 ghost use Rattle.serde_json.specs.Find.{get};
 ghost use Rattle.serde_json.specs.View.{view};
 ghost use Rattle.wm_lines.specs.Arguments.{count_of};

@@ -1,6 +1,6 @@
 //! `query`, a question with an object of its own. Its definitions are in specs/QueryLines.
 //! Tests: session_tests/src/requests/queries.rt.
-ghost use Rattle.std.specs.Prelude.{◌≡◌, ◌≢◌, ◌≤◌, is_some, Ok, Err, Some, None, map, option_map, IfOk, IfErr};
+ghost use Rattle.std.specs.Prelude.{◌≡◌, ◌≢◌, is_some, Ok, Err, Some, None, map, option_map, IfOk, IfErr};
 ghost use Rattle.serde_json.specs.Find.{get};
 ghost use Rattle.serde_json.specs.View.{view};
 ghost use Rattle.wm_lines.specs.QueryLines.{clock_at, expression_at, fields_at, has_query_keys as has_query_keys_lem, has_query_kinds as has_query_kinds_lem, inquiry_in as inquiry_in_lem, names_in, query_request};

@@ -1,1 +1,3 @@
 pub mod Basenames
+pub mod Joins
+pub mod TextOrders

@@ -1,13 +1,13 @@
 -- What is known of the file at a path, and parts of a root.
-use Rattle.std.specs.Prelude.{ℕ, Bool, true, false, ◌&&◌, ◌==◌, List, [], ◌∷◌, codes, Option, Some, None}
-use Rattle.std.specs.List.{find}
+use Rattle.std.specs.Prelude.{ℕ, Bool, true, false, not, ◌&&◌, ◌==◌, List, [], ◌∷◌, ◌++◌, codes, Option, Some, None}
+use Rattle.std.specs.List.{find, list_all}
 use Rattle.std.specs.Str.{bytes_eq}
 use Rattle.wm_names.specs.declared.entry.Kind.{Kind}
 use Rattle.wm_names.specs.declared.entry.Kind.TheVariants.{File, Folder, Link, Other}
 use Rattle.wm_names.specs.declared.entry.Meta.{Meta}
 use Rattle.wm_names.specs.declared.subtree.Subtree.{Subtree}
 use Rattle.wm_names.specs.declared.subtree.Subtree.TheVariants.{Whole, Below}
-use Rattle.wm_names.specs.Paths.{Path, is_under}
+use Rattle.wm_names.specs.Paths.{Path, is_rel_path, is_under}
 
 abbrev pub letter_of : Kind → List ℕ
 letter_of File = codes "f"
@@ -44,3 +44,12 @@ covers (Below top) p = is_under top p
 abbrev pub is_whole : Subtree → Bool
 is_whole Whole = true
 is_whole (Below top) = false
+
+-- the path of a name in the folder that a part is of
+abbrev pub join : Subtree → Path → Path
+join Whole name = name
+join (Below folder) name = folder ++ 47 ∷ name
+
+-- the name is one part of a path, and its path keeps the rules
+abbrev pub is_fit : Subtree → Path → Bool
+is_fit folder name = list_all (λ b. not (b == 47)) name && is_rel_path (join folder name)

@@ -12,8 +12,10 @@ mod path_text;
 mod rel_path;
 mod root_path;
 mod subtree;
+mod text_order;
 
 pub use entry::{Entry, Kind, Meta};
 pub use rel_path::{MAX_REL_PATH, RelPath};
 pub use root_path::{MAX_ROOT_PATH, RootPath};
 pub use subtree::Subtree;
+pub use text_order::compare_texts;

@@ -1,17 +1,20 @@
 //! The text of a path; a short one takes no memory of its own.
 //! Definitions: specs/PathTexts.antt. Tests: leaf_tests/src/names/root_paths.rt.
-ghost use Rattle.std.specs.Prelude.{◌≡◌, IfOk};
+ghost use Rattle.std.specs.Prelude.{◌≡◌, ◌+◌, ◌<◌, ◌++◌, ◌∷◌, length, IfOk};
 ghost use Rattle.wm_names.specs.PathTexts.{text_bytes};
 
 use arrayvec::ArrayString;
 use std::alloc::Global;
 use wm_disk::NoMemory;
 
+/// The most bytes of a short text.
+const SHORT: usize = 48;
+
 /// The text of a path. A short one lies in the value itself, so that its copy takes no memory.
 #[derive(Drop)]
 pub(crate) enum PathText {
     /// At most 48 bytes.
-    Short(ArrayString<48>),
+    Short(ArrayString<SHORT>),
     Long(String),
 }
 
@@ -24,6 +27,26 @@ impl PathText {
             return Ok(PathText::Short(short));
         }
         let long = String::from_str(alloc, text)?;
+        Ok(PathText::Long(long))
+    }
+
+    /// The bytes of a folder's path, a slash, and those of a name.
+    pub(crate) fn joined(alloc: Global, folder: &str, name: &str) -> Result<PathText, NoMemory>
+        requires { length folder.now + length name.now < 1024 }
+        ensures { IfOk result (λ t. text_bytes t ≡ folder.now ++ 47 ∷ name.now) }
+    {
+        let count = folder.len() + 1 + name.len();
+        if count <= SHORT {
+            let mut short = ArrayString::new();
+            short.push_str(folder);
+            short.push_str("/");
+            short.push_str(name);
+            return Ok(PathText::Short(short));
+        }
+        let mut long = String::with_capacity(alloc, count)?;
+        long.push_str(folder)?;
+        long.push_str("/")?;
+        long.push_str(name)?;
         Ok(PathText::Long(long))
     }
 

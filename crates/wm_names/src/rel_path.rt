@@ -1,14 +1,17 @@
 //! The path of a file below a root: its rules, its order, and what is below what.
 //! Definitions: specs/Paths.antt. Tests: leaf_tests/src/names/rel_paths.rt.
-ghost use Rattle.std.specs.Prelude.{◌≡◌, ◌≢◌, ◌↔◌, ℕ, List, true, false, nat_eq, refl, string_bytes, IfOk, IfErr, IsErrOf, IsUtf8};
+ghost use Rattle.std.specs.Prelude.{◌≡◌, ◌≢◌, ◌↔◌, ◌+◌, ◌<◌, ℕ, List, length, true, false, nat_eq, refl, IfOk, IfErr, IsErrOf, IsUtf8};
 ghost use Rattle.wm_names.specs.PathTexts.{text_bytes};
 ghost use Rattle.std.specs.Ordering.{nat_cmp, as_partial_cmp};
 ghost use Rattle.std.specs.Cmp.{partial_order_from_agreeing_total, partial_equiv_from_equiv};
 ghost use Rattle.std.specs.Cmp.Lexicographic.{slice_cmp, pointwise, nat_list_cmp_total, nat_list_eq_equiv, texts_ties};
-ghost use Rattle.wm_names.specs.Paths.{basename, is_rel_path, is_under, path_cmp, same_path};
+ghost use Rattle.wm_names.specs.declared.subtree.Subtree.TheVariants.{Below};
+ghost use Rattle.wm_names.specs.Entries.{is_fit, join};
+ghost use Rattle.wm_names.specs.Paths.{basename, is_rel_path, is_under, max_rel_path, path_cmp, same_path};
 
-use crate::components::are_components;
+use crate::components::{are_components, is_one_component};
 use crate::path_text::PathText;
+use crate::text_order::compare_texts;
 use std::alloc::Global;
 use std::cmp::Ordering;
 use std::marker::Model;
@@ -54,6 +57,29 @@ impl RelPath {
         Ok(RelPath { text })
     }
 
+    /// Whether the path of a name in the folder that this path is of keeps the rules.
+    fn takes(&self, name: &str) -> bool
+        ensures fit { result ≡ is_fit (Below self.now) name.now }
+        ensures fits { result ≡ true → length self.now + length name.now < max_rel_path }
+    {
+        let folder = self.as_str();
+        folder.len() + name.len() < MAX_REL_PATH && is_one_component(name.as_bytes())
+    }
+
+    /// The path of a name in the folder that this path is of.
+    pub(crate) fn join(&self, alloc: Global, name: &str) -> Result<RelPath, Refusal>
+        ensures ok { IfOk result (λ p. (p ≡ join (Below self.now) name.now) × (is_fit (Below self.now) name.now ≡ true)) }
+        ensures refused { IsErrOf result Refusal.BadPath ↔ (is_fit (Below self.now) name.now ≡ false) }
+        ensures kinds { IfErr result (λ e. e ≢ Refusal.NoMemory → e ≡ Refusal.BadPath) }
+    {
+        if !self.takes(name) {
+            return Err(Refusal::BadPath);
+        }
+        let text = PathText::joined(alloc, self.as_str(), name)?;
+        let text = Arc::new(alloc, text)?;
+        Ok(RelPath { text })
+    }
+
     /// The path's text.
     pub fn as_str(&self) -> &str
         ensures value { result.now ≡ self.now }
@@ -76,7 +102,7 @@ impl RelPath {
     pub fn compare(&self, other: &RelPath) -> Ordering
         ensures { result ≡ path_cmp self.now other.now }
     {
-        self.as_str().as_bytes().cmp(other.as_str().as_bytes())
+        compare_texts(self.as_str().as_bytes(), other.as_str().as_bytes())
     }
 
     /// Whether the two are one path.

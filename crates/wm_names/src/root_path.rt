@@ -1,6 +1,6 @@
 //! The path of a watched root, which is absolute.
 //! Definitions: specs/Paths.antt. Tests: leaf_tests/src/names/root_paths.rt.
-ghost use Rattle.std.specs.Prelude.{◌≡◌, ◌≢◌, ℕ, List, true, false, IfOk, IfErr, IsErrOf, IsUtf8, ◌↔◌, ◌==◌, not};
+ghost use Rattle.std.specs.Prelude.{◌≡◌, ◌≢◌, ℕ, List, true, false, IfOk, IfErr, IsErrOf, IsUtf8, ◌↔◌, ◌==◌};
 ghost use Rattle.std.proofs.Common.{rules};
 ghost use Rattle.std.specs.Cmp.{partial_equiv_from_equiv};
 ghost use Rattle.std.specs.Cmp.Lexicographic.{nat_list_eq_equiv};

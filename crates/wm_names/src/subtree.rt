@@ -1,10 +1,12 @@
 //! The part of a root that a listing is about: all of it, or what is below one folder.
 //! Definitions: specs/Entries.antt. Tests: leaf_tests/src/names/subtrees.rt.
-ghost use Rattle.std.specs.Prelude.{◌≡◌, IfOk};
-ghost use Rattle.wm_names.specs.Entries.{covers, is_whole};
+ghost use Rattle.std.specs.Prelude.{◌≡◌, ◌≢◌, ◌↔◌, true, false, IfOk, IfErr, IsErrOf};
+ghost use Rattle.wm_names.specs.Entries.{covers, is_fit, is_whole, join};
 
+use crate::components::is_free_of;
 use crate::rel_path::RelPath;
-use wm_disk::NoMemory;
+use std::alloc::Global;
+use wm_disk::{NoMemory, Refusal};
 
 /// Part of a root: all of it, or what stands below one path.
 #[derive(Drop)]
@@ -37,6 +39,25 @@ impl Subtree {
         match self {
             Subtree::Whole => true,
             Subtree::Below(top) => path.under(top),
+        }
+    }
+
+    /// The path of a name in the folder that this part is of. `BadPath` where the name isn't one component or
+    /// the path would be too long, and `NoMemory`.
+    pub fn join(&self, alloc: Global, name: &str) -> Result<RelPath, Refusal>
+        ensures ok { IfOk result (λ p. (p ≡ join self.now name.now) × (is_fit self.now name.now ≡ true)) }
+        ensures refused { IsErrOf result Refusal.BadPath ↔ (is_fit self.now name.now ≡ false) }
+        ensures kinds { IfErr result (λ e. e ≢ Refusal.NoMemory → e ≡ Refusal.BadPath) }
+    {
+        match self {
+            Subtree::Whole => {
+                if is_free_of(name.as_bytes(), b'/') {
+                    RelPath::read(alloc, name)
+                } else {
+                    Err(Refusal::BadPath)
+                }
+            }
+            Subtree::Below(folder) => folder.join(alloc, name),
         }
     }
 

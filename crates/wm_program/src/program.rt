@@ -9,9 +9,9 @@ use std::net::Net;
 use std::sync::Wait;
 use std::thread::Threads;
 use std::time::Clock;
-use wm_crawler::Open;
+use wm_crawler::{Folders, Open};
 use wm_disk::{NoMemory, Refusal};
-use wm_serve::{Folders, Programs, serve};
+use wm_serve::{Programs, serve};
 use wm_server::system::Host;
 use wm_server::{Input, Output, program};
 

@@ -1,6 +1,6 @@
 //! What the command-line words ask of `watchmand`. Their definitions are in specs/ProgramWords.
 //! Tests: serve_tests/src/words.rt.
-ghost use Rattle.std.specs.Prelude.{◌≡◌, ◌≤◌, ℕ, IfOk, None, false, Option, Some, codes, map, option_map};
+ghost use Rattle.std.specs.Prelude.{◌≡◌, ◌≤◌, ℕ, IfOk, None, false, Option, Some, codes, map};
 ghost use Rattle.std.specs.Option.{MatchOption};
 ghost use Rattle.std.specs.Str.{bytes_eq};
 ghost use Rattle.clap.specs.Values.{kind_of};

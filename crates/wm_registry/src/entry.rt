@@ -1,6 +1,6 @@
 //! A path together with its root, as the two are spelled in a registry.
 //! Definitions: specs/Spelling.antt. Tests: registry_tests/src/states.rt.
-ghost use Rattle.std.specs.Prelude.{◌≡◌, List, ℕ, IfOk};
+ghost use Rattle.std.specs.Prelude.{List, ℕ};
 ghost use Rattle.wm_registry.specs.Spelling.{IsRoot, root_spelling};
 ghost use Rattle.wm_registry.specs.StateLaws.{alone_root, short_root};
 

@@ -1,7 +1,7 @@
 //! A watched root: its number, and its triggers, each name once.
 //! Definitions: specs/Triggers.antt, specs/Spelling.antt.
 //! Tests: registry_tests/src/roots.rt, registry_tests/src/states.rt.
-ghost use Rattle.std.specs.Prelude.{◌≡◌, ◌≤◌, ◌<◌, ◌^◌, ◌++◌, ◌∷◌, List, length, true, take, position, IfOk, OnOk, OnErr};
+ghost use Rattle.std.specs.Prelude.{◌≡◌, ◌≤◌, ◌<◌, ◌^◌, ◌++◌, List, length, true, take, position, IfOk, OnOk, OnErr};
 ghost use Rattle.std.specs.Bool.{OnTrue, OnFalse};
 ghost use Rattle.std.specs.Str.{bytes_eq};
 ghost use Rattle.std.specs.List.{list_any, IsDistinct};

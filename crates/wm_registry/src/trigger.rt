@@ -1,7 +1,7 @@
 //! A trigger: the program that is to be started where files change, within its limits.
 //! Definitions: specs/Triggers.antt, specs/Spelling.antt.
 //! Tests: registry_tests/src/triggers.rt, registry_tests/src/trigger_lengths.rt.
-ghost use Rattle.std.specs.Prelude.{◌≡◌, ◌≢◌, ◌↔◌, ◌++◌, ℕ, List, true, false, take, length, map, nat_le, OnOk, OnErr, IfOk, IfErr, IsErrOf};
+ghost use Rattle.std.specs.Prelude.{◌≡◌, ◌≢◌, ◌↔◌, ◌++◌, List, true, false, take, length, map, nat_le, OnOk, OnErr, IfOk, IfErr, IsErrOf};
 ghost use Rattle.std.specs.List.{list_all};
 ghost use Rattle.std.specs.Option.{option_map};
 ghost use Rattle.wm_registry.specs.Limits.{max_word};

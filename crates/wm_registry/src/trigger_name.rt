@@ -1,6 +1,6 @@
 //! The name of a trigger, with its limit and its bytes.
 //! Definitions: specs/Triggers.antt, specs/Spelling.antt. Tests: registry_tests/src/names.rt.
-ghost use Rattle.std.specs.Prelude.{◌≡◌, ◌≢◌, ◌↔◌, ◌<◌, ◌≤◌, List, ℕ, false, length, IfOk, IfErr, IsErrOf};
+ghost use Rattle.std.specs.Prelude.{◌≡◌, ◌≢◌, ◌↔◌, ◌<◌, List, ℕ, false, length, IfOk, IfErr, IsErrOf};
 ghost use Rattle.wm_wire.specs.Spelling.{text};
 ghost use Rattle.wm_registry.specs.Spelling.{IsName};
 ghost use Rattle.wm_registry.specs.TriggerLaws.{alone_name, short_name};

@@ -1,7 +1,7 @@
 //! The bytes of a whole registry, and which bytes are one.
 //! Definitions: specs/Spelling.antt.
 //! Tests: registry_tests/src/states.rt, registry_tests/src/long_states.rt.
-ghost use Rattle.std.specs.Prelude.{◌≡◌, ◌++◌, ◌<◌, ◌≤◌, ◌==◌, ℕ, take, length, flat_map, IfOk, IfSome, IfNone, OnOk, OnErr};
+ghost use Rattle.std.specs.Prelude.{◌≡◌, ◌++◌, ◌<◌, ◌==◌, take, length, flat_map, IfOk, IfSome, IfNone, OnOk, OnErr};
 ghost use Rattle.std.specs.List.{list_any};
 ghost use Rattle.wm_registry.specs.Spelling.{AreRoots, IsState, state_spelling, root_spelling};
 ghost use Rattle.wm_registry.specs.StateLaws.{alone_state, short_state};

@@ -3,7 +3,7 @@
 use crate::door::CHAIRS;
 use crate::house::House;
 use crate::leading::lead;
-use crate::system::{Folders, Programs};
+use crate::programs::Programs;
 use std::alloc::Global;
 use std::io::Write;
 use std::os::unix::net::UnixListener;
@@ -11,7 +11,7 @@ use std::sync::Wait;
 use std::thread;
 use std::thread::Threads;
 use std::time::{Clock, Duration};
-use wm_crawler::Turnstile;
+use wm_crawler::{Folders, Turnstile};
 use wm_disk::Refusal;
 
 const TOO_MANY: &str = "{\"error\":\"17 TooMany\",\"version\":\"w1\"}\n";

@@ -1,6 +1,6 @@
 //! What the threads of a server see of it: a bound in place of the types, so that little is proved of what crosses.
 //! Tests: serve_tests/src/sessions.rt.
-use crate::system::Programs;
+use crate::programs::Programs;
 use std::alloc::Global;
 use std::os::unix::net::UnixStream;
 use std::sync::Wait;

@@ -17,14 +17,14 @@ mod leading;
 mod listening;
 mod meeting;
 mod place;
+mod programs;
 mod second;
 mod serving;
 mod shared;
 mod shared_house;
 mod subscribing;
-mod system;
 mod telling;
 mod triggering;
 
+pub use programs::{Programs, SystemPrograms};
 pub use serving::{Settings, serve};
-pub use system::{Folders, Programs, SystemFolders, SystemPrograms};

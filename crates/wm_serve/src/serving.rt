@@ -4,8 +4,8 @@ ghost use Rattle.std.specs.Prelude.{◌≡◌};
 
 use crate::admitting::serve_on;
 use crate::listening::listen;
+use crate::programs::Programs;
 use crate::shared::Shared;
-use crate::system::{Folders, Programs};
 use std::alloc::Global;
 use std::fs;
 use std::fs::{File, Files};
@@ -16,7 +16,7 @@ use std::os::unix::net::UnixListener;
 use std::sync::Wait;
 use std::thread::Threads;
 use std::time::Clock;
-use wm_crawler::Turnstile;
+use wm_crawler::{Folders, Turnstile};
 use wm_disk::{NoMemory, Refusal};
 use wm_file::{FileDisk, Unknown};
 use wm_groupcommit::Desk;

@@ -4,9 +4,9 @@ ghost use Rattle.wm_groupcommit.specs.Seats.{IsFlusherOf};
 
 use crate::answering::sit_on;
 use crate::house::{Crawl, House, Worker};
+use crate::programs::Programs;
 use crate::second::second;
 use crate::shared::Shared;
-use crate::system::Programs;
 use crate::telling::tell_for;
 use crate::triggering::trigger_for;
 use std::alloc::Global;

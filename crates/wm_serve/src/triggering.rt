@@ -1,6 +1,6 @@
 //! Runs the triggers of a root.
 //! Tests: serve_tests/src/sessions.rt.
-use crate::system::Programs;
+use crate::programs::Programs;
 use std::alloc::Global;
 use std::sync::Wait;
 use wm_disk::Refusal;

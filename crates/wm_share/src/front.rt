@@ -1,6 +1,6 @@
 //! A beginning of a share's list that was seen.
 //! Definitions: specs/PublishedLists.antt, specs/Logs.antt. Tests: share_tests/src/shares.rt.
-ghost use Rattle.std.specs.Prelude.{◌≡◌, ◌≢◌, ◌+◌, ◌<◌, ◌^◌, ◌++◌, ◌∷◌, ◌⊎◌, [], length, MatchBool};
+ghost use Rattle.std.specs.Prelude.{◌≡◌, ◌≢◌, ◌+◌, ◌<◌, ◌^◌, ◌∷◌, ◌⊎◌, [], length, MatchBool};
 ghost use Rattle.wm_share.specs.PublishedLists.{Begins, IsLonger, empty_list, with_operations};
 ghost use Rattle.wm_share.specs.Rules.{word_of};
 ghost use Rattle.wm_share.specs.Logs.{max_shares};

@@ -1,8 +1,7 @@
 //! The keeper of a root, which alone changes its view.
 //! Definitions: specs/PublishedLists.antt, specs/Operations.antt. Tests: share_tests/src/shares.rt.
-ghost use Rattle.std.specs.Prelude.{◌≡◌, ◌⊎◌, ◌++◌, ◌∷◌, [], None, length, MatchResult};
+ghost use Rattle.std.specs.Prelude.{◌≡◌, ◌⊎◌, ◌++◌, ◌∷◌, [], None, MatchResult};
 ghost use Rattle.left_right.specs.Handles.{published as shown_by, pending as waiting};
-ghost use Rattle.wm_disk.specs.Counters.{max_counter};
 ghost use Rattle.wm_view.specs.declared.op.Op.{Op};
 ghost use Rattle.wm_view.specs.declared.op.Op.TheVariants.{Observe, Recrawl, AgeOut};
 ghost use Rattle.wm_share.specs.Operations.{Operations, held_list};

@@ -2,7 +2,6 @@
 //! Definitions: specs/Pools.antt. Tests: share_tests/src/pools.rt.
 ghost use Rattle.std.specs.Prelude.{◌≡◌, ◌≢◌, ◌+◌, ◌<◌, ◌≤◌, MatchResult};
 ghost use Rattle.wm_share.specs.Pools.{PoolState, max_viewers};
-ghost use Rattle.wm_share.specs.declared.share_id.ShareId.{ShareId as Id};
 
 use crate::book::Naming;
 use crate::share_id::ShareId;

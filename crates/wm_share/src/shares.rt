@@ -3,7 +3,6 @@
 ghost use Rattle.std.specs.Prelude.{◌≡◌, ◌≤◌, ◌+◌, ◌-◌, [], IfOk, IfErr, ◌⊎◌};
 ghost use Rattle.left_right.specs.Handles.{published, pending};
 ghost use Rattle.wm_share.specs.Logs.{max_shares};
-ghost use Rattle.wm_share.specs.Rules.{word_of};
 ghost use Rattle.wm_share.specs.PublishedLists.{empty_list};
 
 use crate::book::{Empty, Law, Naming};

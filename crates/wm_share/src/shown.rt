@@ -1,11 +1,11 @@
 //! What viewers read: a view, and the list of operations that made it.
 //! Definitions: specs/PublishedLists.antt. Tests: share_tests/src/shares.rt.
-ghost use Rattle.std.specs.Prelude.{◌≡◌, ◌≢◌, ◌⊎◌, ◌∷◌, [], true, false, IfOk, IfErr};
-ghost use Rattle.wm_view.specs.Histories.{history_of, is_ready, new_history};
+ghost use Rattle.std.specs.Prelude.{◌≡◌, ◌⊎◌, ◌∷◌, [], true, false, IfOk, IfErr};
+ghost use Rattle.wm_view.specs.Histories.{is_ready};
 ghost use Rattle.wm_view.specs.Summaries.{summary};
 ghost use Rattle.wm_view.specs.Views.{Performs};
 ghost use Rattle.wm_since.specs.Answers.{answer_to, question};
-ghost use Rattle.wm_share.specs.PublishedLists.{Begins, PublishedList, empty_list, history, with_operations};
+ghost use Rattle.wm_share.specs.PublishedLists.{Begins, PublishedList, history, with_operations};
 
 use crate::book::Naming;
 use crate::front::Front;

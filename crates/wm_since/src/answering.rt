@@ -1,6 +1,6 @@
 //! Answers a question from a view: what changed since a clock, or afresh all that exists.
 //! Definitions: specs/Answers.antt. Tests: view_tests/src/answers/since.rt.
-ghost use Rattle.std.specs.Prelude.{◌≡◌, ◌≢◌, ◌↔◌, ℕ, true, false, IfOk, IfErr, IsErrOf};
+ghost use Rattle.std.specs.Prelude.{◌≡◌, ◌≢◌, ◌↔◌, true, false, IfOk, IfErr, IsErrOf};
 ghost use Rattle.wm_view.specs.Histories.{History, IsMade};
 ghost use Rattle.wm_view.specs.Summaries.{summary};
 ghost use Rattle.wm_since.specs.Answers.{answer_by, answer_to, files_by, is_new, listed_all, listed_in, question, answerable_since};

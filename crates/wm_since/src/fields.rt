@@ -1,9 +1,8 @@
 //! The fields that one question asks for.
 //! Definitions: specs/Fields.antt. Tests: view_tests/src/answers/rendering.rt.
 ghost use Rattle.std.specs.Prelude.{◌≡◌, ◌≢◌, ◌↔◌, ◌<◌, true, None, Some, length, map, is_some, IfOk, IfErr, IsErrOf};
-ghost use Rattle.std.specs.List.{filter, list_all, list_any};
-ghost use Rattle.std.specs.Str.{bytes_eq};
-ghost use Rattle.wm_since.specs.Fields.{are_distinct, are_fields, by_name, default_fields, field_of, fields_of, are_ordered, is_among, field_name};
+ghost use Rattle.std.specs.List.{filter, list_all};
+ghost use Rattle.wm_since.specs.Fields.{are_distinct, are_fields, default_fields, field_of, fields_of, are_ordered, is_among, field_name};
 
 use crate::field::{BY_NAME, Field};
 use std::alloc::Global;

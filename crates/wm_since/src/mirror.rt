@@ -1,6 +1,6 @@
 //! A client that keeps a list of files by the answers it gets, one question at a time.
 //! Definitions: specs/Clients.antt. Tests: view_tests/src/answers/mirrors.rt.
-ghost use Rattle.std.specs.Prelude.{◌≡◌, ◌≢◌, ◌↔◌, ℕ, ◌≤◌, true, false, not, [], IfOk, IfErr, OnOk, OnErr, IsErrOf, MatchOption, length, filter};
+ghost use Rattle.std.specs.Prelude.{◌≡◌, ◌≢◌, ◌↔◌, ◌≤◌, true, false, not, IfOk, IfErr, OnOk, OnErr, IsErrOf, MatchOption, length, filter};
 ghost use Rattle.std.specs.List.{insert};
 ghost use Rattle.wm_view.specs.Files.{with_path};
 ghost use Rattle.wm_since.specs.Answers.{question};

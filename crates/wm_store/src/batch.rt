@@ -1,16 +1,13 @@
 //! A batch from its first accepted command on: each command is met on a copy of the registry,
 //! and the accepted ones are committed in groups.
 //! Definitions: specs/Batches.antt, specs/UnderWay.antt. Tests: file_tests/src/store/calls.rt.
-ghost use Rattle.std.specs.Prelude.{◌≡◌, ◌≢◌, ◌⊎◌, ◌+◌, ◌≤◌, ◌<◌, ◌++◌, ◌∷◌, true, false, List, ℕ, [], length, map, take, drop, Option, Some, None, IfOk, IfErr, OnOk, OnErr, IfSome, vec_len, vec_capacity};
-ghost use Rattle.wm_disk.specs.declared.refusal.Refusal.TheVariants.{BadArguments as bad_arguments, NoMemory as no_memory, Exhausted as exhausted};
+ghost use Rattle.std.specs.Prelude.{◌≡◌, ◌⊎◌, ◌+◌, ◌≤◌, ◌<◌, ◌++◌, false, [], length, map, take, drop, Option, Some, None, IfOk, IfErr, OnOk, OnErr, IfSome, vec_len};
+ghost use Rattle.wm_disk.specs.declared.refusal.Refusal.TheVariants.{NoMemory as no_memory, Exhausted as exhausted};
 ghost use Rattle.wm_disk.specs.Moments.{LeavesOnly};
-ghost use Rattle.wm_journal.specs.Records.{taken};
 ghost use Rattle.wm_checkpoint.specs.Meanings.{MeansPrefix};
 ghost use Rattle.wm_registry.specs.MachineLaws.{watches};
-ghost use Rattle.wm_checkpoint.specs.Kept.{disk_of, state_of, has_failed, slot_number_of, room_left, Keeps};
-ghost use Rattle.wm_registry.specs.Commands.{command_spelling};
+ghost use Rattle.wm_checkpoint.specs.Kept.{disk_of, state_of, has_failed, Keeps};
 ghost use Rattle.wm_registry.specs.Registry.{after_command, is_change, reply_to};
-ghost use Rattle.wm_store.specs.Batches.{IsOutOfMemory, accepted_of, is_begin};
 ghost use Rattle.wm_store.specs.Room.{group_bound};
 ghost use Rattle.wm_store.specs.UnderWay.{AreIdle, IsUnmoved, HasRoom, IsAsked, IsCutAtEnd, IsCutBatch, IsCutBehind, IsCutFor, IsDone, IsFinished, IsGroupDone, IsMetToo, IsNew, IsPushed, IsReady, IsRefused, IsRoomMade, UsesKeeper, refused_for_memory};
 

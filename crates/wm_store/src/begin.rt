@@ -3,7 +3,7 @@
 ghost use Rattle.std.specs.Prelude.{◌≡◌, ◌≢◌, ◌⊎◌, ◌≤◌, false, IfErr, OnOk, IsErrOf};
 ghost use Rattle.wm_disk.specs.Counters.{max_counter};
 ghost use Rattle.wm_disk.specs.declared.refusal.Refusal.TheVariants.{DeviceFailed as device_failed, NoMemory as no_memory, Exhausted as exhausted};
-ghost use Rattle.wm_checkpoint.specs.Kept.{disk_of, state_of, has_failed, slot_number_of, room_left, Keeps};
+ghost use Rattle.wm_checkpoint.specs.Kept.{disk_of, has_failed, slot_number_of, room_left, Keeps};
 ghost use Rattle.wm_registry.specs.MachineLaws.{watches};
 ghost use Rattle.wm_store.specs.Beginnings.{CallsKeeper, HasBegun, HasRoomForBegin, IsSpent, LeavesBegun, StandsStill};
 ghost use Rattle.wm_store.specs.Room.{begin_len};

@@ -1,6 +1,6 @@
 //! The starter of real programs: it makes the command and the input of each run.
 //! Definitions: specs/Starters.antt, specs/Starting.antt. Tests: trigger_tests/src/programs.rt.
-ghost use Rattle.std.specs.Prelude.{◌≡◌, IsTrue};
+ghost use Rattle.std.specs.Prelude.{◌≡◌};
 ghost use Rattle.wm_triggers.specs.Starters.{failed_programs, launcher_of};
 ghost use Rattle.wm_triggers.specs.Starting.{launch_for};
 

@@ -1,9 +1,8 @@
 //! Which run of a trigger is due: what changed since the last run that was started.
 //! Definitions: specs/Due.antt, specs/TriggerRuns.antt. Tests: trigger_tests/src/runs.rt.
-ghost use Rattle.std.specs.Prelude.{◌≡◌, ◌≢◌, ◌↔◌, Some, None, true, false, option_map, IfOk, IfErr, IfSome, IsErrOf};
+ghost use Rattle.std.specs.Prelude.{◌≡◌, ◌≢◌, ◌↔◌, Some, None, false, option_map, IfOk, IfErr, IfSome, IsErrOf};
 ghost use Rattle.serde_json.specs.Read.{read};
 ghost use Rattle.serde_json.specs.View.{view};
-ghost use Rattle.wm_expr.specs.Readings.{expression_of};
 ghost use Rattle.wm_expr.specs.Views.{term};
 ghost use Rattle.wm_view.specs.Histories.{History, IsMade};
 ghost use Rattle.wm_view.specs.Summaries.{summary};

@@ -1,7 +1,7 @@
 //! What becomes of each path that an observation tells or that is listed, where anything does.
 //! Definitions: specs/Changes.antt.
 //! Tests: view_tests/src/views/observing.rt, view_tests/src/views/recrawling.rt.
-ghost use Rattle.std.specs.Prelude.{◌≡◌, ℕ, None, Some, Option, unwrap_or, IfOk, option_and_then, is_some};
+ghost use Rattle.std.specs.Prelude.{◌≡◌, None, Some, Option, unwrap_or, IfOk, option_and_then};
 ghost use Rattle.std.specs.BTreeMap.{IsOrdered};
 ghost use Rattle.std.specs.FinMap.{find};
 ghost use Rattle.wm_names.specs.Entries.{same_state as same_state_lem};

@@ -1,19 +1,17 @@
 //! What is known of each path, in three trees: by path, by the tick of the last change, and of
 //! what is gone. Its parts are the files of known_paths/.
 //! Definitions: specs/KnownPaths.antt. Tests: view_tests/src/views.
-ghost use Rattle.std.specs.Prelude.{◌≡◌, [], ◌≤◌, ◌<◌, OnOk, OnErr, IfOk, is_some, true, false, Some, None, ◌≢◌, IfSome, ℕ, nat_lt, filter, not, ◌&&◌, fold};
+ghost use Rattle.std.specs.Prelude.{◌≡◌, [], ◌≤◌, ◌<◌, OnOk, OnErr, false, Some, None};
 ghost use Rattle.std.specs.BTreeMap.{get};
-ghost use Rattle.std.specs.FinMap.{find, put};
 ghost use Rattle.wm_disk.specs.Counters.{max_counter};
-ghost use Rattle.wm_names.specs.Paths.{Path, path_cmp, same_path};
-ghost use Rattle.wm_view.specs.Steps.{known_or, is_gone_for as is_gone_for_lem};
-ghost use Rattle.wm_view.specs.Summaries.{unknown as unknown_lem, by_last};
-ghost use Rattle.wm_view.specs.KnownPaths.{IsSound, HasChangeRoom, HaveRoom, KeepsChangeRoom, KeepsOtherRoom, AreAt, IsPlaced, IsAmongGone, IsUpTo, told, after_changes, is_wanted as is_wanted_lem, known_there as known_there_lem, known_at};
+ghost use Rattle.wm_view.specs.Steps.{known_or};
+ghost use Rattle.wm_view.specs.Summaries.{unknown as unknown_lem};
+ghost use Rattle.wm_view.specs.KnownPaths.{IsSound, AreAt, told, after_changes};
 
 use crate::known::Known;
 use std::alloc::Global;
 use std::collections::{BTreeMap, BTreeSet};
-use wm_disk::{MAX_COUNTER, NoMemory};
+use wm_disk::NoMemory;
 use wm_names::{Kind, Meta, RelPath};
 
 mod first;

@@ -1,7 +1,7 @@
 //! A client as the world has it: what it holds, and the one answer on its way to it.
 //! Definitions: specs/Steps.antt, specs/Worlds.antt. Tests: session_tests/src/world/clients.rt.
 ghost use Rattle.std.specs.Prelude.{◌≡◌, OnOk, is_some, map};
-ghost use Rattle.wm_world.specs.Worlds.{connected, without_answer};
+ghost use Rattle.wm_world.specs.Worlds.{without_answer};
 ghost use Rattle.wm_world.specs.Steps.{receiving};
 ghost use Rattle.wm_world.specs.Refinement.{asking_by};
 

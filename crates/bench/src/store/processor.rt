@@ -2,7 +2,7 @@
 
 use super::rounds::Sides;
 use crate::measured::median;
-use anyhow::{Result, ensure};
+use anyhow::Result;
 use std::alloc::Global;
 use std::time::{Clock, CpuClock, Duration};
 use std::{fmt, io};

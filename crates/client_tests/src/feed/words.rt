@@ -1,7 +1,7 @@
 //! What the command-line words ask of `wmfeed`.
 use std::alloc::{AllocError, Global};
 use std::test::Fail;
-use wm_feeder::Words;
+use wm_client::FeedWords;
 
 /// Lists of words, and what they ask for.
 const ASKED: &[(&[&str], &str)] = &[
@@ -15,10 +15,10 @@ const ASKED: &[(&[&str], &str)] = &[
     (&["s", "-r"], "shown 2"),
 ];
 
-fn asked(alloc: Global, words: &Words) -> Result<String, AllocError> {
+fn asked(alloc: Global, words: &FeedWords) -> Result<String, AllocError> {
     match words {
-        Words::Feed { socket, root } => format!(in alloc; "feed {socket} {root}"),
-        Words::Shown { text: _, status } => format!(in alloc; "shown {status}"),
+        FeedWords::Feed { socket, root } => format!(in alloc; "feed {socket} {root}"),
+        FeedWords::Shown { text: _, status } => format!(in alloc; "shown {status}"),
     }
 }
 
@@ -26,7 +26,7 @@ fn asked(alloc: Global, words: &Words) -> Result<String, AllocError> {
 fn words_of_the_table(rt: HostRuntime) -> Result<(), Fail> {
     let alloc = rt.alloc();
     for (words, wanted) in ASKED {
-        let told = asked(alloc, &Words::read(alloc, words)?)?;
+        let told = asked(alloc, &FeedWords::read(alloc, words)?)?;
         assert!(rt; told.as_str() == *wanted, "{words:?}: {told}");
     }
     Ok(())

@@ -1,5 +1,5 @@
 //! A switch, a machine whose commands aren't all bytes.
-ghost use Rattle.std.specs.Prelude.{ℕ, Bool, if◌then◌else◌};
+ghost use Rattle.std.specs.Prelude.{if◌then◌else◌};
 ghost use Rattle.std.proofs.Common.{arith};
 ghost use Rattle.file_tests.specs.Registers.{alive_register, changes_register, idle_register, position};
 

@@ -1,5 +1,5 @@
 //! How many calls the disk of a journal has.
-ghost use Rattle.std.specs.Prelude.{◌≡◌, IfOk, OnOk};
+ghost use Rattle.std.specs.Prelude.{IfOk, OnOk};
 ghost use Rattle.wm_journal.specs.Regions.{IsAt, LiesOn};
 
 use super::{append, disk_of, region_of, see_whole};

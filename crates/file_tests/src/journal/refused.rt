@@ -1,5 +1,5 @@
 //! What is refused, and that the region goes on after it.
-ghost use Rattle.std.specs.Prelude.{◌≡◌, IfOk};
+ghost use Rattle.std.specs.Prelude.{IfOk};
 ghost use Rattle.wm_journal.specs.Regions.{InSamePlace, IsAt, LiesOn};
 
 use super::{append, disk_of, region_of, see_whole};

@@ -1,6 +1,8 @@
 //! What stands in a part of a root.
+use super::long;
 use std::alloc::Global;
 use std::test::Fail;
+use wm_disk::Refusal;
 use wm_names::{RelPath, Subtree};
 
 // Paths, and whether they stand below `x`.
@@ -26,5 +28,77 @@ fn covers_what_stands_below(rt: HostRuntime) -> Result<(), Fail> {
     }
     assert!(rt; Subtree::Whole.is_whole());
     assert!(rt; !Subtree::Below(RelPath::read(rt.alloc(), "x")?).is_whole());
+    Ok(())
+}
+
+// A folder, the empty text for the root, and a name in it; the name's path, where it is one.
+const JOINED: &[(&str, &str, Option<&str>)] = &[
+    ("", "a", Some("a")),
+    ("x", "a.c", Some("x/a.c")),
+    ("x/y", "\u{e9}", Some("x/y/\u{e9}")),
+    ("x", "...", Some("x/...")),
+    ("", "", None),
+    ("x", "", None),
+    ("", "a/b", None),
+    ("x", "a/b", None),
+    ("x", "/", None),
+    ("", "..", None),
+    ("x", ".", None),
+    ("x", "..", None),
+    ("", "a\0b", None),
+    ("x", "\0", None),
+];
+
+// How many bytes a folder and a name have, and whether the path isn't too long: about the most that lie in the
+// value itself, and about the most of all.
+const LONG: &[(usize, usize, bool)] = &[
+    (40, 7, true),
+    (40, 8, true),
+    (1000, 23, true),
+    (1000, 24, false),
+    (1024, 1, false),
+    (1, 1025, false),
+];
+
+fn folder(alloc: Global, path: &str) -> Result<Subtree, Refusal> {
+    if path.is_empty() {
+        return Ok(Subtree::Whole);
+    }
+    let path = RelPath::read(alloc, path)?;
+    Ok(Subtree::Below(path))
+}
+
+// Whether the name's path in the folder is that, or where none is given the name is refused.
+fn is_joined(alloc: Global, top: &str, name: &str, want: Option<&str>) -> Result<bool, Refusal> {
+    let folder = folder(alloc, top)?;
+    match (folder.join(alloc, name), want) {
+        (Ok(path), Some(want)) => Ok(path.as_str() == want),
+        (Err(Refusal::BadPath), None) => Ok(true),
+        (Err(Refusal::NoMemory), _) => Err(Refusal::NoMemory),
+        _ => Ok(false),
+    }
+}
+
+fn is_joined_long(alloc: Global, top: usize, name: usize, fits: bool) -> Result<bool, Refusal> {
+    let top = long(alloc, "", top)?;
+    let name = long(alloc, "", name)?;
+    let mut path = String::from_str(alloc, &top)?;
+    path.push('/')?;
+    path.push_str(&name)?;
+    let want = if fits { Some(path.as_str()) } else { None };
+    is_joined(alloc, &top, &name, want)
+}
+
+#[test]
+fn a_name_is_joined_to_its_folder(rt: HostRuntime) -> Result<(), Fail> {
+    for (top, name, want) in JOINED {
+        assert!(rt; is_joined(rt.alloc(), top, name, *want)?, "{top} {name}");
+    }
+    for (top, name, fits) in LONG {
+        assert!(rt;
+            is_joined_long(rt.alloc(), *top, *name, *fits)?,
+            "{top} and {name} bytes"
+        );
+    }
     Ok(())
 }

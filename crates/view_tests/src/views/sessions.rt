@@ -1,7 +1,6 @@
 //! Views through sessions, step by step.
 use super::walking::{Deed, Step, assert_walks};
 use super::{Shown, exists_so, stands};
-use std::alloc::Global;
 use std::test::Fail;
 use wm_disk::Refusal;
 use wm_view::View;

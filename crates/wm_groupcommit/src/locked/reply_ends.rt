@@ -1,6 +1,6 @@
 //! The flusher's end of a reply queue, and the seat's, which sleeps while it waits.
 //! Definitions: specs/ReplyQueues.antt. Tests: desk_tests.
-ghost use Rattle.std.specs.Prelude.{◌≡◌, ◌⊎◌, true, Some, None, [], ◌∷◌, ◌++◌, IfOk, IfSome, IfNone};
+ghost use Rattle.std.specs.Prelude.{◌≡◌, ◌⊎◌, true, None, [], IfOk, IfSome, IfNone};
 ghost use Rattle.std.specs.Arc.{arc_value};
 ghost use Rattle.crossbeam_queue.specs.Passes.{view, IsPassOf};
 ghost use Rattle.wm_groupcommit.specs.Books.{Right};

@@ -1,7 +1,6 @@
 //! The front of one thread, over a disk. Its definitions are in specs/local.
 //! Tests: session_tests/src/lines, session_tests/src/ends.rt.
 ghost use Rattle.std.specs.Prelude.{◌≡◌, ◌⊎◌, ◌<◌, ◌∷◌, [], true, false, List, vec_len, vec_capacity, IfOk, IfErr};
-ghost use Rattle.wm_names.specs.Paths.{Path};
 ghost use Rattle.wm_registry.specs.declared.command.Command as commands;
 ghost use Rattle.wm_server.specs.session.Faults.{Submits};
 ghost use Rattle.wm_server.specs.session.Sessions.{SessionState, views_after};

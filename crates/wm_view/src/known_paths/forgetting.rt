@@ -1,20 +1,15 @@
 //! Forgets the paths that have been gone for long enough.
 //! Definitions: specs/KnownPaths.antt, specs/Steps.antt. Tests: view_tests/src/views/ageing.rt.
-ghost use Rattle.std.specs.Prelude.{◌≡◌, [], ◌≤◌, ◌<◌, OnOk, OnErr, IfOk, is_some, true, false, Some, None, ◌≢◌, IfSome, ℕ, nat_lt, filter, not, ◌&&◌, fold};
-ghost use Rattle.std.specs.BTreeMap.{get};
-ghost use Rattle.std.specs.FinMap.{find, put};
-ghost use Rattle.wm_disk.specs.Counters.{max_counter};
-ghost use Rattle.wm_names.specs.Paths.{Path, path_cmp, same_path};
+ghost use Rattle.std.specs.Prelude.{◌≡◌, ◌<◌, IfOk, false, Some, None, nat_lt, filter, not, ◌&&◌, fold};
+ghost use Rattle.wm_names.specs.Paths.{same_path};
 ghost use Rattle.wm_view.specs.Steps.{known_or, is_gone_for as is_gone_for_lem};
-ghost use Rattle.wm_view.specs.Summaries.{unknown as unknown_lem, by_last};
-ghost use Rattle.wm_view.specs.KnownPaths.{IsSound, HasChangeRoom, HaveRoom, KeepsChangeRoom, KeepsOtherRoom, AreAt, IsPlaced, IsAmongGone, IsUpTo, told, after_changes, is_wanted as is_wanted_lem, known_there as known_there_lem, known_at};
+ghost use Rattle.wm_view.specs.KnownPaths.{IsSound, told};
 
 use crate::known::Known;
 use crate::known_paths::{KnownPaths, unknown};
 use std::alloc::Global;
-use std::collections::{BTreeMap, BTreeSet};
 use wm_disk::{MAX_COUNTER, NoMemory};
-use wm_names::{Kind, Meta, RelPath};
+use wm_names::RelPath;
 
 /// Whether a path that changed at a tick is gone for so long.
 fn is_told_gone(time: u64, age: u64, known: &Known) -> bool

@@ -1,20 +1,18 @@
 //! Lists what changed after a tick, and what exists, the latest change first.
 //! Definitions: specs/Summaries.antt. Tests: view_tests/src/views.
-ghost use Rattle.std.specs.Prelude.{◌≡◌, [], ◌≤◌, ◌<◌, OnOk, OnErr, IfOk, is_some, true, false, Some, None, ◌≢◌, IfSome, ℕ, nat_lt, filter, not, ◌&&◌, fold};
-ghost use Rattle.std.specs.BTreeMap.{get};
-ghost use Rattle.std.specs.FinMap.{find, put};
+ghost use Rattle.std.specs.Prelude.{◌≡◌, ◌≤◌, ◌<◌, IfOk, true, false, Some, None, ℕ, nat_lt, filter, ◌&&◌};
+ghost use Rattle.std.specs.FinMap.{find};
 ghost use Rattle.wm_disk.specs.Counters.{max_counter};
-ghost use Rattle.wm_names.specs.Paths.{Path, path_cmp, same_path};
-ghost use Rattle.wm_view.specs.Steps.{known_or, is_gone_for as is_gone_for_lem};
-ghost use Rattle.wm_view.specs.Summaries.{unknown as unknown_lem, by_last};
-ghost use Rattle.wm_view.specs.KnownPaths.{IsSound, HasChangeRoom, HaveRoom, KeepsChangeRoom, KeepsOtherRoom, AreAt, IsPlaced, IsAmongGone, IsUpTo, told, after_changes, is_wanted as is_wanted_lem, known_there as known_there_lem, known_at};
+ghost use Rattle.wm_names.specs.Paths.{Path, path_cmp};
+ghost use Rattle.wm_view.specs.Steps.{known_or};
+ghost use Rattle.wm_view.specs.Summaries.{by_last};
+ghost use Rattle.wm_view.specs.KnownPaths.{IsSound, IsUpTo, told, is_wanted as is_wanted_lem, known_there as known_there_lem, known_at};
 
 use crate::known::Known;
 use crate::known_paths::{KnownPaths, unknown};
 use std::alloc::Global;
-use std::collections::{BTreeMap, BTreeSet};
 use wm_disk::{MAX_COUNTER, NoMemory};
-use wm_names::{Kind, Meta, RelPath};
+use wm_names::RelPath;
 
 /// Whether it changed after the tick, and exists where that is asked.
 fn is_wanted(tick: u64, existing: bool, known: &Known) -> bool

@@ -1,21 +1,18 @@
 //! Makes room for all changes of an operation before the first is written, so that writing them
 //! (settling.rt) takes no memory and can't fail.
 //! Definitions: specs/KnownPaths.antt. Tests: view_tests/src/views.
-ghost use Rattle.std.specs.Prelude.{◌≡◌, [], ◌≤◌, ◌<◌, OnOk, OnErr, IfOk, is_some, true, false, Some, None, ◌≢◌, IfSome, ℕ, nat_lt, filter, not, ◌&&◌, fold};
+ghost use Rattle.std.specs.Prelude.{◌≡◌, ◌≤◌, ◌<◌, OnOk, is_some, true};
 ghost use Rattle.std.specs.BTreeMap.{get};
-ghost use Rattle.std.specs.FinMap.{find, put};
 ghost use Rattle.wm_disk.specs.Counters.{max_counter};
-ghost use Rattle.wm_names.specs.Paths.{Path, path_cmp, same_path};
-ghost use Rattle.wm_view.specs.Steps.{known_or, is_gone_for as is_gone_for_lem};
-ghost use Rattle.wm_view.specs.Summaries.{unknown as unknown_lem, by_last};
-ghost use Rattle.wm_view.specs.KnownPaths.{IsSound, HasChangeRoom, HaveRoom, KeepsChangeRoom, KeepsOtherRoom, AreAt, IsPlaced, IsAmongGone, IsUpTo, told, after_changes, is_wanted as is_wanted_lem, known_there as known_there_lem, known_at};
+ghost use Rattle.wm_names.specs.Paths.{path_cmp};
+ghost use Rattle.wm_view.specs.KnownPaths.{IsSound, HasChangeRoom, HaveRoom, KeepsChangeRoom, IsPlaced, IsAmongGone, told};
 
 use crate::known::Known;
 use crate::known_paths::{KnownPaths, unknown};
 use std::alloc::Global;
-use std::collections::{BTreeMap, BTreeSet};
+use std::collections::BTreeMap;
 use wm_disk::{MAX_COUNTER, NoMemory};
-use wm_names::{Kind, Meta, RelPath};
+use wm_names::RelPath;
 
 impl KnownPaths {
     /// Room for what is known of the path.

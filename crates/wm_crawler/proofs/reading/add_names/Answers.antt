@@ -1,7 +1,7 @@
 use Rattle.std.proofs.Common.{◌+◌, ◌++◌, [], ◌∷◌, not, take, ap, sym, ◌∙◌, append_assoc}
 use Rattle.std.specs.List.{cons_option, count_by, filter_map}
 use Rattle.wm_names.specs.Paths.{Path}
-use Rattle.wm_crawler.specs.Trees.{is_fit}
+use Rattle.wm_names.specs.Entries.{is_fit}
 use Rattle.wm_crawler.specs.Levels.{counted, path_of}
 use Rattle.wm_crawler.proofs.Steps.{count_more, counted_step, filtered_more}
 use Rattle.wm_crawler.proofs.reading.add_names.Goals as goal

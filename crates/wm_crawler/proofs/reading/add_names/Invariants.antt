@@ -1,6 +1,6 @@
 use Rattle.std.proofs.Common.{◌≡◌, ◌+◌, ◌++◌, not, take}
 use Rattle.std.specs.List.{count_by, filter_map}
-use Rattle.wm_crawler.specs.Trees.{is_fit}
+use Rattle.wm_names.specs.Entries.{is_fit}
 use Rattle.wm_crawler.specs.Levels.{counted, path_of}
 use Rattle.wm_crawler.proofs.reading.add_names.Given as goal
 

@@ -1,0 +1,51 @@
+//! The order of texts by their bytes.
+use super::long;
+use std::cmp::Ordering;
+use std::test::Fail;
+use wm_names::compare_texts;
+
+// Two texts, and how the first stands to the second.
+const ROWS: &[(&[u8], &[u8], Ordering)] = &[
+    (b"", b"", Ordering::Equal),
+    (b"", b"\0", Ordering::Less),
+    (b"a\0", b"a", Ordering::Greater),
+    (b"a\0b", b"a\0\0", Ordering::Greater),
+    (b"z", b"\xff", Ordering::Less),
+    (b"source/file_01.c", b"source/file_01.c", Ordering::Equal),
+    (b"source/file_01.c", b"source/file_01.d", Ordering::Less),
+    (b"source/file_01.c", b"source/file_01.", Ordering::Greater),
+    (b"source.file_01.c", b"source/file_01.c", Ordering::Less),
+    (b"\xff", b"source/file_01.c", Ordering::Greater),
+];
+
+#[test]
+fn texts_stand_in_the_order_of_their_bytes(rt: HostRuntime) -> Result<(), Fail> {
+    for (one, other, want) in ROWS {
+        assert!(rt; compare_texts(one, other) == *want, "{one:?} and {other:?}");
+        assert!(rt;
+            compare_texts(other, one) == want.reverse(),
+            "{other:?} and {one:?}"
+        );
+    }
+    Ok(())
+}
+
+// Texts of 50 letters, of which the second has a greater one at a place, or ends there.
+#[test]
+fn each_place_tells_the_order(rt: HostRuntime) -> Result<(), Fail> {
+    let one = long(rt.alloc(), "", 50)?;
+    for at in 0..50 {
+        let mut front = long(rt.alloc(), "", at)?;
+        assert!(rt;
+            compare_texts(one.as_bytes(), front.as_bytes()) == Ordering::Greater,
+            "{at}"
+        );
+        front.push('b')?;
+        let other = long(rt.alloc(), &front, 50)?;
+        assert!(rt;
+            compare_texts(one.as_bytes(), other.as_bytes()) == Ordering::Less,
+            "{at}"
+        );
+    }
+    Ok(())
+}

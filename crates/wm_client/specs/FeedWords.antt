@@ -1,0 +1,61 @@
+-- What the command-line words ask of `wmfeed`. A word is a text, as the list of its bytes.
+use Rattle.std.specs.Prelude.{◌≡◌, ◌⊎◌, ℕ, true, [], List, Option, Some, None, codes}
+use Rattle.std.specs.String.{string_bytes}
+use Rattle.clap.specs.Words.{App, IsAmong, Row, Text, fault_of, first_of, matches_of, new_app, with_rule}
+use Rattle.clap.specs.declared.error.ErrorKind.{ErrorKind}
+use Rattle.clap.specs.declared.error.ErrorKind.TheVariants as kind
+use Rattle.wm_client.specs.ClientWords.{needed_rule}
+use Rattle.wm_client.specs.declared.feed_words.FeedWords.{FeedWords}
+use Rattle.wm_client.specs.declared.feed_words.FeedWords.TheVariants as words
+
+-- ---- what may be asked
+
+pub data FeedWanted : Type 0 where
+  -- the socket of this path is told what changes below this root
+  feed_to : Text → Text → FeedWanted
+  -- a text is shown, and the program ends with this status
+  feed_shown : ℕ → FeedWanted
+
+-- what `FeedWords` of the code say, but for the text that it shows
+abbrev pub feed_wanted_of : FeedWords → FeedWanted
+feed_wanted_of (words.Feed socket root) = feed_to (string_bytes socket) (string_bytes root)
+feed_wanted_of (words.Shown text status) = feed_shown status
+
+-- ---- the command line as clap is told of it
+
+abbrev pub bare_wmfeed : App
+bare_wmfeed = record {
+  top = record (new_app (codes "wmfeed")).top { no_binary_name = true; has_version = true };
+  subs = [];
+}
+
+abbrev pub wmfeed_app : App
+wmfeed_app = with_rule (with_rule bare_wmfeed (needed_rule (codes "SOCKET"))) (needed_rule (codes "ROOT"))
+
+-- ---- what clap finds in the words
+
+-- these words are there for SOCKET and ROOT
+pub record TellsFeed (socket_word root_word : Option Text) (socket root : Text) : Type 0 where
+  pub socket_is : socket_word ≡ Some socket
+  pub root_is : root_word ≡ Some root
+
+-- what they tell is wanted; where a word is missing, it is a fault
+abbrev pub FeedTellsOf : (socket_word root_word : Option Text) → FeedWanted → Type 0
+FeedTellsOf socket_word root_word (feed_to socket root) = TellsFeed socket_word root_word socket root
+FeedTellsOf socket_word root_word (feed_shown status) = (status ≡ 2) × ((socket root : Text) → TellsFeed socket_word root_word socket root → ⊥)
+
+-- what was found is wanted
+abbrev pub FeedFindsFor : List Row → FeedWanted → Type 0
+FeedFindsFor rows wanted = FeedTellsOf (first_of (codes "SOCKET") rows) (first_of (codes "ROOT") rows) wanted
+
+-- what an error of this kind shows: help and the version as asked, all else as a fault; running out of memory is never shown
+abbrev pub feed_shown_for_kind : ErrorKind → Option FeedWanted
+feed_shown_for_kind kind.OutOfMemory = None
+feed_shown_for_kind kind.DisplayHelp = Some (feed_shown 0)
+feed_shown_for_kind kind.DisplayVersion = Some (feed_shown 0)
+feed_shown_for_kind other = Some (feed_shown 2)
+
+-- what the words ask for: what clap finds in them, or one of the kinds of error that it may answer them with
+abbrev pub FeedAsksFor : List Text → FeedWanted → Type 0
+FeedAsksFor words wanted = ((fault_of wmfeed_app words ≡ []) × FeedFindsFor (matches_of wmfeed_app words) wanted)
+    ⊎ ((k : ErrorKind) × IsAmong k (fault_of wmfeed_app words) × (feed_shown_for_kind k ≡ Some wanted))

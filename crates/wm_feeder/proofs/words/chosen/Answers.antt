@@ -1,7 +1,0 @@
-use Rattle.std.proofs.lemmas.Result.{IfOk-weaker}
-use Rattle.wm_feeder.specs.FeedWords.{feed_wanted_of}
-use Rattle.wm_feeder.proofs.Wanting.{found_told}
-use Rattle.wm_feeder.proofs.words.chosen.Goals as goal
-
-pub returns : goal.returns
-returns c = IfOk-weaker c.told.result _ _ (λ r tells. found_told c.args.matches.now _ _ (feed_wanted_of r) c.get_str.ensures c.get_str-2.ensures tells) c.told.ensures
