@@ -1,4 +1,4 @@
-# `make test` is the gate: every proof from nothing, the edits that must be refused, the tests, the programs.
+# `make test` is the gate: every proof from nothing, the edits that must be refused, the tests, the programs, each growth of memory refused in thirteen calls.
 # `make run` serves ./watchmand.socket over ./watchmand.state, which it makes where it isn't there.
 PREFIX ?= $(HOME)/.local
 STATE ?= watchmand.state
@@ -7,7 +7,6 @@ PROGRAM := crates/watchmand/out/watchmand
 CLIENT := crates/wmctl/out/wmctl
 FEED := crates/wmfeed/out/wmfeed
 BENCH := crates/bench/out/bench
-SHARE_BENCH := crates/share_bench/out/share_bench
 GROWTHS := crates/growths/out/growths
 FILES ?= 100000
 # The version, where the programs have it.
@@ -22,11 +21,12 @@ SOURCES := crates.txt $(shell find crates -name out -prune -o -type f \( -name '
 .PHONY: help clean uninstall test lint build run lines serve-use feed-use install bench bench-journal bench-store bench-desk idle-desk bench-crawl bench-view bench-share bench-match bench-peer bench-plots clients crawl-tree session examples examples-use dist dist-use kill faults growths fuzz hostile state-file file-calls
 
 help:
-	@echo "make test          the whole gate: each proof from nothing, edits that must be refused, tests, programs (rt; two hours on two cores)"
+	@echo "make test          the whole gate: each proof from nothing, edits that must be refused, tests, programs, and each growth of"
+	@echo "                   memory refused in thirteen calls (rt, python3, cc; more than two hours on two cores)"
 	@echo "make lint          what the gate doesn't see: no definition's name in the specs of two crates, and no use of another crate's proofs/ (sh, awk; at once)"
 	@echo "make build         builds watchmand (rt; some 45 minutes the first time, since it proves it)"
 	@echo "make run           serves SOCKET=$(SOCKET) over STATE=$(STATE), which it makes where it isn't there, and tells what to try next"
-	@echo "                   (it and all below build what they run first, by rt; only clients and bench-peer use the network)"
+	@echo "                   (it and all below build what they run first, by rt; only clients, bench-peer and bench-plots use the network)"
 	@echo "make lines         answers request lines from standard input over STATE=$(STATE)"
 	@echo "make install       puts watchmand, wmctl and wmfeed into PREFIX/bin (PREFIX=$(PREFIX)), with man pages, completion, systemd user units and"
 	@echo "                   docs (UNIT_PREFIX: where the units are to find the programs, if not in PREFIX); make uninstall takes them away"
@@ -46,7 +46,7 @@ help:
 	@echo "                   tools/fuzz/fuzz.py --count 3000 for an hour, --seed for other ones)"
 	@echo "make hostile       the memory of a server beside 31 clients that ask for as much as they can (python3; some two minutes, 4 GB)"
 	@echo "make bench         a million lines beside Python's json (python3, GNU time)"
-	@echo "make bench-journal, bench-store, bench-desk, bench-view, bench-share, bench-match   times by the programs bench and share_bench (rt; bench-store also sqlite3,"
+	@echo "make bench-journal, bench-store, bench-desk, bench-view, bench-share, bench-match   times by the program bench (rt; bench-store also sqlite3,"
 	@echo "                   if installed; bench-desk python3)"
 	@echo "make idle-desk     that a desk with nothing to do takes no processor (cc)"
 	@echo "make bench-crawl   crawls of 20,000 and 100,000 entries beside find (find, python3); make crawl-tree: rough trees, and whether a crawl"
@@ -214,13 +214,9 @@ crawl-tree: $(BENCH)
 bench-view: $(BENCH)
 	bench/view.sh $(BENCH) $(FILES)
 
-$(SHARE_BENCH): $(SOURCES)
-	cd crates/share_bench && rt run -- 1000 1 >&2
-	@touch $@
-
 # How fast 1, 8 and 31 viewers of a root of FILES files answer while its keeper publishes nothing, and a change each millisecond.
-bench-share: $(SHARE_BENCH)
-	$(SHARE_BENCH) $(FILES) 3000
+bench-share: $(BENCH)
+	$(BENCH) share $(FILES) 3000
 
 # A server beside Watchman 4.9.0, which is installed from Debian's packages where it isn't there.
 bench-peer: $(PROGRAM) $(FEED)

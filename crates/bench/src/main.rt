@@ -1,4 +1,4 @@
-//! Times the journal, the store, the desk, crawls, views and `match`: which of them, and how often, its words say.
+//! Times the journal, the store, the desk, crawls, views, viewers and `match`: which of them, and how often, its words say.
 //! The journal and the store are timed beside the same writes and syncs by hand (by_hand.rt).
 //! What they make by themselves is looked at by the task `check` (checks.rt), which the gate runs.
 #![tactic(auto)]
@@ -14,6 +14,7 @@ mod memory;
 mod paths;
 mod sharing;
 mod store;
+mod viewers;
 mod viewing;
 mod words;
 
@@ -34,8 +35,8 @@ fn bench<R: Threads + Wait + Sync>(rt: &HostRuntime, host: &R, task: &Task<'_>) 
         Task::Journal(file, rounds) => journal::bench(rt, file, *rounds),
         Task::Store(file, rounds) => store::bench(rt, file, *rounds),
         Task::Desk(file, rounds) => desk::bench(rt, host, file, *rounds),
-        // it is called where the program's own files are
-        Task::Crawl(..) => Ok(()),
+        // these are called where the program's own files and threads are
+        Task::Crawl(..) | Task::Share(..) => Ok(()),
         Task::Match(rounds) => matching::bench(rt, *rounds),
         Task::View(files) => viewing::bench(rt, *files),
         Task::Memory(files) => sharing::bench(rt, *files),
@@ -55,14 +56,16 @@ fn main(rt: HostRuntime) -> Result<ExitCode> {
         return Ok(ExitCode::from(2));
     };
     for task in &tasks {
-        if let Task::Crawl(folder, workers) = task {
-            let root = RootPath::read(alloc, folder)
-                .ok()
-                .context("no absolute path")?;
-            let tree = FolderTree::new(rt.clone()?, root);
-            crawling::bench(&rt, &tree, *workers)?;
-        } else {
-            bench(&rt, &rt, task)?;
+        match task {
+            Task::Crawl(folder, workers) => {
+                let root = RootPath::read(alloc, folder)
+                    .ok()
+                    .context("no absolute path")?;
+                let tree = FolderTree::new(rt.clone()?, root);
+                crawling::bench(&rt, &tree, *workers)?;
+            }
+            Task::Share(files, milliseconds) => viewers::bench(&rt, *files, *milliseconds)?,
+            _ => bench(&rt, &rt, task)?,
         }
     }
     Ok(ExitCode::from(0))

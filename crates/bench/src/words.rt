@@ -5,7 +5,7 @@ use wm_crawler::MAX_WORKERS;
 
 /// What wrong words are answered.
 pub const USAGE: &str =
-    "usage: bench (check | journal FILE ROUNDS | store FILE ROUNDS | desk FILE ROUNDS | crawl FOLDER WORKERS | match ROUNDS | view FILES | memory FILES)..";
+    "usage: bench (check | journal FILE ROUNDS | store FILE ROUNDS | desk FILE ROUNDS | crawl FOLDER WORKERS | match ROUNDS | view FILES | memory FILES | share FILES MILLISECONDS)..";
 
 /// What is measured.
 #[derive(Drop)]
@@ -28,6 +28,8 @@ pub enum Task<'a> {
     View(u64),
     /// The memory of two views of so many files: 1,000 to 100,000,000.
     Memory(u64),
+    /// Viewers of a root of so many files, 1,000 to 100,000,000, each number of them for so many milliseconds: 1 to 2^32 - 1.
+    Share(u64, u64),
 }
 
 /// The number of files that a word is.
@@ -63,6 +65,7 @@ impl<'a> Task<'a> {
                 "store" => Some(Task::Store(*file, rounds(number)?)),
                 "desk" => Some(Task::Desk(*file, rounds(number)?)),
                 "crawl" => Some(Task::Crawl(*file, workers(number)?)),
+                "share" => Some(Task::Share(files(file)?, u64::from(rounds(number)?))),
                 _ => None,
             },
             [word, number] => match *word {

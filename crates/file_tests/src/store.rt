@@ -1,9 +1,12 @@
 //! Stores on disks in memory.
 mod calls;
 mod cuts;
+mod faults;
 mod files;
 mod openings;
+mod sweeps;
 
+use crate::disks::content_of;
 use std::alloc::Global;
 use wm_disk::{MemDisk, Refusal};
 use wm_names::RootPath;
@@ -11,7 +14,7 @@ use wm_registry::{Command, MAX_BATCH, Reply};
 use wm_store::{Store, format};
 
 /// A store on a disk in memory.
-type Kept = Store<MemDisk>;
+pub(crate) type Kept = Store<MemDisk>;
 
 /// Where the journal of slot A begins.
 const JOURNAL_A: usize = 1_052_672;
@@ -21,6 +24,9 @@ const SLOT_B: usize = 1_314_816;
 
 /// Where the journal of slot B begins.
 const JOURNAL_B: usize = 2_363_392;
+
+/// A start asks the length, syncs and reads, and commits its `Begin`: a write, a sync, its gate and a sync.
+const START_CALLS: u64 = 7;
 
 /// A disk with a formatted file.
 fn formatted(alloc: Global) -> Result<MemDisk, Refusal> {
@@ -37,7 +43,7 @@ fn open(alloc: Global, disk: MemDisk) -> Result<Kept, Refusal> {
 }
 
 /// A new file, opened once.
-fn opened(alloc: Global) -> Result<Kept, Refusal> {
+pub(crate) fn opened(alloc: Global) -> Result<Kept, Refusal> {
     open(alloc, formatted(alloc)?)
 }
 
@@ -84,4 +90,12 @@ fn watching_one(alloc: Global) -> Result<Kept, Refusal> {
     let mut store = opened(alloc)?;
     accept(alloc, &mut store, watching(alloc, &["/r"])?)?;
     Ok(store)
+}
+
+/// The bytes of a file that watches `/r` since its first start, behind a checkpoint: so the next start finds an open gate to
+/// close.
+fn checkpointed(alloc: Global) -> Result<Vec<u8>, Refusal> {
+    let mut store = watching_one(alloc)?;
+    store.checkpoint(alloc)?;
+    content_of(alloc, store.into_disk())
 }

@@ -1,4 +1,4 @@
-//! Tests of `wm_registry`, by what it shows to the crates above.
+//! Tests of `wm_registry`, by what it shows to the crates above, and of `wm_triggers`.
 //!
 //! They stand in a crate of their own, so that the registry isn't proved once more with each change of
 //! a test. What a test can't name, as the place of a trigger among the others, it reads off what a
@@ -31,5 +31,7 @@ mod spelling;
 mod states;
 #[cfg(test)]
 mod trigger_lengths;
+#[cfg(test)]
+mod trigger_runs;
 #[cfg(test)]
 mod triggers;

@@ -1,5 +1,5 @@
 //! Tests of a server: its words and requests in tables, and sessions over a socket that a test serves, with the
-//! system's folders and programs.
+//! system's folders and programs; and of `wmctl` and `wmfeed`.
 //!
 //! Each server stands on files of its own names in the folder where the tests run.
 #![tactic(auto)]
@@ -8,6 +8,8 @@
 mod client;
 #[cfg(test)]
 mod crawls;
+#[cfg(test)]
+mod feeds;
 #[cfg(test)]
 mod halls;
 #[cfg(test)]
@@ -20,5 +22,7 @@ mod restarts;
 mod sessions;
 #[cfg(test)]
 mod sockets;
+#[cfg(test)]
+mod wmctl;
 #[cfg(test)]
 mod words;

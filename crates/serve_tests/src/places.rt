@@ -11,7 +11,8 @@ use std::time::Clock;
 use wm_crawler::{SystemFolders, Turnstile};
 use wm_disk::Refusal;
 use wm_file::{FileDisk, Unknown};
-use wm_serve::{Settings, SystemPrograms, serve};
+use wm_serve::{Settings, serve};
+use wm_triggers::SystemPrograms;
 
 /// The files of a test's server.
 #[derive(Drop)]

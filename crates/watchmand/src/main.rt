@@ -6,7 +6,7 @@ use std::process::ExitCode;
 use std::{env, io};
 use wm_crawler::SystemFolders;
 use wm_program::watchmand;
-use wm_serve::SystemPrograms;
+use wm_triggers::SystemPrograms;
 
 fn main(rt: HostRuntime) -> io::Result<ExitCode> {
     let alloc = rt.alloc();

@@ -1,8 +1,8 @@
 -- What is printed line by line is the first lines of the input.
-use Rattle.std.proofs.Common.{◌≡◌, ◌∙◌, ℕ, List, ◌++◌, refl, sym, ap, append_assoc, append-nil, ◌+◌, arith, zero, suc, Option, Some, None}
+use Rattle.std.proofs.Common.{◌≡◌, ◌∙◌, ℕ, true, List, ◌++◌, refl, sym, subst, ap, append_assoc, append-nil, ◌+◌, arith, zero, suc, Option, Some, None}
 use Rattle.std.specs.Io.KnownBytes.{Appends}
 use Rattle.std.specs.Io.BufRead.{drop_through, take_through}
-use Rattle.wm_client.specs.Talks.{lines_first}
+use Rattle.wm_client.specs.Talks.{HasLines, has_come_whole, lines_first}
 
 -- what stands behind the first n lines
 abbrev pub lines_behind : ℕ → List ℕ → List ℕ
@@ -26,6 +26,17 @@ next_line n input = ap (λ m. lines_first m input) (plus_one n) ∙ one_more n i
 
 pub next_behind : (n : ℕ) (input : List ℕ) → lines_behind (n + 1) input ≡ drop_through 10 (lines_behind n input)
 next_behind n input = ap (λ m. lines_behind m input) (plus_one n) ∙ one_behind n input
+
+whole_more : (n : ℕ) (input : List ℕ) → HasLines n input → has_come_whole (take_through 10 (lines_behind n input)) ≡ true → HasLines (suc n) input
+whole_more zero input has whole = (whole, tt)
+whole_more (suc n) input has whole = (has.0, whole_more n (drop_through 10 input) has.1 whole)
+
+-- one more line has come whole
+pub one_more_whole : (n : ℕ) (input : List ℕ) → HasLines n input → has_come_whole (take_through 10 (lines_behind n input)) ≡ true → HasLines (n + 1) input
+one_more_whole n input has whole = subst (λ m. HasLines m input) (sym (plus_one n)) (whole_more n input has whole)
+
+pub whole_first : (n : ℕ) (input : List ℕ) → has_come_whole (take_through 10 input) ≡ true → HasLines n (drop_through 10 input) → HasLines (n + 1) input
+whole_first n input whole has = subst (λ m. HasLines m input) (sym (plus_one n)) (whole, has)
 
 -- the first line, and then n more
 pub reply_first : (n : ℕ) (input : List ℕ) → lines_first (n + 1) input ≡ take_through 10 input ++ lines_first n (drop_through 10 input)

@@ -1,21 +1,51 @@
--- The reply was printed and was no refusal: what is printed then.
-use Rattle.std.proofs.Common.{◌≡◌, ◌≢◌, ℕ, List, Option, Result, Ok, Err, IfOk, false, refl, sym, subst}
+-- What is printed where the reply was printed, and where it wasn't.
+use Rattle.std.proofs.Common.{◌≡◌, ◌≢◌, ◌<◌, ◌≤◌, ◌+◌, ℕ, List, Option, Result, Ok, Err, IfErr, IfOk, true, false, refl, sym, subst, arith}
 use Rattle.std.specs.Io.BufRead.{drop_through, take_through}
 use Rattle.std.specs.Io.KnownBytes.{Appends}
-use Rattle.wm_client.specs.Talks.{Prints, is_refusal_line, lines_first}
+use Rattle.wm_client.specs.Talks.{HasLines, Prints, PrintsBefore, PrintsSome, is_refusal_line, has_come_whole, lines_first}
 use Rattle.wm_client.specs.declared.talking.TalkEnd.{TalkEnd}
 use Rattle.wm_client.specs.declared.talking.TalkEnd.TheVariants.{Told, Refused, NoReply, Unprinted}
-use Rattle.wm_client.proofs.Lines.{grown_twice, reply_first}
+use Rattle.wm_client.proofs.Lines.{grown_twice, reply_first, whole_first}
 
-pub then_more : {E : Type 0} (follow : ℕ) (held mid holds : Option (List ℕ)) (known : List ℕ → Type 0) (result : Result TalkEnd E)
-    → ((input : List ℕ) → known input → Appends held mid (take_through 10 input) × (is_refusal_line (take_through 10 input) ≡ false))
-    → (result ≡ Ok Told → (input : List ℕ) → known input → Appends mid holds (lines_first follow (drop_through 10 input)))
-    → IfOk result (λ end. end ≢ Refused) → IfOk result (λ end. (input : List ℕ) → known input → Prints follow input held holds end)
-then_more follow held mid holds known (Err e) first more alone = tt
-then_more follow held mid holds known (Ok Told) first more alone = λ input knows. (
-  subst (Appends held holds) (sym (reply_first follow input)) (grown_twice held mid holds _ _ (first input knows).0 (more refl input knows)),
-  (first input knows).1,
+one_more_below : (k n : ℕ) → k < n → k + 1 ≤ n
+one_more_below k n below = omega arith
+
+-- the reply was printed, and some lines behind it
+one_before : (follow : ℕ) (input : List ℕ) (held mid holds : Option (List ℕ)) → has_come_whole (take_through 10 input) ≡ true → Appends held mid (take_through 10 input)
+    → PrintsBefore follow (drop_through 10 input) mid holds → PrintsSome follow input held holds
+one_before follow input held mid holds whole printed (k, below, has, rest) = (
+  k + 1,
+  one_more_below k follow below,
+  whole_first k input whole has,
+  subst (Appends held holds) (sym (reply_first k input)) (grown_twice held mid holds _ _ printed rest),
 )
-then_more follow held mid holds known (Ok Refused) first more alone = absurd (alone refl)
-then_more follow held mid holds known (Ok NoReply) first more alone = λ input knows. tt
-then_more follow held mid holds known (Ok Unprinted) first more alone = λ input knows. tt
+
+-- whatever the error is
+pub any_error : {A E Q : Type 0} (result : Result A E) → Q → IfErr result (λ _. Q)
+any_error (Ok a) q = tt
+any_error (Err e) q = q
+
+-- The reply was printed, and memory ran out behind it.
+pub then_short : {A E : Type 0} (follow : ℕ) (held mid holds : Option (List ℕ)) (known behind : List ℕ → Type 0) (result : Result A E)
+    → ((input : List ℕ) → known input → (has_come_whole (take_through 10 input) ≡ true) × Appends held mid (take_through 10 input) × behind (drop_through 10 input))
+    → IfErr result (λ _. (rest : List ℕ) → behind rest → PrintsBefore follow rest mid holds) → IfErr result (λ _. (input : List ℕ) → known input → PrintsSome follow input held holds)
+then_short follow held mid holds known behind (Ok a) first some = tt
+then_short follow held mid holds known behind (Err e) first some = λ input knows.
+    one_before follow input held mid holds (first input knows).0 (first input knows).1 (some (drop_through 10 input) (first input knows).2)
+
+-- The reply was printed and was no refusal.
+pub then_more : {E : Type 0} (follow : ℕ) (held mid holds : Option (List ℕ)) (known : List ℕ → Type 0) (result : Result TalkEnd E)
+    → ((input : List ℕ) → known input → (has_come_whole (take_through 10 input) ≡ true) × Appends held mid (take_through 10 input) × (is_refusal_line (take_through 10 input) ≡ false))
+    → (result ≡ Ok Told → (input : List ℕ) → known input → HasLines follow (drop_through 10 input) × Appends mid holds (lines_first follow (drop_through 10 input)))
+    → (result ≡ Ok NoReply → (input : List ℕ) → known input → PrintsBefore follow (drop_through 10 input) mid holds)
+    → IfOk result (λ end. end ≢ Refused) → IfOk result (λ end. (input : List ℕ) → known input → Prints follow input held holds end)
+then_more follow held mid holds known (Err e) first more some alone = tt
+then_more follow held mid holds known (Ok Told) first more some alone = λ input knows. (
+  whole_first follow input (first input knows).0 (more refl input knows).0,
+  subst (Appends held holds) (sym (reply_first follow input)) (grown_twice held mid holds _ _ (first input knows).1 (more refl input knows).1),
+  (first input knows).2,
+)
+then_more follow held mid holds known (Ok Refused) first more some alone = absurd (alone refl)
+then_more follow held mid holds known (Ok NoReply) first more some alone = λ input knows.
+    one_before follow input held mid holds (first input knows).0 (first input knows).1 (some refl input knows)
+then_more follow held mid holds known (Ok Unprinted) first more some alone = λ input knows. tt

@@ -1,7 +1,8 @@
 -- What a talk with a server sends, and what it prints of the lines that come.
-use Rattle.std.specs.Prelude.{◌≡◌, ◌+◌, ◌++◌, ⊤, ℕ, zero, suc, Bool, true, false, List, [], Option, length, take, codes}
+use Rattle.std.specs.Prelude.{◌≡◌, ◌<◌, ◌≤◌, ◌+◌, ◌++◌, ⊤, ℕ, zero, suc, nat_eq, Bool, true, false, List, [], Option, length, take, codes}
 use Rattle.std.specs.Io.BufRead.{drop_through, take_through}
 use Rattle.std.specs.Io.KnownBytes.{Appends}
+use Rattle.std.specs.List.{ends_with}
 use Rattle.std.specs.Str.{bytes_eq}
 use Rattle.wm_client.specs.declared.talking.TalkEnd.{TalkEnd}
 use Rattle.wm_client.specs.declared.talking.TalkEnd.TheVariants.{Told, Refused, NoReply, Unprinted}
@@ -11,6 +12,15 @@ abbrev pub lines_first : ℕ → List ℕ → List ℕ
 lines_first zero input = []
 lines_first (suc n) input = take_through 10 input ++ lines_first n (drop_through 10 input)
 
+-- a line that has come whole ends with its newline; what comes before the end of an input doesn't
+abbrev pub has_come_whole : List ℕ → Bool
+has_come_whole line = ends_with nat_eq line (codes "\n")
+
+-- the first n lines of an input have come whole
+abbrev pub HasLines : ℕ → List ℕ → Type 0
+HasLines zero input = ⊤
+HasLines (suc n) input = (has_come_whole (take_through 10 input) ≡ true) × HasLines n (drop_through 10 input)
+
 -- how a refusal's line begins
 abbrev pub refusal_start : List ℕ
 refusal_start = codes "{\"error\":"
@@ -18,12 +28,20 @@ refusal_start = codes "{\"error\":"
 abbrev pub is_refusal_line : List ℕ → Bool
 is_refusal_line line = bytes_eq (take (length refusal_start) line) refusal_start
 
--- By how a talk ended: what was printed of the lines that came, so many after the reply, where all of it was told, or of the reply alone, where that is a
--- refusal. Where no reply came, or it couldn't be printed, nothing is said of what was.
+-- just some of the first n lines of an input were printed, from the first on, each of them whole
+abbrev pub PrintsSome : ℕ → List ℕ → Option (List ℕ) → Option (List ℕ) → Type 0
+PrintsSome n input held holds = (k : ℕ) × (k ≤ n) × HasLines k input × Appends held holds (lines_first k input)
+
+-- the same of fewer than n lines
+abbrev pub PrintsBefore : ℕ → List ℕ → Option (List ℕ) → Option (List ℕ) → Type 0
+PrintsBefore n input held holds = (k : ℕ) × (k < n) × HasLines k input × Appends held holds (lines_first k input)
+
+-- What was printed of the lines that came, by how a talk ended. All was told: the reply, which is no refusal, and so many lines after it, each of them
+-- whole. Refused: the reply alone, which is a refusal, whole. A line didn't come: those before it. A line couldn't be printed: nothing is said.
 abbrev pub Prints : ℕ → List ℕ → Option (List ℕ) → Option (List ℕ) → TalkEnd → Type 0
-Prints follow input held holds Told = Appends held holds (lines_first (follow + 1) input) × (is_refusal_line (take_through 10 input) ≡ false)
-Prints follow input held holds Refused = Appends held holds (lines_first 1 input) × (is_refusal_line (take_through 10 input) ≡ true)
-Prints follow input held holds NoReply = ⊤
+Prints follow input held holds Told = HasLines (follow + 1) input × Appends held holds (lines_first (follow + 1) input) × (is_refusal_line (take_through 10 input) ≡ false)
+Prints follow input held holds Refused = HasLines 1 input × Appends held holds (lines_first 1 input) × (is_refusal_line (take_through 10 input) ≡ true)
+Prints follow input held holds NoReply = PrintsSome follow input held holds
 Prints follow input held holds Unprinted = ⊤
 
 -- Where a reply came, the request and a newline were sent.

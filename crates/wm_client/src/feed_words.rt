@@ -1,5 +1,5 @@
 //! What the command-line words ask of `wmfeed`. Their definitions are in specs/FeedWords.
-//! Tests: client_tests/src/feed/words.rt.
+//! Tests: serve_tests/src/feeds/words.rt.
 ghost use Rattle.std.specs.Prelude.{◌≡◌, IfOk, Some, map};
 ghost use Rattle.clap.specs.Values.{kind_of};
 ghost use Rattle.clap.specs.Words.{app_of, found_of, rows_of};

@@ -1,5 +1,5 @@
 //! All of `wmctl`, with its status.
-//! Tests: client_tests/src/client/sockets.rt.
+//! Tests: serve_tests/src/wmctl/sockets.rt.
 use crate::talking::{TalkEnd, talk};
 use crate::words::Words;
 use std::alloc::Global;
@@ -71,7 +71,10 @@ fn end<E: Write>(talked: Result<TalkEnd, NoMemory>, faults: &mut E) -> u8 {
     let (status, told) = match talked {
         Ok(TalkEnd::Told) => return 0,
         Ok(TalkEnd::Refused) => return 1,
-        Ok(TalkEnd::NoReply) => (3, "wmctl: no reply\n"),
+        Ok(TalkEnd::NoReply) => (
+            3,
+            "wmctl: the socket failed, or ended before a whole line had come\n",
+        ),
         Ok(TalkEnd::Unprinted) => (1, "wmctl: the reply can't be printed\n"),
         Err(NoMemory) => (1, "wmctl: 16 NoMemory\n"),
     };

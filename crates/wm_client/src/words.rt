@@ -1,5 +1,5 @@
 //! What the command-line words ask of `wmctl`. Their definitions are in specs/ClientWords.
-//! Tests: client_tests/src/client/words.rt.
+//! Tests: serve_tests/src/wmctl/words.rt.
 ghost use Rattle.std.specs.Prelude.{◌≡◌, ℕ, IfOk, None, false, Option, Some, map};
 ghost use Rattle.std.specs.Option.{MatchOption};
 ghost use Rattle.clap.specs.Values.{kind_of};

@@ -50,6 +50,6 @@ SomeFails may_fail places = (place : Subtree) × Among place places × may_fail 
 abbrev pub AreMetas : Content → List Path → List (Option Meta) → Type 0
 AreMetas c paths metas = map Some metas ≡ map c.meta paths
 
--- for a tree that stays as no content says: of nothing is anything told
+-- the content of a tree of which nothing is promised
 abbrev pub nothing_known : Content
 nothing_known = record { held = λ _. None; meta = λ _. None }

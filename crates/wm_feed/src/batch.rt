@@ -1,5 +1,5 @@
 //! What a few records ask for together: paths to look at, each once, and folders to crawl.
-//! Definitions: specs/Batches.antt. Tests: client_tests/src/feed/batches.rt.
+//! Definitions: specs/Batches.antt. Tests: serve_tests/src/feeds/batches.rt.
 ghost use Rattle.std.specs.Prelude.{◌≡◌, Some, None, OnOk, IfOk, string_bytes, if◌then◌else◌};
 ghost use Rattle.wm_names.specs.Paths.{is_rel_path};
 ghost use Rattle.wm_feed.specs.Records.{tells_of};

@@ -1,5 +1,5 @@
 //! What a record of inotifywait means. Definitions: specs/Records.antt.
-//! Tests: client_tests/src/feed/records.rt.
+//! Tests: serve_tests/src/feeds/records.rt.
 ghost use Rattle.std.specs.Prelude.{◌≡◌, ◌==◌, option_map};
 ghost use Rattle.std.specs.List.{position};
 ghost use Rattle.wm_feed.specs.Records.{at_name, behind_root, below_of, cut_of, told_entry, has as has_lem, inner_path, is_lost as is_lost_lem, is_move_of_folder as is_move_of_folder_lem, is_own_end as is_own_end_lem, name_of as name_of_lem, own_of, record_in, record_of, tells_of, record_tells, without_last_slash as without_last_slash_lem};

@@ -1,7 +1,8 @@
 //! What `wmfeed` does: it tells a server what inotifywait tells of a folder.
 //!
-//! [`wmfeed`] is all of the program. What its words ask for stands in `wm_client`; what a record means, what a few ask
-//! for together and the line that tells it stand in `wm_feed`, with their contracts. What talks to the system has no clause.
+//! [`wmfeed`] is all of the program: with which status it may end, by its words, says specs/Ends.antt. What its words ask
+//! for stands in `wm_client`; what a record means, what a few ask for together and the line that tells it stand in
+//! `wm_feed`, with their contracts. What talks to the system has no clause.
 #![tactic(auto)]
 
 mod feeding;

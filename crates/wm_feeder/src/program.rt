@@ -1,4 +1,7 @@
-//! All of `wmfeed`, with its status. Tests: tools/feed_use.py.
+//! All of `wmfeed`, with its status. Definitions: specs/Ends. Tests: tools/feed_use.py.
+ghost use Rattle.std.specs.Prelude.{◌≡◌, ◌⊎◌, map};
+ghost use Rattle.wm_client.specs.FeedWords.{feed_shown, feed_to, feed_wanted_of};
+ghost use Rattle.wm_feeder.specs.Ends.{EndsAsAsked, MayEnd, status_of_stop};
 
 use crate::feeding::feed_root;
 use crate::server::Server;
@@ -23,31 +26,57 @@ pub fn wmfeed<R: Net + Processes + Files + Clock + AllocGlobal, W: Write, E: Wri
     words: &[&str],
     printer: &mut W,
     faults: &mut E,
-) -> u8 {
+) -> u8
+    ensures { (result ≡ 1) ⊎ EndsAsAsked (map (λ word. word.now) words.now) result }
+{
     match FeedWords::read(alloc, words) {
-        Ok(FeedWords::Shown { text, status: 0 }) => show(text.as_str(), printer),
-        Ok(FeedWords::Shown { text, status }) => {
-            // Where even this can't be told, the status tells it.
-            let _shown = show(text.as_str(), faults);
-            status
+        Ok(FeedWords::Shown { text, status }) => show(text.as_str(), status, printer, faults),
+        Ok(FeedWords::Feed { socket, root }) => {
+            feed(alloc, rt, socket.as_str(), root.as_str(), faults)
         }
-        Ok(FeedWords::Feed { socket, root }) => match RootPath::read(alloc, root.as_str()) {
-            Ok(root) => end(feed_at(alloc, rt, socket.as_str(), &root), faults),
-            Err(Refusal::NoMemory) => end(Stop::NoMemory, faults),
-            Err(_) => {
-                let _shown = show("wmfeed: ROOT is no root's path (4 BadPath)\n", faults);
-                2
-            }
-        },
         Err(NoMemory) => end(Stop::NoMemory, faults),
     }
 }
 
-/// Shows a text: 0, or 1 where that fails.
-fn show<W: Write>(text: &str, writer: &mut W) -> u8 {
+/// Tells a text: 0, or 1 where that fails.
+fn tell<W: Write>(text: &str, writer: &mut W) -> u8
+    ensures { (result ≡ 0) ⊎ (result ≡ 1) }
+{
     match writer.write_all(text.as_bytes()) {
         Ok(()) => 0,
         Err(_) => 1,
+    }
+}
+
+/// Shows what the words ask to be shown, a fault on `faults`, and gives the status: that which goes with it.
+fn show<W: Write, E: Write>(text: &str, status: u8, printer: &mut W, faults: &mut E) -> u8
+    ensures { MayEnd (feed_shown status) result }
+{
+    if status == 0 {
+        return tell(text, printer);
+    }
+    // Where even this can't be told, the status tells it.
+    let _told = tell(text, faults);
+    status
+}
+
+/// Feeds the server at the socket of a path with what changes below a root, until there is a cause to stop.
+fn feed<R: Net + Processes + Files + Clock + AllocGlobal, E: Write>(
+    alloc: Global,
+    rt: &R,
+    socket: &str,
+    root: &str,
+    faults: &mut E,
+) -> u8
+    ensures { MayEnd (feed_to socket.now root.now) result }
+{
+    match RootPath::read(alloc, root) {
+        Ok(root) => end(feed_at(alloc, rt, socket, &root), faults),
+        Err(Refusal::NoMemory) => end(Stop::NoMemory, faults),
+        Err(_) => {
+            let _told = tell("wmfeed: ROOT is no root's path (4 BadPath)\n", faults);
+            2
+        }
     }
 }
 
@@ -65,7 +94,9 @@ fn feed_at<R: Net + Processes + Files + Clock + AllocGlobal>(
 }
 
 /// The status of an end, with what is told of it on `faults`.
-fn end<E: Write>(stop: Stop, faults: &mut E) -> u8 {
+fn end<E: Write>(stop: Stop, faults: &mut E) -> u8
+    ensures { result ≡ status_of_stop stop }
+{
     let (status, told) = match stop {
         Stop::WatchGone => (0, "wmfeed: the root isn't watched any longer\n"),
         Stop::ServerGone => (3, "wmfeed: the server ended\n"),
@@ -80,6 +111,6 @@ fn end<E: Write>(stop: Stop, faults: &mut E) -> u8 {
         Stop::NoMemory => (1, "wmfeed: 16 NoMemory\n"),
     };
     // Where even this can't be told, the status tells it.
-    let _shown = show(told, faults);
+    let _told = tell(told, faults);
     status
 }

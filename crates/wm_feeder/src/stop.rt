@@ -1,5 +1,5 @@
 //! Why a feed stops.
-//! Tests: tools/feed_use.py.
+//! What ends a program, and its status: specs/Ends. Tests: tools/feed_use.py.
 
 use std::alloc::{AllocError, AllocFailed};
 use wm_disk::NoMemory;

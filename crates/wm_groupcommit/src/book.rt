@@ -1,5 +1,5 @@
 //! The book: the store beside the list of what it accepted.
-//! Definitions: specs/BookState.antt, specs/Books.antt. Tests: desk_tests/src/rows.rt.
+//! Definitions: specs/BookState.antt, specs/Books.antt. Tests: file_tests/src/desk/rows.rt.
 ghost use Rattle.std.specs.Prelude.{◌≡◌, ◌⊎◌, ◌≤◌, ◌<◌, ◌+◌, [], ◌++◌, length, vec_capacity, vec_len, IfOk, IfErr, IfSome, OnErr, OnOk, true};
 ghost use Rattle.wm_disk.specs.declared.refusal.Refusal.TheVariants.{DeviceFailed as device_failed, NoMemory as no_memory, StoreFailed as store_failed};
 ghost use Rattle.wm_registry.specs.Limits.{max_batch};

@@ -1,5 +1,5 @@
 //! The desk: a queue of calls, and the store with its list of accepted commands under a lock.
-//! Definitions: specs/Seats.antt, specs/Submits.antt. Tests: desk_tests.
+//! Definitions: specs/Seats.antt, specs/Submits.antt. Tests: file_tests/src/desk.
 ghost use Rattle.std.specs.Prelude.{◌≡◌, ◌≤◌, ◌⊎◌, List, ◌++◌, length, true, IfOk, IfErr, OnOk};
 ghost use Rattle.wm_disk.specs.declared.refusal.Refusal.TheVariants.{NoMemory as no_memory, NoPlace as no_place, BadArguments as bad_arguments};
 ghost use Rattle.wm_store.specs.Batches.{is_begin};

@@ -1,5 +1,5 @@
 //! The registry that the desk found, and the commands accepted since.
-//! Definitions: specs/Books.antt. Tests: desk_tests/src/rows.rt.
+//! Definitions: specs/Books.antt. Tests: file_tests/src/desk/rows.rt.
 
 use crate::queued::Call;
 use wm_registry::Registry;

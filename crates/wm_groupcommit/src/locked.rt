@@ -1,5 +1,5 @@
 //! What lies under the lock: the book, and the flusher's ends of the reply queues.
-//! Definitions: specs/LockedState.antt. Tests: desk_tests/src/rows.rt.
+//! Definitions: specs/LockedState.antt. Tests: file_tests/src/desk/rows.rt.
 ghost use Rattle.std.specs.Prelude.{◌≡◌, ◌≤◌, ◌<◌, ◌⊎◌, ◌+◌, ◌++◌, ◌∷◌, true, false, Some, None, List, [], length, vec_capacity, vec_len, IfOk, IfErr, IfSome, OnOk};
 ghost use Rattle.wm_disk.specs.declared.refusal.Refusal.TheVariants.{NoMemory as no_memory, NoPlace as no_place};
 ghost use Rattle.wm_store.specs.Calls.{CallsStore};

@@ -1,5 +1,5 @@
 //! Receipts.
-//! Definitions: specs/Submits.antt. Tests: desk_tests/src/rows.rt.
+//! Definitions: specs/Submits.antt. Tests: file_tests/src/desk/rows.rt.
 
 use wm_registry::Command;
 

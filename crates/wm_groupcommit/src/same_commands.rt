@@ -1,5 +1,5 @@
 //! Commands again, and whether two are one.
-//! Tests: desk_tests/src/rows.rt.
+//! Tests: file_tests/src/desk/rows.rt.
 ghost use Rattle.std.specs.Prelude.{◌≡◌, ◌≢◌, IfOk, MatchBool};
 ghost use Rattle.std.specs.Option.{option_map};
 

@@ -1,5 +1,5 @@
 //! A seat, from which one thread submits, and what it makes of an answer.
-//! Definitions: specs/Seats.antt, specs/Submits.antt. Tests: desk_tests.
+//! Definitions: specs/Seats.antt, specs/Submits.antt. Tests: file_tests/src/desk.
 ghost use Rattle.std.specs.Prelude.{◌≡◌, ◌<◌, IfOk, IfErr};
 ghost use Rattle.wm_groupcommit.specs.Seats.{HasLearnt};
 ghost use Rattle.wm_groupcommit.specs.Submits.{Settled, Declined, mark_of, shown, standing_for};

@@ -11,9 +11,10 @@ use std::thread::Threads;
 use std::time::Clock;
 use wm_crawler::{Folders, Open};
 use wm_disk::{NoMemory, Refusal};
-use wm_serve::{Programs, serve};
+use wm_serve::serve;
 use wm_server::system::Host;
 use wm_server::{Input, Output, program};
+use wm_triggers::Programs;
 
 /// `watchmand` with these words, of which its own name is none: gives the status to end with. What is printed
 /// goes to `writer`, and what goes wrong is told on `faults`. It is 0; 1 where the start, what was asked or the

@@ -3,7 +3,6 @@
 use crate::door::CHAIRS;
 use crate::house::House;
 use crate::leading::lead;
-use crate::programs::Programs;
 use std::alloc::Global;
 use std::io::Write;
 use std::os::unix::net::UnixListener;
@@ -13,6 +12,7 @@ use std::thread::Threads;
 use std::time::{Clock, Duration};
 use wm_crawler::{Folders, Turnstile};
 use wm_disk::Refusal;
+use wm_triggers::Programs;
 
 const TOO_MANY: &str = "{\"error\":\"17 TooMany\",\"version\":\"w1\"}\n";
 

@@ -1,6 +1,5 @@
 //! What the threads of a server see of it: a bound in place of the types, so that little is proved of what crosses.
 //! Tests: serve_tests/src/sessions.rt.
-use crate::programs::Programs;
 use std::alloc::Global;
 use std::os::unix::net::UnixStream;
 use std::sync::Wait;
@@ -8,6 +7,7 @@ use std::time::Clock;
 use wm_disk::Refusal;
 use wm_lines::Progress;
 use wm_names::{RootPath, Subtree};
+use wm_triggers::Programs;
 use wm_view::Listing;
 
 /// A worker of the root of a number.

@@ -2,13 +2,13 @@
 //! Tests: serve_tests/src/sessions.rt.
 use crate::crawling::crawl_for;
 use crate::house::{House, Worker};
-use crate::programs::Programs;
 use std::alloc::Global;
 use std::sync::Wait;
 use std::thread;
 use std::thread::Threads;
 use std::time::{Clock, Duration};
 use wm_crawler::{Folders, Turnstile};
+use wm_triggers::Programs;
 
 /// What a worker does until its root isn't watched any longer.
 fn work<

@@ -17,7 +17,6 @@ mod leading;
 mod listening;
 mod meeting;
 mod place;
-mod programs;
 mod second;
 mod serving;
 mod shared;
@@ -26,5 +25,4 @@ mod subscribing;
 mod telling;
 mod triggering;
 
-pub use programs::{Programs, SystemPrograms};
 pub use serving::{Settings, serve};

@@ -4,7 +4,6 @@ ghost use Rattle.std.specs.Prelude.{◌≡◌};
 
 use crate::admitting::serve_on;
 use crate::listening::listen;
-use crate::programs::Programs;
 use crate::shared::Shared;
 use std::alloc::Global;
 use std::fs;
@@ -24,6 +23,7 @@ use wm_hall::Forgetting;
 use wm_lines::have_expressions;
 use wm_share::{Naming, Opened, Shares};
 use wm_store::Store;
+use wm_triggers::Programs;
 
 /// How a server is to serve.
 #[derive(Clone, Copy)]

@@ -4,7 +4,6 @@ ghost use Rattle.wm_groupcommit.specs.Seats.{IsFlusherOf};
 
 use crate::answering::sit_on;
 use crate::house::{Crawl, House, Worker};
-use crate::programs::Programs;
 use crate::second::second;
 use crate::shared::Shared;
 use crate::telling::tell_for;
@@ -21,6 +20,7 @@ use wm_hall::RootHall;
 use wm_lines::Progress;
 use wm_names::Subtree;
 use wm_share::Naming;
+use wm_triggers::Programs;
 use wm_view::{Listing, Op};
 
 /// Commits what is submitted: whether the flusher may end, since the desk is closed and nothing is left.

@@ -1,13 +1,12 @@
 //! Runs the triggers of a root.
 //! Tests: serve_tests/src/sessions.rt.
-use crate::programs::Programs;
 use std::alloc::Global;
 use std::sync::Wait;
 use wm_disk::Refusal;
 use wm_hall::RootHall;
 use wm_registry::Trigger;
 use wm_share::{Naming, Viewer};
-use wm_triggers::TriggerRun;
+use wm_triggers::{Programs, TriggerRun};
 
 /// A trigger and its runs.
 #[derive(Drop)]

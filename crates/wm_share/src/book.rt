@@ -1,5 +1,5 @@
 //! The book of a process: one log of the operations of all its shares, and a word for each share.
-//! Definitions: specs/Logs.antt, specs/Rules.antt. Tests: share_tests/src/shares.rt.
+//! Definitions: specs/Logs.antt, specs/Rules.antt. Tests: view_tests/src/shared/shares.rt.
 use crate::entry::Entry;
 use logbook::{Gain, Opening, Plain, Play, Rule};
 use std::marker::Brand;

@@ -1,5 +1,5 @@
 //! An entry of the log: an operation, and the share on which it was handed in.
-//! Definitions: specs/Logs.antt. Tests: share_tests/src/shares.rt.
+//! Definitions: specs/Logs.antt. Tests: view_tests/src/shared/shares.rt.
 use wm_view::Op;
 
 /// An operation of the share with this number.

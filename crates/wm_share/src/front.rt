@@ -1,5 +1,5 @@
 //! A beginning of a share's list that was seen.
-//! Definitions: specs/PublishedLists.antt, specs/Logs.antt. Tests: share_tests/src/shares.rt.
+//! Definitions: specs/PublishedLists.antt, specs/Logs.antt. Tests: view_tests/src/shared/shares.rt.
 ghost use Rattle.std.specs.Prelude.{◌≡◌, ◌≢◌, ◌+◌, ◌<◌, ◌^◌, ◌∷◌, ◌⊎◌, [], length, MatchBool};
 ghost use Rattle.wm_share.specs.PublishedLists.{Begins, IsLonger, empty_list, with_operations};
 ghost use Rattle.wm_share.specs.Rules.{word_of};

@@ -1,5 +1,5 @@
 //! The keeper of a root, which alone changes its view.
-//! Definitions: specs/PublishedLists.antt, specs/Operations.antt. Tests: share_tests/src/shares.rt.
+//! Definitions: specs/PublishedLists.antt, specs/Operations.antt. Tests: view_tests/src/shared/shares.rt.
 ghost use Rattle.std.specs.Prelude.{◌≡◌, ◌⊎◌, ◌++◌, ◌∷◌, [], None, MatchResult};
 ghost use Rattle.left_right.specs.Handles.{published as shown_by, pending as waiting};
 ghost use Rattle.wm_view.specs.declared.op.Op.{Op};

@@ -1,5 +1,5 @@
 //! The viewers of a share that nobody has.
-//! Definitions: specs/Pools.antt. Tests: share_tests/src/pools.rt.
+//! Definitions: specs/Pools.antt. Tests: view_tests/src/shared/pools.rt.
 ghost use Rattle.std.specs.Prelude.{◌≡◌, ◌≢◌, ◌+◌, ◌<◌, ◌≤◌, MatchResult};
 ghost use Rattle.wm_share.specs.Pools.{PoolState, max_viewers};
 

@@ -1,5 +1,5 @@
 //! Which share of a root it is.
-//! Definitions: specs/PublishedLists.antt. Tests: share_tests/src/shares.rt.
+//! Definitions: specs/PublishedLists.antt. Tests: view_tests/src/shared/shares.rt.
 ghost use Rattle.std.specs.Prelude.{◌≡◌, ◌≢◌, MatchBool};
 
 /// Which share it is, and of which root. No two shares of a process have one number.

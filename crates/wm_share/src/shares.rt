@@ -1,5 +1,5 @@
 //! What makes the shares of a process.
-//! Definitions: specs/PublishedLists.antt, specs/Rules.antt. Tests: share_tests/src/shares.rt.
+//! Definitions: specs/PublishedLists.antt, specs/Rules.antt. Tests: view_tests/src/shared/shares.rt.
 ghost use Rattle.std.specs.Prelude.{◌≡◌, ◌≤◌, ◌+◌, ◌-◌, [], IfOk, IfErr, ◌⊎◌};
 ghost use Rattle.left_right.specs.Handles.{published, pending};
 ghost use Rattle.wm_share.specs.Logs.{max_shares};

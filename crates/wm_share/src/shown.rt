@@ -1,5 +1,5 @@
 //! What viewers read: a view, and the list of operations that made it.
-//! Definitions: specs/PublishedLists.antt. Tests: share_tests/src/shares.rt.
+//! Definitions: specs/PublishedLists.antt. Tests: view_tests/src/shared/shares.rt.
 ghost use Rattle.std.specs.Prelude.{◌≡◌, ◌⊎◌, ◌∷◌, [], true, false, IfOk, IfErr};
 ghost use Rattle.wm_view.specs.Histories.{is_ready};
 ghost use Rattle.wm_view.specs.Summaries.{summary};

@@ -1,5 +1,5 @@
 //! An operation on its way to the copies of a view.
-//! Definitions: specs/PublishedLists.antt. Tests: share_tests/src/shares.rt.
+//! Definitions: specs/PublishedLists.antt. Tests: view_tests/src/shared/shares.rt.
 ghost use Rattle.std.specs.Prelude.{◌≡◌};
 ghost use Rattle.wm_share.specs.PublishedLists.{EndsWith};
 

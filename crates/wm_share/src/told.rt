@@ -1,5 +1,5 @@
 //! What a publish tells its caller.
-//! Definitions: specs/PublishedLists.antt. Tests: share_tests/src/telling.rt.
+//! Definitions: specs/PublishedLists.antt. Tests: view_tests/src/shared/telling.rt.
 ghost use Rattle.std.specs.Prelude.{◌≡◌, length};
 ghost use Rattle.wm_share.specs.PublishedLists.{clock_shown, history, outcome};
 

@@ -1,5 +1,5 @@
 //! A subscription of a session, with its root and its fields.
-//! Definitions: specs/SessionLists.antt. Tests: share_tests/src/subscriptions/sessions.rt.
+//! Definitions: specs/SessionLists.antt. Tests: view_tests/src/shared/subscriptions/sessions.rt.
 use crate::subscription::Subscription;
 use wm_names::RootPath;
 use wm_since::Fields;

@@ -1,6 +1,6 @@
 //! A subscription: a question that is asked again and again, each time since the last answer's
 //! clock.
-//! Definitions: specs/Subscribers.antt, specs/Folds.antt. Tests: share_tests/src/subscriptions/telling.rt.
+//! Definitions: specs/Subscribers.antt, specs/Folds.antt. Tests: view_tests/src/shared/subscriptions/telling.rt.
 ghost use Rattle.std.specs.Prelude.{◌≡◌, IfOk, IfErr, OnErr};
 ghost use Rattle.wm_view.specs.Histories.{History, IsMade};
 ghost use Rattle.wm_view.specs.Summaries.{summary};

@@ -1,5 +1,5 @@
 //! The name under which a client subscribes.
-//! Definitions: specs/SubscriptionNames.antt. Tests: share_tests/src/subscriptions/names.rt.
+//! Definitions: specs/SubscriptionNames.antt. Tests: view_tests/src/shared/subscriptions/names.rt.
 ghost use Rattle.std.specs.Prelude.{◌≡◌, ◌≢◌, ◌↔◌, ℕ, List, true, false, string_bytes, IfOk, IfErr, IsErrOf, IsUtf8};
 ghost use Rattle.std.specs.Cmp.{partial_equiv_from_equiv};
 ghost use Rattle.std.specs.Cmp.Lexicographic.{nat_list_eq_equiv};

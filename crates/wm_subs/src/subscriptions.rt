@@ -1,5 +1,5 @@
 //! The subscriptions of one session.
-//! Definitions: specs/SessionLists.antt. Tests: share_tests/src/subscriptions/sessions.rt.
+//! Definitions: specs/SessionLists.antt. Tests: view_tests/src/shared/subscriptions/sessions.rt.
 ghost use Rattle.std.specs.Prelude.{◌≡◌, ◌≤◌, ◌<◌, [], true, not, length, vec_len, vec_capacity, OnOk, OnErr, option_map};
 ghost use Rattle.std.specs.List.{filter};
 ghost use Rattle.wm_subs.specs.SessionLists.{IsSession, are_apart, is_meant, is_subscribed, is_subscription, may_subscribe, told_at, with_subscription, without_subscribed, without_subscription};

@@ -54,7 +54,8 @@ launch_by command input = record { program = command_program command; words = co
 
 -- ---- how starts are counted
 
--- The count of failures at a start: it doesn't fall, it stands where the run was started, it rose where the start failed, and else it stands.
+-- The count of failures at a start: it doesn't fall, it stands where the run was started, it rose where the start failed (`13`), and stands where
+-- memory ran out (`16`), which is the only other refusal.
 pub record CountsStart (before now : ℕ) (result : Result (Unit {0}) Refusal) : Type 0 where
   pub later : before ≤ now
   pub started : OnOk result (now ≡ before)

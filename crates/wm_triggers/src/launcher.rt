@@ -1,22 +1,26 @@
 //! What starts the program of a command, and waits for its end.
-//! Definitions: specs/Starting.antt. Tests: trigger_tests/src/programs.rt.
-ghost use Rattle.std.specs.Prelude.{OnOk, option_map};
+//! Definitions: specs/Starting.antt. Tests: registry_tests/src/trigger_runs/programs.rt.
+ghost use Rattle.std.specs.Prelude.{OnErr, OnOk, option_map};
 ghost use Rattle.wm_triggers.specs.Starting.{Launch, launch_by};
 
 use std::io;
 use std::io::Write;
 use std::process::{Child, Command, OpenProcess, Processes, Stdio};
 
-/// Starts programs. No contract can say what a program of the system does, so that one tells
+/// Starts programs. No contract can say what a program of the system does, so the system's launcher tells
 /// nothing of it: code over any `Launcher` is proved of all.
 pub trait Launcher {
     /// A program that was started so, and has ended, led from one state to the other.
     ghost has_ended: { Self → Launch → Self → Type 0 };
 
+    /// No program could be started so, from one state to the other.
+    ghost has_failed: { Self → Launch → Self → Type 0 };
+
     /// Starts the command's program, which reads the input, or `/dev/null` where there is none, and
     /// waits for its end, however it ends. An `Err` where no program was started.
     fn launch(&mut self, command: Command, input: Option<Vec<u8>>) -> io::Result<()>
-        ensures { OnOk result (has_ended self.old (launch_by command (option_map (λ i. i.items) input)) self.new) };
+        ensures ended { OnOk result (has_ended self.old (launch_by command (option_map (λ i. i.items) input)) self.new) }
+        ensures failed { OnErr result (has_failed self.old (launch_by command (option_map (λ i. i.items) input)) self.new) };
 }
 
 /// Starts programs by the system. Their standard output and error are those of this process, and
@@ -44,6 +48,8 @@ fn finish<P: OpenProcess + Drop>(mut child: Child<P>, input: Option<Vec<u8>>) {
 
 impl<R: Processes> Launcher for SystemLauncher<R> {
     ghost has_ended = { λ old launch new. Unit {0} };
+
+    ghost has_failed = { λ old launch new. Unit {0} };
 
     fn launch(&mut self, mut command: Command, input: Option<Vec<u8>>) -> io::Result<()> {
         let stdin = if input.is_some() {

@@ -4,14 +4,15 @@
 //! that clock, where it lists a file (specs/Due.antt); [`TriggerRun::due`] says so of every history
 //! of the root. A [`Starter`] starts the program of a run and waits for its end: [`ProgramStarter`]
 //! by a [`Launcher`], as that of the system, with the words and the input that specs/Starting.antt
-//! has, and [`MemStarter`] in memory, for tests.
+//! has, and [`MemStarter`] in memory, for tests. [`Programs`] are what many threads start.
 //!
-//! Tests: trigger_tests/src.
+//! Tests: registry_tests/src/trigger_runs.
 #![tactic(auto)]
 
 mod launcher;
 mod mem_starter;
 mod program_starter;
+mod programs;
 mod run;
 mod starter;
 mod starting;
@@ -20,6 +21,7 @@ mod trigger_run;
 pub use launcher::{Launcher, SystemLauncher};
 pub use mem_starter::{MemStarter, StartedRun};
 pub use program_starter::ProgramStarter;
+pub use programs::{Programs, SystemPrograms};
 pub use run::Run;
 pub use starter::Starter;
 pub use starting::{run_command, run_input};

@@ -1,5 +1,5 @@
 //! A starter in memory: it starts nothing, keeps what was to be started, and fails when told to.
-//! Definitions: specs/Starters.antt, specs/Starting.antt. Tests: trigger_tests/src/starters.rt.
+//! Definitions: specs/Starters.antt, specs/Starting.antt. Tests: registry_tests/src/trigger_runs/starters.rt.
 ghost use Rattle.std.specs.Prelude.{◌≡◌, ◌↔◌, ◌<◌, ◌-◌, ◌++◌, ◌∷◌, [], OnOk, OnErr, IsErrOf};
 ghost use Rattle.wm_triggers.specs.Starters.{failed_starts, started_runs, starts_to_fail};
 ghost use Rattle.wm_triggers.specs.Starting.{CountsStart};
@@ -71,6 +71,10 @@ impl Starter for MemStarter {
     ghost failures = { failed_starts };
 
     ghost has_run = { λ old root trigger run new. started_runs new ≡ started_runs old ++ (record { root = root; trigger = trigger; run = run }) ∷ [] };
+
+    ghost stays = { λ old new. started_runs new ≡ started_runs old };
+
+    ghost has_failed = { λ old root trigger run new. started_runs new ≡ started_runs old };
 
     fn run(
         &mut self,

@@ -1,5 +1,5 @@
 //! The starter of real programs: it makes the command and the input of each run.
-//! Definitions: specs/Starters.antt, specs/Starting.antt. Tests: trigger_tests/src/programs.rt.
+//! Definitions: specs/Starters.antt, specs/Starting.antt. Tests: registry_tests/src/trigger_runs/programs.rt.
 ghost use Rattle.std.specs.Prelude.{◌≡◌};
 ghost use Rattle.wm_triggers.specs.Starters.{failed_programs, launcher_of};
 ghost use Rattle.wm_triggers.specs.Starting.{launch_for};
@@ -58,6 +58,10 @@ impl<L: Launcher> Starter for ProgramStarter<L> {
     ghost failures = { failed_programs };
 
     ghost has_run = { λ old root trigger run new. L.has_ended (launcher_of old) (launch_for root trigger run) (launcher_of new) };
+
+    ghost stays = { λ old new. launcher_of new ≡ launcher_of old };
+
+    ghost has_failed = { λ old root trigger run new. L.has_failed (launcher_of old) (launch_for root trigger run) (launcher_of new) };
 
     fn run(
         &mut self,

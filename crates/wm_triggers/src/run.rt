@@ -1,5 +1,5 @@
 //! A run of a trigger: an answer that lists a file.
-//! Definitions: specs/Due.antt. Tests: trigger_tests/src/runs.rt.
+//! Definitions: specs/Due.antt. Tests: registry_tests/src/trigger_runs/runs.rt.
 ghost use Rattle.std.specs.Prelude.{◌≡◌, ◌<◌, length, IfOk};
 ghost use Rattle.wm_triggers.specs.Due.{run_by};
 

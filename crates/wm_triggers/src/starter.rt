@@ -1,6 +1,7 @@
 //! What starts the programs of runs.
-//! Definitions: specs/Starting.antt. Tests: trigger_tests/src/starters.rt.
-ghost use Rattle.std.specs.Prelude.{ℕ, OnOk};
+//! Definitions: specs/Starting.antt. Tests: registry_tests/src/trigger_runs/starters.rt.
+ghost use Rattle.std.specs.Prelude.{◌⊎◌, ℕ, IsErrOf, OnOk};
+ghost use Rattle.wm_disk.specs.declared.refusal.Refusal.TheVariants.{DeviceFailed, NoMemory};
 ghost use Rattle.wm_names.specs.Paths.{Path};
 ghost use Rattle.wm_registry.specs.Triggers.{Definition};
 ghost use Rattle.wm_since.specs.declared.query.Answer.{Answer};
@@ -20,6 +21,12 @@ pub trait Starter {
     /// A run of this trigger of the root led from one state of the starter to the other.
     ghost has_run: { Self → Path → Definition → Answer → Self → Type 0 };
 
+    /// No start was tried from one state of the starter to the other.
+    ghost stays: { Self → Self → Type 0 };
+
+    /// The start of such a run was tried, and failed, from one state of the starter to the other.
+    ghost has_failed: { Self → Path → Definition → Answer → Self → Type 0 };
+
     /// Starts the trigger's program for the run's files, and waits for its end, however it ends.
     /// `DeviceFailed` where it couldn't be started, which is counted, and `NoMemory`; then no
     /// program ran.
@@ -31,5 +38,7 @@ pub trait Starter {
         run: &Run,
     ) -> Result<(), Refusal>
         ensures ran { OnOk result (has_run self.old root.now trigger.now run.now self.new) }
+        ensures failed { IsErrOf result DeviceFailed → has_failed self.old root.now trigger.now run.now self.new }
+        ensures short { IsErrOf result NoMemory → stays self.old self.new ⊎ has_failed self.old root.now trigger.now run.now self.new }
         ensures count { CountsStart (failures self.old) (failures self.new) result };
 }

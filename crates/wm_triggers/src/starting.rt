@@ -1,5 +1,5 @@
 //! The command of a run, and what its program reads.
-//! Definitions: specs/Starting.antt. Tests: trigger_tests/src/commands.rt.
+//! Definitions: specs/Starting.antt. Tests: registry_tests/src/trigger_runs/commands.rt.
 ghost use Rattle.std.specs.Prelude.{◌≡◌, ◌++◌, ℕ, List, Some, None, false, map, drop, option_map, IfOk, OnOk};
 ghost use Rattle.std.specs.Process.{SameDir, SameEnv, clears_env, command_args, command_dir, command_program, command_var};
 ghost use Rattle.wm_triggers.specs.Starting.{input_for, path_lines, file_paths, program_in, words_for};

@@ -1,5 +1,5 @@
 //! Which run of a trigger is due: what changed since the last run that was started.
-//! Definitions: specs/Due.antt, specs/TriggerRuns.antt. Tests: trigger_tests/src/runs.rt.
+//! Definitions: specs/Due.antt, specs/TriggerRuns.antt. Tests: registry_tests/src/trigger_runs/runs.rt.
 ghost use Rattle.std.specs.Prelude.{◌≡◌, ◌≢◌, ◌↔◌, Some, None, false, option_map, IfOk, IfErr, IfSome, IsErrOf};
 ghost use Rattle.serde_json.specs.Read.{read};
 ghost use Rattle.serde_json.specs.View.{view};

@@ -1,5 +1,5 @@
 //! Stores whose disk fails, and closed ones.
-use super::{Kept, accept, formatted, open, opened, watches, watching, watching_one};
+use super::{Kept, accept, checkpointed, formatted, open, opened, watches, watching, watching_one};
 use crate::disks::{content_of, disk_of};
 use std::alloc::Global;
 use std::test::Fail;
@@ -91,13 +91,6 @@ fn finds_a_prefix_after_a_crash(rt: HostRuntime) -> Result<(), Fail> {
         }
     }
     Ok(())
-}
-
-/// The file behind a watch of `/r` and a checkpoint.
-fn checkpointed(alloc: Global) -> Result<Vec<u8>, Refusal> {
-    let mut store = watching_one(alloc)?;
-    store.checkpoint(alloc)?;
-    content_of(alloc, store.into_disk())
 }
 
 /// Whether a checkpoint into a slot with an open gate keeps the registry: four writes, three syncs and a look

@@ -1,5 +1,5 @@
 //! The queue in which the seats put their calls and from which the flusher takes them.
-//! Definitions: specs/CallQueues.antt. Tests: desk_tests/src/rows.rt.
+//! Definitions: specs/CallQueues.antt. Tests: file_tests/src/desk/rows.rt.
 ghost use Rattle.std.specs.Prelude.{◌≡◌, ◌≤◌, List, [], ◌∷◌, ◌++◌, length, vec_capacity, IfOk, OnErr, MatchResult};
 ghost use Rattle.crossbeam_queue.specs.SegTies.{IsSegPassOf};
 ghost use Rattle.crossbeam_queue.specs.SegBatches.{Holds};

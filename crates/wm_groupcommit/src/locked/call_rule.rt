@@ -1,5 +1,5 @@
 //! The rule of the calls' queue.
-//! Definitions: specs/CallQueues.antt. Tests: desk_tests/src/rows.rt.
+//! Definitions: specs/CallQueues.antt. Tests: file_tests/src/desk/rows.rt.
 use crate::queued::Call;
 use crossbeam_queue::protocol::{Lesson, Outcome, Outcomes, Protocol};
 use std::collections::LinkedList;

@@ -1,5 +1,5 @@
 //! The rule of a seat's reply queue.
-//! Definitions: specs/ReplyQueues.antt. Tests: desk_tests/src/rows.rt.
+//! Definitions: specs/ReplyQueues.antt. Tests: file_tests/src/desk/rows.rt.
 
 use crate::history::History;
 use crate::queued::{Answer, Call};

@@ -1,5 +1,5 @@
 //! The flusher's end of a reply queue, and the seat's, which sleeps while it waits.
-//! Definitions: specs/ReplyQueues.antt. Tests: desk_tests.
+//! Definitions: specs/ReplyQueues.antt. Tests: file_tests/src/desk.
 ghost use Rattle.std.specs.Prelude.{◌≡◌, ◌⊎◌, true, None, [], IfOk, IfSome, IfNone};
 ghost use Rattle.std.specs.Arc.{arc_value};
 ghost use Rattle.crossbeam_queue.specs.Passes.{view, IsPassOf};

@@ -1,5 +1,5 @@
 //! A subscription that follows a viewer, while the root's keeper goes on.
-//! Definitions: specs/Subscribers.antt, specs/Folds.antt. Tests: share_tests/src/following.rt.
+//! Definitions: specs/Subscribers.antt, specs/Folds.antt. Tests: view_tests/src/shared/following.rt.
 ghost use Rattle.std.specs.Prelude.{◌≡◌, ◌⊎◌, IfOk, IfErr, OnErr};
 ghost use Rattle.wm_share.specs.PublishedLists.{Begins, history};
 ghost use Rattle.wm_subs.specs.Subscribers.{after_due, due_answer};

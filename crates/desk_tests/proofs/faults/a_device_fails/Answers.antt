@@ -1,6 +1,0 @@
-use denote.Param.Send.{sendable}
-use Rattle.desk_tests.proofs.Crossing.{memory_desk}
-use Rattle.desk_tests.proofs.faults.a_device_fails.Goals as goal
-
-pub join-requires-send-F : goal.join-requires-send-F
-join-requires-send-F g c κs within = search (sendable, memory_desk) depth 20

@@ -1,5 +1,0 @@
-use Rattle.wm_groupcommit.specs.Seats.{IsSeatOf}
-use Rattle.desk_tests.proofs.rows.watch_all.Given as goal
-
-abbrev pub invariant-loop-i : goal.invariant-loop-i
-invariant-loop-i g l = IsSeatOf l.desk l.seat

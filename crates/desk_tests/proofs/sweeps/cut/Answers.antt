@@ -1,6 +1,0 @@
-use denote.Param.Send.{sendable}
-use Rattle.desk_tests.proofs.Crossing.{memory_desk}
-use Rattle.desk_tests.proofs.sweeps.cut.Goals as goal
-
-pub join-count-requires-send-F : goal.join-count-requires-send-F
-join-count-requires-send-F g c κs within = search (sendable, memory_desk) depth 20

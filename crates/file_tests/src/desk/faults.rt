@@ -1,0 +1,44 @@
+//! A device that fails under a desk.
+use crate::desk::desks::{Kept, flush_for, refusal_of, watch};
+use crate::store::opened;
+use std::alloc::Global;
+use std::sync::Wait;
+use std::test::*;
+use std::thread::join;
+use wm_disk::Refusal;
+use wm_groupcommit::Desk;
+
+/// A desk over a new file, on a disk that fails at the first write of the second group.
+fn faulty(alloc: Global) -> Option<Kept> {
+    let mut store = opened(alloc).ok()?;
+    store.arm(4);
+    Desk::new(alloc, store).ok()
+}
+
+/// Three seats watch a path each, one after the other.
+fn three<R: Wait>(rt: &R, alloc: Global, desk: &Kept) -> [Option<Refusal>; 3] {
+    [
+        refusal_of(rt, desk, watch(alloc, "/1")),
+        refusal_of(rt, desk, watch(alloc, "/2")),
+        refusal_of(rt, desk, watch(alloc, "/3")),
+    ]
+}
+
+#[test]
+fn a_device_fails(rt: HostRuntime) -> Result<(), Fail> {
+    let alloc = rt.alloc();
+    let desk = faulty(alloc).ok_or("no desk")?;
+    let shared = &desk;
+    let (total, [first, second, third]) = join(
+        &rt,
+        || flush_for(&rt, shared, 3),
+        || three(&rt, alloc, shared),
+    );
+    let store = desk.into_store();
+    assert_eq!(rt; store.registry().roots().len(), 1);
+    assert_eq!(rt; total, 3);
+    assert!(rt; first.is_none());
+    assert!(rt; second == Some(Refusal::DeviceFailed));
+    assert!(rt; third == Some(Refusal::StoreFailed));
+    Ok(())
+}

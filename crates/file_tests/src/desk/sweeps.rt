@@ -1,0 +1,194 @@
+//! Four threads at a desk whose device fails from some call on: what was answered is found behind each crash and each stop,
+//! and what was refused as no longer asked of the device isn't.
+use crate::desk::desks::{Kept, flush_for, refusal_of, watch};
+use std::alloc::{AllocError, Global};
+use std::sync::Wait;
+use std::test::*;
+use std::thread::{Threads, join};
+use wm_disk::{Crashed, Disk, MemDisk, Refusal};
+use wm_groupcommit::Desk;
+use wm_store::{Store, format};
+
+/// What each thread watches.
+const PATHS: [&str; 4] = ["/a", "/b", "/c", "/d"];
+
+/// What each thread is refused.
+type Refusals = [Option<Refusal>; 4];
+
+/// Four groups of one command make the most device calls: a write, a sync, a gate and a sync each.
+const MOST_CALLS: u64 = 16;
+
+/// A start behind a stop makes at most so many device calls.
+const START_CALLS: u64 = 7;
+
+/// The choices of what a crash leaves: what was durable, what a read gives, two bytes in each written place, and
+/// single bits. Of these a test takes a quarter, each fourth one, since all take half a minute.
+fn choices(alloc: Global, quarter: u32) -> Result<Vec<u64>, AllocError> {
+    let mut choices = Vec::new(alloc);
+    choices.push(u64::from(quarter))?;
+    for bit in 2..64u32 {
+        if bit % 4 == quarter {
+            choices.push(1 << bit)?;
+        }
+    }
+    Ok(choices)
+}
+
+/// A desk over a store on a new file, on a disk that lets so many calls pass.
+fn faulty(alloc: Global, choice: u64, passing: u64) -> Option<Kept> {
+    let mut disk = MemDisk::new(alloc, choice);
+    format(alloc, &mut disk).ok()?;
+    let mut store = Store::open(alloc, disk).ok()?;
+    store.arm(passing);
+    Desk::new(alloc, store).ok()
+}
+
+fn pair<R: Threads + Wait + Sync>(
+    rt: &R,
+    alloc: Global,
+    desk: &Kept,
+    paths: (&'static str, &'static str),
+) -> [Option<Refusal>; 2] {
+    let (first, second) = paths;
+    let (a, b) = join(
+        rt,
+        move || refusal_of(rt, desk, watch(alloc, first)),
+        move || refusal_of(rt, desk, watch(alloc, second)),
+    );
+    [a, b]
+}
+
+fn four<R: Threads + Wait + Sync>(rt: &R, alloc: Global, desk: &Kept) -> Refusals {
+    let ([a, b], [c, d]) = join(
+        rt,
+        move || pair(rt, alloc, desk, ("/a", "/b")),
+        move || pair(rt, alloc, desk, ("/c", "/d")),
+    );
+    [a, b, c, d]
+}
+
+/// What may be found of a command: of one that was answered, of one that the device failed, and of one behind it.
+fn may_be(refused: Option<Refusal>, is_found: bool) -> bool {
+    match refused {
+        None => is_found,
+        Some(Refusal::DeviceFailed) => true,
+        Some(Refusal::StoreFailed) => !is_found,
+        Some(_) => false,
+    }
+}
+
+/// Whether a start on this disk finds what may be found.
+fn finds(alloc: Global, disk: MemDisk, refusals: &Refusals) -> bool {
+    let Ok(store) = Store::open(alloc, disk) else {
+        return false;
+    };
+    let roots = store.registry().roots();
+    refusals.iter().zip(&PATHS).all(|(refused, path)| {
+        may_be(
+            *refused,
+            roots.iter().any(|(root, _)| root.as_str() == *path),
+        )
+    })
+}
+
+/// What ends a store.
+#[derive(Clone, Copy)]
+enum End {
+    Crash,
+    /// A stop, and behind it a start of which so many device calls pass before a crash.
+    Stop(u64),
+}
+
+/// The disk behind a start of which so many calls pass.
+fn started(alloc: Global, mut disk: MemDisk, passing: u64) -> MemDisk {
+    disk.arm(passing);
+    match Store::open(alloc, disk) {
+        Ok(store) => store.into_disk(),
+        Err((_, disk)) => disk,
+    }
+}
+
+/// Four threads on a disk that lets so many calls pass: whether a start behind the end finds what may be found, and whether
+/// any thread was refused.
+fn cut<R: Threads + Wait + Sync>(
+    rt: &R,
+    alloc: Global,
+    (choice, end): (u64, End),
+    passing: u64,
+) -> Option<bool> {
+    let desk = faulty(alloc, choice, passing)?;
+    let shared = &desk;
+    let (count, refusals) = join(rt, || flush_for(rt, shared, 4), || four(rt, alloc, shared));
+    let disk = desk.into_store().into_disk();
+    let disk = match end {
+        End::Crash => disk.crash(),
+        End::Stop(calls) => started(alloc, disk.stop(), calls).crash(),
+    };
+    if count != 4 || !finds(alloc, disk, &refusals) {
+        return None;
+    }
+    Some(refusals.iter().any(|refused| refused.is_some()))
+}
+
+/// Whether each device call in turn may be the first that fails. Behind the last of them nothing is refused.
+fn stands<R: Threads + Wait + Sync>(rt: &R, alloc: Global, choice: u64, end: End) -> bool {
+    for passing in 0..MOST_CALLS + 1 {
+        let Some(is_cut) = cut(rt, alloc, (choice, end), passing) else {
+            return false;
+        };
+        if passing < 7 && !is_cut || passing == MOST_CALLS && is_cut {
+            return false;
+        }
+    }
+    true
+}
+
+#[test]
+fn answered_commands_are_found_first_quarter(rt: HostRuntime) -> Result<(), Fail> {
+    let alloc = rt.alloc();
+    for choice in &choices(alloc, 0)? {
+        assert!(rt; stands(&rt, alloc, *choice, End::Crash), "{choice}");
+    }
+    Ok(())
+}
+
+#[test]
+fn answered_commands_are_found_second_quarter(rt: HostRuntime) -> Result<(), Fail> {
+    let alloc = rt.alloc();
+    for choice in &choices(alloc, 1)? {
+        assert!(rt; stands(&rt, alloc, *choice, End::Crash), "{choice}");
+    }
+    Ok(())
+}
+
+#[test]
+fn answered_commands_are_found_third_quarter(rt: HostRuntime) -> Result<(), Fail> {
+    let alloc = rt.alloc();
+    for choice in &choices(alloc, 2)? {
+        assert!(rt; stands(&rt, alloc, *choice, End::Crash), "{choice}");
+    }
+    Ok(())
+}
+
+#[test]
+fn answered_commands_are_found_fourth_quarter(rt: HostRuntime) -> Result<(), Fail> {
+    let alloc = rt.alloc();
+    for choice in &choices(alloc, 3)? {
+        assert!(rt; stands(&rt, alloc, *choice, End::Crash), "{choice}");
+    }
+    Ok(())
+}
+
+#[test]
+fn answered_commands_are_found_behind_a_stop(rt: HostRuntime) -> Result<(), Fail> {
+    let alloc = rt.alloc();
+    for choice in 0..4u64 {
+        for calls in 0..START_CALLS + 1 {
+            assert!(rt;
+                stands(&rt, alloc, choice, End::Stop(calls)),
+                "{choice} {calls}"
+            );
+        }
+    }
+    Ok(())
+}

@@ -1,0 +1,78 @@
+//! The starter in memory, and one over a launcher that starts nothing.
+use crate::trigger_runs::making::{has_files, root, run_with, trigger_for};
+use std::alloc::Global;
+use std::io;
+use std::io::ErrorKind;
+use std::process::Command;
+use std::test::Fail;
+use wm_disk::Refusal;
+use wm_triggers::{Launcher, MemStarter, ProgramStarter, StartedRun, Starter};
+
+/// Has the starter run a trigger of this root for this file.
+fn run<S: Starter>(
+    alloc: Global,
+    starter: &mut S,
+    path: &str,
+    file: &str,
+) -> Result<Option<Refusal>, Fail> {
+    let (root, trigger) = (root(alloc, path)?, trigger_for(alloc, None)?);
+    let run = run_with(alloc, &[file])?;
+    Ok(starter.run(alloc, &root, &trigger, &run).err())
+}
+
+fn is_of(started: &StartedRun, path: &str, file: &str) -> bool {
+    started.root.as_str() == path
+        && started.trigger.name() == "t"
+        && has_files(&started.run, &[file])
+}
+
+#[test]
+fn keeps_what_it_was_handed(rt: HostRuntime) -> Result<(), Fail> {
+    let alloc = rt.alloc();
+    let mut starter = MemStarter::new(alloc);
+    assert!(rt; run(alloc, &mut starter, "/r", "a.c")?.is_none());
+    starter.fail(2);
+    for _ in 0..2 {
+        let refused = run(alloc, &mut starter, "/r", "b.c")?;
+        assert!(rt; refused == Some(Refusal::DeviceFailed));
+    }
+    assert!(rt; run(alloc, &mut starter, "/s", "c.c")?.is_none());
+    assert!(rt; starter.failures() == 2);
+    let runs = starter.runs();
+    assert!(rt; runs.len() == 2);
+    assert!(rt; is_of(&runs[0], "/r", "a.c") && is_of(&runs[1], "/s", "c.c"));
+    Ok(())
+}
+
+/// A launcher that starts nothing, for want of memory: the system's, or this process's.
+#[derive(Drop)]
+struct Full {
+    is_system: bool,
+}
+
+impl Launcher for Full {
+    ghost has_ended = { λ old launch new. Unit {0} };
+
+    ghost has_failed = { λ old launch new. Unit {0} };
+
+    fn launch(&mut self, _command: Command, _input: Option<Vec<u8>>) -> io::Result<()> {
+        if self.is_system {
+            // ENOMEM
+            Err(io::Error::from_raw_os_error(12))
+        } else {
+            Err(io::Error::from(ErrorKind::OutOfMemory))
+        }
+    }
+}
+
+#[test]
+fn counts_failures_of_the_system_alone(rt: HostRuntime) -> Result<(), Fail> {
+    let alloc = rt.alloc();
+    let mut starter = ProgramStarter::new(Full { is_system: false });
+    assert!(rt; run(alloc, &mut starter, "/r", "a.c")? == Some(Refusal::NoMemory));
+    assert!(rt; starter.failures() == 0 && !starter.launcher().is_system);
+    let mut starter = ProgramStarter::new(Full { is_system: true });
+    assert!(rt; run(alloc, &mut starter, "/r", "a.c")? == Some(Refusal::DeviceFailed));
+    assert!(rt; starter.failures() == 1);
+    Ok(())
+}

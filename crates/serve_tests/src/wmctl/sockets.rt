@@ -1,0 +1,76 @@
+//! The program against a socket that the test itself serves.
+use std::alloc::Global;
+use std::io::{BufRead, BufReader, Write};
+use std::os::unix::net::{UnixListener, UnixStream};
+use std::test::Fail;
+use std::{fs, io, thread};
+use wm_client::wmctl;
+
+/// Answers the one request of a session with these lines, and ends the session.
+fn answer(alloc: Global, listener: &UnixListener, lines: &str) -> io::Result<()> {
+    let (stream, _) = listener.accept()?;
+    let mut reader = BufReader::new(alloc, &stream)?;
+    let mut request = Vec::new(alloc);
+    reader.read_until(b'\n', &mut request)?;
+    (&stream).write_all(&request)?;
+    (&stream).write_all(lines.as_bytes())
+}
+
+/// What comes behind the request, which is sent back; the words after the socket; the status, and what is printed and told.
+const ENDS: &[(&str, &[&str], u8, &str, &str)] = &[
+    ("", &["[1]"], 0, "[1]\n", ""),
+    ("b\nc\n", &["[1]", "--follow", "2"], 0, "[1]\nb\nc\n", ""),
+    (
+        "b\n",
+        &["[1]", "--follow", "2"],
+        3,
+        "[1]\nb\n",
+        "wmctl: the socket failed, or ended before a whole line had come\n",
+    ),
+    (
+        "",
+        &["{\"error\":1}", "--follow", "1"],
+        1,
+        "{\"error\":1}\n",
+        "",
+    ),
+];
+
+#[test]
+fn ends_of_the_table(rt: HostRuntime) -> Result<(), Fail> {
+    const PATH: &str = "wm_client_socket";
+    let alloc = rt.alloc();
+    let _ = fs::remove_file(&rt, PATH);
+    let listener = UnixListener::bind(&rt, PATH)?;
+    for (lines, words, status, printed, told) in ENDS {
+        let mut all = vec![in alloc; PATH]?;
+        all.extend_from_slice(words)?;
+        let mut output = Vec::new(alloc);
+        let mut faults = Vec::new(alloc);
+        let (served, ended) = thread::join(
+            &rt,
+            || answer(alloc, &listener, lines),
+            || wmctl(alloc, &rt, &all, &mut output, &mut faults),
+        );
+        served?;
+        assert!(rt; ended == *status, "{words:?}: {ended}");
+        assert!(rt; output.as_slice() == printed.as_bytes(), "{words:?}");
+        assert!(rt; faults.as_slice() == told.as_bytes(), "{words:?}");
+    }
+    fs::remove_file(&rt, PATH)?;
+    Ok(())
+}
+
+#[test]
+fn tells_that_nobody_serves_a_socket(rt: HostRuntime) -> Result<(), Fail> {
+    let mut output = Vec::new(rt.alloc());
+    let mut faults = Vec::new(rt.alloc());
+    let words = ["wm_client_nowhere", "[]"];
+    let status = wmctl(rt.alloc(), &rt, &words, &mut output, &mut faults);
+    assert!(rt; status == 3 && output.is_empty());
+    assert!(rt;
+        faults.as_slice()
+            == b"wmctl: the socket failed, or ended before a whole line had come\n".as_slice()
+    );
+    Ok(())
+}

@@ -1,5 +1,0 @@
-use Rattle.share_tests.proofs.pools.takes_and_gives.Given as goal
-
--- the book that was just opened
-abbrev pub ghosts-taken_and_given : goal.ghosts-taken_and_given
-ghosts-taken_and_given g a = record { book = a.opened.seen.book }

@@ -1,5 +1,0 @@
-use Rattle.share_tests.proofs.shares.publishes_at_once.Given as goal
-
--- the book that was just opened
-abbrev pub ghosts-published_at_once : goal.ghosts-published_at_once
-ghosts-published_at_once g a = record { book = a.opened.seen.book }

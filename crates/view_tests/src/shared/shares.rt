@@ -1,0 +1,179 @@
+//! What a publish tells and what a viewer answers, after one operation and the next.
+ghost use Rattle.std.specs.Prelude.{◌≡◌};
+
+use crate::shared::making::{Handed, Keeper, answered, hand};
+use std::alloc::Global;
+use std::marker::Brand;
+use std::process::Abort;
+use std::sync::Wait;
+use std::test::*;
+use wm_clock::ClockId;
+use wm_disk::Refusal;
+use wm_share::{Naming, Opened, ShareId, Shares, Told, Viewer};
+
+/// What is handed in; what the publish then tells: how many operations, the tick of the clock, the floor, and how
+/// the last operation was refused; and what a viewer then answers.
+type Row = (Handed, u64, Option<u64>, u64, Option<Refusal>, &'static str);
+
+/// One after the other, on root 7 in incarnation 3.
+const ROWS: &[Row] = &[
+    (
+        Handed::Is("a", 1),
+        1,
+        None,
+        0,
+        Some(Refusal::NotReady),
+        "6 NotReady",
+    ),
+    (
+        Handed::Lists(0, &["b"]),
+        2,
+        Some(1),
+        0,
+        None,
+        "c:3:7:1 fresh b",
+    ),
+    (Handed::Is("a", 5), 3, Some(2), 0, None, "c:3:7:2 fresh a b"),
+    (
+        Handed::Lists(9, &[]),
+        4,
+        Some(2),
+        0,
+        Some(Refusal::BadClock),
+        "c:3:7:2 fresh a b",
+    ),
+    (Handed::Gone("a"), 5, Some(3), 0, None, "c:3:7:3 fresh b"),
+    (Handed::Ages(30, 20), 6, Some(3), 3, None, "c:3:7:3 fresh b"),
+];
+
+/// Root 7 in incarnation 3, the first share.
+const SHARE: ShareId = ShareId {
+    number: 0,
+    incarnation: 3,
+    root: 7,
+};
+
+fn clock(tick: Option<u64>) -> Option<ClockId> {
+    match tick {
+        Some(tick) => Some(ClockId {
+            incarnation: 3,
+            root: 7,
+            tick,
+        }),
+        None => None,
+    }
+}
+
+/// Whether this was told.
+fn is_told<J: Naming>(told: &Told<J>, row: &Row) -> bool {
+    let counts = told.number() == row.1 && told.floor() == row.3;
+    counts && told.clock() == clock(row.2) && told.refusal() == row.4 && told.share() == SHARE
+}
+
+/// Whether the row is so, from the state that the rows before left.
+fn holds<J: Naming, R: Wait>(
+    alloc: Global,
+    keeper: &mut Keeper<'_, J, R>,
+    viewer: &mut Viewer<J>,
+    row: &Row,
+) -> Result<bool, Fail> {
+    hand(alloc, keeper, row.0)?;
+    let told = keeper.publish()?;
+    viewer.learn(&told);
+    let answer = answered(alloc, viewer)?;
+    Ok(is_told(&told, row) && answer.as_str() == row.5)
+}
+
+fn published_one_by_one<J: Naming, R: Wait + Abort>(
+    rt: &R,
+    alloc: Global,
+    opened: Opened,
+) -> Result<(), Fail>
+    requires { opened.seen.book ≡ J.book }
+{
+    let mut shares: Shares<J> = Shares::new(opened);
+    let (mut keeper, mut pool) = shares.share(rt, alloc, 3, 7)?;
+    let mut viewer = pool.take()?;
+    assert!(rt; pool.share() == SHARE && viewer.share() == SHARE);
+    for row in ROWS {
+        assert!(rt; holds(alloc, &mut keeper, &mut viewer, row)?);
+    }
+    Ok(())
+}
+
+#[test]
+fn publishes_one_by_one(rt: HostRuntime) -> Result<(), Fail> {
+    published_one_by_one::<Brand, _>(&rt, rt.alloc(), Opened::new())
+}
+
+/// Hands in two operations and publishes them. Whether a viewer saw nothing of them while they waited, and then both.
+fn are_seen_at_once<J: Naming, R: Wait>(
+    alloc: Global,
+    keeper: &mut Keeper<'_, J, R>,
+    viewer: &mut Viewer<J>,
+) -> Result<bool, Fail> {
+    hand(alloc, keeper, Handed::Lists(0, &["b"]))?;
+    hand(alloc, keeper, Handed::Is("a", 5))?;
+    let before = answered(alloc, viewer)?;
+    let told = keeper.publish()?;
+    let after = answered(alloc, viewer)?;
+    Ok(
+        told.number() == 2
+            && before.as_str() == "6 NotReady"
+            && after.as_str() == "c:3:7:2 fresh a b",
+    )
+}
+
+fn published_at_once<J: Naming, R: Wait + Abort>(
+    rt: &R,
+    alloc: Global,
+    opened: Opened,
+) -> Result<(), Fail>
+    requires { opened.seen.book ≡ J.book }
+{
+    let mut shares: Shares<J> = Shares::new(opened);
+    let (mut keeper, mut pool) = shares.share(rt, alloc, 3, 7)?;
+    let mut viewer = pool.take()?;
+    assert!(rt; are_seen_at_once(alloc, &mut keeper, &mut viewer)?);
+    drop(keeper);
+    assert_eq!(rt; answered(alloc, &mut viewer)?.as_str(), "18 NoPlace");
+    Ok(())
+}
+
+#[test]
+fn publishes_at_once(rt: HostRuntime) -> Result<(), Fail> {
+    published_at_once::<Brand, _>(&rt, rt.alloc(), Opened::new())
+}
+
+/// What is published on one root is told to a viewer of another. Whether that one learns nothing of it.
+fn is_of_no_concern<J: Naming, R: Wait>(
+    alloc: Global,
+    keeper: &mut Keeper<'_, J, R>,
+    other: &mut Viewer<J>,
+) -> Result<bool, Fail> {
+    hand(alloc, keeper, Handed::Lists(0, &["b"]))?;
+    let told = keeper.publish()?;
+    other.learn(&told);
+    let answer = answered(alloc, other)?;
+    Ok(told.share().number == 0 && other.share().number == 1 && answer.as_str() == "6 NotReady")
+}
+
+fn published_on_one<J: Naming, R: Wait + Abort>(
+    rt: &R,
+    alloc: Global,
+    opened: Opened,
+) -> Result<(), Fail>
+    requires { opened.seen.book ≡ J.book }
+{
+    let mut shares: Shares<J> = Shares::new(opened);
+    let (mut keeper, _pool) = shares.share(rt, alloc, 3, 7)?;
+    let (_other_keeper, mut pool) = shares.share(rt, alloc, 3, 8)?;
+    let mut other = pool.take()?;
+    assert!(rt; is_of_no_concern(alloc, &mut keeper, &mut other)?);
+    Ok(())
+}
+
+#[test]
+fn publishes_on_one_of_two(rt: HostRuntime) -> Result<(), Fail> {
+    published_on_one::<Brand, _>(&rt, rt.alloc(), Opened::new())
+}

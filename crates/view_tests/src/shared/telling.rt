@@ -1,0 +1,93 @@
+//! One thread publishes and hands on what it was told, and a viewer on another thread reads no less.
+ghost use Rattle.std.specs.Prelude.{◌≡◌};
+
+use crate::shared::making::{Handed, Keeper, every, hand, shown};
+use crossbeam_channel::{Receiver, Sender};
+use std::alloc::{Alloc, Global};
+use std::marker::Brand;
+use std::process::Abort;
+use std::sync::Wait;
+use std::test::*;
+use std::thread::{Threads, join};
+use wm_share::{Naming, Opened, Shares, Told, Viewer};
+
+/// Publishes each of these, and hands on what was told.
+fn publish_each<J: Naming, R: Wait>(
+    rt: &R,
+    alloc: Global,
+    keeper: &mut Keeper<'_, J, R>,
+    to: &Sender<Told<J>>,
+) -> bool {
+    for handed in [
+        Handed::Lists(0, &["b"]),
+        Handed::Is("a", 5),
+        Handed::Gone("b"),
+    ] {
+        if hand(alloc, keeper, handed).is_err() {
+            return false;
+        }
+        let Ok(told) = keeper.publish() else {
+            return false;
+        };
+        if to.send(rt, told).is_err() {
+            return false;
+        }
+    }
+    true
+}
+
+/// What the viewer answers once it has learnt the next that was told.
+fn read<J: Naming, R: Wait>(
+    rt: &R,
+    alloc: Global,
+    viewer: &mut Viewer<J>,
+    from: &Receiver<Told<J>>,
+) -> Option<(u64, u64)> {
+    let told = from.recv(rt).ok()?;
+    viewer.learn(&told);
+    let answer = viewer.answer(alloc, &every()).ok()?;
+    Some((told.clock()?.tick, answer.clock.tick))
+}
+
+/// Whether each of three answers is of the clock that was told before it, or of a later one.
+fn read_each<J: Naming, R: Wait>(
+    rt: &R,
+    alloc: Global,
+    viewer: &mut Viewer<J>,
+    from: &Receiver<Told<J>>,
+) -> bool {
+    for tick in 1..=3u64 {
+        match read(rt, alloc, viewer, from) {
+            Some((told, answered)) if told == tick && told <= answered && answered <= 3 => {}
+            _ => return false,
+        }
+    }
+    true
+}
+
+fn read_what_was_told<J: Naming + Send + Sync, R: Threads + Wait + Abort + Sync>(
+    rt: &R,
+    alloc: Global,
+    opened: Opened,
+) -> Result<(), Fail>
+    requires { opened.seen.book ≡ J.book }
+{
+    let mut shares: Shares<J> = Shares::new(opened);
+    let (mut keeper, mut pool) = shares.share(rt, alloc, 1, 1)?;
+    let mut viewer = pool.take()?;
+    let (to, from) = crossbeam_channel::unbounded(alloc)?;
+    let (published, read) = join(
+        rt,
+        || publish_each(rt, alloc, &mut keeper, &to),
+        || read_each(rt, alloc, &mut viewer, &from),
+    );
+    assert!(rt; published && read);
+    let answer = viewer.answer(alloc, &every())?;
+    assert_eq!(rt; shown(alloc, &answer)?.as_str(), "c:1:1:3 fresh a");
+    Ok(())
+}
+
+#[test]
+fn told_is_read(rt: HostRuntime) -> Result<(), Fail> {
+    read_what_was_told::<Brand, _>(&rt, rt.alloc(), Opened::new())
+}
