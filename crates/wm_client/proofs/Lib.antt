@@ -1,4 +1,6 @@
 mod FeedWanting
 mod Lines
+mod Printing
+mod ReplyLines
 mod Telling
 mod Wanting

@@ -1,11 +1,12 @@
 -- What is printed where the reply was printed, and where it wasn't.
-use Rattle.std.proofs.Common.{◌≡◌, ◌≢◌, ◌<◌, ◌≤◌, ◌+◌, ℕ, List, Option, Result, Ok, Err, IfErr, IfOk, true, false, refl, sym, subst, arith}
+use Rattle.std.proofs.Common.{◌≡◌, ◌≢◌, ◌<◌, ◌≤◌, ◌+◌, ◌∷◌, [], ℕ, List, Option, Result, Ok, Err, IfErr, IfOk, true, false, refl, sym, subst, arith}
 use Rattle.std.specs.Io.BufRead.{drop_through, take_through}
 use Rattle.std.specs.Io.KnownBytes.{Appends}
-use Rattle.wm_client.specs.Talks.{HasLines, Prints, PrintsBefore, PrintsSome, is_refusal_line, has_come_whole, lines_first}
+use Rattle.wm_client.specs.Talks.{HasLines, Prints, PrintsBefore, PrintsLines, PrintsReply, PrintsSome, is_refusal_line, has_come_whole, lines_first}
 use Rattle.wm_client.specs.declared.talking.TalkEnd.{TalkEnd}
 use Rattle.wm_client.specs.declared.talking.TalkEnd.TheVariants.{Told, Refused, NoReply, Unprinted}
 use Rattle.wm_client.proofs.Lines.{grown_twice, reply_first, whole_first}
+use Rattle.wm_client.proofs.Printing.{PrintsCount, lines_joined}
 
 one_more_below : (k n : ℕ) → k < n → k + 1 ≤ n
 one_more_below k n below = omega arith
@@ -49,3 +50,12 @@ then_more follow held mid holds known (Ok Refused) first more some alone = absur
 then_more follow held mid holds known (Ok NoReply) first more some alone = λ input knows.
     one_before follow input held mid holds (first input knows).0 (first input knows).1 (some refl input knows)
 then_more follow held mid holds known (Ok Unprinted) first more some alone = λ input knows. tt
+
+-- A reply was printed, and then so many lines, where nothing was told short of them.
+pub then_whole : {E : Type 0} (follow : ℕ) (reply : List ℕ) (held mid holds : Option (List ℕ)) (result : Result TalkEnd E) → PrintsLines (reply ∷ []) held mid → is_refusal_line reply ≡ false
+    → (result ≡ Ok Told → PrintsCount follow mid holds) → IfOk result (λ end. end ≢ Refused) → IfOk result (PrintsReply follow held holds)
+then_whole follow reply held mid holds (Err e) printed plain more alone = tt
+then_whole follow reply held mid holds (Ok Told) printed plain more alone = (let rest = more refl in (reply, rest.0, lines_joined (reply ∷ []) rest.0 held mid holds printed rest.1, plain, rest.2))
+then_whole follow reply held mid holds (Ok Refused) printed plain more alone = absurd (alone refl)
+then_whole follow reply held mid holds (Ok NoReply) printed plain more alone = tt
+then_whole follow reply held mid holds (Ok Unprinted) printed plain more alone = tt

@@ -1,8 +1,8 @@
 -- What a talk with a server sends, and what it prints of the lines that come.
-use Rattle.std.specs.Prelude.{◌≡◌, ◌<◌, ◌≤◌, ◌+◌, ◌++◌, ⊤, ℕ, zero, suc, nat_eq, Bool, true, false, List, [], Option, length, take, codes}
+use Rattle.std.specs.Prelude.{◌≡◌, ◌<◌, ◌≤◌, ◌+◌, ◌++◌, ◌∷◌, ⊤, ℕ, zero, suc, nat_eq, Bool, true, false, List, [], Option, length, take, codes}
 use Rattle.std.specs.Io.BufRead.{drop_through, take_through}
 use Rattle.std.specs.Io.KnownBytes.{Appends}
-use Rattle.std.specs.List.{ends_with}
+use Rattle.std.specs.List.{concat, ends_with, list_all}
 use Rattle.std.specs.Str.{bytes_eq}
 use Rattle.wm_client.specs.declared.talking.TalkEnd.{TalkEnd}
 use Rattle.wm_client.specs.declared.talking.TalkEnd.TheVariants.{Told, Refused, NoReply, Unprinted}
@@ -43,6 +43,17 @@ Prints follow input held holds Told = HasLines (follow + 1) input × Appends hel
 Prints follow input held holds Refused = HasLines 1 input × Appends held holds (lines_first 1 input) × (is_refusal_line (take_through 10 input) ≡ true)
 Prints follow input held holds NoReply = PrintsSome follow input held holds
 Prints follow input held holds Unprinted = ⊤
+
+-- Just these lines were printed, one behind the other, each of them whole.
+abbrev pub PrintsLines : List (List ℕ) → Option (List ℕ) → Option (List ℕ) → Type 0
+PrintsLines lines held holds = (list_all has_come_whole lines ≡ true) × Appends held holds (concat lines)
+
+-- What was printed, whatever came. All was told: a reply, which is no refusal, and so many lines after it. Refused: a refusal alone. In the other ends
+-- nothing more is said.
+abbrev pub PrintsReply : ℕ → Option (List ℕ) → Option (List ℕ) → TalkEnd → Type 0
+PrintsReply follow held holds Told = (reply : List ℕ) × (lines : List (List ℕ)) × PrintsLines (reply ∷ lines) held holds × (is_refusal_line reply ≡ false) × (length lines ≡ follow)
+PrintsReply follow held holds Refused = (reply : List ℕ) × PrintsLines (reply ∷ []) held holds × (is_refusal_line reply ≡ true)
+PrintsReply follow held holds other = ⊤
 
 -- Where a reply came, the request and a newline were sent.
 abbrev pub Sends : List ℕ → Option (List ℕ) → Option (List ℕ) → TalkEnd → Type 0

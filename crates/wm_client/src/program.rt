@@ -1,5 +1,10 @@
-//! All of `wmctl`, with its status.
+//! All of `wmctl`, with its status. Definitions: specs/Statuses.
 //! Tests: serve_tests/src/wmctl/sockets.rt.
+ghost use Rattle.std.specs.Prelude.{◌≡◌, map, IfOk, MatchResult};
+ghost use Rattle.wm_client.specs.Statuses.{EndsAsWanted, status_of_talk};
+ghost use Rattle.wm_client.specs.Talks.{PrintsReply};
+
+use crate::showing::{show, tell};
 use crate::talking::{TalkEnd, talk};
 use crate::words::Words;
 use std::alloc::Global;
@@ -18,14 +23,12 @@ pub fn wmctl<N: Net, W: Write, E: Write>(
     words: &[&str],
     printer: &mut W,
     faults: &mut E,
-) -> u8 {
+) -> u8
+    ensures ends { EndsAsWanted (map (λ word. word.now) words.now) result (W.contents printer.old) (W.contents printer.new) }
+    ensures quiet { result ≡ 0 → faults.new ≡ faults.old }
+{
     match Words::read(alloc, words) {
-        Ok(Words::Shown { text, status: 0 }) => show(text.as_str(), printer),
-        Ok(Words::Shown { text, status }) => {
-            // Where even this can't be told, the status tells it.
-            let _shown = show(text.as_str(), faults);
-            status
-        }
+        Ok(Words::Shown { text, status }) => show(text.as_str(), status, printer, faults),
         Ok(
             Words::Talk {
                 socket,
@@ -40,14 +43,6 @@ pub fn wmctl<N: Net, W: Write, E: Write>(
     }
 }
 
-/// Shows a text: 0, or 1 where that fails.
-fn show<W: Write>(text: &str, writer: &mut W) -> u8 {
-    match writer.write_all(text.as_bytes()) {
-        Ok(()) => 0,
-        Err(_) => 1,
-    }
-}
-
 /// A talk over the socket of a path.
 fn talk_at<N: Net, W: Write>(
     alloc: Global,
@@ -56,7 +51,9 @@ fn talk_at<N: Net, W: Write>(
     json: &str,
     follow: u32,
     printer: &mut W,
-) -> Result<TalkEnd, NoMemory> {
+) -> Result<TalkEnd, NoMemory>
+    ensures { IfOk result (PrintsReply follow (W.contents printer.old) (W.contents printer.new)) }
+{
     let Ok(stream) = UnixStream::connect(net, socket) else {
         return Ok(TalkEnd::NoReply);
     };
@@ -67,7 +64,10 @@ fn talk_at<N: Net, W: Write>(
 }
 
 /// The status of a talk, with what is told of it on `faults`.
-fn end<E: Write>(talked: Result<TalkEnd, NoMemory>, faults: &mut E) -> u8 {
+fn end<E: Write>(talked: Result<TalkEnd, NoMemory>, faults: &mut E) -> u8
+    ensures status { MatchResult talked (λ e. result ≡ status_of_talk e) (λ _. result ≡ 1) }
+    ensures quiet { result ≡ 0 → faults.new ≡ faults.old }
+{
     let (status, told) = match talked {
         Ok(TalkEnd::Told) => return 0,
         Ok(TalkEnd::Refused) => return 1,
@@ -79,6 +79,6 @@ fn end<E: Write>(talked: Result<TalkEnd, NoMemory>, faults: &mut E) -> u8 {
         Err(NoMemory) => (1, "wmctl: 16 NoMemory\n"),
     };
     // Where even this can't be told, the status tells it.
-    let _shown = show(told, faults);
+    let _told = tell(told, faults);
     status
 }

@@ -1,9 +1,9 @@
 //! A talk with a server: one request, its reply, and lines that come after it. Definitions: specs/Talks.
 //! Tests: serve_tests/src/wmctl/talks.rt.
-ghost use Rattle.std.specs.Prelude.{◌≡◌, ◌≢◌, ℕ, true, List, Some, IfErr, IfOk, Ok};
+ghost use Rattle.std.specs.Prelude.{◌≡◌, ◌≢◌, ◌∷◌, [], ℕ, true, length, List, Some, IfErr, IfOk, Ok};
 ghost use Rattle.std.specs.Io.BufRead.{drop_through, take_through};
 ghost use Rattle.std.specs.Io.KnownBytes.{Appends};
-ghost use Rattle.wm_client.specs.Talks.{HasLines, Prints, PrintsBefore, PrintsSome, Sends, is_refusal_line, has_come_whole, lines_first};
+ghost use Rattle.wm_client.specs.Talks.{HasLines, Prints, PrintsBefore, PrintsLines, PrintsReply, PrintsSome, Sends, is_refusal_line, has_come_whole, lines_first};
 
 use std::alloc::Global;
 use std::io::{BufRead, ErrorKind, Write};
@@ -33,6 +33,7 @@ pub fn talk<S: Write, R: BufRead, W: Write>(
     printer: &mut W,
 ) -> Result<TalkEnd, NoMemory>
     ensures sent { IfOk result (Sends json.now (S.contents sender.old) (S.contents sender.new)) }
+    ensures whole { IfOk result (PrintsReply follow (W.contents printer.old) (W.contents printer.new)) }
     ensures told { IfOk result (λ end. (input : List ℕ) → R.remaining replies.old ≡ Some input → Prints follow input (W.contents printer.old) (W.contents printer.new) end) }
     ensures short { IfErr result (λ _. (input : List ℕ) → R.remaining replies.old ≡ Some input → PrintsSome follow input (W.contents printer.old) (W.contents printer.new)) }
 {
@@ -64,6 +65,7 @@ fn print_lines<R: BufRead, W: Write>(
     line: &mut Vec<u8>,
     printer: &mut W,
 ) -> Result<TalkEnd, NoMemory>
+    ensures whole { result ≡ Ok TalkEnd.Told → (lines : List (List ℕ)) × PrintsLines lines (W.contents printer.old) (W.contents printer.new) × (length lines ≡ count) }
     ensures told { result ≡ Ok TalkEnd.Told → (input : List ℕ) → R.remaining replies.old ≡ Some input → HasLines count input × Appends (W.contents printer.old) (W.contents printer.new) (lines_first count input) }
     ensures told_alone { IfOk result (λ end. end ≢ TalkEnd.Refused) }
     ensures some { result ≡ Ok TalkEnd.NoReply → (input : List ℕ) → R.remaining replies.old ≡ Some input → PrintsBefore count input (W.contents printer.old) (W.contents printer.new) }
@@ -84,6 +86,7 @@ fn print_line<R: BufRead, W: Write>(
     line: &mut Vec<u8>,
     printer: &mut W,
 ) -> Result<TalkEnd, NoMemory>
+    ensures whole { result ≡ Ok TalkEnd.Told → PrintsLines (line.new.items ∷ []) (W.contents printer.old) (W.contents printer.new) }
     ensures told { result ≡ Ok TalkEnd.Told → (input : List ℕ) → R.remaining replies.old ≡ Some input → (line.new.items ≡ take_through 10 input)
         × (has_come_whole (take_through 10 input) ≡ true) × Appends (W.contents printer.old) (W.contents printer.new) (take_through 10 input) × (R.remaining replies.new ≡ Some (drop_through 10 input)) }
     ensures told_alone { IfOk result (λ end. end ≢ TalkEnd.Refused) }

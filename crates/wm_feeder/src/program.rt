@@ -1,6 +1,6 @@
 //! All of `wmfeed`, with its status. Definitions: specs/Ends. Tests: tools/feed_use.py.
 ghost use Rattle.std.specs.Prelude.{◌≡◌, ◌⊎◌, map};
-ghost use Rattle.wm_client.specs.FeedWords.{feed_shown, feed_to, feed_wanted_of};
+ghost use Rattle.wm_client.specs.FeedWords.{feed_to, feed_wanted_of};
 ghost use Rattle.wm_feeder.specs.Ends.{EndsAsAsked, MayEnd, status_of_stop};
 
 use crate::feeding::feed_root;
@@ -12,7 +12,7 @@ use std::io::Write;
 use std::net::Net;
 use std::process::Processes;
 use std::time::Clock;
-use wm_client::FeedWords;
+use wm_client::{FeedWords, show, tell};
 use wm_disk::{NoMemory, Refusal};
 use wm_names::RootPath;
 
@@ -27,7 +27,7 @@ pub fn wmfeed<R: Net + Processes + Files + Clock + AllocGlobal, W: Write, E: Wri
     printer: &mut W,
     faults: &mut E,
 ) -> u8
-    ensures { (result ≡ 1) ⊎ EndsAsAsked (map (λ word. word.now) words.now) result }
+    ensures { EndsAsAsked (map (λ word. word.now) words.now) result }
 {
     match FeedWords::read(alloc, words) {
         Ok(FeedWords::Shown { text, status }) => show(text.as_str(), status, printer, faults),
@@ -38,28 +38,6 @@ pub fn wmfeed<R: Net + Processes + Files + Clock + AllocGlobal, W: Write, E: Wri
     }
 }
 
-/// Tells a text: 0, or 1 where that fails.
-fn tell<W: Write>(text: &str, writer: &mut W) -> u8
-    ensures { (result ≡ 0) ⊎ (result ≡ 1) }
-{
-    match writer.write_all(text.as_bytes()) {
-        Ok(()) => 0,
-        Err(_) => 1,
-    }
-}
-
-/// Shows what the words ask to be shown, a fault on `faults`, and gives the status: that which goes with it.
-fn show<W: Write, E: Write>(text: &str, status: u8, printer: &mut W, faults: &mut E) -> u8
-    ensures { MayEnd (feed_shown status) result }
-{
-    if status == 0 {
-        return tell(text, printer);
-    }
-    // Where even this can't be told, the status tells it.
-    let _told = tell(text, faults);
-    status
-}
-
 /// Feeds the server at the socket of a path with what changes below a root, until there is a cause to stop.
 fn feed<R: Net + Processes + Files + Clock + AllocGlobal, E: Write>(
     alloc: Global,
@@ -68,7 +46,7 @@ fn feed<R: Net + Processes + Files + Clock + AllocGlobal, E: Write>(
     root: &str,
     faults: &mut E,
 ) -> u8
-    ensures { MayEnd (feed_to socket.now root.now) result }
+    ensures { (result ≡ 1) ⊎ MayEnd (feed_to socket.now root.now) result }
 {
     match RootPath::read(alloc, root) {
         Ok(root) => end(feed_at(alloc, rt, socket, &root), faults),

@@ -25,7 +25,7 @@ pub(crate) fn is_wide(batch: &Batch) -> bool {
 }
 
 /// Asks for what has to be met, or has to be tried anew.
-fn tell(alloc: Global, server: &mut Server, request: &str) -> Result<(), Stop> {
+fn hand_over(alloc: Global, server: &mut Server, request: &str) -> Result<(), Stop> {
     match server.ask(alloc, request)? {
         Asked::Told => Ok(()),
         Asked::NotReady | Asked::Failed => Err(Stop::Doubt),
@@ -46,7 +46,7 @@ pub(crate) fn recrawl(
         Subtree::Below(path) => json!(in alloc; ["recrawl", root, path.as_str()])?,
     };
     let request = value.to_string(alloc)?;
-    tell(alloc, server, request.as_str())
+    hand_over(alloc, server, request.as_str())
 }
 
 /// Tells pairs, in lines of so many.
@@ -59,7 +59,7 @@ fn observe(
     for part in pairs.chunks(MANY) {
         let line = observe_line(alloc, root.as_str(), part)?;
         if line.len() < MAX_LINE {
-            tell(alloc, server, line.as_str())?;
+            hand_over(alloc, server, line.as_str())?;
         } else {
             observe_few(alloc, server, root, part)?;
         }
@@ -76,7 +76,7 @@ fn observe_few(
 ) -> Result<(), Stop> {
     for part in pairs.chunks(FEW) {
         let line = observe_line(alloc, root.as_str(), part)?;
-        tell(alloc, server, line.as_str())?;
+        hand_over(alloc, server, line.as_str())?;
     }
     Ok(())
 }

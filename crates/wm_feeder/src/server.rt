@@ -1,5 +1,9 @@
-//! A session with the server, one request at a time.
+//! A session with the server, one request at a time. Definitions: specs/Asks.
 //! Tests: tools/feed_use.py.
+ghost use Rattle.std.specs.Prelude.{◌≡◌, ◌≢◌, ◌⊎◌, ◌↔◌, true, false, Ok, Err, IfErr, IfOk};
+ghost use Rattle.wm_disk.specs.declared.refusal.Refusal.TheVariants as refusals;
+ghost use Rattle.wm_client.specs.Talks.{is_refusal_line};
+ghost use Rattle.wm_feeder.specs.Asks.{is_refused_by};
 
 use crate::stop::Stop;
 use std::alloc::Global;
@@ -27,17 +31,11 @@ pub(crate) struct Server {
     reply: Vec<u8>,
 }
 
-/// Whether a reply is the refusal of this number.
-fn is_refused(reply: &[u8], number: &str) -> bool {
-    match reply.strip_prefix(b"{\"error\":\"") {
-        Some(rest) => rest.starts_with(number.as_bytes()),
-        None => false,
-    }
-}
-
 impl Server {
     /// A session over the socket of a path.
-    pub(crate) fn connect<N: Net>(alloc: Global, net: &N, socket: &str) -> Result<Server, Stop> {
+    pub(crate) fn connect<N: Net>(alloc: Global, net: &N, socket: &str) -> Result<Server, Stop>
+        ensures { IfErr result (λ stop. (stop ≡ Stop.ServerGone) ⊎ (stop ≡ Stop.NoMemory)) }
+    {
         let Ok(stream) = UnixStream::connect(net, socket) else {
             return Err(Stop::ServerGone);
         };
@@ -54,17 +52,23 @@ impl Server {
         })
     }
 
-    /// Sends a request and reads its reply.
-    pub(crate) fn ask(&mut self, alloc: Global, request: &str) -> Result<Asked, Stop> {
+    /// Sends a request and reads its reply. It is refused where the server ended, memory ran out or the root isn't watched.
+    pub(crate) fn ask(&mut self, alloc: Global, request: &str) -> Result<Asked, Stop>
+        ensures told { IfOk result (λ asked. asked ≡ Asked.Told → is_refusal_line self.new.reply.items ≡ false) }
+        ensures refused { IfOk result (λ asked. asked ≢ Asked.Told → is_refusal_line self.new.reply.items ≡ true) }
+        ensures gone { IfErr result (λ stop. (stop ≡ Stop.ServerGone) ⊎ (stop ≡ Stop.NoMemory) ⊎ ((stop ≡ Stop.WatchGone) × (is_refused_by refusals.NotWatched self.new.reply.items ≡ true))) }
+    {
         self.reply.clear();
-        let end = talk(
+        let Ok(end) = talk(
             alloc,
             request,
             0,
             &mut &self.stream,
             &mut self.replies,
             &mut self.reply,
-        )?;
+        ) else {
+            return Err(Stop::NoMemory);
+        };
         match end {
             TalkEnd::Told => Ok(Asked::Told),
             TalkEnd::Refused => self.refused(),
@@ -74,14 +78,20 @@ impl Server {
     }
 
     /// What kind of refusal the reply is.
-    fn refused(&self) -> Result<Asked, Stop> {
-        if is_refused(&self.reply, "5 ") {
+    fn refused(&self) -> Result<Asked, Stop>
+        ensures kind { IfOk result (λ asked. asked ≢ Asked.Told) }
+        ensures gone { (result ≡ Err Stop.WatchGone) ↔ (is_refused_by refusals.NotWatched self.now.reply.items ≡ true) }
+        ensures unready { result ≡ Ok Asked.NotReady → is_refused_by refusals.NotReady self.now.reply.items ≡ true }
+        ensures known { IfErr result (λ stop. stop ≡ Stop.WatchGone) }
+    {
+        let reply = &self.reply;
+        if reply.starts_with(b"{\"error\":\"5 NotWatched") {
             return Err(Stop::WatchGone);
         }
-        if is_refused(&self.reply, "6 ") {
+        if reply.starts_with(b"{\"error\":\"6 NotReady") {
             return Ok(Asked::NotReady);
         }
-        if is_refused(&self.reply, "13 ") || is_refused(&self.reply, "16 ") {
+        if reply.starts_with(b"{\"error\":\"13 ") || reply.starts_with(b"{\"error\":\"16 ") {
             return Ok(Asked::Failed);
         }
         Ok(Asked::Refused)

@@ -1,8 +1,8 @@
 -- The age-out that is due before an operation on a root, and what is handed in for it.
-use Rattle.std.specs.Prelude.{◌≡◌, ◌⊎◌, ℕ, ◌+◌, ◌-◌, ◌^◌, min, nat_le, cond, List, [], ◌∷◌, ◌++◌, Option, Some, None}
+use Rattle.std.specs.Prelude.{◌≡◌, ◌≢◌, ◌⊎◌, ℕ, ◌+◌, ◌-◌, ◌^◌, min, nat_le, cond, List, [], ◌∷◌, ◌++◌, Option, Some, None}
+use mathlib.Core.List.{IsPrefix}
 use Rattle.wm_view.specs.declared.op.Op.{Op}
 use Rattle.wm_view.specs.declared.op.Op.TheVariants.{Observe, Recrawl, AgeOut}
-use Rattle.wm_share.specs.Operations.{Operations}
 use Rattle.wm_hall.specs.declared.keeping.Forgetting.{Forgetting}
 
 -- the second of an operation
@@ -16,9 +16,9 @@ abbrev pub due_age_out : Option ℕ → Forgetting → ℕ → List Op
 due_age_out None forgetting moment = []
 due_age_out (Some last) forgetting moment = cond (nat_le (min (last + forgetting.interval) (2 ^ 64 - 1)) moment) (AgeOut moment forgetting.age ∷ []) []
 
--- all that was handed in: what is published, and what waits behind it
-abbrev pub handed_in : Operations → List Op
-handed_in operations = operations.published.operations ++ operations.pending
+-- an age-out was due, and was handed in behind what was before
+abbrev pub HasForgotten : List Op → List Op → List Op → Type 0
+HasForgotten due before after = (due ≢ []) × IsPrefix (before ++ due) after
 
 -- what may have been handed in by an operation that was refused: nothing, the age-out that was due, the operation, or both
 abbrev pub MayWait : List Op → Op → List Op → List Op → Type 0

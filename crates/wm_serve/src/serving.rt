@@ -1,6 +1,8 @@
 //! `serve`: the whole server, from its state file and its socket to the close of the file.
 //! Tests: serve_tests/src/restarts.rt.
-ghost use Rattle.std.specs.Prelude.{◌≡◌};
+ghost use Rattle.std.specs.Prelude.{◌≡◌, ◌⊎◌, true, IfErr, IfOk};
+ghost use Rattle.wm_disk.specs.declared.refusal.Refusal.TheVariants.{Damaged as damaged, DeviceFailed as device_failed, Exhausted as exhausted, NoMemory as no_memory, Retired as retired};
+ghost use Rattle.wm_lines.specs.KeptExpressions.{have_expressions as have_expressions_lem};
 
 use crate::admitting::serve_on;
 use crate::listening::listen;
@@ -38,12 +40,15 @@ pub struct Settings {
     pub sessions: u64,
 }
 
-/// Opens the store of a state file.
+/// Opens the store of a state file. `Damaged` too where a trigger in it keeps a text that is no expression.
 fn open<R: Files<File = File>>(
     rt: &R,
     alloc: Global,
     file: &str,
-) -> Result<Store<FileDisk<Unknown>>, Refusal> {
+) -> Result<Store<FileDisk<Unknown>>, Refusal>
+    ensures expressions { IfOk result (λ store. have_expressions_lem store.registry ≡ true) }
+    ensures refused { IfErr result (λ e. (e ≡ device_failed) ⊎ (e ≡ no_memory) ⊎ (e ≡ exhausted) ⊎ (e ≡ damaged) ⊎ (e ≡ retired)) }
+{
     let Ok(disk) = FileDisk::<Unknown>::open(rt, file) else {
         return Err(Refusal::DeviceFailed);
     };
@@ -120,7 +125,8 @@ fn serve_over<
     writer: &mut W,
     opened: Opened,
 ) -> Result<(), Refusal>
-    requires { opened.seen.book ≡ J.book }
+    requires expressions { have_expressions_lem store.registry ≡ true }
+    requires book { opened.seen.book ≡ J.book }
 {
     let desk = match Desk::new(alloc, store) {
         Ok(desk) => desk,

@@ -1,5 +1,5 @@
 -- The list with one operation more.
-use Rattle.std.proofs.Common.{◌≡◌, ◌+◌, List, [], ◌∷◌, ◌++◌, length, fold, Option, None, refl, ap, sym, ◌∙◌, subst, arith, append_assoc, length-append}
+use Rattle.std.proofs.Common.{◌≡◌, ◌+◌, List, [], ◌∷◌, ◌++◌, length, fold, Option, None, refl, ap, ap₂, sym, ◌∙◌, subst, arith, append_assoc, length-append}
 use Rattle.std.proofs.lemmas.List.{append-nil}
 use mathlib.Core.List.{IsPrefix}
 use Rattle.wm_disk.specs.declared.refusal.Refusal.{Refusal}
@@ -48,3 +48,12 @@ pub fold_adds : (f : PublishedList → Op → PublishedList) → ((list : Publis
 fold_adds f adds list [] = ap (λ l. record list { operations = l }) (sym (append-nil list.operations))
 fold_adds f adds list (op ∷ ops) =
     fold_adds f adds (f list op) ops ∙ (ap (λ l. with_operations l ops) (adds list op) ∙ ap (λ l. record list { operations = l }) (append_assoc list.operations (op ∷ []) ops))
+
+-- where all that was sent is absorbed by the shown list, the list is the one before with all that waited
+pub shown_whole : (f : PublishedList → Op → PublishedList) → ((list : PublishedList) (op : Op) → f list op ≡ with_operations list (op ∷ [])) → (list shown now : PublishedList) (sent waited : List Op)
+    → now ≡ fold f shown sent → shown ≡ list → sent ≡ waited → now ≡ with_operations list waited
+shown_whole f adds list shown now sent waited absorbed same is = absorbed ∙ fold_adds f adds shown sent ∙ ap₂ with_operations same is
+
+-- no operation is added
+pub nothing_more : (list : PublishedList) (xs ys : List Op) → xs ≡ [] → ys ≡ [] → list ≡ with_operations list (xs ++ ys)
+nothing_more list xs ys none nor = ap (λ ops. record list { operations = ops }) (sym (append-nil list.operations)) ∙ ap₂ (λ (first rest : List Op). with_operations list (first ++ rest)) (sym none) (sym nor)

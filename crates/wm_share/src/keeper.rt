@@ -1,10 +1,10 @@
 //! The keeper of a root, which alone changes its view.
 //! Definitions: specs/PublishedLists.antt, specs/Operations.antt. Tests: view_tests/src/shared/shares.rt.
-ghost use Rattle.std.specs.Prelude.{◌≡◌, ◌⊎◌, ◌++◌, ◌∷◌, [], None, MatchResult};
+ghost use Rattle.std.specs.Prelude.{◌≡◌, ◌++◌, ◌∷◌, [], None, MatchResult};
 ghost use Rattle.left_right.specs.Handles.{published as shown_by, pending as waiting};
 ghost use Rattle.wm_view.specs.declared.op.Op.{Op};
 ghost use Rattle.wm_view.specs.declared.op.Op.TheVariants.{Observe, Recrawl, AgeOut};
-ghost use Rattle.wm_share.specs.Operations.{Operations, held_list};
+ghost use Rattle.wm_share.specs.Operations.{MayRefuse, Operations, held_list};
 ghost use Rattle.wm_share.specs.PublishedLists.{PublishedList, with_operations};
 
 use crate::book::Naming;
@@ -42,12 +42,14 @@ impl<J: Naming, T: Listed<J> + Drop, R: Wait + Drop> Model for RootKeeper<J, T, 
     ghost use Rattle.std.specs.Prelude.{◌≡◌, ◌++◌};
     ghost use Rattle.left_right.specs.Handles.{published as shown_by, pending as waiting};
     ghost use Rattle.wm_share.specs.Operations.{Operations, held_list};
+    ghost use Rattle.wm_share.specs.PublishedLists.{with_operations};
 
     ghost Value = { Operations };
 
     ghost view = { λ k. record { published = T.state (shown_by k.desk); pending = waiting k.desk ++ held_list k.held } };
 
-    ghost invariant = { λ k. k.head.number ≡ k.front.share.number };
+    // What was handed in is what is published and what waits.
+    ghost invariant = { λ k. (k.head.number ≡ k.front.share.number) × (k.front ≡ with_operations (T.state (shown_by k.desk)) (waiting k.desk ++ held_list k.held)) };
 }
 
 /// Hands the held operation to the desk, if there is one.
@@ -75,7 +77,7 @@ impl<J: Naming, T: Listed<J> + Drop, R: Wait + Drop> RootKeeper<J, T, R> {
     /// operations; a refusal changes nothing.
     fn append(&mut self, op: Op) -> Result<(), Refusal>
         ensures published { self.new.published ≡ self.old.published }
-        ensures appended { MatchResult result (λ _. self.new.pending ≡ self.old.pending ++ op ∷ []) (λ e. ((e ≡ Refusal.NoMemory) ⊎ (e ≡ Refusal.Exhausted)) × (self.new.pending ≡ self.old.pending)) }
+        ensures appended { MatchResult result (λ _. self.new.pending ≡ self.old.pending ++ op ∷ []) (λ e. MayRefuse self.new e × (self.new.pending ≡ self.old.pending)) }
     {
         send_held(&mut self.desk, &mut self.held)?;
         if self.front.len() >= MAX_COUNTER {
@@ -102,7 +104,7 @@ impl<J: Naming, T: Listed<J> + Drop, R: Wait + Drop> RootKeeper<J, T, R> {
     /// `Ok`: it is kept, and waits with the others.
     pub fn observe(&mut self, moment: u64, pairs: Pairs) -> Result<(), Refusal>
         ensures published { self.new.published ≡ self.old.published }
-        ensures appended { MatchResult result (λ _. self.new.pending ≡ self.old.pending ++ Observe moment pairs ∷ []) (λ e. ((e ≡ Refusal.NoMemory) ⊎ (e ≡ Refusal.Exhausted)) × (self.new.pending ≡ self.old.pending)) }
+        ensures appended { MatchResult result (λ _. self.new.pending ≡ self.old.pending ++ Observe moment pairs ∷ []) (λ e. MayRefuse self.new e × (self.new.pending ≡ self.old.pending)) }
     {
         self.append(Op::Observe(moment, pairs))
     }
@@ -110,7 +112,7 @@ impl<J: Naming, T: Listed<J> + Drop, R: Wait + Drop> RootKeeper<J, T, R> {
     /// Hands in a listing that was read since the tick `begun_at`, as `View::recrawl`. Refused as `observe` is.
     pub fn recrawl(&mut self, moment: u64, begun_at: u64, listing: Listing) -> Result<(), Refusal>
         ensures published { self.new.published ≡ self.old.published }
-        ensures appended { MatchResult result (λ _. self.new.pending ≡ self.old.pending ++ Recrawl moment begun_at listing ∷ []) (λ e. ((e ≡ Refusal.NoMemory) ⊎ (e ≡ Refusal.Exhausted)) × (self.new.pending ≡ self.old.pending)) }
+        ensures appended { MatchResult result (λ _. self.new.pending ≡ self.old.pending ++ Recrawl moment begun_at listing ∷ []) (λ e. MayRefuse self.new e × (self.new.pending ≡ self.old.pending)) }
     {
         self.append(Op::Recrawl(moment, begun_at, listing))
     }
@@ -118,7 +120,7 @@ impl<J: Naming, T: Listed<J> + Drop, R: Wait + Drop> RootKeeper<J, T, R> {
     /// Hands in that what was deleted so long ago may be forgotten, as `View::age_out`. Refused as `observe` is.
     pub fn age_out(&mut self, time: u64, age: u64) -> Result<(), Refusal>
         ensures published { self.new.published ≡ self.old.published }
-        ensures appended { MatchResult result (λ _. self.new.pending ≡ self.old.pending ++ AgeOut time age ∷ []) (λ e. ((e ≡ Refusal.NoMemory) ⊎ (e ≡ Refusal.Exhausted)) × (self.new.pending ≡ self.old.pending)) }
+        ensures appended { MatchResult result (λ _. self.new.pending ≡ self.old.pending ++ AgeOut time age ∷ []) (λ e. MayRefuse self.new e × (self.new.pending ≡ self.old.pending)) }
     {
         self.append(Op::AgeOut(time, age))
     }

@@ -115,7 +115,7 @@ impl<J: Naming> Shares<J> {
     ) -> Result<(RootKeeper<J, Shown<J>, R>, Pool<J>), Refusal>
         ensures published { IfOk result (λ s. (s.0.published ≡ empty_list (record { number = self.old; incarnation = incarnation; root = root })) × (s.0.pending ≡ [])) }
         ensures viewers { IfOk result (λ s. s.1.share ≡ s.0.published.share) }
-        ensures refused { IfErr result (λ e. (e ≡ Refusal.NoMemory) ⊎ (e ≡ Refusal.Exhausted)) }
+        ensures refused { IfErr result (λ e. (e ≡ Refusal.NoMemory) ⊎ ((e ≡ Refusal.Exhausted) × (self.old ≡ max_shares))) }
         ensures made { IfOk result (λ _. self.new ≡ self.old + 1) }
         ensures rises { self.old ≤ self.new }
     {

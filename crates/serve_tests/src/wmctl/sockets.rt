@@ -61,6 +61,32 @@ fn ends_of_the_table(rt: HostRuntime) -> Result<(), Fail> {
     Ok(())
 }
 
+/// Words that ask for no talk; the status, and how what is printed and told begins.
+const SHOWN: &[(&[&str], u8, &str, &str)] = &[
+    (&["--version"], 0, "wmctl ", ""),
+    (&["--help"], 0, "Sends a request", ""),
+    (&["wm_client_nowhere"], 2, "", "error: "),
+];
+
+#[test]
+fn shows_help_where_it_prints_and_faults_where_it_tells_them(rt: HostRuntime) -> Result<(), Fail> {
+    for (words, status, printed, told) in SHOWN {
+        let mut output = Vec::new(rt.alloc());
+        let mut faults = Vec::new(rt.alloc());
+        let ended = wmctl(rt.alloc(), &rt, words, &mut output, &mut faults);
+        assert!(rt; ended == *status, "{words:?}: {ended}");
+        assert!(rt;
+            output.starts_with(printed.as_bytes()) && output.is_empty() == printed.is_empty(),
+            "{words:?}"
+        );
+        assert!(rt;
+            faults.starts_with(told.as_bytes()) && faults.is_empty() == told.is_empty(),
+            "{words:?}"
+        );
+    }
+    Ok(())
+}
+
 #[test]
 fn tells_that_nobody_serves_a_socket(rt: HostRuntime) -> Result<(), Fail> {
     let mut output = Vec::new(rt.alloc());

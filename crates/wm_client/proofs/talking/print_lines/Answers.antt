@@ -3,21 +3,25 @@ use Rattle.wm_client.specs.Talks.{lines_first}
 use Rattle.wm_client.proofs.Telling.{any_error}
 use Rattle.std.specs.Io.KnownBytes.{Appends}
 use Rattle.wm_client.proofs.Lines.{grown_twice, lines_behind, next_behind, next_line, one_more_whole}
+use Rattle.wm_client.proofs.Printing.{one_line_more}
 use Rattle.wm_client.proofs.talking.print_lines.Goals as goal
 
 pub loop-preserved : goal.loop-preserved
-loop-preserved g c input known =
-    let before = c.loop.invariant input known in
-    let told = c.print_line.ensures.told (search rules) (lines_behind c.loop.counter input) before.2 in (
-      one_more_whole c.loop.counter input before.0 told.1,
-      subst (Appends (g.W.Write.contents c.args.printer.now) (g.W.Write.contents c.print_line.new.printer)) (sym (next_line c.loop.counter input))
-          (grown_twice _ _ _ _ _ before.1 told.2),
-      told.3 ∙ ap (λ rest. Some rest) (sym (next_behind c.loop.counter input)),
-    )
+loop-preserved g c = (
+  one_line_more c.loop.counter c.print_line.new.line.items _ _ _ c.loop.invariant.0 (c.print_line.ensures.whole (search rules)),
+  λ input known.
+      let before = c.loop.invariant.1 input known in
+      let told = c.print_line.ensures.told (search rules) (lines_behind c.loop.counter input) before.2 in (
+        one_more_whole c.loop.counter input before.0 told.1,
+        subst (Appends (g.W.Write.contents c.args.printer.now) (g.W.Write.contents c.print_line.new.printer)) (sym (next_line c.loop.counter input))
+            (grown_twice _ _ _ _ _ before.1 told.2),
+        told.3 ∙ ap (λ rest. Some rest) (sym (next_behind c.loop.counter input)),
+      ),
+)
 
 pub returns-in_err-other-clause-short : goal.returns-in_err-other-clause-short
 returns-in_err-other-clause-short g c = any_error c.from_residual.result (λ input known.
-    let before = c.loop.invariant input known in (
+    let before = c.loop.invariant.1 input known in (
       c.loop.counter,
       search rules,
       before.0,

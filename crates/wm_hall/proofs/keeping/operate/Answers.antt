@@ -1,8 +1,10 @@
-use Rattle.std.proofs.Common.{◌≡◌, ◌⊎◌, inl, inr, ℕ, Bool, true, Result, Ok, Err, List, ◌∷◌, [], ◌++◌, sym, ap, ap₂, ◌∙◌, subst, rules, append_assoc}
+use Rattle.std.proofs.Common.{◌≡◌, ◌⊎◌, inl, inr, ℕ, Bool, true, Option, Some, Result, Ok, Err, List, ◌∷◌, [], ◌++◌, sym, ap, ap₂, ◌∙◌, subst, rules, append_assoc}
+use Rattle.std.proofs.lemmas.List.{append-nil}
+use mathlib.Core.List.{IsPrefix}
 use Rattle.wm_view.specs.declared.op.Op.{Op}
 use Rattle.wm_share.specs.PublishedLists.{PublishedList}
-use Rattle.wm_share.specs.Operations.{Operations}
-use Rattle.wm_hall.specs.Forgetting.{MayWait, due_age_out, handed_in}
+use Rattle.wm_share.specs.Operations.{Operations, handed_in}
+use Rattle.wm_hall.specs.Forgetting.{HasForgotten, MayWait, due_age_out}
 use Rattle.std.specs.Result.{IfErr}
 use Rattle.wm_hall.proofs.keeping.operate.Goals as goal
 use Rattle.wm_hall.proofs.keeping.operate.Goals.{then-is_none+then-is_some, else-is_none}
@@ -24,34 +26,67 @@ behind : (before due mid all : List Op) (op : Op) (owes owed : Bool) → owes �
 behind before due mid all op owes owed same is (inl h) = inl (is ∙ one_more before due mid op h)
 behind before due mid all op owes owed same is (inr (h, e)) = inr (is ∙ ap (λ (list : List Op). list ++ op ∷ []) h, same ∙ e)
 
+-- what was handed in where the operation is refused
+handed_after : (op : Op) (mid after : Operations) → after.published ≡ mid.published → (after.pending ≡ mid.pending) ⊎ (after.pending ≡ mid.pending ++ op ∷ [])
+    → (handed_in after ≡ handed_in mid) ⊎ (handed_in after ≡ handed_in mid ++ op ∷ [])
+handed_after op mid after shown (inl same) = inl (ap₂ (λ (list : PublishedList) (ops : List Op). list.operations ++ ops) shown same)
+handed_after op mid after shown (inr more) = inr (ap₂ (λ (list : PublishedList) (ops : List Op). list.operations ++ ops) shown more ∙ sym (append_assoc mid.published.operations mid.pending (op ∷ [])))
+
+-- what was handed in where all is published
+handed_whole : (op : Op) (mid after : Operations) (told : PublishedList) → after.published ≡ told → after.pending ≡ [] → told.operations ≡ handed_in mid ++ op ∷ [] → handed_in after ≡ handed_in mid ++ op ∷ []
+handed_whole op mid after told shown none is = ap₂ (λ (list : PublishedList) (ops : List Op). list.operations ++ ops) shown none ∙ append-nil told.operations ∙ is
+
 -- what waits where the operation is refused
-waiting : (before due : List Op) (op : Op) (mid after : Operations) (owes : Bool) → Forgotten before due (handed_in mid) owes → after.published ≡ mid.published
-    → (after.pending ≡ mid.pending) ⊎ (after.pending ≡ mid.pending ++ op ∷ []) → MayWait due op before (handed_in after)
-waiting before due op mid after owes forgotten shown (inl same) = go forgotten
-  where
-    is : handed_in after ≡ handed_in mid
-    is = ap₂ (λ (list : PublishedList) (ops : List Op). list.operations ++ ops) shown same
+waiting : (before due mid after : List Op) (op : Op) (owes : Bool) → Forgotten before due mid owes → (after ≡ mid) ⊎ (after ≡ mid ++ op ∷ []) → MayWait due op before after
+waiting before due mid after op owes (inl h) (inl is) = inr (inl (is ∙ h))
+waiting before due mid after op owes (inr (h, e)) (inl is) = inl (is ∙ h)
+waiting before due mid after op owes (inl h) (inr is) = inr (inr (inr (is ∙ one_more before due mid op h)))
+waiting before due mid after op owes (inr (h, e)) (inr is) = inr (inr (inl (is ∙ ap (λ (list : List Op). list ++ op ∷ []) h)))
 
-    go : Forgotten before due (handed_in mid) owes → MayWait due op before (handed_in after)
-    go (inl h) = inr (inl (is ∙ h))
-    go (inr (h, e)) = inl (is ∙ h)
-waiting before due op mid after owes forgotten shown (inr more) = go forgotten
-  where
-    is : handed_in after ≡ handed_in mid ++ op ∷ []
-    is = ap₂ (λ (list : PublishedList) (ops : List Op). list.operations ++ ops) shown more ∙ sym (append_assoc mid.published.operations mid.pending (op ∷ []))
+-- what was forgotten stays so behind the operation
+forgotten_after : (due before mid after : List Op) (op : Op) → HasForgotten due before mid → (after ≡ mid) ⊎ (after ≡ mid ++ op ∷ []) → HasForgotten due before after
+forgotten_after due before mid after op h (inl is) = (h.0, subst (λ (list : List Op). IsPrefix (before ++ due) list) (sym is) h.1)
+forgotten_after due before mid after op h (inr is) = (
+  h.0,
+  (h.1.0 ++ op ∷ [], sym (append_assoc (before ++ due) h.1.0 (op ∷ [])) ∙ (ap (λ (list : List Op). list ++ op ∷ []) h.1.1 ∙ sym is)),
+)
 
-    go : Forgotten before due (handed_in mid) owes → MayWait due op before (handed_in after)
-    go (inl h) = inr (inr (inr (is ∙ one_more before due (handed_in mid) op h)))
-    go (inr (h, e)) = inr (inr (inl (is ∙ ap (λ (list : List Op). list ++ op ∷ []) h)))
+-- the second of the last age-out, behind the operation
+aged_after : (due before mid after : List Op) (op : Op) (old aged new : Option ℕ) (moment : ℕ) → (aged ≡ old) ⊎ ((aged ≡ Some moment) × HasForgotten due before mid)
+    → ((n : ℕ) → aged ≡ Some n → new ≡ Some n) → (after ≡ mid) ⊎ (after ≡ mid ++ op ∷ []) → (last : ℕ) → old ≡ Some last → (new ≡ Some last) ⊎ ((new ≡ Some moment) × HasForgotten due before after)
+aged_after due before mid after op old aged new moment (inl same) stays handed last is = inl (stays last (same ∙ is))
+aged_after due before mid after op old aged new moment (inr (at, h)) stays handed last is = inr (stays moment at, forgotten_after due before mid after op h handed)
 
 pub returns-in_err-told-clause-waits : goal.returns-in_err-told-clause-waits
 returns-in_err-told-clause-waits g c =
     let due = λ (n : ℕ). due_age_out c.args.left.now.aged_at c.args.forgetting n in
     let before = handed_in c.args.keeper.now in
     let mid = c.age_out.new.keeper in
-    anyhow _ _ (waiting before _ c.args.op mid c.perform.new.keeper c.age_out.new.left.owes
+    anyhow _ _ (waiting before _ (handed_in mid) _ c.args.op c.age_out.new.left.owes
     (subst (λ n. Forgotten before (due n) (handed_in mid) c.age_out.new.left.owes) c.moment_of-moment.ensures c.age_out.ensures.forgotten)
-    (search rules) (search rules))
+    (handed_after c.args.op mid c.perform.new.keeper (search rules) (search rules)))
+
+pub returns-in_err-told-clause-aged : goal.returns-in_err-told-clause-aged
+returns-in_err-told-clause-aged g c =
+    let due = λ (n : ℕ). due_age_out c.args.left.now.aged_at c.args.forgetting n in
+    let before = handed_in c.args.keeper.now in
+    let mid = c.age_out.new.keeper in
+    aged_after _ before (handed_in mid) (handed_in c.perform.new.keeper) c.args.op c.args.left.now.aged_at c.age_out.new.left.aged_at c.perform.new.left.aged_at _
+    (subst (λ n. (c.age_out.new.left.aged_at ≡ c.args.left.now.aged_at) ⊎ ((c.age_out.new.left.aged_at ≡ Some n) × HasForgotten (due n) before (handed_in mid))) c.moment_of-moment.ensures c.age_out.ensures.aged)
+    (λ n h. search rules)
+    (handed_after c.args.op mid c.perform.new.keeper (search rules) (search rules))
+
+pub returns-clause-aged : goal.returns-clause-aged
+returns-clause-aged g c =
+    let due = λ (n : ℕ). due_age_out c.args.left.now.aged_at c.args.forgetting n in
+    let before = handed_in c.args.keeper.now in
+    let mid = c.age_out.new.keeper in
+    let told = c.in_ok-told.told in
+    aged_after _ before (handed_in mid) (handed_in c.perform.new.keeper) c.args.op c.args.left.now.aged_at c.age_out.new.left.aged_at c.if-is_none.left.aged_at _
+    (subst (λ n. (c.age_out.new.left.aged_at ≡ c.args.left.now.aged_at) ⊎ ((c.age_out.new.left.aged_at ≡ Some n) × HasForgotten (due n) before (handed_in mid))) c.moment_of-moment.ensures c.age_out.ensures.aged)
+    (λ n h. elim c.if-is_none.branch [ then-is_none+then-is_some w ↦ search rules | else-is_none w ↦ search rules ])
+    (inr (handed_whole c.args.op mid c.perform.new.keeper told (search rules) (search rules)
+    (ap (λ (list : PublishedList). list.operations) c.in_ok-told.ensures.told ∙ sym (append_assoc mid.published.operations mid.pending (c.args.op ∷ [])))))
 
 pub returns-clause-whole : goal.returns-clause-whole
 returns-clause-whole g c =
