@@ -20,6 +20,9 @@ words.add_argument("--rounds", type=int, default=30)
 words.add_argument("cases", nargs="*")
 words = words.parse_intermixed_args()
 
+if not shutil.which("inotifywait"):
+    sys.exit("feed_use.py: inotifywait isn't there (inotify-tools)")
+
 
 class Client(Session):
     def ask(self, *request):
