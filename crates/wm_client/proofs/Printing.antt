@@ -1,5 +1,5 @@
 -- What is printed line by line is printed whole.
-use Rattle.std.proofs.Common.{◌≡◌, ◌∙◌, ◌&&◌, ◌+◌, ℕ, Bool, List, [], ◌∷◌, ◌++◌, Option, Some, None, length, refl, sym, ap, ap₂, subst, append_assoc, append-nil, length-append}
+use Rattle.std.proofs.Common.{◌≡◌, ◌∙◌, ◌&&◌, ◌+◌, ℕ, Bool, List, [], ◌∷◌, ◌++◌, Option, length, refl, sym, ap, ap₂, subst, append_assoc, length-append}
 use Rattle.std.specs.Io.KnownBytes.{Appends}
 use Rattle.std.specs.List.{concat, list_all}
 use Rattle.std.proofs.lemmas.List.Folds.{list_all-append}
@@ -9,11 +9,6 @@ use Rattle.wm_client.proofs.Lines.{grown_twice}
 concat-append : (xs ys : List (List ℕ)) → concat (xs ++ ys) ≡ concat xs ++ concat ys
 concat-append [] ys = refl
 concat-append (x ∷ xs) ys = ap (λ (bytes : List ℕ). x ++ bytes) (concat-append xs ys) ∙ sym (append_assoc x (concat xs) (concat ys))
-
--- nothing was printed yet
-pub no_lines : (held : Option (List ℕ)) → PrintsLines [] held held
-no_lines None = (refl, tt)
-no_lines (Some bytes) = (refl, sym (append-nil bytes))
 
 -- lines, and then others
 pub lines_joined : (xs ys : List (List ℕ)) (held mid holds : Option (List ℕ)) → PrintsLines xs held mid → PrintsLines ys mid holds → PrintsLines (xs ++ ys) held holds
