@@ -143,13 +143,18 @@ fn has_records(disk: &mut MemDisk, place: u64) -> Result<bool>
     Ok(&bytes == RECORDS)
 }
 
-/// A round through a store and by hand leaves the same bytes in both journals.
-fn both_write_the_same(rt: &HostRuntime) -> Result<()> {
+/// The disks behind a round through a store and by hand.
+fn after_a_round(rt: &HostRuntime) -> Result<(MemDisk, MemDisk)> {
     let alloc = rt.alloc();
     let mut sides = Sides::made(alloc, MemDisk::new(alloc, 0), MemDisk::new(alloc, 0))?;
     let measured = sides.measured(alloc, rt, 1, 2)?;
     ensure!(measured.items() == 2, "another number of commands");
-    let (mut disk, mut by_hand) = sides.into_disks();
+    Ok(sides.into_disks())
+}
+
+/// A round through a store and by hand leaves the same bytes in both journals.
+fn both_write_the_same(rt: &HostRuntime) -> Result<()> {
+    let (mut disk, mut by_hand) = after_a_round(rt)?;
     // The store's first record is its start.
     ensure!(has_records(&mut disk, 2)?, "another journal of the store");
     ensure!(has_records(&mut by_hand, 0)?, "another journal by hand");

@@ -80,6 +80,34 @@ fn pair<R: Runtime>(
     Ok((first, second))
 }
 
+/// Tells where two pairs of views stand in the end, one grown and one listed.
+fn tell_ends<R: Runtime>(
+    alloc: Global,
+    rt: &R,
+    grown: &[Op],
+    listed: &[Op],
+    files: u64,
+) -> Result<()> {
+    let labels = ("a view, grown in the order of its paths", "a second one");
+    let grown = pair(alloc, rt, labels, grown, files)?;
+    let labels = ("a view, made by one listing", "a second one");
+    let listed = pair(alloc, rt, labels, listed, files)?;
+    println!(rt;
+        "{files} files: grown views end at ticks {} and {}, and listed ones at {} and {}",
+        grown.0.tick(),
+        grown.1.tick(),
+        listed.0.tick(),
+        listed.1.tick()
+    )?;
+    Ok(())
+}
+
+fn tell_views<R: Runtime>(alloc: Global, rt: &R, paths: &[RelPath], files: u64) -> Result<()> {
+    let grown = told(alloc, paths)?;
+    let listed = listed(alloc, paths)?;
+    tell_ends(alloc, rt, &grown, &listed, files)
+}
+
 /// Tells on standard error what two views of so many files take, grown path after path, and made by one listing,
 /// and where they stand in the end on standard output.
 pub fn bench<R: Runtime + AllocGlobal>(rt: &R, files: u64) -> Result<()> {
@@ -89,18 +117,5 @@ pub fn bench<R: Runtime + AllocGlobal>(rt: &R, files: u64) -> Result<()> {
     let memory = Memory::read(rt)?;
     let paths = paths_of(alloc, files)?;
     tell(rt, "paths, in a list", memory, files)?;
-    let grown = told(alloc, &paths)?;
-    let listed = listed(alloc, &paths)?;
-    let labels = ("a view, grown in the order of its paths", "a second one");
-    let grown = pair(alloc, rt, labels, &grown, files)?;
-    let labels = ("a view, made by one listing", "a second one");
-    let listed = pair(alloc, rt, labels, &listed, files)?;
-    println!(rt;
-        "{files} files: grown views end at ticks {} and {}, and listed ones at {} and {}",
-        grown.0.tick(),
-        grown.1.tick(),
-        listed.0.tick(),
-        listed.1.tick()
-    )?;
-    Ok(())
+    tell_views(alloc, rt, &paths, files)
 }

@@ -53,33 +53,62 @@ fn made(rt: &HostRuntime, file: &str) -> Result<FileDisk<Unknown>> {
 fn bench_processor(rt: &HostRuntime, rounds: u32) -> Result<()> {
     let alloc = rt.alloc();
     for registry in REGISTRIES {
-        let sides = Sides::made(alloc, MemDisk::new(alloc, 0), MemDisk::new(alloc, 0))?;
-        rt.eprintln(&measured_costs(alloc, rt, sides, registry, rounds)?)?;
+        let mut sides = Sides::made(alloc, MemDisk::new(alloc, 0), MemDisk::new(alloc, 0))?;
+        rt.eprintln(&measured_costs(alloc, rt, &mut sides, registry, rounds)?)?;
     }
     Ok(())
 }
 
-/// Measures on two new files, tells the speeds on standard error, and what a start finds on standard output.
-fn bench_files(rt: &HostRuntime, file: &str, rounds: u32) -> Result<()> {
-    let alloc = rt.alloc();
-    let disk = made(rt, file)?;
-    let by_hand = format!(in alloc; "{file}.by_hand")?;
-    let by_hand = made(rt, by_hand.as_str())?;
-    let mut sides = Sides::made(alloc, disk, by_hand)?;
-    let mut batches = 0u64;
-    let mut accepted = 0u64;
-    let mut roots = 0u64;
+/// What was measured on two files, and what a start has to find after it.
+#[derive(Clone, Copy)]
+struct Total {
+    batches: u64,
+    accepted: u64,
+    roots: u64,
+}
+
+/// Measures each size, and tells the speeds on standard error.
+fn measured_sizes(
+    rt: &HostRuntime,
+    sides: &mut Sides<FileDisk<Unknown>>,
+    rounds: u32,
+) -> Result<Total> {
+    let mut total = Total {
+        batches: 0,
+        accepted: 0,
+        roots: 0,
+    };
     for size in SIZES {
-        let measured = sides.measured(alloc, rt, size, rounds)?;
-        batches = batches.saturating_add(measured.groups as u64);
-        accepted = accepted.saturating_add(measured.items());
+        let measured = sides.measured(rt.alloc(), rt, size, rounds)?;
+        total.batches = total.batches.saturating_add(measured.groups as u64);
+        total.accepted = total.accepted.saturating_add(measured.items());
         rt.eprintln(&Speeds(measured))?;
         // After an odd number of rounds the last watches stand.
         if rounds % 2 == 1 {
-            roots = roots.saturating_add(u64::from(size));
+            total.roots = total.roots.saturating_add(u64::from(size));
         }
     }
-    let found = sides.start_again(alloc)?;
+    Ok(total)
+}
+
+/// Two new files, the second to be written by hand.
+fn sides_of(rt: &HostRuntime, file: &str) -> Result<Sides<FileDisk<Unknown>>> {
+    let disk = made(rt, file)?;
+    let by_hand = format!(in rt.alloc(); "{file}.by_hand")?;
+    let by_hand = made(rt, by_hand.as_str())?;
+    Ok(Sides::made(rt.alloc(), disk, by_hand)?)
+}
+
+/// Measures on two new files, tells the speeds on standard error, and what a start finds on standard output.
+fn bench_files(rt: &HostRuntime, file: &str, rounds: u32) -> Result<()> {
+    let mut sides = sides_of(rt, file)?;
+    let total = measured_sizes(rt, &mut sides, rounds)?;
+    let Total {
+        batches,
+        accepted,
+        roots,
+    } = total;
+    let found = sides.start_again(rt.alloc())?;
     ensure!(
         found.roots as u64 == roots && found.incarnation == 2,
         "{} roots and incarnation {} in place of {roots} and 2",

@@ -207,6 +207,17 @@ fn answer_from<J: Naming + Send + Sync, R: Threads + Wait + Clock + Sync>(
     );
 }
 
+/// Lists so many files, and changes once the ones that change.
+fn fill<J: Naming, R: Wait>(
+    alloc: Global,
+    keeper: &mut Keeper<'_, J, R>,
+    files: u64,
+) -> Result<()> {
+    keeper.recrawl(1, 0, listing(alloc, files)?)?;
+    keeper.publish()?;
+    publish(alloc, keeper, files, 0..CHANGING)
+}
+
 /// A keeper of so many files, of which the ones that change were changed once, and its viewers.
 fn opened<'a, J: Naming, R: Wait>(
     rt: &'a R,
@@ -215,9 +226,7 @@ fn opened<'a, J: Naming, R: Wait>(
     files: u64,
 ) -> Result<(Keeper<'a, J, R>, Pool<J>)> {
     let (mut keeper, pool) = shares.share(rt, alloc, 1, 1)?;
-    keeper.recrawl(1, 0, listing(alloc, files)?)?;
-    keeper.publish()?;
-    publish(alloc, &mut keeper, files, 0..CHANGING)?;
+    fill(alloc, &mut keeper, files)?;
     Ok((keeper, pool))
 }
 

@@ -7,22 +7,27 @@ mod questions;
 mod table;
 
 use anyhow::Result;
+use std::alloc::Global;
 use std::rt::Runtime;
 use wm_view::View;
 
-/// Lists so many files, observes and asks, tells each time on standard error, and where the view stands in the
-/// end on standard output.
+/// Lists so many files, observes and asks, and tells each time on standard error.
+fn measure<R: Runtime>(alloc: Global, rt: &R, view: &mut View, files: u64) -> Result<()> {
+    listings::list_all(alloc, rt, view, files)?;
+    listings::list_folder(alloc, rt, view)?;
+    questions::existing(alloc, rt, view, files)?;
+    observations::one_by_one(alloc, rt, view, files)?;
+    questions::changed(alloc, rt, view)?;
+    answers::ask(alloc, rt, view, files)?;
+    observations::by_the_thousand(alloc, rt, view, files)
+}
+
+/// Measures a view of so many files, and tells where it stands in the end on standard output.
 pub fn bench<R: Runtime + AllocGlobal>(rt: &R, files: u64) -> Result<()> {
     let alloc = rt.alloc();
     table::head(rt, files)?;
     let mut view = View::new(alloc, 1, 1);
-    listings::list_all(alloc, rt, &mut view, files)?;
-    listings::list_folder(alloc, rt, &mut view)?;
-    questions::existing(alloc, rt, &view, files)?;
-    observations::one_by_one(alloc, rt, &mut view, files)?;
-    questions::changed(alloc, rt, &view)?;
-    answers::ask(alloc, rt, &view, files)?;
-    observations::by_the_thousand(alloc, rt, &mut view, files)?;
+    measure(alloc, rt, &mut view, files)?;
     println!(rt;
         "{files} files: the view ends at tick {} and floor {}",
         view.tick(),

@@ -1,8 +1,10 @@
 //! Gates: how often they are passed, and that two workers are at work at once.
 use crate::trees::tree_of;
+use std::alloc::Global;
 use std::sync::atomic::{AtomicBool, AtomicU64, Ordering};
 use std::test::Fail;
-use wm_crawler::{Turnstile, crawl};
+use std::thread::Threads;
+use wm_crawler::{MemTree, Turnstile, crawl};
 use wm_names::{Kind, Subtree};
 
 /// A gate that counts.
@@ -15,6 +17,25 @@ impl Turnstile for Counted {
     fn pass(&self) {
         self.passed.fetch_add(1, Ordering::SeqCst);
     }
+}
+
+/// How often the gate is passed in a crawl by so many workers.
+fn passed<R: Threads + Sync>(
+    rt: &R,
+    alloc: Global,
+    tree: &MemTree,
+    workers: usize,
+) -> Result<u64, Fail> {
+    let workers = if workers < 1 || 16 < workers {
+        1
+    } else {
+        workers
+    };
+    let gate = Counted {
+        passed: AtomicU64::new(0),
+    };
+    crawl(rt, alloc, tree, &Subtree::Whole, workers, &gate)?;
+    Ok(gate.passed.load(Ordering::SeqCst))
 }
 
 /// One for each folder that is entered below the top: the top itself doesn't pass.
@@ -32,11 +53,7 @@ fn is_passed_once_for_each_folder_below_the_top(rt: HostRuntime) -> Result<(), F
     ];
     let tree = tree_of(alloc, &folders, &files)?;
     for workers in [1, 2, 4, 16] {
-        let gate = Counted {
-            passed: AtomicU64::new(0),
-        };
-        crawl(&rt, alloc, &tree, &Subtree::Whole, workers, &gate)?;
-        assert_eq!(rt; gate.passed.load(Ordering::SeqCst), 3, "{workers} workers");
+        assert_eq!(rt; passed(&rt, alloc, &tree, workers)?, 3, "{workers} workers");
     }
     Ok(())
 }

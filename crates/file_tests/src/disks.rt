@@ -1,5 +1,6 @@
 //! Disks in memory, and the bytes on them.
 use std::alloc::Global;
+use std::process::Abort;
 use wm_disk::{Crashed, Disk, MemDisk, Refusal};
 
 /// How many writes, syncs and other calls a disk had.
@@ -34,6 +35,13 @@ pub(crate) fn part(content: &[u8], at: usize, len: usize) -> &[u8] {
 /// Whether these bytes stand at a place.
 pub(crate) fn stands(content: &[u8], at: usize, bytes: &[u8]) -> bool {
     part(content, at, bytes.len()) == bytes
+}
+
+/// Each of these bytes has to stand at its place.
+pub(crate) fn assert_stand(rt: &impl Abort, content: &[u8], parts: &[(usize, &[u8])]) {
+    for (at, bytes) in parts {
+        assert!(rt; stands(content, *at, bytes), "at {at}");
+    }
 }
 
 /// Puts bytes at a place. `3 BadArguments` where the content is too short.

@@ -6,7 +6,7 @@ mod files;
 mod openings;
 mod sweeps;
 
-use crate::disks::content_of;
+use crate::disks::{content_of, disk_of, overwrite};
 use std::alloc::Global;
 use wm_disk::{MemDisk, Refusal};
 use wm_names::RootPath;
@@ -42,19 +42,24 @@ fn open(alloc: Global, disk: MemDisk) -> Result<Kept, Refusal> {
     }
 }
 
+/// A store on a disk with these bytes; the choice says what its crashes leave.
+fn open_bytes(alloc: Global, choice: u64, content: &[u8]) -> Result<Kept, Refusal> {
+    open(alloc, disk_of(alloc, choice, content)?)
+}
+
 /// A new file, opened once.
 pub(crate) fn opened(alloc: Global) -> Result<Kept, Refusal> {
     open(alloc, formatted(alloc)?)
 }
 
-/// Whether these are the paths of the roots, each with a space behind it.
-fn watches(alloc: Global, store: &Kept, paths: &str) -> Result<bool, Refusal> {
-    let mut text = String::new(alloc);
-    for (path, _) in store.registry().roots().iter() {
-        text.push_str(path.as_str())?;
-        text.push_str(" ")?;
-    }
-    Ok(text.as_str() == paths)
+/// Whether these are the paths of the roots.
+fn watches(store: &Kept, paths: &[&str]) -> bool {
+    let roots = store.registry().roots();
+    roots.len() == paths.len()
+        && roots
+            .iter()
+            .zip(paths)
+            .all(|((root, _), path)| root.as_str() == *path)
 }
 
 /// Whether the registry has these numbers.
@@ -79,23 +84,51 @@ fn meet(alloc: Global, store: &mut Kept, commands: Vec<Command>) -> Result<Vec<R
     store.commit_batch(alloc, commands)
 }
 
+/// Whether a batch is met with these replies.
+fn replies(
+    alloc: Global,
+    store: &mut Kept,
+    commands: Vec<Command>,
+    wanted: &[Reply],
+) -> Result<bool, Refusal> {
+    let replies = meet(alloc, store, commands)?;
+    Ok(replies.as_slice() == wanted)
+}
+
 /// How many commands of a batch are accepted.
 fn accept(alloc: Global, store: &mut Kept, commands: Vec<Command>) -> Result<usize, Refusal> {
     let replies = meet(alloc, store, commands)?;
     Ok(replies.iter().filter(|reply| reply.is_change()).count())
 }
 
+/// How many of these paths are accepted, watched in one batch.
+fn watch(alloc: Global, store: &mut Kept, paths: &[&str]) -> Result<usize, Refusal> {
+    accept(alloc, store, watching(alloc, paths)?)
+}
+
 /// A new file, opened once, which watches `/r`.
 fn watching_one(alloc: Global) -> Result<Kept, Refusal> {
     let mut store = opened(alloc)?;
-    accept(alloc, &mut store, watching(alloc, &["/r"])?)?;
+    watch(alloc, &mut store, &["/r"])?;
     Ok(store)
+}
+
+/// The disk of a store that watches `/r` and made a checkpoint.
+fn checkpointed_disk(alloc: Global) -> Result<MemDisk, Refusal> {
+    let mut store = watching_one(alloc)?;
+    store.checkpoint(alloc)?;
+    Ok(store.into_disk())
 }
 
 /// The bytes of a file that watches `/r` since its first start, behind a checkpoint: so the next start finds an open gate to
 /// close.
 fn checkpointed(alloc: Global) -> Result<Vec<u8>, Refusal> {
-    let mut store = watching_one(alloc)?;
-    store.checkpoint(alloc)?;
-    content_of(alloc, store.into_disk())
+    content_of(alloc, checkpointed_disk(alloc)?)
+}
+
+/// A new file with other bytes at a place.
+fn edited(alloc: Global, at: usize, bytes: &[u8]) -> Result<Vec<u8>, Refusal> {
+    let mut content = content_of(alloc, formatted(alloc)?)?;
+    overwrite(&mut content, at, bytes)?;
+    Ok(content)
 }

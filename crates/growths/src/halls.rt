@@ -7,9 +7,9 @@ use std::marker::Brand;
 use std::sync::Wait;
 use wm_disk::Refusal;
 use wm_hall::{Forgetting, RootHall};
-use wm_lines::Request;
+use wm_lines::{Inquiry, Request};
 use wm_names::{Kind, Meta, RelPath, RootPath, Subtree};
-use wm_share::{Naming, Opened, Shares};
+use wm_share::{Naming, Opened, Shares, Viewer};
 use wm_view::{Listing, Op, Pairs};
 
 const META: Meta = Meta {
@@ -50,21 +50,43 @@ fn read<J: Naming, R: Wait, K: Wait + Drop>(
 
 const QUERY: &[u8] = b"[\"query\",\"/r\",{\"fields\":[\"name\"]}]\n";
 
+/// What the question asks, if it is one.
+fn inquiry(alloc: Global) -> Result<Option<Inquiry>, Refusal> {
+    match Request::read(alloc, QUERY)? {
+        Request::Query(_, inquiry) => Ok(Some(inquiry)),
+        another => {
+            drop(another);
+            Ok(None)
+        }
+    }
+}
+
+/// Whether a viewer answers `a` alone.
+fn tells<J: Naming, R: Wait, K: Wait + Drop>(
+    rt: &R,
+    alloc: Global,
+    hall: &RootHall<J, K>,
+    viewer: &mut Viewer<J>,
+    inquiry: Inquiry,
+) -> Result<bool, Refusal> {
+    let mut out = Vec::new(alloc);
+    hall.inquire(rt, alloc, viewer, inquiry, &mut out)?;
+    Ok(str::from_utf8(&out).is_ok_and(|text| text.contains("\"files\":[\"a\"]")))
+}
+
 /// Whether `a` alone is told.
 fn is_told<J: Naming, R: Wait, K: Wait + Drop>(
     rt: &R,
     alloc: Global,
     hall: &RootHall<J, K>,
 ) -> Result<bool, Refusal> {
-    let Request::Query(_, inquiry) = Request::read(alloc, QUERY)? else {
+    let Some(inquiry) = inquiry(alloc)? else {
         return Ok(false);
     };
     let mut viewer = hall.lend(rt)?;
-    let mut out = Vec::new(alloc);
-    let told = hall.inquire(rt, alloc, &mut viewer, inquiry, &mut out);
+    let told = tells(rt, alloc, hall, &mut viewer, inquiry);
     hall.take_back(rt, viewer);
-    told?;
-    Ok(str::from_utf8(&out).is_ok_and(|text| text.contains("\"files\":[\"a\"]")))
+    told
 }
 
 /// Reads, once more where that was refused for memory, and looks at what is told then.
@@ -80,20 +102,38 @@ fn read_and_told<J: Naming, R: Wait, K: Wait + Drop>(
     is_told(rt, alloc, hall)
 }
 
-fn observed_and_read<J: Naming, R: Wait>(rt: &R, alloc: Global, opened: Opened) -> Twice
-    requires { opened.seen.book ≡ J.book }
-{
-    let mut shares: Shares<J> = Shares::new(opened);
-    let (keeper, pool) = shares.share(rt, alloc, 1, 5)?;
-    let path = RootPath::read(alloc, "/r")?;
-    let hall = RootHall::new(alloc, &path, 5, keeper, pool)?;
-    read(rt, alloc, &hall)?;
+/// The first reading, the observation, and the reading behind it.
+fn observe_and_read<J: Naming, R: Wait, K: Wait + Drop>(
+    rt: &R,
+    alloc: Global,
+    hall: &RootHall<J, K>,
+) -> Twice {
+    read(rt, alloc, hall)?;
     let op = observation(alloc)?;
     let first = match hall.operate(rt, FORGETTING, op) {
         Ok(_) => Met::Right,
         Err(refusal) => Met::Refused(refusal),
     };
-    Ok([first, by_refusal(read_and_told(rt, alloc, &hall))])
+    Ok([first, by_refusal(read_and_told(rt, alloc, hall))])
+}
+
+/// The hall of the root `/r`.
+fn hall<'a, J: Naming, R: Wait>(
+    rt: &'a R,
+    alloc: Global,
+    shares: &mut Shares<J>,
+) -> Result<RootHall<J, &'a R>, Refusal> {
+    let path = RootPath::read(alloc, "/r")?;
+    let (keeper, pool) = shares.share(rt, alloc, 1, 5)?;
+    Ok(RootHall::new(alloc, &path, 5, keeper, pool)?)
+}
+
+fn observed_and_read<J: Naming, R: Wait>(rt: &R, alloc: Global, opened: Opened) -> Twice
+    requires { opened.seen.book ≡ J.book }
+{
+    let mut shares: Shares<J> = Shares::new(opened);
+    let hall = hall(rt, alloc, &mut shares)?;
+    observe_and_read(rt, alloc, &hall)
 }
 
 /// What is observed before a reading doesn't overtake it, also where memory ran out for it.

@@ -7,20 +7,28 @@ use wm_server::{LocalFront, Session};
 
 type MemSession = Session<LocalFront<MemDisk>>;
 
-/// A session over a file with the root `/r`, which has one file.
-fn session(alloc: Global) -> Result<MemSession, Refusal> {
+/// A front over a file with the root `/r`.
+fn front(alloc: Global) -> Result<LocalFront<MemDisk>, Refusal> {
     let disk = watching_one(alloc)?.into_disk();
-    let front = match LocalFront::open(alloc, disk) {
-        Ok(front) => front,
-        Err((refusal, _)) => return Err(refusal),
-    };
-    let mut session = Session::new(alloc, front);
+    match LocalFront::open(alloc, disk) {
+        Ok(front) => Ok(front),
+        Err((refusal, _)) => Err(refusal),
+    }
+}
+
+/// Whether the listing of one file is answered as it is to be.
+fn is_listed(alloc: Global, session: &mut MemSession) -> Result<bool, Refusal> {
     let mut out = Vec::new(alloc);
     session.line(alloc, 1, LISTING, &mut out)?;
-    if out.as_slice() == LISTED {
-        Ok(session)
-    } else {
-        Err(Refusal::NoMemory)
+    Ok(out.as_slice() == LISTED)
+}
+
+/// A session over a file with the root `/r`, which has one file.
+fn session(alloc: Global) -> Result<MemSession, Refusal> {
+    let mut session = Session::new(alloc, front(alloc)?);
+    match is_listed(alloc, &mut session) {
+        Ok(true) => Ok(session),
+        _ => Err(Refusal::NoMemory),
     }
 }
 
@@ -168,19 +176,28 @@ const OBSERVED: &[u8] = b"{\"clock\":\"c:2:1:2\",\"version\":\"w1\"}\n";
 const TOLD: &[u8] =
     b"{\"clock\":\"c:2:1:2\",\"version\":\"w1\"}\n{\"clock\":\"c:2:1:2\",\"files\":[\"b.c\"],\"is_fresh_instance\":false,\"root\":\"/r\",\"subscription\":\"s\",\"unilateral\":true,\"version\":\"w1\"}\n";
 
-/// An observation behind which a line is due, and the line after it: the same where it was refused, else a question for the clock,
-/// behind which the line is due that had no memory.
-pub(crate) fn telling(alloc: Global) -> Twice {
-    let mut session = session(alloc)?;
-    let Met::Right = line(alloc, &mut session, 2, SUBSCRIBE, SUBSCRIBED) else {
-        return Err(Refusal::NoMemory);
-    };
+/// How an observation is met behind which a line is due, the line to ask after it, and what that is to be replied: the same line where it was
+/// refused, else a question for the clock, behind which the line is due that had no memory.
+fn observed(alloc: Global, session: &mut MemSession) -> (Met, &'static [u8], &'static [u8]) {
     let mut out = Vec::new(alloc);
     let answered = session.line(alloc, 3, OBSERVE, &mut out);
-    let (first, next, reply) = match met(answered, &out, TOLD) {
+    match met(answered, &out, TOLD) {
         Met::Right => (Met::Right, CLOCK, OBSERVED),
         Met::Wrong if out.as_slice() == OBSERVED => (Met::Refused(Refusal::NoMemory), CLOCK, TOLD),
         refused => (refused, OBSERVE, TOLD),
+    }
+}
+
+fn observed_and_asked(alloc: Global, session: &mut MemSession) -> Twice {
+    let Met::Right = line(alloc, session, 2, SUBSCRIBE, SUBSCRIBED) else {
+        return Err(Refusal::NoMemory);
     };
-    Ok([first, line(alloc, &mut session, 4, next, reply)])
+    let (first, next, reply) = observed(alloc, session);
+    Ok([first, line(alloc, session, 4, next, reply)])
+}
+
+/// An observation behind which a line is due, and the line after it.
+pub(crate) fn telling(alloc: Global) -> Twice {
+    let mut session = session(alloc)?;
+    observed_and_asked(alloc, &mut session)
 }

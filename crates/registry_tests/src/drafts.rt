@@ -4,7 +4,7 @@ use crate::registries::Row;
 use std::alloc::Global;
 use std::process::Abort;
 use wm_disk::Refusal;
-use wm_registry::{Draft, Registry, Reply};
+use wm_registry::{Command, Draft, Registry, Reply};
 
 /// What the draft is of.
 const FOUR: &[(&str, Reply)] = &[
@@ -35,16 +35,24 @@ fn begun(rt: &impl Abort, alloc: Global) -> Result<Draft, Refusal> {
     Ok(Draft::new(alloc, &registry)?)
 }
 
+// How the command is met.
+fn apply(alloc: Global, draft: &mut Draft, command: Command) -> Reply {
+    draft.apply(alloc, &command)
+}
+
+// How the command would be met.
+fn reply_to(draft: &mut Draft, command: Command) -> Reply {
+    draft.reply_to(&command)
+}
+
 // How the command of a line is met.
 fn tell(alloc: Global, draft: &mut Draft, line: &str) -> Result<Reply, Refusal> {
-    let command = command(alloc, line)?;
-    Ok(draft.apply(alloc, &command))
+    Ok(apply(alloc, draft, command(alloc, line)?))
 }
 
 // How the command of a line would be met.
 fn ask(alloc: Global, draft: &mut Draft, line: &str) -> Result<Reply, Refusal> {
-    let command = command(alloc, line)?;
-    Ok(draft.reply_to(&command))
+    Ok(reply_to(draft, command(alloc, line)?))
 }
 
 // Whether a copy of the draft is that registry.

@@ -55,14 +55,13 @@ fn show_root(line: &mut String, path: &RootPath, root: &Root) -> Result<(), Allo
     Ok(())
 }
 
-// The incarnation and the next root number, and each root's path, number and triggers.
-fn shown(alloc: Global, registry: &Registry) -> Result<String, AllocError> {
-    let (incarnation, next) = (registry.incarnation(), registry.next_root());
-    let mut line = format!(in alloc; "{incarnation} {next}")?;
+// Appends the incarnation and the next root number, and each root's path, number and triggers.
+fn show(line: &mut String, registry: &Registry) -> Result<(), AllocError> {
+    write!(line, "{} {}", registry.incarnation(), registry.next_root())?;
     for (path, root) in registry.roots().iter() {
-        show_root(&mut line, path, root)?;
+        show_root(line, path, root)?;
     }
-    Ok(line)
+    Ok(())
 }
 
 /// Whether the registry is that.
@@ -71,8 +70,19 @@ pub(crate) fn is_shown(
     registry: &Registry,
     state: &str,
 ) -> Result<bool, AllocError> {
-    let line = shown(alloc, registry)?;
+    let mut line = String::new(alloc);
+    show(&mut line, registry)?;
     Ok(line.as_str() == state)
+}
+
+/// How the command is met, where it is applied.
+pub(crate) fn apply(alloc: Global, registry: &mut Registry, command: Command) -> Reply {
+    registry.apply(alloc, &command)
+}
+
+/// How the command would be met.
+pub(crate) fn ask(registry: &Registry, command: Command) -> Reply {
+    registry.reply_to(&command)
 }
 
 /// How the command of a line is met, where it is applied.
@@ -81,14 +91,12 @@ pub(crate) fn applied(
     registry: &mut Registry,
     line: &str,
 ) -> Result<Reply, Refusal> {
-    let command = command(alloc, line)?;
-    Ok(registry.apply(alloc, &command))
+    Ok(apply(alloc, registry, command(alloc, line)?))
 }
 
 /// How the command of a line would be met.
 pub(crate) fn asked(alloc: Global, registry: &Registry, line: &str) -> Result<Reply, Refusal> {
-    let command = command(alloc, line)?;
-    Ok(registry.reply_to(&command))
+    Ok(ask(registry, command(alloc, line)?))
 }
 
 /// Asserts that the commands are met so, one after another.

@@ -14,11 +14,16 @@ pub(crate) type Row = (&'static str, Reply, &'static str);
 /// How a command of a root that isn't there is met.
 const UNKNOWN: Reply = Reply::Refused(Refusal::NotWatched);
 
+// Whether the registry is that.
+fn is_left(alloc: Global, registry: Registry, state: &str) -> Result<bool, Refusal> {
+    Ok(is_shown(alloc, &registry, state)?)
+}
+
 // Whether the bytes are all of the spelling of that registry.
 fn are_bytes_of(alloc: Global, bytes: &[u8], state: &str) -> Result<bool, Refusal> {
     match Registry::take(alloc, bytes)? {
-        Some((registry, size)) => Ok(size == bytes.len() && is_shown(alloc, &registry, state)?),
-        None => Ok(false),
+        Some((registry, size)) if size == bytes.len() => is_left(alloc, registry, state),
+        _ => Ok(false),
     }
 }
 
@@ -121,11 +126,16 @@ const AGAIN: &[Row] = &[
 /// Commands that a new registry is told, one after another.
 const WALKS: &[&[Row]] = &[COMMANDS, AGAIN, TRIGGERS];
 
+// Asserts that a new registry meets the commands so, one after another.
+fn walk_anew(rt: &impl Abort, alloc: Global, rows: &[Row]) -> Result<(), Refusal> {
+    let mut registry = Registry::new(alloc);
+    walk(rt, alloc, &mut registry, rows)
+}
+
 #[test]
 fn applies_commands(rt: HostRuntime) -> Result<(), Refusal> {
     for rows in WALKS {
-        let mut registry = Registry::new(rt.alloc());
-        walk(&rt, rt.alloc(), &mut registry, rows)?;
+        walk_anew(&rt, rt.alloc(), rows)?;
     }
     Ok(())
 }
@@ -148,15 +158,27 @@ const COPIES: &[Row] = &[
 const LEFT: &[Row] = &[("watch /r", Reply::Unchanged, "1 3; /r 1 js=x; /a/b 2")];
 
 /// What a new registry is told, then copies of it, and then the registry again.
-const TRIES: &[(&[Row], &[Row], &[Row])] = &[(COPIED, COPIES, LEFT), (TWO, PLACES, TWO_LEFT)];
+type Try = (&'static [Row], &'static [Row], &'static [Row]);
+
+const TRIES: &[Try] = &[(COPIED, COPIES, LEFT), (TWO, PLACES, TWO_LEFT)];
+
+// Asserts that the registry and its copies meet the commands so.
+fn walk_with_copies(
+    rt: &impl Abort,
+    alloc: Global,
+    registry: &mut Registry,
+    (first, copies, left): &Try,
+) -> Result<(), Refusal> {
+    walk(rt, alloc, registry, first)?;
+    try_each(rt, alloc, registry, copies)?;
+    walk(rt, alloc, registry, left)
+}
 
 #[test]
 fn copies_registries(rt: HostRuntime) -> Result<(), Refusal> {
-    for (first, copies, left) in TRIES {
+    for row in TRIES {
         let mut registry = Registry::new(rt.alloc());
-        walk(&rt, rt.alloc(), &mut registry, first)?;
-        try_each(&rt, rt.alloc(), &registry, copies)?;
-        walk(&rt, rt.alloc(), &mut registry, left)?;
+        walk_with_copies(&rt, rt.alloc(), &mut registry, row)?;
     }
     Ok(())
 }

@@ -1,5 +1,5 @@
 //! Where a registry has no room: counters that are spent, and a root, a trigger or a byte too many.
-use crate::lines::{applied, apply_all, ask_all, asked};
+use crate::lines::{applied, apply, apply_all, ask_all, asked};
 use std::alloc::{AllocError, Global};
 use std::process::Abort;
 use wm_disk::{NoMemory, Refusal};
@@ -105,17 +105,22 @@ fn misplaced(registry: &Registry) -> Option<usize> {
         .position(|(root, number)| root.number != number)
 }
 
-#[test]
-fn refuses_one_root_too_many(rt: HostRuntime) -> Result<(), Refusal> {
-    let mut registry = Registry::new(rt.alloc());
-    fill(&rt, rt.alloc(), &mut registry, ("watch /", ""), 256)?;
-    apply_all(&rt, rt.alloc(), &mut registry, ROOTS)?;
-    let misplaced = misplaced(&registry);
+// Asserts that the registry, which has no roots, takes 256 of them.
+fn crowd_roots(rt: &impl Abort, alloc: Global, registry: &mut Registry) -> Result<(), Refusal> {
+    fill(rt, alloc, registry, ("watch /", ""), 256)?;
+    apply_all(rt, alloc, registry, ROOTS)?;
+    let misplaced = misplaced(registry);
     assert!(rt;
         registry.roots().len() == 256 && misplaced.is_none(),
         "{misplaced:?}"
     );
     Ok(())
+}
+
+#[test]
+fn refuses_one_root_too_many(rt: HostRuntime) -> Result<(), Refusal> {
+    let mut registry = Registry::new(rt.alloc());
+    crowd_roots(&rt, rt.alloc(), &mut registry)
 }
 
 /// The root that the triggers are of.
@@ -130,12 +135,17 @@ const TRIGGERS: &[(&str, Reply)] = &[
     ("trigger-del /r 63", Reply::Changed),
 ];
 
+// Asserts that a root of the registry, which has no roots, takes 64 triggers.
+fn crowd_triggers(rt: &impl Abort, alloc: Global, registry: &mut Registry) -> Result<(), Refusal> {
+    apply_all(rt, alloc, registry, ROOT)?;
+    fill(rt, alloc, registry, ("trigger /r ", " x"), 64)?;
+    ask_all(rt, alloc, registry, TRIGGERS)
+}
+
 #[test]
 fn refuses_one_trigger_too_many(rt: HostRuntime) -> Result<(), Refusal> {
     let mut registry = Registry::new(rt.alloc());
-    apply_all(&rt, rt.alloc(), &mut registry, ROOT)?;
-    fill(&rt, rt.alloc(), &mut registry, ("trigger /r ", " x"), 64)?;
-    ask_all(&rt, rt.alloc(), &registry, TRIGGERS)
+    crowd_triggers(&rt, rt.alloc(), &mut registry)
 }
 
 // So many bytes.
@@ -166,7 +176,7 @@ fn last_trigger(alloc: Global, long: &str, last: &str) -> Result<Command, Refusa
 fn define(alloc: Global, registry: &mut Registry, i: u32, long: &str) -> Result<Reply, Refusal> {
     let name = format!(in alloc; "{i:02}")?;
     let command = trigger(alloc, name.as_str(), &[long; 16])?;
-    Ok(registry.apply(alloc, &command))
+    Ok(apply(alloc, registry, command))
 }
 
 // Watches the root /r and defines 63 such triggers.
@@ -184,7 +194,7 @@ fn almost_fill(alloc: Global, registry: &mut Registry, long: &str) -> Result<(),
 fn met(alloc: Global, registry: &mut Registry, long: &str, length: u32) -> Result<Reply, Refusal> {
     let last = word(alloc, length)?;
     let command = last_trigger(alloc, long, last.as_str())?;
-    Ok(registry.apply(alloc, &command))
+    Ok(apply(alloc, registry, command))
 }
 
 /// The bytes of the last word, how the trigger is met, and how many bytes the spelling has then.
@@ -204,14 +214,15 @@ const ROOM: &[(&str, Reply)] = &[
     ("watch /s", Reply::Changed),
 ];
 
-// Asserts that the last triggers are met so, one after another, and that a root finds room once a trigger
-// is shorter.
+// Asserts of a new registry that the last triggers are met so, one after another, and that a root finds
+// room once a trigger is shorter.
 fn refuse(
     rt: &impl Abort,
     alloc: Global,
     registry: &mut Registry,
     long: &str,
 ) -> Result<(), Refusal> {
+    almost_fill(alloc, registry, long)?;
     for (length, reply, size) in BYTES {
         let found = met(alloc, registry, long, *length)? == *reply;
         let bytes = registry.size();
@@ -224,6 +235,5 @@ fn refuse(
 fn refuses_a_byte_too_many(rt: HostRuntime) -> Result<(), Refusal> {
     let long = word(rt.alloc(), 1024)?;
     let mut registry = Registry::new(rt.alloc());
-    almost_fill(rt.alloc(), &mut registry, long.as_str())?;
     refuse(&rt, rt.alloc(), &mut registry, long.as_str())
 }

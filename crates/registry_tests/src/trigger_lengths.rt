@@ -70,9 +70,8 @@ fn is_accepted(alloc: Global, text: &str, lengths: Lengths) -> Result<bool, Refu
 
 // Appends a number in four bytes.
 fn put_number(number: usize, out: &mut Vec<u8>) -> Result<(), NoMemory> {
-    for byte in [0, 0, number / 256, number] {
-        out.push((byte % 256) as u8)?;
-    }
+    let (high, low) = (number / 256 % 256, number % 256);
+    out.extend_from_slice(&[0, 0, high as u8, low as u8])?;
     Ok(())
 }
 
@@ -96,25 +95,30 @@ fn put_expression(len: Option<usize>, out: &mut Vec<u8>) -> Result<(), NoMemory>
     }
 }
 
-// The bytes of a trigger of such lengths.
-fn spelled(alloc: Global, lengths: Lengths) -> Result<Vec<u8>, NoMemory> {
-    let mut out = Vec::new(alloc);
-    put_long(lengths.name, &mut out)?;
-    put_number(lengths.words, &mut out)?;
+// Appends a trigger of such lengths.
+fn put(lengths: Lengths, out: &mut Vec<u8>) -> Result<(), NoMemory> {
+    put_long(lengths.name, out)?;
+    put_number(lengths.words, out)?;
     for index in 0..lengths.words {
-        put_long(lengths.word(index), &mut out)?;
+        put_long(lengths.word(index), out)?;
     }
-    put_expression(lengths.expression, &mut out)?;
+    put_expression(lengths.expression, out)?;
     out.push(1)?;
     out.push(0)?;
-    Ok(out)
+    Ok(())
+}
+
+// Whether a trigger of such lengths is taken.
+fn is_taken(alloc: Global, lengths: Lengths) -> Result<bool, Refusal> {
+    let mut bytes = Vec::new(alloc);
+    put(lengths, &mut bytes)?;
+    Ok(Trigger::take(alloc, &bytes)?.is_some())
 }
 
 // Whether a trigger of such lengths is accepted, and taken, where it is to be.
 fn is_right(alloc: Global, text: &str, lengths: Lengths, want: bool) -> Result<bool, Refusal> {
     let accepted = is_accepted(alloc, text, lengths)?;
-    let bytes = spelled(alloc, lengths)?;
-    let taken = Trigger::take(alloc, &bytes)?.is_some();
+    let taken = is_taken(alloc, lengths)?;
     Ok(accepted == want && taken == want)
 }
 

@@ -1,5 +1,5 @@
 //! The spellings of triggers, and triggers that are and aren't defined in the same way.
-use crate::lines::applied;
+use crate::lines::{applied, apply, ask};
 use crate::plans::{LEAST, MORE, Plan, definition, is_of, made};
 use crate::spelling::{is_spelled, taken};
 use std::alloc::Global;
@@ -129,24 +129,19 @@ const MEETINGS: &[(&str, Plan<'static>, Reply)] = &[
     ),
 ];
 
-// How the trigger is met, where it is applied.
-fn tell(alloc: Global, registry: &mut Registry, plan: Plan<'_>) -> Result<Reply, Refusal> {
-    let definition = definition(alloc, plan)?;
-    Ok(registry.apply(alloc, &definition))
-}
-
-// How the trigger would be met.
-fn ask(alloc: Global, registry: &Registry, plan: Plan<'_>) -> Result<Reply, Refusal> {
-    let definition = definition(alloc, plan)?;
-    Ok(registry.reply_to(&definition))
+// Watches the root and defines the trigger.
+fn define(alloc: Global, registry: &mut Registry, plan: Plan<'_>) -> Result<(), Refusal> {
+    applied(alloc, registry, "watch /r")?;
+    apply(alloc, registry, definition(alloc, plan)?);
+    Ok(())
 }
 
 // How the second trigger is met where the first is there.
 fn met(alloc: Global, first: Plan<'_>, second: Plan<'_>) -> Result<Reply, Refusal> {
+    let second = definition(alloc, second)?;
     let mut registry = Registry::new(alloc);
-    applied(alloc, &mut registry, "watch /r")?;
-    tell(alloc, &mut registry, first)?;
-    ask(alloc, &registry, second)
+    define(alloc, &mut registry, first)?;
+    Ok(ask(&registry, second))
 }
 
 #[test]

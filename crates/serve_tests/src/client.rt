@@ -22,16 +22,20 @@ impl Client {
         let alloc = rt.alloc();
         for _ in 0..TRIES {
             if let Ok(stream) = UnixStream::connect(rt, path) {
-                let replies = BufReader::new(alloc, stream.try_clone()?)?;
-                return Ok(Client {
-                    stream,
-                    replies,
-                    alloc,
-                });
+                return Client::over(alloc, stream);
             }
             thread::sleep(rt, Duration::from_millis(10));
         }
         Err(io::Error::from(ErrorKind::TimedOut))
+    }
+
+    fn over(alloc: Global, stream: UnixStream) -> io::Result<Client> {
+        let replies = BufReader::new(alloc, stream.try_clone()?)?;
+        Ok(Client {
+            stream,
+            replies,
+            alloc,
+        })
     }
 
     /// The next line that comes, without its newline; an empty text where the session has ended.
@@ -67,4 +71,15 @@ impl Client {
         }
         Err(io::Error::from(ErrorKind::TimedOut))
     }
+}
+
+/// Asks by a command of one argument, a root.
+pub fn ask_of(
+    rt: &HostRuntime,
+    client: &mut Client,
+    command: &str,
+    root: &str,
+) -> io::Result<String> {
+    let line = format!(in rt.alloc(); "[\"{command}\",\"{root}\"]")?;
+    client.ask(line.as_str())
 }

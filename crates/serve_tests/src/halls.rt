@@ -10,7 +10,7 @@ use wm_disk::Refusal;
 use wm_hall::{Forgetting, RootHall, Viewers};
 use wm_lines::{Inquiry, Request, reply};
 use wm_names::RootPath;
-use wm_share::{MAX_VIEWERS, Naming, Opened, Shares};
+use wm_share::{MAX_VIEWERS, Naming, Opened, Shares, Viewer};
 use wm_since::MAX_CURSORS;
 use wm_view::Op;
 
@@ -84,8 +84,8 @@ fn opened_hall<'a, J: Naming, R: Wait>(
     alloc: Global,
     mut shares: Shares<J>,
 ) -> Result<RootHall<J, &'a R>, Refusal> {
-    let (keeper, pool) = shares.share(rt, alloc, 1, 5)?;
     let path = RootPath::read(alloc, "/r")?;
+    let (keeper, pool) = shares.share(rt, alloc, 1, 5)?;
     let hall = RootHall::new(alloc, &path, 5, keeper, pool)?;
     Ok(hall)
 }
@@ -180,6 +180,26 @@ fn is_told(met: Result<(), Refusal>, out: &[u8], told: &str) -> bool {
     }
 }
 
+/// Asserts that the lines of two sessions are told so.
+fn tell_rows<J: Naming, R: Wait + Abort, K: Wait + Drop>(
+    rt: &R,
+    alloc: Global,
+    hall: &RootHall<J, K>,
+    first: &mut Viewers<J>,
+    second: &mut Viewers<J>,
+) {
+    let mut out = Vec::new(alloc);
+    for (session, line, told) in TOLD {
+        out.clear();
+        let met = if *session == 0 {
+            meet_line(rt, alloc, hall, first, line, &mut out)
+        } else {
+            meet_line(rt, alloc, hall, second, line, &mut out)
+        };
+        assert!(rt; is_told(met, &out, told), "{line}");
+    }
+}
+
 fn tells_two_sessions<J: Naming, R: Wait + Abort>(
     rt: &R,
     alloc: Global,
@@ -189,18 +209,13 @@ fn tells_two_sessions<J: Naming, R: Wait + Abort>(
 {
     let shares: Shares<J> = Shares::new(opened);
     let hall = opened_hall(rt, alloc, shares)?;
-    let mut first = Viewers::new(alloc);
-    let mut second = Viewers::new(alloc);
-    let mut out = Vec::new(alloc);
-    for (session, line, told) in TOLD {
-        out.clear();
-        let met = if *session == 0 {
-            meet_line(rt, alloc, &hall, &mut first, line, &mut out)
-        } else {
-            meet_line(rt, alloc, &hall, &mut second, line, &mut out)
-        };
-        assert!(rt; is_told(met, &out, told), "{line}");
-    }
+    tell_rows(
+        rt,
+        alloc,
+        &hall,
+        &mut Viewers::new(alloc),
+        &mut Viewers::new(alloc),
+    );
     assert_eq!(rt; hall.tick(rt), 2);
     Ok(())
 }
@@ -208,6 +223,82 @@ fn tells_two_sessions<J: Naming, R: Wait + Abort>(
 #[test]
 fn two_sessions_are_told(rt: HostRuntime) -> Result<(), Fail> {
     tells_two_sessions::<Brand, _>(&rt, rt.alloc(), Opened::new())
+}
+
+/// Moves the cursor of a number to the clock that is told.
+fn move_cursor<J: Naming, R: Wait, K: Wait + Drop>(
+    rt: &R,
+    alloc: Global,
+    hall: &RootHall<J, K>,
+    viewers: &mut Viewers<J>,
+    number: usize,
+    out: &mut Vec<u8>,
+) -> Result<(), Refusal> {
+    let line = format!(in alloc; "[\"since\",\"/r\",\"n:{number}\"]\n")?;
+    meet_line(rt, alloc, hall, viewers, &line, out)
+}
+
+/// Moves as many cursors as may be. A further one is refused, and one that is there is moved again.
+fn keeps_cursor_limit<J: Naming, R: Wait + Abort, K: Wait + Drop>(
+    rt: &R,
+    alloc: Global,
+    hall: &RootHall<J, K>,
+    viewers: &mut Viewers<J>,
+    out: &mut Vec<u8>,
+) -> Result<(), Fail> {
+    let listing = "[\"listing\",\"/r\",0,\"\",[]]\n";
+    meet_line(rt, alloc, hall, viewers, listing, out)?;
+    for number in 0..MAX_CURSORS {
+        move_cursor(rt, alloc, hall, viewers, number, out)?;
+    }
+    let more = "[\"since\",\"/r\",\"n:more\"]\n";
+    let refused = meet_line(rt, alloc, hall, viewers, more, out);
+    assert_eq!(rt; refused, Err(Refusal::TooMany));
+    move_cursor(rt, alloc, hall, viewers, 7, out)?;
+    Ok(())
+}
+
+/// All viewers of the pool but the first, which the session has.
+fn lent<J: Naming, R: Wait, K: Wait + Drop>(
+    rt: &R,
+    alloc: Global,
+    hall: &RootHall<J, K>,
+) -> Result<Vec<Viewer<J>>, Fail> {
+    let mut lent = Vec::new(alloc);
+    for _ in 1..MAX_VIEWERS {
+        lent.push(hall.lend(rt)?)?;
+    }
+    Ok(lent)
+}
+
+/// Where no viewer is left another session is refused, until the first one gives its viewer back.
+fn keeps_viewer_limit<J: Naming, R: Wait + Abort, K: Wait + Drop>(
+    rt: &R,
+    alloc: Global,
+    hall: &RootHall<J, K>,
+    viewers: Viewers<J>,
+    other: &mut Viewers<J>,
+    out: &mut Vec<u8>,
+) -> Result<(), Fail> {
+    let refused = tell_clock(rt, alloc, hall, other, out);
+    assert_eq!(rt; refused, Err(Refusal::NoPlace));
+    for viewer in viewers.into_vec() {
+        hall.take_back(rt, viewer);
+    }
+    tell_clock(rt, alloc, hall, other, out)?;
+    Ok(())
+}
+
+fn keeps_both_limits<J: Naming, R: Wait + Abort, K: Wait + Drop>(
+    rt: &R,
+    alloc: Global,
+    hall: &RootHall<J, K>,
+) -> Result<(), Fail> {
+    let mut viewers = Viewers::new(alloc);
+    let mut out = Vec::new(alloc);
+    keeps_cursor_limit(rt, alloc, hall, &mut viewers, &mut out)?;
+    let _lent = lent(rt, alloc, hall)?;
+    keeps_viewer_limit(rt, alloc, hall, viewers, &mut Viewers::new(alloc), &mut out)
 }
 
 fn keeps_limits<J: Naming, R: Wait + Abort>(
@@ -219,32 +310,7 @@ fn keeps_limits<J: Naming, R: Wait + Abort>(
 {
     let shares: Shares<J> = Shares::new(opened);
     let hall = opened_hall(rt, alloc, shares)?;
-    let mut viewers = Viewers::new(alloc);
-    let mut out = Vec::new(alloc);
-    let listing = "[\"listing\",\"/r\",0,\"\",[]]\n";
-    meet_line(rt, alloc, &hall, &mut viewers, listing, &mut out)?;
-    for number in 0..MAX_CURSORS {
-        let line = format!(in alloc; "[\"since\",\"/r\",\"n:{number}\"]\n")?;
-        meet_line(rt, alloc, &hall, &mut viewers, &line, &mut out)?;
-    }
-    let more = "[\"since\",\"/r\",\"n:more\"]\n";
-    let refused = meet_line(rt, alloc, &hall, &mut viewers, more, &mut out);
-    assert_eq!(rt; refused, Err(Refusal::TooMany));
-    let known = "[\"since\",\"/r\",\"n:7\"]\n";
-    meet_line(rt, alloc, &hall, &mut viewers, known, &mut out)?;
-    // The session has the first viewer of the pool.
-    let mut lent = Vec::new(alloc);
-    for _ in 1..MAX_VIEWERS {
-        lent.push(hall.lend(rt)?)?;
-    }
-    let mut other = Viewers::new(alloc);
-    let refused = tell_clock(rt, alloc, &hall, &mut other, &mut out);
-    assert_eq!(rt; refused, Err(Refusal::NoPlace));
-    for viewer in viewers.into_vec() {
-        hall.take_back(rt, viewer);
-    }
-    tell_clock(rt, alloc, &hall, &mut other, &mut out)?;
-    Ok(())
+    keeps_both_limits(rt, alloc, &hall)
 }
 
 #[test]

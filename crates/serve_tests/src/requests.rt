@@ -33,20 +33,27 @@ fn crawl(alloc: Global, root: &RootPath, part: &Subtree) -> Result<String, Alloc
     }
 }
 
-fn asked(alloc: Global, read: Result<ServerRequest, Refusal>) -> Result<String, AllocError> {
+fn asked(alloc: Global, read: &Result<ServerRequest, Refusal>) -> Result<String, AllocError> {
     match read {
-        Ok(ServerRequest::Recrawl(root, part)) => crawl(alloc, &root, &part),
+        Ok(ServerRequest::Recrawl(root, part)) => crawl(alloc, root, part),
         Ok(ServerRequest::Common(Request::Version)) => String::from_str(alloc, "a version"),
         Ok(ServerRequest::Common(_)) => String::from_str(alloc, "another"),
         Err(refusal) => String::from_str(alloc, refusal.text()),
     }
 }
 
+/// What a line asks for. (What was read is let go by a call, since an enum of so many variants is dear to prove where it ends.)
+fn told(alloc: Global, line: &str) -> Result<String, AllocError> {
+    let read = ServerRequest::read(alloc, line.as_bytes());
+    let told = asked(alloc, &read);
+    drop(read);
+    told
+}
+
 #[test]
 fn lines_of_the_table(rt: HostRuntime) -> Result<(), Fail> {
-    let alloc = rt.alloc();
     for (line, wanted) in ASKED {
-        let told = asked(alloc, ServerRequest::read(alloc, line.as_bytes()))?;
+        let told = told(rt.alloc(), line)?;
         assert!(rt; told.as_str() == *wanted, "{line}: {told}");
     }
     Ok(())

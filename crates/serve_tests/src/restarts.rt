@@ -1,36 +1,41 @@
 //! A server that is killed, and the next one over its state file.
-use crate::client::Client;
+use crate::client::{Client, ask_of};
 use crate::places::Place;
 use std::test::Fail;
 use std::{fs, io, thread};
 use wm_crawler::Open;
 
-/// Watches the root, and copies the state file once that was answered: what a kill leaves then.
+/// Copies the state file: what a kill leaves now.
+fn copy_state(rt: &HostRuntime, place: &Place, copy: &str) -> io::Result<()> {
+    let left = fs::read(rt, place.state.as_str())?;
+    fs::write(rt, copy, left.as_slice())
+}
+
+/// Observes a new file, once the root is ready.
+fn observe(rt: &HostRuntime, client: &mut Client, root: &str) -> io::Result<String> {
+    let line = format!(in rt.alloc();
+        "[\"observe\",\"{root}\",[[\"b.c\",{{\"mtime_ms\":0,\"size\":4,\"type\":\"f\"}}]]]"
+    )?;
+    client.ask_ready(rt, line.as_str())
+}
+
+/// Watches the root, and copies the state file once that was answered.
 fn watch_and_copy(rt: &HostRuntime, place: &Place, copy: &str) -> io::Result<String> {
-    let alloc = rt.alloc();
     let root = place.root.as_str();
     let mut client = Client::connect(rt, place.socket.as_str())?;
-    client.ask(format!(in alloc; "[\"watch\",\"{root}\"]")?.as_str())?;
-    let left = fs::read(rt, place.state.as_str())?;
-    fs::write(rt, copy, left.as_slice())?;
-    client.ask_ready(
-        rt,
-        format!(in alloc;
-            "[\"observe\",\"{root}\",[[\"b.c\",{{\"mtime_ms\":0,\"size\":4,\"type\":\"f\"}}]]]"
-        )?.as_str(),
-    )
+    ask_of(rt, &mut client, "watch", root)?;
+    copy_state(rt, place, copy)?;
+    observe(rt, &mut client, root)
 }
 
 /// Asks what changed since a clock of the killed server.
 fn ask_since(rt: &HostRuntime, place: &Place, clock: &str) -> io::Result<String> {
     let root = place.root.as_str();
+    let line = format!(in rt.alloc();
+        "[\"query\",\"{root}\",{{\"fields\":[\"name\",\"size\"],\"since\":\"{clock}\",\"expression\":[\"type\",\"f\"]}}]"
+    )?;
     let mut client = Client::connect(rt, place.socket.as_str())?;
-    client.ask_ready(
-        rt,
-        format!(in rt.alloc();
-            "[\"query\",\"{root}\",{{\"fields\":[\"name\",\"size\"],\"since\":\"{clock}\",\"expression\":[\"type\",\"f\"]}}]"
-        )?.as_str(),
-    )
+    client.ask_ready(rt, line.as_str())
 }
 
 /// The roots stand, and every older clock is answered as fresh.

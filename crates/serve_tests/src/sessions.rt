@@ -1,6 +1,7 @@
 //! Sessions of one server: beside one another, with crawls, triggers and subscriptions.
-use crate::client::{Client, TRIES};
+use crate::client::{Client, TRIES, ask_of};
 use crate::places::Place;
+use std::alloc::{AllocError, Global};
 use std::test::Fail;
 use std::time::Duration;
 use std::{io, thread};
@@ -8,14 +9,30 @@ use wm_crawler::Open;
 
 const VERSION: &str = "{\"version\":\"w1\"}";
 
+fn is_answered(client: &mut Client) -> io::Result<bool> {
+    Ok(client.ask("[\"version\"]")?.as_str() == VERSION)
+}
+
+/// Whether a session that comes is answered.
+fn is_served(rt: &HostRuntime, place: &Place) -> io::Result<bool> {
+    let mut client = Client::connect(rt, place.socket.as_str())?;
+    is_answered(&mut client)
+}
+
+/// Whether a second session is answered beside a first one, and then the first once more.
+fn beside(rt: &HostRuntime, place: &Place, first: &mut Client) -> io::Result<bool> {
+    let mut second = Client::connect(rt, place.socket.as_str())?;
+    let two = is_answered(&mut second)?;
+    let three = is_answered(first)?;
+    Ok(two && three)
+}
+
 /// Whether a first session is answered, then a second beside it, and then the first once more.
 fn one_after_another(rt: &HostRuntime, place: &Place) -> io::Result<bool> {
     let mut first = Client::connect(rt, place.socket.as_str())?;
-    let one = first.ask("[\"version\"]")?;
-    let mut second = Client::connect(rt, place.socket.as_str())?;
-    let two = second.ask("[\"version\"]")?;
-    let three = first.ask("[\"version\"]")?;
-    Ok(one.as_str() == VERSION && two.as_str() == VERSION && three.as_str() == VERSION)
+    let one = is_answered(&mut first)?;
+    let others = beside(rt, place, &mut first)?;
+    Ok(one && others)
 }
 
 #[test]
@@ -35,10 +52,8 @@ fn one_session_after_another(rt: HostRuntime) -> Result<(), Fail> {
 /// Comes in once there is a chair.
 fn come_in(rt: &HostRuntime, place: &Place) -> io::Result<bool> {
     for _ in 0..TRIES {
-        let mut client = Client::connect(rt, place.socket.as_str())?;
-        if let Ok(reply) = client.ask("[\"version\"]")
-            && reply.as_str() == VERSION
-        {
+        // a session that finds no chair may also be cut off
+        if let Ok(true) = is_served(rt, place) {
             return Ok(true);
         }
         thread::sleep(rt, Duration::from_millis(10));
@@ -46,22 +61,40 @@ fn come_in(rt: &HostRuntime, place: &Place) -> io::Result<bool> {
     Ok(false)
 }
 
+/// Lets one more session in, and tells whether it is answered.
+fn sit_down(rt: &HostRuntime, place: &Place, clients: &mut Vec<Client>) -> io::Result<bool> {
+    let mut client = Client::connect(rt, place.socket.as_str())?;
+    let is_answered = is_answered(&mut client)?;
+    clients.push(client)?;
+    Ok(is_answered)
+}
+
+/// Fills each chair, and tells how many sessions were answered.
+fn sit_on_each(rt: &HostRuntime, place: &Place, clients: &mut Vec<Client>) -> io::Result<u64> {
+    let mut answered: u64 = 0;
+    for _ in 0..31 {
+        if sit_down(rt, place, clients)? {
+            answered = answered.saturating_add(1);
+        }
+    }
+    Ok(answered)
+}
+
+/// What one session more is told, and a line later.
+fn told_late(rt: &HostRuntime, place: &Place) -> io::Result<(String, String)> {
+    let mut late = Client::connect(rt, place.socket.as_str())?;
+    let first = late.line()?;
+    Ok((first, late.line()?))
+}
+
 /// Fills each chair, tells what one session more is told and a line later, and lets one more in once another left.
 fn too_many(rt: &HostRuntime, place: &Place) -> io::Result<(u64, String, String)> {
     let mut clients = Vec::new(rt.alloc());
-    let mut answered: u64 = 0;
-    for _ in 0..31 {
-        let mut client = Client::connect(rt, place.socket.as_str())?;
-        if client.ask("[\"version\"]")?.as_str() == VERSION {
-            answered = answered.saturating_add(1);
-        }
-        clients.push(client)?;
-    }
-    let mut late = Client::connect(rt, place.socket.as_str())?;
-    let told = (answered, late.line()?, late.line()?);
+    let answered = sit_on_each(rt, place, &mut clients)?;
+    let (first, second) = told_late(rt, place)?;
     clients.pop();
     come_in(rt, place)?;
-    Ok(told)
+    Ok((answered, first, second))
 }
 
 #[test]
@@ -84,21 +117,54 @@ fn one_session_too_many(rt: HostRuntime) -> Result<(), Fail> {
     Ok(())
 }
 
+/// Watches the root, and subscribes to it.
+fn subscribe(rt: &HostRuntime, client: &mut Client, root: &str) -> io::Result<String> {
+    ask_of(rt, client, "watch", root)?;
+    let line = format!(in rt.alloc();
+        "[\"subscribe\",\"{root}\",\"s\",{{\"fields\":[\"name\"]}}]"
+    )?;
+    client.ask_ready(rt, line.as_str())
+}
+
+/// Tells that `a` is gone.
+fn observe(rt: &HostRuntime, client: &mut Client, root: &str) -> io::Result<String> {
+    let line = format!(in rt.alloc(); "[\"observe\",\"{root}\",[[\"a\",null]]]")?;
+    client.ask(line.as_str())
+}
+
+/// The next line, and the one after it, before which a second session tells that `a` is gone.
+fn told_by_another(
+    rt: &HostRuntime,
+    client: &mut Client,
+    second: &mut Client,
+    root: &str,
+) -> io::Result<(String, String)> {
+    let told = client.line()?;
+    observe(rt, second, root)?;
+    Ok((told, client.line()?))
+}
+
 /// Subscribes in one session, observes in another, and gives the first three lines of the first.
 fn tell_unasked(rt: &HostRuntime, place: &Place) -> io::Result<(String, String, String)> {
-    let alloc = rt.alloc();
     let root = place.root.as_str();
     let mut first = Client::connect(rt, place.socket.as_str())?;
     let mut second = Client::connect(rt, place.socket.as_str())?;
-    first.ask(format!(in alloc; "[\"watch\",\"{root}\"]")?.as_str())?;
-    let subscribed = first.ask_ready(
-        rt,
-        format!(in alloc; "[\"subscribe\",\"{root}\",\"s\",{{\"fields\":[\"name\"]}}]")?.as_str(),
-    )?;
-    let told = first.line()?;
-    second.ask(format!(in alloc; "[\"observe\",\"{root}\",[[\"a\",null]]]")?.as_str())?;
-    let again = first.line()?;
+    let subscribed = subscribe(rt, &mut first, root)?;
+    let (told, again) = told_by_another(rt, &mut first, &mut second, root)?;
     Ok((subscribed, told, again))
+}
+
+/// The line of the root's subscription with this clock, these files and whether it begins anew.
+fn due_line(
+    alloc: Global,
+    root: &str,
+    clock: &str,
+    files: &str,
+    is_fresh: bool,
+) -> Result<String, AllocError> {
+    format!(in alloc;
+        "{{\"clock\":\"{clock}\",\"files\":[{files}],\"is_fresh_instance\":{is_fresh},\"root\":\"{root}\",\"subscription\":\"s\",\"unilateral\":true,\"version\":\"w1\"}}"
+    )
 }
 
 #[test]
@@ -116,12 +182,8 @@ fn told_unasked(rt: HostRuntime) -> Result<(), Fail> {
     assert!(rt;
         subscribed.as_str() == "{\"clock\":\"c:1:1:1\",\"subscribe\":\"s\",\"version\":\"w1\"}"
     );
-    let fresh = format!(in alloc;
-        "{{\"clock\":\"c:1:1:1\",\"files\":[\"a\",\"d\",\"d/b\"],\"is_fresh_instance\":true,\"root\":\"{root}\",\"subscription\":\"s\",\"unilateral\":true,\"version\":\"w1\"}}"
-    )?;
-    let gone = format!(in alloc;
-        "{{\"clock\":\"c:1:1:2\",\"files\":[\"a\"],\"is_fresh_instance\":false,\"root\":\"{root}\",\"subscription\":\"s\",\"unilateral\":true,\"version\":\"w1\"}}"
-    )?;
+    let fresh = due_line(alloc, root, "c:1:1:1", "\"a\",\"d\",\"d/b\"", true)?;
+    let gone = due_line(alloc, root, "c:1:1:2", "\"a\"", false)?;
     assert!(rt; first == fresh, "{first}");
     assert!(rt; second == gone, "{second}");
     Ok(())

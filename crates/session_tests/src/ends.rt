@@ -1,5 +1,5 @@
 //! How sessions end: their replies, what they tell of faults, and what they leave in their files.
-use crate::disks::{content_of, file_after, journal};
+use crate::disks::{content_of, file_after, journal, new_file};
 use std::alloc::{AllocError, Global};
 use std::io::BufRead;
 use std::process::Abort;
@@ -129,6 +129,18 @@ pub(crate) fn assert_serves(
     let end = end_of(alloc, disk, &mut reader)?;
     assert_ends(rt, &end, wanted, about);
     Ok(())
+}
+
+/// A session over a new file with lines of which some are accepted, which must be answered so.
+pub(crate) fn assert_answers(
+    rt: &impl Abort,
+    alloc: Global,
+    input: &str,
+    output: &str,
+    about: &str,
+) -> Result<(), Fail> {
+    let wanted = (0, output, "", ACCEPTED);
+    assert_serves(rt, alloc, new_file(alloc)?, input.as_bytes(), wanted, about)
 }
 
 /// A session over a disk with the rows of these tables, one after the other.

@@ -3,10 +3,10 @@ use std::alloc::Global;
 use std::test::Fail;
 use wm_disk::{Crashed, MemDisk, Refusal};
 use wm_names::{Kind, Meta, RelPath, RootPath, Subtree};
-use wm_registry::Command;
+use wm_registry::{Command, Registry};
 use wm_store::format;
 use wm_view::{Listing, Pairs};
-use wm_world::{Event, World, drive};
+use wm_world::{Connection, Event, World, drive};
 
 mod clients;
 mod restarts;
@@ -27,12 +27,18 @@ fn root(alloc: Global) -> Result<RootPath, Fail> {
     Ok(RootPath::read(alloc, "/r")?)
 }
 
-/// A batch that watches these paths.
-fn watch_all(alloc: Global, paths: &[&str]) -> Result<Event, Fail> {
-    let mut commands = Vec::new(alloc);
+/// Appends watches of these paths.
+fn put_watches(alloc: Global, paths: &[&str], commands: &mut Vec<Command>) -> Result<(), Fail> {
     for path in paths {
         commands.push(Command::Watch(RootPath::read(alloc, path)?))?;
     }
+    Ok(())
+}
+
+/// A batch that watches these paths.
+fn watch_all(alloc: Global, paths: &[&str]) -> Result<Event, Fail> {
+    let mut commands = Vec::new(alloc);
+    put_watches(alloc, paths, &mut commands)?;
     Ok(Event::Commands(commands))
 }
 
@@ -64,26 +70,49 @@ fn seen(alloc: Global, moment: u64, name: &str, size: Option<u64>) -> Result<Eve
     Ok(Event::Observe(root(alloc)?, moment, Pairs::new(pairs)))
 }
 
-/// The incarnation and the watches, and each client's files at its clock.
-fn shown(alloc: Global, world: &World<MemDisk>) -> Result<String, Fail> {
-    let mut text = String::new(alloc);
+/// Appends the incarnation and the watches.
+fn show_registry(registry: &Registry, text: &mut String) -> Result<(), Fail> {
+    write!(text, "{}", registry.incarnation())?;
+    for (path, _) in registry.roots().iter() {
+        write!(text, " {}", path.as_str())?;
+    }
+    Ok(())
+}
+
+/// Appends the client's files at its clock.
+fn show_client(alloc: Global, client: &Connection, text: &mut String) -> Result<(), Fail> {
+    text.push_str(";")?;
+    for file in client.mirror.files() {
+        write!(text, " {}", file.as_str())?;
+    }
+    if let Some(clock) = client.mirror.clock() {
+        write!(text, " at {}", clock.text(alloc)?.as_str())?;
+    }
+    Ok(())
+}
+
+/// Appends the incarnation and the watches, and each client's files at its clock.
+fn show(alloc: Global, world: &World<MemDisk>, text: &mut String) -> Result<(), Fail> {
     if let Some(registry) = world.registry() {
-        text.push_str(&format!(in alloc; "{}", registry.incarnation())?)?;
-        for (path, _) in registry.roots().iter() {
-            text.push_str(" ")?;
-            text.push_str(path.as_str())?;
-        }
+        show_registry(registry, text)?;
     }
     for client in world.clients() {
-        text.push_str(";")?;
-        for file in client.mirror.files() {
-            text.push_str(" ")?;
-            text.push_str(file.as_str())?;
-        }
-        if let Some(clock) = client.mirror.clock() {
-            text.push_str(" at ")?;
-            text.push_str(clock.text(alloc)?.as_str())?;
-        }
+        show_client(alloc, client, text)?;
     }
+    Ok(())
+}
+
+/// Whether the world shows that.
+fn is_shown(alloc: Global, world: &World<MemDisk>, wanted: &str) -> Result<bool, Fail> {
+    let mut text = String::new(alloc);
+    show(alloc, world, &mut text)?;
+    Ok(text.as_str() == wanted)
+}
+
+/// What a world shows after these events on a new file, where this choice says what a crash leaves.
+fn shown_after(alloc: Global, choice: u64, events: Vec<Event>) -> Result<String, Fail> {
+    let mut text = String::new(alloc);
+    let world = driven(alloc, MemDisk::new(alloc, choice), events)?;
+    show(alloc, &world, &mut text)?;
     Ok(text)
 }

@@ -1,6 +1,7 @@
 //! Listings, observations and views, made from what a table tells.
 use std::alloc::Global;
 use std::test::Fail;
+use wm_disk::Refusal;
 use wm_names::{Kind, Meta, RelPath, Subtree};
 use wm_view::{Listing, Pairs, View};
 
@@ -37,6 +38,13 @@ pub fn pairs_of(alloc: Global, told: Told) -> Result<Pairs, Fail> {
     Ok(Pairs::new(pairs))
 }
 
+/// An observation of one path.
+pub fn pair(alloc: Global, path: &str, state: Option<Meta>) -> Result<Pairs, Refusal> {
+    let mut pairs = Vec::new(alloc);
+    pairs.push((RelPath::read(alloc, path)?, state))?;
+    Ok(Pairs::new(pairs))
+}
+
 /// All of the root, or what stands below the path.
 pub fn part_of(alloc: Global, top: Option<&str>) -> Result<Subtree, Fail> {
     match top {
@@ -61,7 +69,8 @@ pub fn ready_with(alloc: Global, found: Found) -> Result<View, Fail> {
     Ok(view)
 }
 
-fn observe_at(alloc: Global, view: &mut View, moment: u64, told: Told) -> Result<(), Fail> {
+/// The view takes an observation at this moment.
+pub fn observe_at(alloc: Global, view: &mut View, moment: u64, told: Told) -> Result<(), Fail> {
     view.observe(alloc, moment, &pairs_of(alloc, told)?)?;
     Ok(())
 }

@@ -2,7 +2,8 @@
 //! and its watch of it, inotifywait misses a folder that is made there; the system's list of its watches tells.
 //! Tests: tools/feed_use.py.
 
-use crate::server::{Asked, Server};
+use crate::sending::hand_over;
+use crate::server::Server;
 use crate::stop::Stop;
 use serde_json::{Value, json};
 use std::alloc::Global;
@@ -11,6 +12,10 @@ use std::fs;
 use std::fs::Files;
 use std::os::unix::fs::MetadataExt;
 use wm_feed::add_watched;
+
+/// The members of a query that asks for the names of all folders.
+const FOLDERS: &str =
+    "\"expression\":[\"allof\",\"exists\",[\"type\",\"d\"]],\"fields\":[\"name\"]";
 
 /// The numbers of all files that a process watches.
 fn watched<R: Files + AllocGlobal>(
@@ -75,6 +80,23 @@ fn is_any_missed<R: Files>(
     Ok(false)
 }
 
+/// A text as JSON has it.
+fn quoted(alloc: Global, text: &str) -> Result<String, Stop> {
+    let value = json!(in alloc; text)?;
+    Ok(value.to_string(alloc)?)
+}
+
+/// The value that a reply is.
+fn value_of(alloc: Global, reply: &[u8]) -> Result<Value, Stop> {
+    let Ok(text) = str::from_utf8(reply) else {
+        return Err(Stop::Refused);
+    };
+    let Ok(value) = Value::from_str(alloc, text) else {
+        return Err(Stop::Refused);
+    };
+    Ok(value)
+}
+
 /// Which folders were seen to be watched: those that the server knew at a clock.
 #[derive(Drop)]
 pub(crate) struct Seen {
@@ -86,18 +108,43 @@ impl Seen {
         Seen { clock: None }
     }
 
+    /// The member of a query that tells since when it asks, if any.
+    fn since(&self, alloc: Global) -> Result<String, Stop> {
+        let Some(clock) = &self.clock else {
+            return Ok(String::new(alloc));
+        };
+        let clock = quoted(alloc, clock.as_str())?;
+        Ok(format!(in alloc; ",\"since\":{clock}")?)
+    }
+
     /// The request for the folders that came since.
     fn request(&self, alloc: Global, root: &str) -> Result<String, Stop> {
-        let value = match &self.clock {
-            Some(clock) => {
-                json!(in alloc; ["query", root, {"expression": ["allof", "exists", ["type", "d"]], "fields": ["name"], "since": clock.as_str()}])?
-            }
-            None => {
-                json!(in alloc; ["query", root, {"expression": ["allof", "exists", ["type", "d"]], "fields": ["name"]}])?
-            }
-        };
-        let text = value.to_string(alloc)?;
-        Ok(text)
+        let root = quoted(alloc, root)?;
+        let since = self.since(alloc)?;
+        Ok(format!(in alloc; "[\"query\",{root},{{{FOLDERS}{since}}}]")?)
+    }
+
+    /// Asks for the folders that came since.
+    fn ask(&self, alloc: Global, server: &mut Server, root: &str) -> Result<(), Stop> {
+        let request = self.request(alloc, root)?;
+        hand_over(alloc, server, request.as_str())
+    }
+
+    /// Whether each folder that a reply lists is watched by a process, or can't be read: then its clock is kept.
+    fn take<R: Files + AllocGlobal>(
+        &mut self,
+        rt: &R,
+        alloc: Global,
+        root: &str,
+        reply: &Value,
+        process: u32,
+    ) -> Result<bool, Stop> {
+        let watched = watched(rt, alloc, process)?;
+        if is_any_missed(rt, alloc, root, reply, &watched)? {
+            return Ok(false);
+        }
+        self.clock = clock_of(alloc, reply)?;
+        Ok(true)
     }
 
     /// Whether each folder that the server knows is watched by a process, or can't be read.
@@ -109,23 +156,8 @@ impl Seen {
         root: &str,
         process: u32,
     ) -> Result<bool, Stop> {
-        let request = self.request(alloc, root)?;
-        match server.ask(alloc, request.as_str())? {
-            Asked::Told => {}
-            Asked::NotReady | Asked::Failed => return Err(Stop::Doubt),
-            Asked::Refused => return Err(Stop::Refused),
-        }
-        let Ok(text) = str::from_utf8(server.reply()) else {
-            return Err(Stop::Refused);
-        };
-        let Ok(reply) = Value::from_str(alloc, text) else {
-            return Err(Stop::Refused);
-        };
-        let watched = watched(rt, alloc, process)?;
-        if is_any_missed(rt, alloc, root, &reply, &watched)? {
-            return Ok(false);
-        }
-        self.clock = clock_of(alloc, &reply)?;
-        Ok(true)
+        self.ask(alloc, server, root)?;
+        let reply = value_of(alloc, server.reply())?;
+        self.take(rt, alloc, root, &reply, process)
     }
 }

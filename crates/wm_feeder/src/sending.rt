@@ -25,7 +25,7 @@ pub(crate) fn is_wide(batch: &Batch) -> bool {
 }
 
 /// Asks for what has to be met, or has to be tried anew.
-fn hand_over(alloc: Global, server: &mut Server, request: &str) -> Result<(), Stop> {
+pub(crate) fn hand_over(alloc: Global, server: &mut Server, request: &str) -> Result<(), Stop> {
     match server.ask(alloc, request)? {
         Asked::Told => Ok(()),
         Asked::NotReady | Asked::Failed => Err(Stop::Doubt),
@@ -81,6 +81,18 @@ fn observe_few(
     Ok(())
 }
 
+/// Adds what stands at a path now.
+fn look_at<F: Files + Drop>(
+    alloc: Global,
+    looking: &mut Looking<F>,
+    path: &RelPath,
+    pairs: &mut Vec<(RelPath, Option<Meta>)>,
+) -> Result<(), Stop> {
+    let meta = looking.look(alloc, path)?;
+    pairs.push((path.copy()?, meta))?;
+    Ok(())
+}
+
 /// What stands at the paths of a batch now.
 fn look<F: Files + Drop>(
     alloc: Global,
@@ -91,8 +103,7 @@ fn look<F: Files + Drop>(
     let mut looking = Looking::new(alloc, files, root.copy(alloc)?);
     let mut pairs = Vec::new(alloc);
     for path in batch.paths() {
-        let meta = looking.look(alloc, path)?;
-        pairs.push((path.copy()?, meta))?;
+        look_at(alloc, &mut looking, path, &mut pairs)?;
     }
     Ok(pairs)
 }

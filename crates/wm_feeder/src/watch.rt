@@ -52,18 +52,27 @@ fn command(alloc: Global, root: &str) -> Result<Command, Stop> {
     Ok(command)
 }
 
+/// Starts the command, with both of its streams on a socket.
+fn spawn_on<R: Net + Processes>(
+    rt: &R,
+    mut command: Command,
+    socket: UnixStream,
+) -> io::Result<Child<R::Started>> {
+    let other = socket.try_clone()?;
+    command
+        .stdin(Stdio::null())
+        .stdout(OwnedFd::from(socket))
+        .stderr(OwnedFd::from(other));
+    command.spawn(rt)
+}
+
 /// Starts the command, with both of its streams on one end of a socket.
 fn start<R: Net + Processes>(
     rt: &R,
-    mut command: Command,
+    command: Command,
 ) -> io::Result<(Child<R::Started>, UnixStream)> {
     let (ours, theirs) = UnixStream::pair(rt)?;
-    let other = theirs.try_clone()?;
-    command
-        .stdin(Stdio::null())
-        .stdout(OwnedFd::from(theirs))
-        .stderr(OwnedFd::from(other));
-    let child = command.spawn(rt)?;
+    let child = spawn_on(rt, command, theirs)?;
     Ok((child, ours))
 }
 

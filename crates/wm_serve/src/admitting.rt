@@ -5,7 +5,7 @@ use crate::house::House;
 use crate::leading::lead;
 use std::alloc::Global;
 use std::io::Write;
-use std::os::unix::net::UnixListener;
+use std::os::unix::net::{UnixListener, UnixStream};
 use std::sync::Wait;
 use std::thread;
 use std::thread::Threads;
@@ -15,6 +15,17 @@ use wm_disk::Refusal;
 use wm_triggers::Programs;
 
 const TOO_MANY: &str = "{\"error\":\"17 TooMany\",\"version\":\"w1\"}\n";
+
+/// Lets a session in, or tells it that no place is left: whether it was let in.
+fn admit_one<R: Wait, H: House>(rt: &R, house: &H, stream: UnixStream) -> bool {
+    match house.enter(rt, stream) {
+        Ok(()) => true,
+        Err(stream) => {
+            let _told = (&stream).write_all(TOO_MANY.as_bytes());
+            false
+        }
+    }
+}
 
 /// Lets sessions in until so many have come.
 fn admit<R: Wait + Clock, H: House>(rt: &R, house: &H, listener: &UnixListener, sessions: u64) {
@@ -28,11 +39,8 @@ fn admit<R: Wait + Clock, H: House>(rt: &R, house: &H, listener: &UnixListener, 
             thread::sleep(rt, Duration::from_millis(20));
             continue;
         };
-        match house.enter(rt, stream) {
-            Ok(()) => count += 1,
-            Err(stream) => {
-                let _told = (&stream).write_all(TOO_MANY.as_bytes());
-            }
+        if admit_one(rt, house, stream) {
+            count += 1;
         }
     }
 }

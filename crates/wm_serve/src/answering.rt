@@ -13,12 +13,12 @@ use std::sync::{Arc, Wait};
 use std::time::{Clock, Duration};
 use wm_disk::{Disk, NoMemory, Refusal};
 use wm_lines::reply::{PROGRESS_ROOM, REFUSAL_ROOM, put_clock, put_refusal};
-use wm_lines::{Request, ServerRequest};
+use wm_lines::{Progress, Request, ServerRequest};
 use wm_names::{RootPath, Subtree};
 use wm_server::Input;
 use wm_server::input::{LineRead, read_line};
 use wm_server::run::NO_MEMORY;
-use wm_share::Naming;
+use wm_share::{Naming, Viewer};
 
 /// How long a client may leave a reply unread before its session ends.
 const WRITE_SECONDS: u64 = 10;
@@ -29,6 +29,31 @@ fn send(stream: &UnixStream, line: Result<&[u8], NoMemory>) -> io::Result<()> {
         Ok(bytes) => (&*stream).write_all(bytes),
         Err(NoMemory) => (&*stream).write_all(NO_MEMORY.as_bytes()),
     }
+}
+
+/// Sends a line while nothing else is told.
+fn send_alone<R: Wait, J: Naming>(
+    rt: &R,
+    chair: &Chair<J>,
+    stream: &UnixStream,
+    line: Result<&[u8], NoMemory>,
+) -> io::Result<()> {
+    let _page = chair.page.lock(rt);
+    send(stream, line)
+}
+
+/// Waits for the end of a crawl. The session's viewer learns of it.
+fn crawl<R: Wait, D: Disk + Drop, J: Naming, K: Wait + Copy + Drop>(
+    rt: &R,
+    shared: &Shared<D, J, K>,
+    chair: &Chair<J>,
+    root: &RootPath,
+    subtree: Subtree,
+) -> Result<Progress, Refusal> {
+    let hall = shared.hall(rt, root)?;
+    let ended = hall.work.crawl(rt, subtree);
+    chair.viewers.lock(rt).learn(rt, &hall);
+    ended
 }
 
 /// Waits for the end of a crawl, and gives the reply.
@@ -42,47 +67,62 @@ fn recrawl<R: Wait, D: Disk + Drop, J: Naming, K: Wait + Copy + Drop>(
 ) -> Result<Vec<u8>, NoMemory> {
     let mut out = Vec::new(alloc);
     out.try_reserve(PROGRESS_ROOM.max(REFUSAL_ROOM))?;
-    let ended = match shared.hall(rt, root) {
-        Ok(hall) => {
-            let ended = hall.work.crawl(rt, subtree);
-            chair.viewers.lock(rt).learn(rt, &hall);
-            ended
-        }
-        Err(refusal) => Err(refusal),
-    };
-    match ended {
+    match crawl(rt, shared, chair, root, subtree) {
         Ok(progress) => put_clock(progress.clock, &mut out),
         Err(refusal) => put_refusal(refusal, &mut out),
     }
     Ok(out)
 }
 
-/// Appends a refusal's line.
-fn refuse(refusal: Refusal, out: &mut Vec<u8>) -> Result<(), NoMemory> {
-    out.try_reserve(REFUSAL_ROOM)?;
-    put_refusal(refusal, out);
+/// Writes a refusal's line on an empty page.
+fn refuse(refusal: Refusal, page: &mut Vec<u8>) -> Result<(), NoMemory> {
+    page.clear();
+    page.try_reserve(REFUSAL_ROOM)?;
+    put_refusal(refusal, page);
     Ok(())
 }
 
-/// Writes the reply to a request on an empty page. The room of a refusal is made first.
+/// Sends what was written on the page, or that memory ran out for it.
+fn send_page(stream: &UnixStream, written: Result<(), NoMemory>, page: &[u8]) -> io::Result<()> {
+    match written {
+        Ok(()) => send(stream, Ok(page)),
+        Err(NoMemory) => send(stream, Err(NoMemory)),
+    }
+}
+
+/// Answers a request on an empty page, which has room for a refusal.
 fn answer<R: Wait + Clock, D: Disk + Drop, J: Naming, K: Wait + Copy + Drop>(
     rt: &R,
     alloc: Global,
     shared: &Shared<D, J, K>,
     chair: &Chair<J>,
     place: &mut Option<Place<'_, D>>,
+    stream: &UnixStream,
     request: Request,
-    page: &mut Vec<u8>,
-) -> Result<(), NoMemory> {
-    page.try_reserve(REFUSAL_ROOM)?;
-    if let Err(refusal) = meet(rt, alloc, shared, chair, place, request, page) {
-        page.clear();
-        return refuse(refusal, page);
-    }
-    Ok(())
+) -> io::Result<()> {
+    let mut page = chair.page.lock(rt);
+    page.clear();
+    let written = match meet(rt, alloc, shared, chair, place, request, &mut page) {
+        Ok(()) => Ok(()),
+        Err(refusal) => refuse(refusal, &mut page),
+    };
+    send_page(stream, written, &page)
 }
 
-/// Answers a line that was read. A crawl is awaited before the page is taken, so that subscriptions are told meanwhile.
+/// Answers that a line is refused.
+fn answer_refused<R: Wait, J: Naming>(
+    rt: &R,
+    chair: &Chair<J>,
+    stream: &UnixStream,
+    refusal: Refusal,
+) -> io::Result<()> {
+    let mut page = chair.page.lock(rt);
+    let written = refuse(refusal, &mut page);
+    send_page(stream, written, &page)
+}
+
+/// Answers a line that was read. The room of a refusal is made first. A crawl is awaited before the page is taken, so that
+/// subscriptions are told meanwhile.
 fn serve_line<R: Wait + Clock, D: Disk + Drop, J: Naming, K: Wait + Copy + Drop>(
     rt: &R,
     alloc: Global,
@@ -92,27 +132,20 @@ fn serve_line<R: Wait + Clock, D: Disk + Drop, J: Naming, K: Wait + Copy + Drop>
     stream: &UnixStream,
     line: &[u8],
 ) -> io::Result<()> {
-    let request = match ServerRequest::read(alloc, line) {
+    if chair.make_room(rt).is_err() {
+        return send_alone(rt, chair, stream, Err(NoMemory));
+    }
+    match ServerRequest::read(alloc, line) {
         Ok(ServerRequest::Recrawl(root, subtree)) => {
-            let told = recrawl(rt, alloc, shared, chair, &root, subtree);
-            let _page = chair.page.lock(rt);
-            return match told {
-                Ok(line) => send(stream, Ok(&line)),
-                Err(NoMemory) => send(stream, Err(NoMemory)),
-            };
+            match recrawl(rt, alloc, shared, chair, &root, subtree) {
+                Ok(line) => send_alone(rt, chair, stream, Ok(&line)),
+                Err(NoMemory) => send_alone(rt, chair, stream, Err(NoMemory)),
+            }
         }
-        Ok(ServerRequest::Common(request)) => Ok(request),
-        Err(refusal) => Err(refusal),
-    };
-    let mut page = chair.page.lock(rt);
-    page.clear();
-    let answered = match request {
-        Ok(request) => answer(rt, alloc, shared, chair, place, request, &mut page),
-        Err(refusal) => refuse(refusal, &mut page),
-    };
-    match answered {
-        Ok(()) => send(stream, Ok(&page)),
-        Err(NoMemory) => send(stream, Err(NoMemory)),
+        Ok(ServerRequest::Common(request)) => {
+            answer(rt, alloc, shared, chair, place, stream, request)
+        }
+        Err(refusal) => answer_refused(rt, chair, stream, refusal),
     }
 }
 
@@ -134,14 +167,22 @@ fn serve_lines<R: Wait + Clock, D: Disk + Drop, J: Naming, K: Wait + Copy + Drop
         };
         match read {
             LineRead::End => return Ok(()),
-            LineRead::Lost => {
-                let _page = chair.page.lock(rt);
-                send(stream, Err(NoMemory))?;
-            }
+            LineRead::Lost => send_alone(rt, chair, stream, Err(NoMemory))?,
             LineRead::Kept => serve_line(rt, alloc, shared, chair, place, stream, &line)?,
         }
     }
     Ok(())
+}
+
+/// Gives a viewer back to its hall, if that is there still.
+fn give_back<R: Wait, D: Disk + Drop, J: Naming, K: Wait + Copy + Drop>(
+    rt: &R,
+    shared: &Shared<D, J, K>,
+    viewer: Viewer<J>,
+) {
+    if let Some(hall) = shared.numbered(rt, viewer.share().root) {
+        hall.take_back(rt, viewer);
+    }
 }
 
 /// One session on a chair.
@@ -165,9 +206,7 @@ fn attend<R: Wait + Clock, D: Disk + Drop, J: Naming, K: Wait + Copy + Drop>(
     let _ = stream.shutdown(Shutdown::Both);
     chair.seat(rt, alloc, None);
     for viewer in chair.take_viewers(rt, alloc).into_vec() {
-        if let Some(hall) = shared.numbered(rt, viewer.share().root) {
-            hall.take_back(rt, viewer);
-        }
+        give_back(rt, shared, viewer);
     }
 }
 

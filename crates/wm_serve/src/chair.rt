@@ -6,8 +6,10 @@ use std::mem;
 use std::os::unix::net::UnixStream;
 use std::sync::atomic::{AtomicU64, Ordering};
 use std::sync::{Arc, Mutex, Wait};
+use wm_disk::NoMemory;
 use wm_hall::Viewers;
 use wm_lines::Expression;
+use wm_lines::reply::REFUSAL_ROOM;
 use wm_names::RootPath;
 use wm_share::Naming;
 use wm_subs::Subscriptions;
@@ -37,6 +39,12 @@ impl<J: Naming> Chair<J> {
             count: AtomicU64::new(0),
             stream: Mutex::new(None),
         }
+    }
+
+    /// Makes room for a refusal's line on the page, which keeps it while the session sits here.
+    pub fn make_room<R: Wait>(&self, rt: &R) -> Result<(), NoMemory> {
+        self.page.lock(rt).try_reserve(REFUSAL_ROOM)?;
+        Ok(())
     }
 
     /// The socket of the session that sits here.

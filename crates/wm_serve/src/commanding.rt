@@ -4,11 +4,20 @@ use crate::place::Place;
 use crate::shared::Shared;
 use std::alloc::Global;
 use std::sync::Wait;
-use wm_disk::{Disk, Refusal};
+use wm_disk::{Disk, NoMemory, Refusal};
 use wm_lines::reply::line_to;
 use wm_names::RootPath;
 use wm_registry::{Command, Reply};
 use wm_share::Naming;
+
+/// What has to be there before a command is submitted: its root, and each line that it may be answered with.
+#[derive(Drop)]
+struct Prepared {
+    root: RootPath,
+    changed: Vec<u8>,
+    replaced: Vec<u8>,
+    unchanged: Vec<u8>,
+}
 
 /// The root that a command is about; none for a `Begin`, which no line asks for.
 fn root_of(command: &Command) -> Option<&RootPath> {
@@ -19,6 +28,50 @@ fn root_of(command: &Command) -> Option<&RootPath> {
         Command::TriggerDel(path, _) => Some(path),
         Command::Begin => None,
     }
+}
+
+/// Makes what a command needs, and room for the longest of its lines. `NoMemory` for a `Begin`, too.
+fn prepare(alloc: Global, command: &Command, out: &mut Vec<u8>) -> Result<Prepared, Refusal> {
+    let Some(root) = root_of(command) else {
+        return Err(Refusal::NoMemory);
+    };
+    let prepared = Prepared {
+        root: root.copy(alloc)?,
+        changed: line_to(alloc, command, Reply::Changed)?,
+        replaced: line_to(alloc, command, Reply::Replaced)?,
+        unchanged: line_to(alloc, command, Reply::Unchanged)?,
+    };
+    make_room(&prepared, out)?;
+    Ok(prepared)
+}
+
+fn make_room(prepared: &Prepared, out: &mut Vec<u8>) -> Result<(), NoMemory> {
+    let longest = prepared.changed.len().max(prepared.replaced.len());
+    out.try_reserve(longest.max(prepared.unchanged.len()))?;
+    Ok(())
+}
+
+/// Appends the line of a reply, once the hall of the root follows the registry.
+fn tell<R: Wait, D: Disk + Drop, J: Naming, K: Wait + Copy + Drop>(
+    rt: &R,
+    alloc: Global,
+    shared: &Shared<D, J, K>,
+    prepared: &Prepared,
+    reply: Reply,
+    out: &mut Vec<u8>,
+) -> Result<(), Refusal> {
+    let (line, is_change) = match reply {
+        Reply::Changed => (&prepared.changed, true),
+        Reply::Replaced => (&prepared.replaced, true),
+        Reply::Unchanged => (&prepared.unchanged, false),
+        Reply::Refused(refusal) => return Err(refusal),
+    };
+    // Without memory the hall follows with the next command of its root.
+    if is_change || shared.hall(rt, &prepared.root).is_err() {
+        let _followed = shared.follow(rt, alloc, &prepared.root);
+    }
+    out.extend_from_slice(line)?;
+    Ok(())
 }
 
 /// Submits a command. Each reply that it may have is made first, with its room, so that an accepted command has its reply.
@@ -32,24 +85,10 @@ pub fn command<R: Wait, D: Disk + Drop, J: Naming, K: Wait + Copy + Drop>(
     command: Command,
     out: &mut Vec<u8>,
 ) -> Result<(), Refusal> {
-    let (Some(place), Some(root)) = (place, root_of(&command)) else {
+    let Some(place) = place else {
         return Err(Refusal::NoMemory);
     };
-    let root = root.copy(alloc)?;
-    let changed = line_to(alloc, &command, Reply::Changed)?;
-    let replaced = line_to(alloc, &command, Reply::Replaced)?;
-    let unchanged = line_to(alloc, &command, Reply::Unchanged)?;
-    out.try_reserve(changed.len().max(replaced.len()).max(unchanged.len()))?;
-    let (line, is_change) = match place.submit(rt, command) {
-        Reply::Changed => (&changed, true),
-        Reply::Replaced => (&replaced, true),
-        Reply::Unchanged => (&unchanged, false),
-        Reply::Refused(refusal) => return Err(refusal),
-    };
-    // Without memory the hall follows with the next command of its root.
-    if is_change || shared.hall(rt, &root).is_err() {
-        let _followed = shared.follow(rt, alloc, &root);
-    }
-    out.extend_from_slice(line)?;
-    Ok(())
+    let prepared = prepare(alloc, &command, out)?;
+    let reply = place.submit(rt, command);
+    tell(rt, alloc, shared, &prepared, reply, out)
 }

@@ -18,6 +18,7 @@ mod listening;
 mod meeting;
 mod place;
 mod second;
+mod seeing;
 mod serving;
 mod shared;
 mod shared_house;

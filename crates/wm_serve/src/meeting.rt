@@ -4,14 +4,15 @@ use crate::chair::Chair;
 use crate::commanding::command;
 use crate::place::Place;
 use crate::second::second;
+use crate::seeing::{clock, inquire};
 use crate::shared::Shared;
 use crate::subscribing::{subscribe, unsubscribe};
 use std::alloc::Global;
 use std::sync::Wait;
 use std::time::Clock;
 use wm_disk::{Disk, Refusal};
+use wm_lines::Request;
 use wm_lines::reply::{PROGRESS_ROOM, put_clock, put_floor};
-use wm_lines::{Inquiry, Request};
 use wm_names::RootPath;
 use wm_registry::{Command, Registry};
 use wm_server::{RegistryFront, Session};
@@ -30,16 +31,27 @@ fn meet_registry(
     Ok(())
 }
 
-/// Meets a request on the desk's registry as it is now.
+/// Lists the roots of the desk's registry as it is now.
 fn list<R: Wait, D: Disk + Drop, J: Naming, K: Wait + Copy + Drop>(
     rt: &R,
     alloc: Global,
     shared: &Shared<D, J, K>,
-    request: Request,
     out: &mut Vec<u8>,
 ) -> Result<(), Refusal> {
     let registry = shared.desk.registry(rt)?;
-    meet_registry(alloc, registry, request, out)
+    meet_registry(alloc, registry, Request::WatchList, out)
+}
+
+/// Lists a root's triggers of the desk's registry as it is now.
+fn list_triggers<R: Wait, D: Disk + Drop, J: Naming, K: Wait + Copy + Drop>(
+    rt: &R,
+    alloc: Global,
+    shared: &Shared<D, J, K>,
+    path: RootPath,
+    out: &mut Vec<u8>,
+) -> Result<(), Refusal> {
+    let registry = shared.desk.registry(rt)?;
+    meet_registry(alloc, registry, Request::TriggerList(path), out)
 }
 
 /// Performs an operation, and appends where the view stands after it. The session's viewer learns of it before that is told.
@@ -67,7 +79,7 @@ fn operate<R: Wait + Clock, D: Disk + Drop, J: Naming, K: Wait + Copy + Drop>(
 }
 
 /// Appends the clock of a root, as the session's viewer sees it.
-fn clock<R: Wait, D: Disk + Drop, J: Naming, K: Wait + Copy + Drop>(
+fn tell_clock<R: Wait, D: Disk + Drop, J: Naming, K: Wait + Copy + Drop>(
     rt: &R,
     alloc: Global,
     shared: &Shared<D, J, K>,
@@ -76,27 +88,9 @@ fn clock<R: Wait, D: Disk + Drop, J: Naming, K: Wait + Copy + Drop>(
     out: &mut Vec<u8>,
 ) -> Result<(), Refusal> {
     out.try_reserve(PROGRESS_ROOM)?;
-    let mut viewers = chair.viewers.lock(rt);
-    let hall = shared.hall(rt, path)?;
-    let clock = hall.clock(rt, alloc, viewers.of_root(rt, &hall)?)?;
+    let clock = clock(rt, alloc, shared, &mut chair.viewers.lock(rt), path)?;
     put_clock(clock, out);
     Ok(())
-}
-
-/// Appends the answer to a question, as the session's viewer sees the root.
-fn inquire<R: Wait, D: Disk + Drop, J: Naming, K: Wait + Copy + Drop>(
-    rt: &R,
-    alloc: Global,
-    shared: &Shared<D, J, K>,
-    chair: &Chair<J>,
-    path: &RootPath,
-    inquiry: Inquiry,
-    out: &mut Vec<u8>,
-) -> Result<(), Refusal> {
-    let mut viewers = chair.viewers.lock(rt);
-    let hall = shared.hall(rt, path)?;
-    let viewer = viewers.of_root(rt, &hall)?;
-    hall.inquire(rt, alloc, viewer, inquiry, out)
 }
 
 /// Meets a request of a session, which is refused, with nothing appended, or has its reply appended.
@@ -111,8 +105,8 @@ pub fn meet<R: Wait + Clock, D: Disk + Drop, J: Naming, K: Wait + Copy + Drop>(
 ) -> Result<(), Refusal> {
     match request {
         Request::Version => meet_registry(alloc, Registry::new(alloc), Request::Version, out),
-        Request::WatchList => list(rt, alloc, shared, Request::WatchList, out),
-        Request::TriggerList(path) => list(rt, alloc, shared, Request::TriggerList(path), out),
+        Request::WatchList => list(rt, alloc, shared, out),
+        Request::TriggerList(path) => list_triggers(rt, alloc, shared, path, out),
         Request::Watch(path) => command(rt, alloc, shared, place, Command::Watch(path), out),
         Request::WatchDel(path) => command(rt, alloc, shared, place, Command::WatchDel(path), out),
         Request::Trigger(path, trigger) => {
@@ -141,7 +135,10 @@ pub fn meet<R: Wait + Clock, D: Disk + Drop, J: Naming, K: Wait + Copy + Drop>(
             let op = Op::AgeOut(second(rt), age);
             operate(rt, shared, chair, &path, op, out)
         }
-        Request::Clock(path) => clock(rt, alloc, shared, chair, &path, out),
-        Request::Query(path, inquiry) => inquire(rt, alloc, shared, chair, &path, inquiry, out),
+        Request::Clock(path) => tell_clock(rt, alloc, shared, chair, &path, out),
+        Request::Query(path, inquiry) => {
+            let mut viewers = chair.viewers.lock(rt);
+            inquire(rt, alloc, shared, &mut viewers, &path, inquiry, out)
+        }
     }
 }

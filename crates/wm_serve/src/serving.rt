@@ -105,6 +105,34 @@ pub fn serve<
     served
 }
 
+/// A desk over the store, which is let go where it finds no room.
+fn desk_over(
+    alloc: Global,
+    store: Store<FileDisk<Unknown>>,
+) -> Result<Desk<FileDisk<Unknown>>, Refusal> {
+    match Desk::new(alloc, store) {
+        Ok(desk) => Ok(desk),
+        Err((refusal, _store)) => Err(refusal),
+    }
+}
+
+/// What all threads share, over the desk, which is let go where that finds no room.
+fn shared_over<J: Naming, K: Wait + Copy + Drop>(
+    alloc: Global,
+    keeping: K,
+    desk: Desk<FileDisk<Unknown>>,
+    shares: Shares<J>,
+    forgetting: Forgetting,
+) -> Result<Shared<FileDisk<Unknown>, J, K>, NoMemory> {
+    match Shared::new(alloc, keeping, desk, shares, forgetting) {
+        Ok(shared) => Ok(shared),
+        Err((NoMemory, desk)) => {
+            let _store = desk.into_store();
+            Err(NoMemory)
+        }
+    }
+}
+
 /// Serves with the views' book that was opened.
 fn serve_over<
     J: Naming + Send + Sync,
@@ -128,22 +156,13 @@ fn serve_over<
     requires expressions { have_expressions_lem store.registry ≡ true }
     requires book { opened.seen.book ≡ J.book }
 {
-    let desk = match Desk::new(alloc, store) {
-        Ok(desk) => desk,
-        Err((refusal, _)) => return Err(refusal),
-    };
+    let desk = desk_over(alloc, store)?;
     let forgetting = Forgetting {
         age: settings.gc_age,
         interval: settings.gc_interval,
     };
     let shares: Shares<J> = Shares::new(opened);
-    let shared = match Shared::new(alloc, rt, desk, shares, forgetting) {
-        Ok(shared) => shared,
-        Err((NoMemory, desk)) => {
-            let _store = desk.into_store();
-            return Err(Refusal::NoMemory);
-        }
-    };
+    let shared = shared_over(alloc, rt, desk, shares, forgetting)?;
     let served = serve_shared(
         rt, alloc, &shared, listener, folders, gate, programs, settings, writer,
     );

@@ -110,9 +110,43 @@ impl<D: Disk + Drop, J: Naming, K: Wait + Copy + Drop> Shared<D, J, K> {
     /// Makes a hall for each root of the registry at the start. `NoMemory`, and then some may have none.
     pub fn begin<R: Wait>(&self, rt: &R, alloc: Global) -> Result<(), NoMemory> {
         let registry = self.desk.registry(rt)?;
+        self.add_all(rt, alloc, &registry)
+    }
+
+    fn add_all<R: Wait>(&self, rt: &R, alloc: Global, registry: &Registry) -> Result<(), NoMemory> {
         for (path, root) in registry.roots() {
             self.add(rt, alloc, path, registry.incarnation(), root)?;
         }
+        Ok(())
+    }
+
+    /// A hall for a root, with its triggers.
+    fn new_hall<R: Wait>(
+        &self,
+        rt: &R,
+        alloc: Global,
+        path: &RootPath,
+        incarnation: u64,
+        root: &Root,
+    ) -> Result<RootHall<J, K>, NoMemory> {
+        let mut shares = self.shares.lock(rt);
+        let Ok((keeper, pool)) = shares.share(self.keeping, alloc, incarnation, root.number) else {
+            return Err(NoMemory);
+        };
+        drop(shares);
+        let hall = RootHall::new(alloc, path, root.number, keeper, pool)?;
+        hall.keep_triggers(rt, alloc, root.triggers.as_slice())?;
+        Ok(hall)
+    }
+
+    /// Puts a hall into the table, and has its workers started.
+    fn put<R: Wait>(&self, rt: &R, hall: Arc<RootHall<J, K>>) -> Result<(), NoMemory> {
+        let number = hall.number;
+        let mut missing = self.missing.lock(rt);
+        missing.workers.try_reserve(2)?;
+        self.halls.lock(rt).push(hall)?;
+        missing.workers.push(Worker::Crawler(number))?;
+        missing.workers.push(Worker::Triggers(number))?;
         Ok(())
     }
 
@@ -124,28 +158,17 @@ impl<D: Disk + Drop, J: Naming, K: Wait + Copy + Drop> Shared<D, J, K> {
         incarnation: u64,
         root: &Root,
     ) -> Result<(), NoMemory> {
-        let mut shares = self.shares.lock(rt);
-        let shared = shares.share(self.keeping, alloc, incarnation, root.number);
-        drop(shares);
-        let Ok((keeper, pool)) = shared else {
-            return Err(NoMemory);
-        };
-        let hall = RootHall::new(alloc, path, root.number, keeper, pool)?;
-        hall.keep_triggers(rt, alloc, root.triggers.as_slice())?;
+        let hall = self.new_hall(rt, alloc, path, incarnation, root)?;
         let Ok(hall) = Arc::new(alloc, hall) else {
             return Err(NoMemory);
         };
-        let mut missing = self.missing.lock(rt);
-        missing.workers.try_reserve(2)?;
-        self.halls.lock(rt).push(hall)?;
-        missing.workers.push(Worker::Crawler(root.number))?;
-        missing.workers.push(Worker::Triggers(root.number))?;
-        drop(missing);
+        self.put(rt, hall)?;
         self.came.notify_all();
         Ok(())
     }
 
-    fn remove<R: Wait>(&self, rt: &R, path: &RootPath) {
+    /// Takes the hall of a path out of the table.
+    fn take<R: Wait>(&self, rt: &R, path: &RootPath) -> Option<Arc<RootHall<J, K>>> {
         let mut found = None;
         let mut halls = self.halls.lock(rt);
         for (i, hall) in halls.iter().enumerate() {
@@ -153,15 +176,19 @@ impl<D: Disk + Drop, J: Naming, K: Wait + Copy + Drop> Shared<D, J, K> {
                 found = Some(i);
             }
         }
-        if let Some(i) = found
-            && i < halls.len()
-        {
-            let hall = halls.remove(i);
-            drop(halls);
-            hall.work.end(rt);
-            for chair in self.chairs.iter() {
-                chair.end_root(rt, path, hall.number);
-            }
+        match found {
+            Some(i) if i < halls.len() => Some(halls.remove(i)),
+            _ => None,
+        }
+    }
+
+    fn remove<R: Wait>(&self, rt: &R, path: &RootPath) {
+        let Some(hall) = self.take(rt, path) else {
+            return;
+        };
+        hall.work.end(rt);
+        for chair in self.chairs.iter() {
+            chair.end_root(rt, path, hall.number);
         }
     }
 

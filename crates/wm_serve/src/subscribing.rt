@@ -1,17 +1,18 @@
 //! `subscribe` and `unsubscribe` of a session.
 //! Tests: serve_tests/src/sessions.rt.
 use crate::chair::Chair;
+use crate::seeing::clock_of;
 use crate::shared::Shared;
 use std::alloc::Global;
 use std::sync::Wait;
 use wm_clock::{ClockId, ClockSpec};
-use wm_disk::{Disk, Refusal};
-use wm_hall::RootHall;
-use wm_lines::{Inquiry, reply};
+use wm_disk::{Disk, NoMemory, Refusal};
+use wm_hall::{RootHall, Viewers};
+use wm_lines::{Expression, Inquiry, reply};
 use wm_names::RootPath;
 use wm_share::Naming;
 use wm_since::Query;
-use wm_subs::{Subscribed, Subscription, SubscriptionName};
+use wm_subs::{Subscribed, Subscription, SubscriptionName, Subscriptions};
 
 /// The clock since which is told first: a cursor's as it stands now, and none where it isn't there.
 fn start<R: Wait, J: Naming, K: Wait + Drop>(
@@ -24,6 +25,76 @@ fn start<R: Wait, J: Naming, K: Wait + Drop>(
         Some(ClockSpec::Cursor(name)) => hall.cursor(rt, name),
         Some(ClockSpec::Another) => None,
         None => None,
+    }
+}
+
+/// The clock of a root, as the session's viewer sees it, and that since which a subscription is told first.
+fn begin<R: Wait, D: Disk + Drop, J: Naming, K: Wait + Copy + Drop>(
+    rt: &R,
+    alloc: Global,
+    shared: &Shared<D, J, K>,
+    viewers: &mut Viewers<J>,
+    root: &RootPath,
+    since: &Option<ClockSpec>,
+) -> Result<(ClockId, Option<ClockId>), Refusal> {
+    let hall = shared.hall(rt, root)?;
+    let clock = clock_of(rt, alloc, viewers, &hall)?;
+    Ok((clock, start(rt, &hall, since)))
+}
+
+/// The line that tells a subscription, with room for it.
+fn line_of(
+    alloc: Global,
+    clock: ClockId,
+    name: &SubscriptionName,
+    out: &mut Vec<u8>,
+) -> Result<Vec<u8>, NoMemory> {
+    let mut line = Vec::new(alloc);
+    reply::put_subscribe(alloc, clock, name, &mut line)?;
+    out.try_reserve(line.len())?;
+    Ok(line)
+}
+
+/// Puts a subscription among the others, and appends the reply.
+fn put(
+    alloc: Global,
+    all: &mut Subscriptions<Expression>,
+    clock: ClockId,
+    subscribed: Subscribed<Expression>,
+    out: &mut Vec<u8>,
+) -> Result<(), Refusal> {
+    let name = subscribed.subscription.name();
+    if !all.has_room(&subscribed.root, name) {
+        return Err(Refusal::TooMany);
+    }
+    let line = line_of(alloc, clock, name, out)?;
+    all.put(subscribed)?;
+    out.extend_from_slice(&line)?;
+    Ok(())
+}
+
+/// What is subscribed to by an inquiry, since a clock.
+fn subscribed_to(
+    root: RootPath,
+    name: SubscriptionName,
+    inquiry: Inquiry,
+    since: Option<ClockId>,
+) -> Subscribed<Expression> {
+    let Inquiry {
+        since: _,
+        expression,
+        fields,
+        empty_on_fresh,
+    } = inquiry;
+    let query = Query {
+        since,
+        test: expression,
+        empty_on_fresh,
+    };
+    Subscribed {
+        root,
+        fields,
+        subscription: Subscription::new(name, query),
     }
 }
 
@@ -42,34 +113,17 @@ pub fn subscribe<R: Wait, D: Disk + Drop, J: Naming, K: Wait + Copy + Drop>(
 ) -> Result<(), Refusal> {
     // Under this lock a root that is still in the table takes the subscription along when it goes.
     let mut all = chair.subscriptions.lock(rt);
-    let mut viewers = chair.viewers.lock(rt);
-    let hall = shared.hall(rt, &root)?;
-    let clock = hall.clock(rt, alloc, viewers.of_root(rt, &hall)?)?;
-    drop(viewers);
-    let Inquiry {
-        since,
-        expression,
-        fields,
-        empty_on_fresh,
-    } = inquiry;
-    let query = Query {
-        since: start(rt, &hall, &since),
-        test: expression,
-        empty_on_fresh,
-    };
-    if !all.has_room(&root, &name) {
-        return Err(Refusal::TooMany);
-    }
-    let mut told = Vec::new(alloc);
-    reply::put_subscribe(alloc, clock, &name, &mut told)?;
-    out.try_reserve(told.len())?;
-    all.put(Subscribed {
-        root,
-        fields,
-        subscription: Subscription::new(name, query),
-    })?;
+    let (clock, since) = begin(
+        rt,
+        alloc,
+        shared,
+        &mut chair.viewers.lock(rt),
+        &root,
+        &inquiry.since,
+    )?;
+    let subscribed = subscribed_to(root, name, inquiry, since);
+    put(alloc, &mut all, clock, subscribed, out)?;
     chair.recount(all.as_slice().len());
-    out.extend_from_slice(&told)?;
     drop(all);
     chair.ring(rt);
     Ok(())

@@ -8,10 +8,38 @@ use std::net::Shutdown;
 use std::sync::Wait;
 use wm_clock::ClockId;
 use wm_disk::{Disk, Refusal};
-use wm_hall::Viewers;
+use wm_hall::{RootHall, Viewers};
 use wm_lines::{Expression, reply};
-use wm_share::Naming;
+use wm_share::{Naming, Viewer};
 use wm_subs::Subscribed;
+
+/// Appends a subscription's line where it is due as a viewer sees its root, and gives its clock.
+fn tell_due<J: Naming>(
+    alloc: Global,
+    viewer: &mut Viewer<J>,
+    subscribed: &Subscribed<Expression>,
+    out: &mut Vec<u8>,
+) -> Result<Option<ClockId>, Refusal> {
+    let Some(answer) = subscribed.subscription.due_of(alloc, viewer)? else {
+        return Ok(None);
+    };
+    reply::put_due(alloc, subscribed, &answer, out)?;
+    Ok(Some(answer.clock))
+}
+
+/// As [`tell_due`], by the session's viewer of a hall, which learns first what was told of it.
+fn tell_of<R: Wait, J: Naming, K: Wait + Drop>(
+    rt: &R,
+    alloc: Global,
+    hall: &RootHall<J, K>,
+    viewers: &mut Viewers<J>,
+    subscribed: &Subscribed<Expression>,
+    out: &mut Vec<u8>,
+) -> Result<Option<ClockId>, Refusal> {
+    let viewer = viewers.of_root(rt, hall)?;
+    hall.teach(rt, viewer);
+    tell_due(alloc, viewer, subscribed, out)
+}
 
 /// Appends a subscription's line where it is due, and gives its clock.
 fn tell_one<R: Wait, D: Disk + Drop, J: Naming, K: Wait + Copy + Drop>(
@@ -23,13 +51,7 @@ fn tell_one<R: Wait, D: Disk + Drop, J: Naming, K: Wait + Copy + Drop>(
     out: &mut Vec<u8>,
 ) -> Result<Option<ClockId>, Refusal> {
     let hall = shared.hall(rt, &subscribed.root)?;
-    let viewer = viewers.of_root(rt, &hall)?;
-    hall.teach(rt, viewer);
-    let Some(answer) = subscribed.subscription.due_of(alloc, viewer)? else {
-        return Ok(None);
-    };
-    reply::put_due(alloc, subscribed, &answer, out)?;
-    Ok(Some(answer.clock))
+    tell_of(rt, alloc, &hall, viewers, subscribed, out)
 }
 
 /// Appends the lines that are due, in the order of subscribing. One that is refused is tried again with the next change.

@@ -6,7 +6,7 @@ use wm_disk::Refusal;
 use wm_hall::RootHall;
 use wm_registry::Trigger;
 use wm_share::{Naming, Viewer};
-use wm_triggers::{Programs, TriggerRun};
+use wm_triggers::{Programs, Run, TriggerRun};
 
 /// A trigger and its runs.
 #[derive(Drop)]
@@ -32,6 +32,17 @@ fn runs_of(alloc: Global, trigger: &Trigger, kept: &mut Vec<Kept>) -> Result<Kep
     }
 }
 
+/// The run that is due, as the viewer sees the root.
+fn due_run<J: Naming>(
+    alloc: Global,
+    viewer: &mut Viewer<J>,
+    runs: &TriggerRun,
+) -> Result<Option<Run>, Refusal> {
+    let query = runs.ask(alloc)?;
+    let answer = viewer.answer(alloc, &query)?;
+    Ok(runs.run_of(answer))
+}
+
 /// Runs a trigger if it is due.
 fn run_one<J: Naming, K: Wait + Drop, P: Programs>(
     alloc: Global,
@@ -40,15 +51,27 @@ fn run_one<J: Naming, K: Wait + Drop, P: Programs>(
     programs: &P,
     kept: &mut Kept,
 ) -> Result<(), Refusal> {
-    let query = kept.runs.ask(alloc)?;
-    let answer = viewer.answer(alloc, &query)?;
-    let Some(run) = kept.runs.run_of(answer) else {
+    let Some(run) = due_run(alloc, viewer, &kept.runs)? else {
         return Ok(());
     };
     match programs.run(alloc, &hall.path, &kept.trigger, &run) {
         Ok(()) => kept.runs.started(&run),
         Err(_) => kept.runs.failed_to_start(),
     }
+    Ok(())
+}
+
+/// Runs a trigger if it is due, and keeps its runs.
+fn run_and_keep<J: Naming, K: Wait + Drop, P: Programs>(
+    alloc: Global,
+    hall: &RootHall<J, K>,
+    viewer: &mut Viewer<J>,
+    programs: &P,
+    mut one: Kept,
+    now: &mut Vec<Kept>,
+) -> Result<(), Refusal> {
+    let _run = run_one(alloc, hall, viewer, programs, &mut one);
+    now.push(one)?;
     Ok(())
 }
 
@@ -63,9 +86,8 @@ fn run_all<R: Wait, J: Naming, K: Wait + Drop, P: Programs>(
 ) -> Result<Vec<Kept>, Refusal> {
     let mut now = Vec::new(alloc);
     for trigger in hall.triggers(rt, alloc)? {
-        let mut one = runs_of(alloc, &trigger, kept)?;
-        let _run = run_one(alloc, hall, viewer, programs, &mut one);
-        now.push(one)?;
+        let one = runs_of(alloc, &trigger, kept)?;
+        run_and_keep(alloc, hall, viewer, programs, one, &mut now)?;
     }
     Ok(now)
 }

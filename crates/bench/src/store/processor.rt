@@ -84,15 +84,14 @@ fn set_up<D: Disk + Drop>(
 pub fn measured_costs<D: Disk + Drop>(
     alloc: Global,
     clock: &(impl Clock + CpuClock),
-    sides: Sides<D>,
+    sides: &mut Sides<D>,
     registry: (u32, u32),
     rounds: u32,
 ) -> Result<Costs> {
     let (roots, triggers) = registry;
     let processor = Processor { clock };
-    let mut sides = sides;
     for number in 0..roots {
-        set_up(alloc, &mut sides, number, triggers)?;
+        set_up(alloc, sides, number, triggers)?;
     }
     let mut idle = Vec::new(alloc);
     for _ in 0..rounds {

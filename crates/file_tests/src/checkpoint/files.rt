@@ -3,7 +3,7 @@ use super::{
     Call, Kept, RegisterKeeper, TWO_SLOTS, content_after, edited, formatted, found, meet_all, open,
     set,
 };
-use crate::disks::{content_of, disk_of, stands};
+use crate::disks::{assert_stand, content_of, disk_of, stands};
 use std::alloc::Global;
 use std::test::Fail;
 use wm_disk::{Crashed, Disk, Refusal};
@@ -32,9 +32,7 @@ fn laid_out(alloc: Global) -> Result<Vec<u8>, Refusal> {
 fn lays_files_out(rt: HostRuntime) -> Result<(), Fail> {
     let content = laid_out(rt.alloc())?;
     assert!(rt; content.len() == 2_625_540);
-    for (at, bytes) in LAID_OUT {
-        assert!(rt; stands(&content, *at, bytes), "at {at}");
-    }
+    assert_stand(&rt, &content, LAID_OUT);
     // the bytes of the header, the slot and what is behind the file
     let count = content.iter().filter(|byte| **byte != 0).count();
     assert!(rt; count == 9 + 10 + 4, "{count}");
@@ -58,9 +56,7 @@ const WRITTEN: Parts = &[
 fn writes_commands_and_states(rt: HostRuntime) -> Result<(), Fail> {
     let content = content_after(rt.alloc(), TWO_SLOTS)?;
     assert!(rt; content.len() == 2_625_536);
-    for (at, bytes) in WRITTEN {
-        assert!(rt; stands(&content, *at, bytes), "at {at}");
-    }
+    assert_stand(&rt, &content, WRITTEN);
     Ok(())
 }
 
@@ -180,13 +176,17 @@ const GOOD: &[(&str, &[(usize, &[u8])], u64)] = &[
     ),
 ];
 
+/// The state that is found in the content with other bytes at these places.
+fn found_with(alloc: Global, content: &[u8], edits: &[(usize, &[u8])]) -> Result<u64, Refusal> {
+    let content = edited(alloc, content, edits)?;
+    found(alloc, disk_of(alloc, 0, &content)?)
+}
+
 #[test]
 fn reads_only_what_counts(rt: HostRuntime) -> Result<(), Fail> {
-    let alloc = rt.alloc();
-    let content = content_after(alloc, TWO_SLOTS)?;
+    let content = content_after(rt.alloc(), TWO_SLOTS)?;
     for (about, edits, state) in GOOD {
-        let content = edited(alloc, &content, edits)?;
-        let found = found(alloc, disk_of(alloc, 0, &content)?)?;
+        let found = found_with(rt.alloc(), &content, edits)?;
         assert!(rt; found == *state, "{about}");
     }
     Ok(())

@@ -16,6 +16,11 @@ pub(crate) fn desk(alloc: Global) -> Option<Kept> {
     Desk::new(alloc, opened(alloc).ok()?).ok()
 }
 
+/// How many roots the desk's store watches at the end.
+pub(crate) fn roots_of(desk: Kept) -> usize {
+    desk.into_store().registry().roots().len()
+}
+
 /// Watches the path.
 pub(crate) fn watch(alloc: Global, path: &str) -> Option<Command> {
     let path = RootPath::read(alloc, path).ok()?;

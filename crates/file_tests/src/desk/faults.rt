@@ -1,5 +1,5 @@
 //! A device that fails under a desk.
-use crate::desk::desks::{Kept, flush_for, refusal_of, watch};
+use crate::desk::desks::{Kept, flush_for, refusal_of, roots_of, watch};
 use crate::store::opened;
 use std::alloc::Global;
 use std::sync::Wait;
@@ -34,8 +34,7 @@ fn a_device_fails(rt: HostRuntime) -> Result<(), Fail> {
         || flush_for(&rt, shared, 3),
         || three(&rt, alloc, shared),
     );
-    let store = desk.into_store();
-    assert_eq!(rt; store.registry().roots().len(), 1);
+    assert_eq!(rt; roots_of(desk), 1);
     assert_eq!(rt; total, 3);
     assert!(rt; first.is_none());
     assert!(rt; second == Some(Refusal::DeviceFailed));

@@ -3,10 +3,11 @@ ghost use Rattle.wm_groupcommit.specs.Seats.{IsSeatOf};
 
 use crate::desk::desks::{Kept, desk, flush_for, is_watch, refusal_of, unwatch, watch};
 use std::alloc::Global;
+use std::process::Abort;
 use std::sync::Wait;
 use std::test::*;
 use std::thread::{Threads, join};
-use wm_disk::{Crashed, Refusal};
+use wm_disk::{Crashed, MemDisk, Refusal};
 use wm_groupcommit::{Seat, Standing};
 use wm_registry::{Command, Reply};
 use wm_store::Store;
@@ -107,15 +108,18 @@ fn number_of(standing: &Standing) -> u64 {
     }
 }
 
+/// The watch of a path of a seat's own.
+fn own_watch(alloc: Global, path: usize) -> Option<Command> {
+    let text = format!(in alloc; "/{path}").ok()?;
+    watch(alloc, &text)
+}
+
 /// Watches a path of a seat's own, and gives the number at which that stands, or 0.
 fn watch_one<R: Wait>(rt: &R, alloc: Global, desk: &Kept, seat: &mut Seat, path: usize) -> u64
     requires { IsSeatOf desk.now seat.old }
     ensures { IsSeatOf desk.now seat.new }
 {
-    let Ok(text) = format!(in alloc; "/{path}") else {
-        return 0;
-    };
-    let Some(command) = watch(alloc, &text) else {
+    let Some(command) = own_watch(alloc, path) else {
         return 0;
     };
     match desk.submit(rt, seat, command) {
@@ -189,6 +193,30 @@ fn is_new(seen: &mut Vec<bool>, number: u64) -> bool {
     true
 }
 
+/// Has to be a store with 256 roots, which a start finds behind a crash.
+fn assert_outlasts(rt: &impl Abort, alloc: Global, store: Store<MemDisk>) -> Result<(), Fail> {
+    assert_eq!(rt; store.registry().roots().len(), 256);
+    let answer = Store::open(alloc, store.into_disk().crash());
+    let store = answer.ok().ok_or("no restart")?;
+    assert_eq!(rt; store.registry().roots().len(), 256);
+    assert_eq!(rt; store.registry().incarnation(), 2);
+    Ok(())
+}
+
+/// The numbers have to be those up to 256, and those of each seat in their order.
+fn assert_numbered(rt: &impl Abort, alloc: Global, numbers: &[Numbers]) -> Result<(), Fail> {
+    let mut seen = Vec::from_elem(alloc, false, 257)?;
+    for of_seat in numbers {
+        let mut last = 0;
+        for number in of_seat {
+            assert!(rt; *number > last && *number <= 256);
+            assert!(rt; is_new(&mut seen, *number));
+            last = *number;
+        }
+    }
+    Ok(())
+}
+
 #[test]
 fn eight_threads_watch(rt: HostRuntime) -> Result<(), Fail> {
     let alloc = rt.alloc();
@@ -199,22 +227,8 @@ fn eight_threads_watch(rt: HostRuntime) -> Result<(), Fail> {
         || flush_for(&rt, shared, 257),
         || eight(&rt, alloc, shared),
     );
-    let store = desk.into_store();
-    assert_eq!(rt; store.registry().roots().len(), 256);
-    let store = Store::open(alloc, store.into_disk().crash())
-        .ok()
-        .ok_or("no restart")?;
-    assert_eq!(rt; store.registry().roots().len(), 256);
-    assert_eq!(rt; store.registry().incarnation(), 2);
-    let mut seen = Vec::from_elem(alloc, false, 257)?;
-    for of_seat in &numbers {
-        let mut last = 0;
-        for number in of_seat {
-            assert!(rt; *number > last && *number <= 256);
-            assert!(rt; is_new(&mut seen, *number));
-            last = *number;
-        }
-    }
+    assert_outlasts(&rt, alloc, desk.into_store())?;
+    assert_numbered(&rt, alloc, &numbers)?;
     assert_eq!(rt; total, 257);
     assert!(rt; more == Some(Refusal::TooMany));
     Ok(())

@@ -1,11 +1,12 @@
 //! That seats and a flusher can be had, and that it is the flusher who commits.
-use crate::desk::desks::{Kept, desk, is_watch, submit_one, watch};
+use crate::desk::desks::{Kept, desk, is_watch, roots_of, submit_one, watch};
 use std::alloc::Global;
 use std::sync::Wait;
 use std::test::*;
 use std::thread;
 use std::thread::join;
 use wm_disk::Refusal;
+use wm_groupcommit::Receipt;
 
 #[test]
 fn always_no_place(rt: HostRuntime) -> Result<(), Fail> {
@@ -21,11 +22,16 @@ fn always_no_place(rt: HostRuntime) -> Result<(), Fail> {
     Ok(())
 }
 
+/// Whether the command that watches `/a` stands in the list.
+fn stands<R: Wait>(rt: &R, desk: &Kept, receipt: &Receipt) -> Option<bool> {
+    let found = desk.stands(rt, receipt).ok()??;
+    Some(is_watch(&found, "/a"))
+}
+
 /// Whether a path that is watched then stands in the list.
 fn watch_stands<R: Wait>(rt: &R, alloc: Global, desk: &Kept) -> Option<bool> {
     let (_, receipt) = submit_one(rt, desk, watch(alloc, "/a"))?.ok()?;
-    let found = desk.stands(rt, &receipt).ok()??;
-    Some(is_watch(&found, "/a"))
+    stands(rt, desk, &receipt)
 }
 
 /// Flushes until something was answered, and tells how much was.
@@ -51,9 +57,8 @@ fn submit_commits_by_itself(rt: HostRuntime) -> Result<(), Fail> {
         || flush_some(&rt, shared),
         || watch_stands(&rt, alloc, shared),
     );
-    let store = desk.into_store();
+    assert_eq!(rt; roots_of(desk), 1);
     assert_eq!(rt; answered, Some(1));
     assert_eq!(rt; stands, Some(true));
-    assert_eq!(rt; store.registry().roots().len(), 1);
     Ok(())
 }

@@ -117,20 +117,42 @@ fn lays<W: Wire>(
     Ok(is_closed && is_open)
 }
 
+/// Whether a scan finds no record.
+fn is_empty<W: Wire + Drop>(alloc: Global, region: &mut Region<MemDisk>) -> Result<bool, Refusal>
+    requires { LiesOn region.old }
+    ensures place { InSamePlace region.old region.new }
+{
+    let found = region.scan::<W>(alloc)?;
+    Ok(found.is_empty())
+}
+
 /// Appends the groups to an area that has no record.
 fn try_steps<W: Wire + Drop>(
+    rt: &impl Abort,
+    alloc: Global,
+    region: &mut Region<MemDisk>,
+    len: u16,
+    steps: &[Step<W>],
+) -> Result<(), Refusal>
+    requires lies { LiesOn region.old }
+    requires place { IsAt region.old 5 len }
+{
+    assert!(rt; is_empty::<W>(alloc, region)?);
+    for step in steps {
+        assert!(rt; lays(alloc, region, len, step)?, "{:?}", step.1);
+    }
+    Ok(())
+}
+
+/// Appends the groups to a new area.
+fn try_anew<W: Wire + Drop>(
     rt: &impl Abort,
     alloc: Global,
     len: u16,
     steps: &[Step<W>],
 ) -> Result<(), Refusal> {
     let mut region = filled(alloc, len)?;
-    let found = region.scan::<W>(alloc)?;
-    assert!(rt; found.is_empty());
-    for step in steps {
-        assert!(rt; lays(alloc, &mut region, len, step)?, "{:?}", step.1);
-    }
-    Ok(())
+    try_steps(rt, alloc, &mut region, len, steps)
 }
 
 /// The same records as one group.
@@ -181,11 +203,11 @@ const NUMBERS: &[Step<u32>] = &[
 #[test]
 fn lays_a_group_out(rt: HostRuntime) -> Result<(), Fail> {
     let alloc = rt.alloc();
-    try_steps(&rt, alloc, 9, ONE_GROUP)?;
-    try_steps(&rt, alloc, 9, THREE_GROUPS)?;
-    try_steps(&rt, alloc, 16, NUMBERS)?;
+    try_anew(&rt, alloc, 9, ONE_GROUP)?;
+    try_anew(&rt, alloc, 9, THREE_GROUPS)?;
+    try_anew(&rt, alloc, 16, NUMBERS)?;
     let group = texts(alloc, &["\u{e5}", ""])?;
-    try_steps(
+    try_anew(
         &rt,
         alloc,
         13,

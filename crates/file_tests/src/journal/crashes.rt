@@ -155,13 +155,21 @@ fn found(alloc: Global, mut disk: MemDisk, want: &str) -> Result<(Region<MemDisk
     Ok((region, whole && found.as_str() == want))
 }
 
+/// Whether the calls in a run are answered as they have to be.
+fn is_answered(alloc: Global, region: &mut Region<MemDisk>, run: Run) -> Result<bool, Refusal>
+    requires lies { LiesOn region.old }
+    requires place { IsAt region.old 5 38 }
+{
+    add(region, alloc, FIRST)?;
+    see_whole(region, OFFSET, LEN)?;
+    Ok(answers(region, alloc, run)? == wanted(run))
+}
+
 /// What a run leaves, and whether the calls in it were answered as they have to be.
 fn cut(alloc: Global, fill: &[u8], run: Run) -> Result<(MemDisk, bool), Refusal> {
     let disk = disk_of(alloc, run.choice, &[FRONT, fill, BEHIND])?;
     let (mut region, is_empty) = found(alloc, disk, "")?;
-    add(&mut region, alloc, FIRST)?;
-    see_whole(&mut region, OFFSET, LEN)?;
-    let answered = answers(&mut region, alloc, run)? == wanted(run);
+    let answered = is_answered(alloc, &mut region, run)?;
     let disk = if run.stops {
         region.disk.stop()
     } else {

@@ -4,6 +4,7 @@ ghost use Rattle.wm_journal.specs.Regions.{InSamePlace, IsAt, LiesOn};
 
 use super::{append, disk_of, region_of, see_whole};
 use std::alloc::Global;
+use std::process::Abort;
 use std::test::Fail;
 use wm_disk::{Crashed, Disk, MemDisk, Refusal};
 use wm_journal::Region;
@@ -57,19 +58,28 @@ fn rescans(
     Ok(is_found && region.room() == 4)
 }
 
+/// Scans an area with one record, and again with other bytes in its place.
+fn scan_again(rt: &impl Abort, alloc: Global, region: &mut Region<MemDisk>) -> Result<(), Refusal>
+    requires lies { LiesOn region.old }
+    requires place { IsAt region.old 5 7 }
+{
+    let found = region.scan::<bool>(alloc)?;
+    assert!(rt; found.as_slice() == [true].as_slice());
+    assert!(rt;
+        rescans(alloc, region, 2, Err(Refusal::Damaged))?,
+        "no truth value"
+    );
+    assert!(rt; rescans(alloc, region, 0, Ok(false))?, "a truth value");
+    Ok(())
+}
+
 /// The same region is scanned again after a refusal.
 #[test]
 fn scans_again_after_damage(rt: HostRuntime) -> Result<(), Fail> {
     let alloc = rt.alloc();
     let disk = disk_of(alloc, 0, &[b"front\xa5\x01\0\0\0\0\0behind"])?;
     let mut region = region_of(alloc, disk, 5, 7)?;
-    let found = region.scan::<bool>(alloc)?;
-    assert!(rt; found.as_slice() == [true].as_slice());
-    assert!(rt;
-        rescans(alloc, &mut region, 2, Err(Refusal::Damaged))?,
-        "no truth value"
-    );
-    assert!(rt; rescans(alloc, &mut region, 0, Ok(false))?, "a truth value");
+    scan_again(&rt, alloc, &mut region)?;
     Ok(())
 }
 
@@ -92,7 +102,9 @@ fn first_refusal(region: &mut Region<MemDisk>, alloc: Global) -> Option<(&'stati
 
 /// How many calls of the disk pass, the call of the region that then fails, the records that are found
 /// afterwards, and the room behind them.
-const FAILURES: &[(u64, Option<&str>, &[bool], u64)] = &[
+type Failure = (u64, Option<&'static str>, &'static [bool], u64);
+
+const FAILURES: &[Failure] = &[
     (0, Some("scan"), &[true], 6),
     (1, Some("append_closed"), &[true], 6),
     (2, Some("append_closed"), &[true], 6),
@@ -162,26 +174,32 @@ fn fails(alloc: Global, region: &mut Region<MemDisk>, calls: u64, call: Option<&
 }
 
 /// Whether a region fails so, and after it finds the records and goes on.
-fn recovers(
-    alloc: Global,
-    (calls, call, found, room): (u64, Option<&str>, &[bool], u64),
-) -> Result<bool, Refusal> {
-    let mut region = with_one_record(alloc)?;
-    let failed = fails(alloc, &mut region, calls, call);
+fn recovers(alloc: Global, region: &mut Region<MemDisk>, failure: Failure) -> Result<bool, Refusal>
+    requires lies { LiesOn region.old }
+    requires place { IsAt region.old 5 9 }
+{
+    let (calls, call, found, room) = failure;
+    let failed = fails(alloc, region, calls, call);
     region.disk.arm(u64::MAX);
     region.disk.sync()?;
-    let is_found = finds(alloc, &mut region, found)? && region.room() == room;
+    let is_found = finds(alloc, region, found)? && region.room() == room;
     // No gate of the group is opened any more.
-    open(&mut region)?;
-    let stays = finds(alloc, &mut region, found)?;
-    let goes_on = goes_on(alloc, &mut region, found)?;
+    open(region)?;
+    let stays = finds(alloc, region, found)?;
+    let goes_on = goes_on(alloc, region, found)?;
     Ok(failed && is_found && stays && goes_on)
+}
+
+/// Whether a journal with one record does so.
+fn one_recovers(alloc: Global, failure: Failure) -> Result<bool, Refusal> {
+    let mut region = with_one_record(alloc)?;
+    recovers(alloc, &mut region, failure)
 }
 
 #[test]
 fn goes_on_after_a_failure(rt: HostRuntime) -> Result<(), Fail> {
     for row in FAILURES {
-        assert!(rt; recovers(rt.alloc(), *row)?, "after {}", row.0);
+        assert!(rt; one_recovers(rt.alloc(), *row)?, "after {}", row.0);
     }
     Ok(())
 }

@@ -1,9 +1,10 @@
 //! How many calls the disk has.
-use super::{JOURNAL_B, Kept, SLOT_B, accept, meet, opened, watching, watching_one};
-use crate::disks::{Calls, content_of, stands};
+use super::{JOURNAL_B, Kept, SLOT_B, accept, opened, replies, watching, watching_one};
+use crate::disks::{Calls, assert_stand, content_of};
 use std::alloc::Global;
+use std::process::Abort;
 use std::test::Fail;
-use wm_disk::{Crashed, MemDisk, Refusal};
+use wm_disk::{Crashed, Refusal};
 use wm_names::RootPath;
 use wm_registry::{Command, Reply};
 
@@ -33,13 +34,25 @@ pub(super) fn many(
     Ok(commands)
 }
 
+/// How many are accepted of such a batch.
+fn watch_many(
+    alloc: Global,
+    store: &mut Kept,
+    first: u8,
+    count: u8,
+    len: usize,
+) -> Result<usize, Refusal> {
+    accept(alloc, store, many(alloc, first, count, len)?)
+}
+
 /// Whether a batch of so many watches is accepted whole, and leaves the disk with these calls.
 fn writes(alloc: Global, count: u8, calls: Calls) -> Result<bool, Refusal> {
     let mut store = opened(alloc)?;
-    let accepted = accept(alloc, &mut store, many(alloc, b'a', count, 3)?)?;
+    let accepted = watch_many(alloc, &mut store, b'a', count, 3);
     let roots = store.registry().roots().len();
+    let counted = store.into_disk().calls() == calls;
     let count = usize::from(count);
-    Ok(accepted == count && roots == count && store.into_disk().calls() == calls)
+    Ok(accepted == Ok(count) && roots == count && counted)
 }
 
 /// The commands of a batch, and the calls with the 47 writes, 7 syncs and 2 others of formatting and opening.
@@ -54,45 +67,48 @@ fn writes_a_group_at_once(rt: HostRuntime) -> Result<(), Fail> {
     Ok(())
 }
 
-/// What is met by a watch of a root that is watched, and by the end of the watch of another.
-fn unaccepted(alloc: Global, store: &mut Kept) -> Result<Vec<Reply>, Refusal> {
+/// Whether nothing is accepted of a watch of a root that is watched, and of the end of the watch of another.
+fn accepts_none(alloc: Global, store: &mut Kept) -> Result<bool, Refusal> {
+    let wanted = [Reply::Unchanged, Reply::Refused(Refusal::NotWatched)];
     let mut commands = watching(alloc, &["/r"])?;
     commands.push(Command::WatchDel(RootPath::read(alloc, "/other")?))?;
-    meet(alloc, store, commands)
+    replies(alloc, store, commands, &wanted)
+}
+
+/// Meets a batch that isn't accepted, and one of no command.
+fn meet_nothing(rt: &impl Abort, alloc: Global, store: &mut Kept) -> Result<(), Refusal> {
+    assert!(rt; accepts_none(alloc, store)?);
+    assert!(rt; replies(alloc, store, Vec::new(alloc), &[])?);
+    Ok(())
 }
 
 #[test]
 fn makes_no_call_for_what_it_does_not_accept(rt: HostRuntime) -> Result<(), Fail> {
-    let alloc = rt.alloc();
-    let mut store = watching_one(alloc)?;
-    let wanted = [Reply::Unchanged, Reply::Refused(Refusal::NotWatched)];
-    let replies = unaccepted(alloc, &mut store)?;
-    assert!(rt; replies.as_slice() == wanted.as_slice());
-    let replies = meet(alloc, &mut store, Vec::new(alloc))?;
-    assert!(rt; replies.is_empty());
+    let mut store = watching_one(rt.alloc())?;
+    meet_nothing(&rt, rt.alloc(), &mut store)?;
     assert!(rt; store.into_disk().calls() == (49, 9, 2));
     Ok(())
 }
 
-/// The calls of a disk whose store made two checkpoints.
-fn calls_of_two_checkpoints(alloc: Global) -> Result<Calls, Refusal> {
-    let mut store = opened(alloc)?;
+fn checkpoint_twice(alloc: Global, store: &mut Kept) -> Result<(), Refusal> {
     store.checkpoint(alloc)?;
-    store.checkpoint(alloc)?;
-    Ok(store.into_disk().calls())
+    store.checkpoint(alloc)
 }
 
 #[test]
 fn writes_into_a_slot_with_an_open_gate(rt: HostRuntime) -> Result<(), Fail> {
+    let mut store = opened(rt.alloc())?;
+    let answer = checkpoint_twice(rt.alloc(), &mut store);
+    let calls = store.into_disk().calls();
     // three writes into the slot with a closed gate, and four into the other
-    assert!(rt; calls_of_two_checkpoints(rt.alloc())? == (54, 13, 4));
+    assert!(rt; answer.is_ok() && calls == (54, 13, 4));
     Ok(())
 }
 
 /// Meets three batches of 64 watches of long paths.
 pub(super) fn fill(alloc: Global, store: &mut Kept) -> Result<(), Refusal> {
     for first in [b'a', b'b', b'c'] {
-        accept(alloc, store, many(alloc, first, 64, 1_024)?)?;
+        watch_many(alloc, store, first, 64, 1_024)?;
     }
     Ok(())
 }
@@ -105,24 +121,24 @@ const SPLIT: &[(usize, &[u8])] = &[
     (JOURNAL_B + 2_060, b"\x00"),
 ];
 
-/// The disk of a store that met four batches, where the last was accepted whole, and all 256 roots are there.
-fn with_four_batches(alloc: Global) -> Result<Option<MemDisk>, Refusal> {
-    let mut store = opened(alloc)?;
-    fill(alloc, &mut store)?;
-    let accepted = accept(alloc, &mut store, many(alloc, b'd', 64, 1_024)?)?;
-    let is_whole = accepted == 64 && store.registry().roots().len() == 256;
-    Ok(is_whole.then_some(store.into_disk()))
+/// Whether the last of four batches is accepted whole, and all 256 roots are there.
+fn takes_four_batches(alloc: Global, store: &mut Kept) -> Result<bool, Refusal> {
+    fill(alloc, store)?;
+    let accepted = watch_many(alloc, store, b'd', 64, 1_024)?;
+    Ok(accepted == 64 && store.registry().roots().len() == 256)
 }
 
 /// The journal takes 62 watches of the fourth batch, and a checkpoint stands between them and the last two.
 #[test]
 fn makes_room_within_a_batch(rt: HostRuntime) -> Result<(), Fail> {
-    let disk = with_four_batches(rt.alloc())?.ok_or("not accepted whole")?;
-    // 65 writes and two syncs for each of the first three batches, and then 63 + 3 + 3 and 2 + 3 + 2
-    assert!(rt; disk.calls() == (47 + 195 + 69, 7 + 6 + 7, 3));
+    let mut store = opened(rt.alloc())?;
+    let is_whole = takes_four_batches(rt.alloc(), &mut store);
+    let disk = store.into_disk();
+    let calls = disk.calls();
     let content = content_of(rt.alloc(), disk.crash())?;
-    for (at, bytes) in SPLIT {
-        assert!(rt; stands(&content, *at, bytes), "at {at}");
-    }
+    assert!(rt; is_whole == Ok(true));
+    // 65 writes and two syncs for each of the first three batches, and then 63 + 3 + 3 and 2 + 3 + 2
+    assert!(rt; calls == (47 + 195 + 69, 7 + 6 + 7, 3));
+    assert_stand(&rt, &content, SPLIT);
     Ok(())
 }

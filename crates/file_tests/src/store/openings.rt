@@ -1,10 +1,11 @@
 //! Files whose opening is refused, and spent numbers.
 use super::calls::{fill, many};
-use super::{JOURNAL_A, Kept, SLOT_B, accept, formatted, meet, open, watching};
+use super::{JOURNAL_A, Kept, SLOT_B, edited, formatted, meet, open, open_bytes, watch};
 use crate::disks::{content_of, disk_of, overwrite};
 use std::alloc::{AllocError, Global};
+use std::process::Abort;
 use std::test::Fail;
-use wm_disk::{Crashed, Refusal};
+use wm_disk::{Crashed, MemDisk, Refusal};
 use wm_registry::Reply;
 use wm_store::Store;
 
@@ -20,13 +21,6 @@ const NUMBER: usize = 4_097;
 /// Where the incarnation of slot A's registry stands.
 const INCARNATION: usize = 4_109;
 
-/// A new file with other bytes at a place.
-fn edited(alloc: Global, at: usize, bytes: &[u8]) -> Result<Vec<u8>, Refusal> {
-    let mut content = content_of(alloc, formatted(alloc)?)?;
-    overwrite(&mut content, at, bytes)?;
-    Ok(content)
-}
-
 /// A journal with as many `Begin` as it takes, and its closed gate.
 fn full_journal(alloc: Global) -> Result<Vec<u8>, AllocError> {
     let mut journal = Vec::new(alloc);
@@ -37,16 +31,23 @@ fn full_journal(alloc: Global) -> Result<Vec<u8>, AllocError> {
     Ok(journal)
 }
 
+/// Whether an opening on these bytes is refused so, and hands the disk back as it was.
+fn refuses(alloc: Global, content: &[u8], wanted: Refusal) -> Result<bool, Refusal> {
+    let disk = disk_of(alloc, 0, content)?;
+    let Some((refusal, disk)) = Store::open(alloc, disk).err() else {
+        return Ok(false);
+    };
+    let after = content_of(alloc, disk)?;
+    Ok(refusal == wanted && after.as_slice() == content)
+}
+
 /// Whether the opening of such a file is refused so, and hands the disk back as it was.
 fn hands_back(
     alloc: Global,
     (at, bytes, wanted): (usize, &[u8], Refusal),
 ) -> Result<bool, Refusal> {
     let content = edited(alloc, at, bytes)?;
-    match Store::open(alloc, disk_of(alloc, 0, &content)?) {
-        Ok(_) => Ok(false),
-        Err((refusal, disk)) => Ok(refusal == wanted && content_of(alloc, disk)? == content),
-    }
+    refuses(alloc, &content, wanted)
 }
 
 /// The header, the retired gate, both slots closed, both open with number 1, the incarnation, and journals: of no command, of a
@@ -88,18 +89,21 @@ fn hands_a_disk_back(rt: HostRuntime) -> Result<(), Fail> {
     Ok(())
 }
 
+/// The incarnation that an opening on this disk begins.
+fn begun(alloc: Global, disk: MemDisk) -> Result<u64, Refusal> {
+    let store = open(alloc, disk)?;
+    Ok(store.registry().incarnation())
+}
+
 /// Whether an opening fails where the disk lets so many calls pass, and a next one begins this incarnation.
 fn fails(alloc: Global, passing: u64, incarnation: u64) -> Result<bool, Refusal> {
     let mut disk = formatted(alloc)?;
     disk.arm(passing);
-    match Store::open(alloc, disk) {
-        Ok(_) => Ok(false),
-        Err((refusal, disk)) => {
-            let store = open(alloc, disk.stop())?;
-            let begun = store.registry().incarnation();
-            Ok(refusal == Refusal::DeviceFailed && begun == incarnation)
-        }
-    }
+    let Some((refusal, disk)) = Store::open(alloc, disk).err() else {
+        return Ok(false);
+    };
+    let begun = begun(alloc, disk.stop())?;
+    Ok(refusal == Refusal::DeviceFailed && begun == incarnation)
 }
 
 /// How many device calls of the opening pass, and the incarnation that a next one begins.
@@ -115,23 +119,26 @@ fn tells_a_failing_opening(rt: HostRuntime) -> Result<(), Fail> {
     Ok(())
 }
 
+/// The incarnation that an opening on these bytes begins.
+fn begun_from(alloc: Global, content: &[u8]) -> Result<u64, Refusal> {
+    begun(alloc, disk_of(alloc, 0, content)?)
+}
+
 #[test]
 fn begins_where_the_journal_is_full(rt: HostRuntime) -> Result<(), Fail> {
     let alloc = rt.alloc();
     let mut content = edited(alloc, JOURNAL_A, &full_journal(alloc)?)?;
-    let store = open(alloc, disk_of(alloc, 0, &content)?)?;
-    assert!(rt; store.registry().incarnation() == 131_072);
+    assert!(rt; begun_from(alloc, &content) == Ok(131_072));
     // the `Begin` needs a checkpoint
     overwrite(&mut content, NUMBER, LAST)?;
-    let answer = open(alloc, disk_of(alloc, 0, &content)?);
-    assert!(rt; matches!(answer, Err(Refusal::Exhausted)));
+    assert!(rt; begun_from(alloc, &content) == Err(Refusal::Exhausted));
     Ok(())
 }
 
 /// A store whose slot has the last number.
 fn spent(alloc: Global) -> Result<Kept, Refusal> {
     let content = edited(alloc, NUMBER, LAST)?;
-    open(alloc, disk_of(alloc, 0, &content)?)
+    open_bytes(alloc, 0, &content)
 }
 
 /// The reply to each of a batch's commands: the journal takes 62 of them.
@@ -143,20 +150,29 @@ fn wanted(place: usize) -> Reply {
     }
 }
 
+/// Meets the fourth batch.
+fn meet_fourth(rt: &impl Abort, alloc: Global, store: &mut Kept) -> Result<(), Refusal> {
+    let replies = meet(alloc, store, many(alloc, b'd', 64, 1_024)?)?;
+    for (place, reply) in replies.iter().enumerate() {
+        assert!(rt; *reply == wanted(place), "at {place}");
+    }
+    Ok(())
+}
+
+/// Fills the journal of a store that can make no checkpoint.
+fn spend(rt: &impl Abort, alloc: Global, store: &mut Kept) -> Result<(), Refusal> {
+    assert!(rt; store.checkpoint(alloc) == Err(Refusal::Exhausted));
+    assert!(rt; watch(alloc, store, &["/r"]) == Ok(1));
+    fill(alloc, store)?;
+    meet_fourth(rt, alloc, store)
+}
+
 #[test]
 fn takes_what_needs_no_further_slot(rt: HostRuntime) -> Result<(), Fail> {
     let alloc = rt.alloc();
     let mut store = spent(alloc)?;
-    assert!(rt; store.checkpoint(alloc) == Err(Refusal::Exhausted));
-    let accepted = accept(alloc, &mut store, watching(alloc, &["/r"])?);
-    assert!(rt; accepted == Ok(1));
-    fill(alloc, &mut store)?;
-    // the fourth batch
-    let replies = meet(alloc, &mut store, many(alloc, b'd', 64, 1_024)?)?;
-    for (place, reply) in replies.iter().enumerate() {
-        assert!(rt; *reply == wanted(place), "at {place}");
-    }
+    let spent = spend(&rt, alloc, &mut store);
     let store = open(alloc, store.into_disk().crash())?;
-    assert!(rt; store.registry().roots().len() == 255);
+    assert!(rt; spent.is_ok() && store.registry().roots().len() == 255);
     Ok(())
 }

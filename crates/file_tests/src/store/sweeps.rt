@@ -1,7 +1,7 @@
 //! A start, a batch and a checkpoint that are cut at each of their device calls, and what a next start finds: after a crash
 //! under each choice of what it leaves, or after a stop and a start that is cut as well. Two cuts are enough, since a cut
 //! start leaves nothing that a first cut doesn't.
-use super::{Kept, START_CALLS, accept, checkpointed, open, watching};
+use super::{Kept, START_CALLS, checkpointed, open, watch, watches};
 use crate::disks::disk_of;
 use std::alloc::{AllocError, Global};
 use std::process::Abort;
@@ -88,16 +88,21 @@ fn start(alloc: Global, mut disk: MemDisk, found: Found, passing: u64) -> Result
     }
 }
 
+/// Whether the batch is cut where the disk lets so many calls pass. All of it is accepted where it isn't.
+fn is_batch_cut(alloc: Global, store: &mut Kept, passing: u64) -> Result<bool, Refusal> {
+    store.arm(passing);
+    match watch(alloc, store, BATCH) {
+        Err(Refusal::DeviceFailed) => Ok(true),
+        Ok(accepted) if accepted == BATCH.len() => Ok(false),
+        _ => Err(Refusal::BadCommand),
+    }
+}
+
 /// A batch where the disk lets so many calls pass: all of it is found where it was answered, and perhaps a prefix where
 /// it is cut.
 fn batch(alloc: Global, disk: MemDisk, passing: u64) -> Result<Left, Refusal> {
     let mut store = open(alloc, disk)?;
-    store.arm(passing);
-    let answer = accept(alloc, &mut store, watching(alloc, BATCH)?);
-    let is_cut = answer == Err(Refusal::DeviceFailed);
-    if !is_cut && answer != Ok(BATCH.len()) {
-        return Err(Refusal::BadCommand);
-    }
+    let is_cut = is_batch_cut(alloc, &mut store, passing)?;
     Ok(Left {
         disk: store.into_disk(),
         found: Found {
@@ -110,15 +115,20 @@ fn batch(alloc: Global, disk: MemDisk, passing: u64) -> Result<Left, Refusal> {
     })
 }
 
+/// Whether a checkpoint is cut where the disk lets so many calls pass.
+fn is_checkpoint_cut(alloc: Global, store: &mut Kept, passing: u64) -> Result<bool, Refusal> {
+    store.arm(passing);
+    match store.checkpoint(alloc) {
+        Ok(()) => Ok(false),
+        Err(Refusal::DeviceFailed) => Ok(true),
+        Err(refusal) => Err(refusal),
+    }
+}
+
 /// A checkpoint where the disk lets so many calls pass, which changes nothing that is found.
 fn checkpoint(alloc: Global, disk: MemDisk, passing: u64) -> Result<Left, Refusal> {
     let mut store = open(alloc, disk)?;
-    store.arm(passing);
-    let answer = store.checkpoint(alloc);
-    let is_cut = answer == Err(Refusal::DeviceFailed);
-    if !is_cut {
-        answer?;
-    }
+    let is_cut = is_checkpoint_cut(alloc, &mut store, passing)?;
     Ok(Left {
         disk: store.into_disk(),
         found: Found {
@@ -145,30 +155,24 @@ fn cut(
     }
 }
 
-/// Whether the store watches just these paths.
-fn watches_just(store: &Kept, paths: &[&str]) -> bool {
-    let roots = store.registry().roots();
-    roots.len() == paths.len()
-        && roots
-            .iter()
-            .zip(paths)
-            .all(|((root, _), path)| root.as_str() == *path)
-}
-
-/// Whether a crash of this disk leaves what may be found, with the root numbers that it took.
-fn is_found(alloc: Global, left: Left) -> Result<bool, Refusal> {
-    let store = open(alloc, left.disk.crash())?;
+/// Whether the store has what may be found, with the root numbers that it took.
+fn has(store: &Kept, found: Found) -> bool {
     let registry = store.registry();
-    let found = left.found;
     let count = registry.roots().len().saturating_sub(1);
     let Some(paths) = AFTER.get(count) else {
-        return Ok(false);
+        return false;
     };
     let begun = registry.incarnation();
     let is_begun = found.first <= begun && begun <= found.last;
     let is_counted = found.least <= count && count <= found.most;
     let is_numbered = registry.next_root() == (count as u64).saturating_add(2);
-    Ok(is_begun && is_counted && is_numbered && watches_just(&store, paths))
+    is_begun && is_counted && is_numbered && watches(store, paths)
+}
+
+/// Whether a crash of this disk leaves what may be found.
+fn is_found(alloc: Global, left: Left) -> Result<bool, Refusal> {
+    let store = open(alloc, left.disk.crash())?;
+    Ok(has(&store, left.found))
 }
 
 /// More device calls than any work here makes.

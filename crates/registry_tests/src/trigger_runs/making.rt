@@ -61,6 +61,12 @@ pub fn trigger_for(alloc: Global, expression: Option<&str>) -> Result<Trigger, F
     Ok(Trigger::new(alloc, "t", &["true"], expression, false, Stdin::DevNull)?)
 }
 
+/// The runs of such a trigger, of which none was started yet.
+pub fn runs_for(alloc: Global, expression: Option<&str>) -> Result<TriggerRun, Fail> {
+    let trigger = trigger_for(alloc, expression)?;
+    Ok(TriggerRun::new(alloc, &trigger)?)
+}
+
 pub fn root(alloc: Global, path: &str) -> Result<RootPath, Fail> {
     Ok(RootPath::read(alloc, path)?)
 }
@@ -95,13 +101,18 @@ pub fn answer_with(alloc: Global, paths: &[&str]) -> Result<Answer, Fail> {
     })
 }
 
-/// The run with these files.
-pub fn run_with(alloc: Global, paths: &[&str]) -> Result<Run, Fail> {
-    let runs = TriggerRun::new(alloc, &trigger_for(alloc, None)?)?;
-    match runs.run_of(answer_with(alloc, paths)?) {
+/// The run with the files of the answer.
+pub fn run_of(runs: &TriggerRun, answer: Answer) -> Result<Run, Fail> {
+    match runs.run_of(answer) {
         Some(run) => Ok(run),
         None => Err(Fail::new("a run lists a file")),
     }
+}
+
+/// The run with these files.
+pub fn run_with(alloc: Global, paths: &[&str]) -> Result<Run, Fail> {
+    let runs = runs_for(alloc, None)?;
+    run_of(&runs, answer_with(alloc, paths)?)
 }
 
 /// Whether the run has these files.

@@ -5,8 +5,9 @@ use std::process::Processes;
 use std::test::Fail;
 use std::{env, fs};
 use wm_disk::Refusal;
-use wm_registry::Stdin;
-use wm_triggers::{ProgramStarter, Starter, SystemLauncher};
+use wm_names::RootPath;
+use wm_registry::{Stdin, Trigger};
+use wm_triggers::{ProgramStarter, Run, Starter, SystemLauncher};
 
 /// A program's words, whether the files are appended, and what it reads.
 #[derive(Drop)]
@@ -14,6 +15,19 @@ struct Program<'a> {
     words: &'a [&'a str],
     append_files: bool,
     stdin: Stdin,
+}
+
+/// Starts the trigger's program for the run: how often the start failed, and its refusal.
+fn started<R: Processes>(
+    alloc: Global,
+    processes: &R,
+    root: &RootPath,
+    trigger: &Trigger,
+    run: &Run,
+) -> (u64, Option<Refusal>) {
+    let mut starter = ProgramStarter::new(SystemLauncher::new(processes));
+    let refused = starter.run(alloc, root, trigger, run).err();
+    (starter.failures(), refused)
 }
 
 /// Runs the program in a folder for these files: how often the start failed, and its refusal.
@@ -24,12 +38,10 @@ fn ran<R: Processes>(
     program: &Program<'_>,
     files: &[&str],
 ) -> Result<(u64, Option<Refusal>), Fail> {
-    let mut starter = ProgramStarter::new(SystemLauncher::new(processes));
     let trigger = trigger(alloc, program.words, program.append_files, program.stdin)?;
-    let run = run_with(alloc, files)?;
     let root = root(alloc, folder)?;
-    let refused = starter.run(alloc, &root, &trigger, &run).err();
-    Ok((starter.failures(), refused))
+    let run = run_with(alloc, files)?;
+    Ok(started(alloc, processes, &root, &trigger, &run))
 }
 
 /// The folder of the tests.
@@ -38,14 +50,29 @@ fn here(rt: &HostRuntime) -> Result<String, Fail> {
     Ok(String::from_str(rt.alloc(), folder.as_str())?)
 }
 
+/// Runs the program in the folder of the tests.
+fn ran_here(
+    rt: &HostRuntime,
+    program: &Program<'_>,
+    files: &[&str],
+) -> Result<(u64, Option<Refusal>), Fail> {
+    let folder = here(rt)?;
+    ran(rt.alloc(), rt, &folder, program, files)
+}
+
+/// Whether the file has this text.
+fn has_text(rt: &HostRuntime, path: &str, wanted: &str) -> Result<bool, Fail> {
+    let text = fs::read_to_string(rt, path)?;
+    Ok(text.as_str() == wanted)
+}
+
 /// Whether the program, for `d/b.c` and `a.c`, leaves this text in the file.
 fn leaves(rt: &HostRuntime, program: &Program<'_>, path: &str, wanted: &str) -> Result<bool, Fail> {
     let _ = fs::remove_file(rt, path);
-    let folder = here(rt)?;
-    let (failures, refused) = ran(rt.alloc(), rt, &folder, program, &["d/b.c", "a.c"])?;
-    let text = fs::read_to_string(rt, path)?;
+    let (failures, refused) = ran_here(rt, program, &["d/b.c", "a.c"])?;
+    let written = has_text(rt, path, wanted)?;
     fs::remove_file(rt, path)?;
-    Ok(failures == 0 && refused.is_none() && text.as_str() == wanted)
+    Ok(failures == 0 && refused.is_none() && written)
 }
 
 /// A script with two words behind it, whether the files are appended, what it reads, the file that
@@ -124,12 +151,16 @@ fn programs_get_their_words_and_input(rt: HostRuntime) -> Result<(), Fail> {
     Ok(())
 }
 
+/// Where this program writes its output and its errors.
+fn own_streams(rt: &HostRuntime) -> Result<String, Fail> {
+    let output = fs::read_link(rt, "/proc/self/fd/1")?;
+    let errors = fs::read_link(rt, "/proc/self/fd/2")?;
+    Ok(format!(in rt.alloc(); "{}\n{}\n", output.as_str(), errors.as_str())?)
+}
+
 #[test]
 fn programs_write_where_this_one_writes(rt: HostRuntime) -> Result<(), Fail> {
-    let alloc = rt.alloc();
-    let output = fs::read_link(&rt, "/proc/self/fd/1")?;
-    let errors = fs::read_link(&rt, "/proc/self/fd/2")?;
-    let wanted = format!(in alloc; "{}\n{}\n", output.as_str(), errors.as_str())?;
+    let wanted = own_streams(&rt)?;
     let program = Program {
         words: &[
             "sh",
@@ -143,22 +174,31 @@ fn programs_write_where_this_one_writes(rt: HostRuntime) -> Result<(), Fail> {
     Ok(())
 }
 
-#[test]
-fn programs_run_in_the_root(rt: HostRuntime) -> Result<(), Fail> {
-    const FOLDER: &str = "trigger_root";
-    let alloc = rt.alloc();
-    let _ = fs::create_dir(&rt, FOLDER);
-    let folder = format!(in alloc; "{}/{FOLDER}", here(&rt)?)?;
+/// Whether the file has this line.
+fn has_line(rt: &HostRuntime, path: &str, line: &str) -> Result<bool, Fail> {
+    let text = fs::read_to_string(rt, path)?;
+    Ok(text.as_str().strip_suffix("\n") == Some(line))
+}
+
+/// Whether a program of the root `trigger_root` writes that it runs in this folder.
+fn runs_in(rt: &HostRuntime, folder: &str) -> Result<bool, Fail> {
     let program = Program {
         words: &["sh", "-c", "pwd > here"],
         append_files: false,
         stdin: Stdin::DevNull,
     };
-    let (failures, refused) = ran(alloc, &rt, &folder, &program, &["a.c"])?;
-    assert!(rt; failures == 0 && refused.is_none());
-    let told = fs::read_to_string(&rt, "trigger_root/here")?;
-    assert!(rt; told.as_str().strip_suffix("\n") == Some(folder.as_str()));
-    fs::remove_file(&rt, "trigger_root/here")?;
+    let (failures, refused) = ran(rt.alloc(), rt, folder, &program, &["a.c"])?;
+    let told = has_line(rt, "trigger_root/here", folder)?;
+    fs::remove_file(rt, "trigger_root/here")?;
+    Ok(failures == 0 && refused.is_none() && told)
+}
+
+#[test]
+fn programs_run_in_the_root(rt: HostRuntime) -> Result<(), Fail> {
+    const FOLDER: &str = "trigger_root";
+    let _ = fs::create_dir(&rt, FOLDER);
+    let folder = format!(in rt.alloc(); "{}/{FOLDER}", here(&rt)?)?;
+    assert!(rt; runs_in(&rt, &folder)?);
     fs::remove_dir(&rt, FOLDER)?;
     Ok(())
 }
@@ -224,10 +264,8 @@ fn ran_for(
     program: &Program<'_>,
     paths: &[String],
 ) -> Result<(u64, Option<Refusal>), Fail> {
-    let alloc = rt.alloc();
-    let paths: Vec<&str> = paths.iter().map(|path| path.as_str()).collect(alloc)?;
-    let folder = here(rt)?;
-    ran(alloc, rt, &folder, program, &paths)
+    let paths: Vec<&str> = paths.iter().map(|path| path.as_str()).collect(rt.alloc())?;
+    ran_here(rt, program, &paths)
 }
 
 #[test]
@@ -245,6 +283,15 @@ fn a_program_may_end_as_it_likes(rt: HostRuntime) -> Result<(), Fail> {
     Ok(())
 }
 
+/// Whether the file has the lines of 65,536 paths of six digits.
+fn has_numbers(rt: &HostRuntime, path: &str) -> Result<bool, Fail> {
+    let text = fs::read_to_string(rt, path)?;
+    let text = text.as_str();
+    let ends = text.starts_with("000000\n000001\n") && text.ends_with("\n065534\n065535\n");
+    // lines of seven bytes
+    Ok(text.len() == 458_752 && ends)
+}
+
 #[test]
 fn reads_more_than_a_pipe_holds(rt: HostRuntime) -> Result<(), Fail> {
     let program = Program {
@@ -254,13 +301,18 @@ fn reads_more_than_a_pipe_holds(rt: HostRuntime) -> Result<(), Fail> {
     };
     let (failures, refused) = ran_for(&rt, &program, &numbered(rt.alloc(), 65536)?)?;
     assert!(rt; failures == 0 && refused.is_none());
-    let text = fs::read_to_string(&rt, "trigger_many")?;
+    assert!(rt; has_numbers(&rt, "trigger_many")?);
     fs::remove_file(&rt, "trigger_many")?;
-    // 65,536 lines of seven bytes
-    assert!(rt; text.len() == 458_752);
-    let text = text.as_str();
-    assert!(rt; text.starts_with("000000\n000001\n") && text.ends_with("\n065534\n065535\n"));
     Ok(())
+}
+
+/// The path, so many times.
+fn repeated(alloc: Global, path: &str, count: u32) -> Result<Vec<&str>, Fail> {
+    let mut paths = Vec::new(alloc);
+    for _ in 0..count {
+        paths.push(path)?;
+    }
+    Ok(paths)
 }
 
 #[test]
@@ -274,12 +326,8 @@ fn words_beyond_the_limit_of_the_system_are_refused(rt: HostRuntime) -> Result<(
     // 8,192 paths of 1,000 bytes: Linux takes 6 MiB of words at most, whatever its limits are set
     // to
     let long = format!(in alloc; "{:01000}", 0)?;
-    let mut paths = Vec::new(alloc);
-    for _ in 0..8192 {
-        paths.push(long.as_str())?;
-    }
-    let folder = here(&rt)?;
-    let (failures, refused) = ran(alloc, &rt, &folder, &program, &paths)?;
+    let paths = repeated(alloc, &long, 8192)?;
+    let (failures, refused) = ran_here(&rt, &program, &paths)?;
     assert!(rt; failures == 1 && refused == Some(Refusal::DeviceFailed));
     Ok(())
 }

@@ -1,8 +1,9 @@
 //! Which run of a trigger is due.
 use crate::trigger_runs::making::{
-    answer_with, empty_view, has_files, observe, run_with, trigger_for,
+    answer_with, empty_view, has_files, observe, run_of, run_with, runs_for, trigger_for,
 };
 use std::alloc::Global;
+use std::process::Abort;
 use std::test::Fail;
 use wm_disk::Refusal;
 use wm_since::answer;
@@ -38,6 +39,7 @@ fn is_due(
     }
 }
 
+/// The run that is due.
 fn due_run(alloc: Global, runs: &TriggerRun, view: &View) -> Result<Run, Fail> {
     match runs.due(alloc, view)? {
         Some(run) => Ok(run),
@@ -45,21 +47,63 @@ fn due_run(alloc: Global, runs: &TriggerRun, view: &View) -> Result<Run, Fail> {
     }
 }
 
+/// The program of the run that is due is started.
+fn start(alloc: Global, view: &View, runs: &mut TriggerRun) -> Result<(), Fail> {
+    let run = due_run(alloc, runs, view)?;
+    runs.started(&run);
+    Ok(())
+}
+
+/// Whether a copy of the run has its clock and these files, and is fresh.
+fn is_copied(alloc: Global, run: &Run, wanted: &[&str]) -> Result<bool, Fail> {
+    let copy = run.copy(alloc)?;
+    Ok(has_files(&copy, wanted) && copy.clock() == run.clock() && copy.fresh())
+}
+
+/// Asserts that the run is the first one over the two files.
+fn see_first_run(rt: &impl Abort, alloc: Global, run: &Run) -> Result<(), Fail> {
+    assert!(rt; has_files(run, &["b.c", "a.c"]));
+    let clock = run.clock();
+    assert!(rt; clock.incarnation == 1 && clock.root == 1 && clock.tick == 3);
+    assert!(rt; is_copied(alloc, run, &["b.c", "a.c"])?);
+    Ok(())
+}
+
+/// Asserts that a run for the two files is due, and that the trigger asks for just that.
+fn ask_for_run(rt: &impl Abort, alloc: Global, view: &View, runs: &TriggerRun) -> Result<(), Fail> {
+    assert!(rt; is_due(alloc, runs, view, &["b.c", "a.c"], 3, true)?);
+    let query = runs.ask(alloc)?;
+    assert!(rt; query.since.is_none() && !query.empty_on_fresh);
+    let run = run_of(runs, answer(alloc, view, &query)?)?;
+    see_first_run(rt, alloc, &run)
+}
+
 #[test]
 fn due_is_run(rt: HostRuntime) -> Result<(), Fail> {
     let alloc = rt.alloc();
     let view = two_files(alloc)?;
-    let runs = TriggerRun::new(alloc, &trigger_for(alloc, None)?)?;
-    assert!(rt; is_due(alloc, &runs, &view, &["b.c", "a.c"], 3, true)?);
-    let query = runs.ask(alloc)?;
-    assert!(rt; query.since.is_none() && !query.empty_on_fresh);
-    let Some(run) = runs.run_of(answer(alloc, &view, &query)?) else {
-        return Err(Fail::new("a run is due"));
-    };
-    assert!(rt; has_files(&run, &["b.c", "a.c"]));
-    let (clock, copy) = (run.clock(), run.copy(alloc)?);
-    assert!(rt; clock.incarnation == 1 && clock.root == 1 && clock.tick == 3);
-    assert!(rt; has_files(&copy, &["b.c", "a.c"]) && copy.clock() == clock && copy.fresh());
+    let runs = runs_for(alloc, None)?;
+    ask_for_run(&rt, alloc, &view, &runs)
+}
+
+/// Whether the first file of the run that is due is gone.
+fn lists_a_deletion(alloc: Global, runs: &TriggerRun, view: &View) -> Result<bool, Fail> {
+    let run = due_run(alloc, runs, view)?;
+    Ok(!run.files()[0].entry.exists)
+}
+
+/// Asserts that a run behind the first one lists what changed since.
+fn tell_changes(
+    rt: &impl Abort,
+    alloc: Global,
+    view: &mut View,
+    runs: &mut TriggerRun,
+) -> Result<(), Fail> {
+    start(alloc, view, runs)?;
+    assert!(rt; is_due(alloc, runs, view, &[], 3, false)?);
+    observe(alloc, view, &[("c.c", Some(1)), ("a.c", None)])?;
+    assert!(rt; is_due(alloc, runs, view, &["a.c", "c.c"], 5, false)?);
+    assert!(rt; lists_a_deletion(alloc, runs, view)?);
     Ok(())
 }
 
@@ -67,13 +111,26 @@ fn due_is_run(rt: HostRuntime) -> Result<(), Fail> {
 fn tells_what_changed_since_the_last_run(rt: HostRuntime) -> Result<(), Fail> {
     let alloc = rt.alloc();
     let mut view = two_files(alloc)?;
-    let mut runs = TriggerRun::new(alloc, &trigger_for(alloc, None)?)?;
-    let run = due_run(alloc, &runs, &view)?;
-    runs.started(&run);
-    assert!(rt; is_due(alloc, &runs, &view, &[], 3, false)?);
-    observe(alloc, &mut view, &[("c.c", Some(1)), ("a.c", None)])?;
-    assert!(rt; is_due(alloc, &runs, &view, &["a.c", "c.c"], 5, false)?);
-    assert!(rt; !due_run(alloc, &runs, &view)?.files()[0].entry.exists);
+    let mut runs = runs_for(alloc, None)?;
+    tell_changes(&rt, alloc, &mut view, &mut runs)
+}
+
+/// Asserts that what a start that failed was to tell is told by the next one, by the first start as by
+/// a later one.
+fn list_again(
+    rt: &impl Abort,
+    alloc: Global,
+    view: &mut View,
+    runs: &mut TriggerRun,
+) -> Result<(), Fail> {
+    runs.failed_to_start();
+    assert!(rt; is_due(alloc, runs, view, &["b.c", "a.c"], 3, true)?);
+    start(alloc, view, runs)?;
+    observe(alloc, view, &[("c.c", Some(1))])?;
+    runs.failed_to_start();
+    assert!(rt; is_due(alloc, runs, view, &["c.c"], 4, false)?);
+    observe(alloc, view, &[("d.c", Some(1))])?;
+    assert!(rt; is_due(alloc, runs, view, &["d.c", "c.c"], 5, false)?);
     Ok(())
 }
 
@@ -81,38 +138,73 @@ fn tells_what_changed_since_the_last_run(rt: HostRuntime) -> Result<(), Fail> {
 fn lists_again_what_could_not_be_started(rt: HostRuntime) -> Result<(), Fail> {
     let alloc = rt.alloc();
     let mut view = two_files(alloc)?;
-    let mut runs = TriggerRun::new(alloc, &trigger_for(alloc, None)?)?;
-    runs.failed_to_start();
-    assert!(rt; is_due(alloc, &runs, &view, &["b.c", "a.c"], 3, true)?);
-    let run = due_run(alloc, &runs, &view)?;
+    let mut runs = runs_for(alloc, None)?;
+    list_again(&rt, alloc, &mut view, &mut runs)
+}
+
+/// The view of a later incarnation, in which `a.c` was observed.
+fn view_after_restart(alloc: Global) -> Result<View, Fail> {
+    let mut view = empty_view(alloc, 2)?;
+    observe(alloc, &mut view, &[("a.c", Some(3))])?;
+    Ok(view)
+}
+
+/// A trigger whose last run was one for `a.c`.
+fn runs_with_a_start(alloc: Global) -> Result<TriggerRun, Fail> {
+    let run = run_with(alloc, &["a.c"])?;
+    let mut runs = runs_for(alloc, None)?;
     runs.started(&run);
-    observe(alloc, &mut view, &[("c.c", Some(1))])?;
-    runs.failed_to_start();
-    assert!(rt; is_due(alloc, &runs, &view, &["c.c"], 4, false)?);
-    observe(alloc, &mut view, &[("d.c", Some(1))])?;
-    assert!(rt; is_due(alloc, &runs, &view, &["d.c", "c.c"], 5, false)?);
-    Ok(())
+    Ok(runs)
 }
 
 #[test]
 fn begins_anew_after_a_restart(rt: HostRuntime) -> Result<(), Fail> {
     let alloc = rt.alloc();
-    let mut runs = TriggerRun::new(alloc, &trigger_for(alloc, None)?)?;
-    runs.started(&run_with(alloc, &["a.c"])?);
-    let mut view = empty_view(alloc, 2)?;
-    observe(alloc, &mut view, &[("a.c", Some(3))])?;
+    let runs = runs_with_a_start(alloc)?;
+    let view = view_after_restart(alloc)?;
     assert!(rt; is_due(alloc, &runs, &view, &["a.c"], 2, true)?);
     Ok(())
+}
+
+/// Whether no run is due by a view of no files.
+fn is_idle(alloc: Global, runs: &TriggerRun) -> Result<bool, Fail> {
+    let view = empty_view(alloc, 1)?;
+    Ok(runs.due(alloc, &view)?.is_none())
+}
+
+/// Whether an answer of no files makes no run.
+fn has_no_run(alloc: Global, runs: &TriggerRun) -> Result<bool, Fail> {
+    let answer = answer_with(alloc, &[])?;
+    Ok(runs.run_of(answer).is_none())
+}
+
+/// How a view that isn't ready is refused.
+fn refusal(alloc: Global, runs: &TriggerRun) -> Option<Refusal> {
+    let view = View::new(alloc, 1, 1);
+    runs.due(alloc, &view).err()
 }
 
 #[test]
 fn has_no_run_without_files(rt: HostRuntime) -> Result<(), Fail> {
     let alloc = rt.alloc();
-    let runs = TriggerRun::new(alloc, &trigger_for(alloc, None)?)?;
-    assert!(rt; runs.due(alloc, &empty_view(alloc, 1)?)?.is_none());
-    assert!(rt; runs.run_of(answer_with(alloc, &[])?).is_none());
-    let refused = runs.due(alloc, &View::new(alloc, 1, 1)).err();
-    assert!(rt; refused == Some(Refusal::NotReady));
+    let runs = runs_for(alloc, None)?;
+    assert!(rt; is_idle(alloc, &runs)?);
+    assert!(rt; has_no_run(alloc, &runs)?);
+    assert!(rt; refusal(alloc, &runs) == Some(Refusal::NotReady));
+    Ok(())
+}
+
+/// Asserts that the runs of a trigger for `a.c` alone list no other file.
+fn tell_a(
+    rt: &impl Abort,
+    alloc: Global,
+    view: &mut View,
+    runs: &mut TriggerRun,
+) -> Result<(), Fail> {
+    assert!(rt; is_due(alloc, runs, view, &["a.c"], 3, true)?);
+    start(alloc, view, runs)?;
+    observe(alloc, view, &[("b.c", Some(9))])?;
+    assert!(rt; is_due(alloc, runs, view, &[], 4, false)?);
     Ok(())
 }
 
@@ -120,14 +212,8 @@ fn has_no_run_without_files(rt: HostRuntime) -> Result<(), Fail> {
 fn tells_the_files_of_the_expression(rt: HostRuntime) -> Result<(), Fail> {
     let alloc = rt.alloc();
     let mut view = two_files(alloc)?;
-    let only_a = trigger_for(alloc, Some("[\"name\",\"a.c\"]"))?;
-    let mut runs = TriggerRun::new(alloc, &only_a)?;
-    assert!(rt; is_due(alloc, &runs, &view, &["a.c"], 3, true)?);
-    let run = due_run(alloc, &runs, &view)?;
-    runs.started(&run);
-    observe(alloc, &mut view, &[("b.c", Some(9))])?;
-    assert!(rt; is_due(alloc, &runs, &view, &[], 4, false)?);
-    Ok(())
+    let mut runs = runs_for(alloc, Some("[\"name\",\"a.c\"]"))?;
+    tell_a(&rt, alloc, &mut view, &mut runs)
 }
 
 #[test]

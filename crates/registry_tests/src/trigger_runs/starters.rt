@@ -3,7 +3,7 @@ use crate::trigger_runs::making::{has_files, root, run_with, trigger_for};
 use std::alloc::Global;
 use std::io;
 use std::io::ErrorKind;
-use std::process::Command;
+use std::process::{Abort, Command};
 use std::test::Fail;
 use wm_disk::Refusal;
 use wm_triggers::{Launcher, MemStarter, ProgramStarter, StartedRun, Starter};
@@ -15,7 +15,8 @@ fn run<S: Starter>(
     path: &str,
     file: &str,
 ) -> Result<Option<Refusal>, Fail> {
-    let (root, trigger) = (root(alloc, path)?, trigger_for(alloc, None)?);
+    let root = root(alloc, path)?;
+    let trigger = trigger_for(alloc, None)?;
     let run = run_with(alloc, &[file])?;
     Ok(starter.run(alloc, &root, &trigger, &run).err())
 }
@@ -26,22 +27,26 @@ fn is_of(started: &StartedRun, path: &str, file: &str) -> bool {
         && has_files(&started.run, &[file])
 }
 
-#[test]
-fn keeps_what_it_was_handed(rt: HostRuntime) -> Result<(), Fail> {
-    let alloc = rt.alloc();
-    let mut starter = MemStarter::new(alloc);
-    assert!(rt; run(alloc, &mut starter, "/r", "a.c")?.is_none());
+/// Asserts that the starter keeps its first run and its last one, and that those between them fail.
+fn fail_twice(rt: &impl Abort, alloc: Global, starter: &mut MemStarter) -> Result<(), Fail> {
+    assert!(rt; run(alloc, starter, "/r", "a.c")?.is_none());
     starter.fail(2);
     for _ in 0..2 {
-        let refused = run(alloc, &mut starter, "/r", "b.c")?;
+        let refused = run(alloc, starter, "/r", "b.c")?;
         assert!(rt; refused == Some(Refusal::DeviceFailed));
     }
-    assert!(rt; run(alloc, &mut starter, "/s", "c.c")?.is_none());
+    assert!(rt; run(alloc, starter, "/s", "c.c")?.is_none());
     assert!(rt; starter.failures() == 2);
     let runs = starter.runs();
     assert!(rt; runs.len() == 2);
     assert!(rt; is_of(&runs[0], "/r", "a.c") && is_of(&runs[1], "/s", "c.c"));
     Ok(())
+}
+
+#[test]
+fn keeps_what_it_was_handed(rt: HostRuntime) -> Result<(), Fail> {
+    let mut starter = MemStarter::new(rt.alloc());
+    fail_twice(&rt, rt.alloc(), &mut starter)
 }
 
 /// A launcher that starts nothing, for want of memory: the system's, or this process's.
@@ -65,14 +70,21 @@ impl Launcher for Full {
     }
 }
 
+/// How a starter over a full launcher refuses a run, how many failures it counts then, and whether its
+/// launcher is full by the system.
+fn refused_by_full(alloc: Global, is_system: bool) -> Result<(Option<Refusal>, u64, bool), Fail> {
+    let mut starter = ProgramStarter::new(Full { is_system });
+    let refused = run(alloc, &mut starter, "/r", "a.c")?;
+    Ok((refused, starter.failures(), starter.launcher().is_system))
+}
+
 #[test]
 fn counts_failures_of_the_system_alone(rt: HostRuntime) -> Result<(), Fail> {
-    let alloc = rt.alloc();
-    let mut starter = ProgramStarter::new(Full { is_system: false });
-    assert!(rt; run(alloc, &mut starter, "/r", "a.c")? == Some(Refusal::NoMemory));
-    assert!(rt; starter.failures() == 0 && !starter.launcher().is_system);
-    let mut starter = ProgramStarter::new(Full { is_system: true });
-    assert!(rt; run(alloc, &mut starter, "/r", "a.c")? == Some(Refusal::DeviceFailed));
-    assert!(rt; starter.failures() == 1);
+    let (refused, failures, is_system) = refused_by_full(rt.alloc(), false)?;
+    assert!(rt; refused == Some(Refusal::NoMemory));
+    assert!(rt; failures == 0 && !is_system);
+    let (refused, failures, is_system) = refused_by_full(rt.alloc(), true)?;
+    assert!(rt; refused == Some(Refusal::DeviceFailed));
+    assert!(rt; failures == 1 && is_system);
     Ok(())
 }

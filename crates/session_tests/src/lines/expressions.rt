@@ -1,7 +1,6 @@
 //! Questions with expressions: what each chooses, and which are none.
-use crate::disks::new_file;
-use crate::ends::{ACCEPTED, Row, assert_serves, texts};
-use std::alloc::{AllocError, Global};
+use crate::ends::{Row, assert_answers, texts};
+use std::alloc::AllocError;
 use std::test::Fail;
 
 /// A root with files of each kind, and one that is gone.
@@ -132,60 +131,44 @@ fn put_between(front: &str, text: &str, back: &str, out: &mut String) -> Result<
     out.push_str(back)
 }
 
-fn chosen_texts(alloc: Global) -> Result<(String, String), AllocError> {
-    let (mut input, mut output) = texts(alloc, &[FILES])?;
+/// A question for each expression, and the files that it chooses.
+fn put_chosen(input: &mut String, output: &mut String) -> Result<(), AllocError> {
     for (expression, files) in CHOSEN {
         put_between(
             QUESTION,
             expression,
             ",\"fields\":[\"name\"],\"since\":\"c:1:1:1\"}]\n",
-            &mut input,
+            input,
         )?;
         put_between(
             "{\"clock\":\"c:1:1:3\",\"files\":[",
             files,
             "],\"is_fresh_instance\":false,\"version\":\"w1\"}\n",
-            &mut output,
+            output,
         )?;
     }
-    Ok((input, output))
+    Ok(())
 }
 
 #[test]
 fn chooses_files(rt: HostRuntime) -> Result<(), Fail> {
-    let alloc = rt.alloc();
-    let (input, output) = chosen_texts(alloc)?;
-    let wanted = (0, output.as_str(), "", ACCEPTED);
-    assert_serves(
-        &rt,
-        alloc,
-        new_file(alloc)?,
-        input.as_bytes(),
-        wanted,
-        "expressions",
-    )
+    let (mut input, mut output) = texts(rt.alloc(), &[FILES])?;
+    put_chosen(&mut input, &mut output)?;
+    assert_answers(&rt, rt.alloc(), &input, &output, "expressions")
 }
 
-fn refused_texts(alloc: Global) -> Result<(String, String), AllocError> {
-    let (mut input, mut output) = texts(alloc, &[FILES])?;
+/// A question for each value, and its refusal.
+fn put_refused(input: &mut String, output: &mut String) -> Result<(), AllocError> {
     for value in NONE {
-        put_between(QUESTION, value, "}]\n", &mut input)?;
+        put_between(QUESTION, value, "}]\n", input)?;
         output.push_str("{\"error\":\"8 BadExpression\",\"version\":\"w1\"}\n")?;
     }
-    Ok((input, output))
+    Ok(())
 }
 
 #[test]
 fn refuses_what_is_no_expression(rt: HostRuntime) -> Result<(), Fail> {
-    let alloc = rt.alloc();
-    let (input, output) = refused_texts(alloc)?;
-    let wanted = (0, output.as_str(), "", ACCEPTED);
-    assert_serves(
-        &rt,
-        alloc,
-        new_file(alloc)?,
-        input.as_bytes(),
-        wanted,
-        "no expressions",
-    )
+    let (mut input, mut output) = texts(rt.alloc(), &[FILES])?;
+    put_refused(&mut input, &mut output)?;
+    assert_answers(&rt, rt.alloc(), &input, &output, "no expressions")
 }

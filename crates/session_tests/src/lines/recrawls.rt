@@ -1,8 +1,7 @@
 //! Sessions with recrawls and age-outs, with their lines and replies written out.
 use super::queries::TWO_FILES;
-use crate::disks::new_file;
-use crate::ends::{ACCEPTED, Row, Told, assert_serves, assert_sessions, put_row};
-use std::alloc::{AllocError, Global};
+use crate::ends::{ACCEPTED, Row, Told, assert_answers, assert_sessions, put_row};
+use std::alloc::AllocError;
 use std::test::Fail;
 
 /// A file that a whole recrawl doesn't list is deleted; one that changed since the reading began stays.
@@ -256,36 +255,23 @@ const MOMENTS: &[(u64, &str, &str)] = &[
 ];
 
 /// The rows at their moments, with lines between them that only let time pass.
-fn timed_texts(alloc: Global) -> Result<(String, String), AllocError> {
-    let mut input = String::new(alloc);
-    let mut output = String::new(alloc);
+fn put_timed(input: &mut String, output: &mut String) -> Result<(), AllocError> {
     let mut moment = 1;
     for (at, line, reply) in MOMENTS {
         for _ in moment..*at {
-            put_row(
-                r#"["version"]"#,
-                r#"{"version":"w1"}"#,
-                &mut input,
-                &mut output,
-            )?;
+            put_row(r#"["version"]"#, r#"{"version":"w1"}"#, input, output)?;
         }
-        put_row(line, reply, &mut input, &mut output)?;
+        put_row(line, reply, input, output)?;
         moment = at.saturating_add(1);
     }
-    Ok((input, output))
+    Ok(())
 }
 
 #[test]
 fn forgets_what_is_old_enough(rt: HostRuntime) -> Result<(), Fail> {
     let alloc = rt.alloc();
-    let (input, output) = timed_texts(alloc)?;
-    let wanted = (0, output.as_str(), "", ACCEPTED);
-    assert_serves(
-        &rt,
-        alloc,
-        new_file(alloc)?,
-        input.as_bytes(),
-        wanted,
-        "moments",
-    )
+    let mut input = String::new(alloc);
+    let mut output = String::new(alloc);
+    put_timed(&mut input, &mut output)?;
+    assert_answers(&rt, alloc, &input, &output, "moments")
 }

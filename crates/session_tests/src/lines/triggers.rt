@@ -173,18 +173,22 @@ fn commands_keeping(alloc: Global, text: &str) -> Result<Vec<Command>, Fail> {
     Ok(batch)
 }
 
-/// A file in which these commands were accepted.
-fn file_of(alloc: Global, batch: Vec<Command>) -> Result<MemDisk, Fail> {
+/// A store over a new file, to which these commands were told.
+pub(super) fn store_with(alloc: Global, batch: Vec<Command>) -> Result<Store<MemDisk>, Fail> {
     if batch.len() > MAX_BATCH {
         return Err("too many commands".into());
     }
     let Ok(mut store) = Store::open(alloc, new_file(alloc)?) else {
         return Err("the file can't be opened".into());
     };
-    let is_done = store.commit_batch(alloc, batch).is_ok() && store.close().is_ok();
-    if !is_done {
-        return Err("the commands can't be kept".into());
-    }
+    store.commit_batch(alloc, batch)?;
+    Ok(store)
+}
+
+/// A file in which these commands were accepted.
+fn file_of(alloc: Global, batch: Vec<Command>) -> Result<MemDisk, Fail> {
+    let mut store = store_with(alloc, batch)?;
+    store.close()?;
     Ok(store.into_disk())
 }
 

@@ -1,12 +1,11 @@
 //! Sessions with listings, observations and questions, with their lines and replies written out.
-use crate::disks::new_file;
+use super::triggers::store_with;
 use crate::ends::{Row, Told, WATCHES_R, assert_rows, assert_sessions};
 use std::alloc::Global;
 use std::test::Fail;
 use wm_disk::{Crashed, MemDisk};
 use wm_names::RootPath;
 use wm_registry::Command;
-use wm_store::Store;
 
 /// From the first watch of a root to the deleted file that comes back.
 const FIRST_SESSION: &[Row<'static>] = &[
@@ -159,11 +158,8 @@ fn answers_what_is_seen(rt: HostRuntime) -> Result<(), Fail> {
 
 /// The file that a killed process leaves, which had watched a root and wasn't closed.
 fn file_left(alloc: Global) -> Result<MemDisk, Fail> {
-    let Ok(mut store) = Store::open(alloc, new_file(alloc)?) else {
-        return Err("the file can't be opened".into());
-    };
     let batch = vec![in alloc; Command::Watch(RootPath::read(alloc, "/r")?)]?;
-    store.commit_batch(alloc, batch)?;
+    let store = store_with(alloc, batch)?;
     Ok(store.into_disk().stop())
 }
 

@@ -1,9 +1,10 @@
 //! Sessions that watch roots, with their lines, replies and the commands in their files written out byte
 //! by byte.
 use crate::disks::{content_of, file_after, journal, new_file};
-use crate::ends::{BEGUN, End, WATCHES_R, assert_ends, end_of};
+use crate::ends::{BEGUN, WATCHES_R, assert_ends, end_of};
 use std::alloc::Global;
-use std::io::BufReader;
+use std::io::{BufRead, BufReader};
+use std::process::Abort;
 use std::test::Fail;
 use wm_disk::MemDisk;
 use wm_server::run::{LineNumbers, run};
@@ -11,7 +12,9 @@ use wm_server::{Input, LocalFront, Output, Session};
 
 /// The lines of earlier sessions, those of a session over the same file, their replies, and how the journal
 /// begins then: a gate and a command for each start and each accepted line, and a closed gate.
-const SESSIONS: &[(&[&str], &str, &str, &[u8])] = &[
+type Sessions<'a> = (&'a [&'a str], &'a str, &'a str, &'a [u8]);
+
+const SESSIONS: &[Sessions<'static>] = &[
     (&[], "", "", BEGUN),
     (
         &[],
@@ -52,23 +55,36 @@ const SESSIONS: &[(&[&str], &str, &str, &[u8])] = &[
     ),
 ];
 
+/// The last of the sessions ends so.
+fn assert_served<R: BufRead>(
+    rt: &impl Abort,
+    alloc: Global,
+    sessions: &Sessions<'_>,
+    reader: &mut R,
+) -> Result<(), Fail> {
+    let (earlier, input, output, used) = *sessions;
+    let end = end_of(alloc, file_after(alloc, earlier)?, reader)?;
+    assert_ends(rt, &end, (0, output, "", used), input);
+    Ok(())
+}
+
 /// The reader may hand out its bytes in pieces.
-fn end_in_pieces(alloc: Global, earlier: &[&str], input: &str, size: usize) -> Result<End, Fail> {
-    let mut pieces = BufReader::with_capacity(alloc, size, input.as_bytes())?;
-    end_of(alloc, file_after(alloc, earlier)?, &mut pieces)
+fn assert_served_in_pieces(
+    rt: &impl Abort,
+    alloc: Global,
+    sessions: &Sessions<'_>,
+    size: usize,
+) -> Result<(), Fail> {
+    let mut pieces = BufReader::with_capacity(alloc, size, sessions.1.as_bytes())?;
+    assert_served(rt, alloc, sessions, &mut pieces)
 }
 
 #[test]
 fn serves_sessions(rt: HostRuntime) -> Result<(), Fail> {
-    let alloc = rt.alloc();
-    for (earlier, input, output, used) in SESSIONS {
-        let wanted = (0, *output, "", *used);
-        let end = end_of(alloc, file_after(alloc, earlier)?, &mut input.as_bytes())?;
-        assert_ends(&rt, &end, wanted, input);
-        for size in [1, 3] {
-            let end = end_in_pieces(alloc, earlier, input, size)?;
-            assert_ends(&rt, &end, wanted, input);
-        }
+    for sessions in SESSIONS {
+        assert_served(&rt, rt.alloc(), sessions, &mut sessions.1.as_bytes())?;
+        assert_served_in_pieces(&rt, rt.alloc(), sessions, 1)?;
+        assert_served_in_pieces(&rt, rt.alloc(), sessions, 3)?;
     }
     Ok(())
 }
@@ -93,18 +109,40 @@ fn answers_a_reader(alloc: Global, session: &mut MemSession) -> Result<bool, Fai
     Ok(faults == 0 && output.as_slice() == wanted.as_slice())
 }
 
+/// A session over a new file.
+fn begun(alloc: Global) -> Result<MemSession, Fail> {
+    match LocalFront::open(alloc, new_file(alloc)?) {
+        Ok(front) => Ok(Session::new(alloc, front)),
+        Err(_) => Err("the file can't be opened".into()),
+    }
+}
+
+/// The disk of the session, whose end was well.
+fn closed(session: MemSession) -> Result<MemDisk, Fail> {
+    match session.front.close() {
+        (Ok(()), disk) => Ok(disk),
+        (Err(refusal), _) => Err(refusal.into()),
+    }
+}
+
+/// Whether the disk's journal begins with a start and a watch of `/r`.
+fn watches_r(alloc: Global, disk: MemDisk) -> Result<bool, Fail> {
+    let content = content_of(alloc, disk)?;
+    Ok(journal(&content, WATCHES_R.len()) == WATCHES_R)
+}
+
+/// Asserts that the session, which has answered no line yet, answers one, and then a reader's lines.
+fn answer_both(rt: &impl Abort, alloc: Global, session: &mut MemSession) -> Result<(), Fail> {
+    assert!(rt; answers_a_line(alloc, session)?);
+    assert!(rt; answers_a_reader(alloc, session)?);
+    Ok(())
+}
+
 #[test]
 fn answers_by_its_parts(rt: HostRuntime) -> Result<(), Fail> {
     let alloc = rt.alloc();
-    let Ok(front) = LocalFront::open(alloc, new_file(alloc)?) else {
-        return Err("the file can't be opened".into());
-    };
-    let mut session = Session::new(alloc, front);
-    assert!(rt; answers_a_line(alloc, &mut session)?);
-    assert!(rt; answers_a_reader(alloc, &mut session)?);
-    let (closed, disk) = session.front.close();
-    closed?;
-    let content = content_of(alloc, disk)?;
-    assert!(rt; journal(&content, WATCHES_R.len()) == WATCHES_R);
+    let mut session = begun(alloc)?;
+    answer_both(&rt, alloc, &mut session)?;
+    assert!(rt; watches_r(alloc, closed(session)?)?);
     Ok(())
 }

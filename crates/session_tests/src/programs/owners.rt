@@ -2,6 +2,7 @@
 use std::alloc::Global;
 use std::fs;
 use std::fs::{File, Files};
+use std::process::Abort;
 use std::test::Fail;
 use wm_server::file::{FileDisk, Unknown};
 use wm_server::program::watchmand;
@@ -36,15 +37,25 @@ fn served(
     Ok((status, String::from_utf8(faults)?))
 }
 
+/// Asserts that a file that another has is neither opened nor served, and keeps its text.
+fn assert_owned<R: Files<File = File> + AllocGlobal + Abort>(
+    rt: &R,
+    path: &str,
+    text: &str,
+) -> Result<(), Fail> {
+    assert!(rt; !opens(rt, path));
+    let (status, faults) = served(rt.alloc(), rt, path)?;
+    assert!(rt; status == 1 && faults.as_str() == "watchmand: 13 DeviceFailed\n");
+    assert!(rt; fs::read_to_string(rt, path)?.as_str() == text);
+    Ok(())
+}
+
 #[test]
 fn opens_no_file_that_another_has(rt: HostRuntime) -> Result<(), Fail> {
     const PATH: &str = "wm_server_owner_opened";
     fs::write(&rt, PATH, b"abc".as_slice())?;
     let first = FileDisk::<Unknown>::open(&rt, PATH)?;
-    assert!(rt; !opens(&rt, PATH));
-    let (status, faults) = served(rt.alloc(), &rt, PATH)?;
-    assert!(rt; status == 1 && faults.as_str() == "watchmand: 13 DeviceFailed\n");
-    assert!(rt; fs::read_to_string(&rt, PATH)?.as_str() == "abc");
+    assert_owned(&rt, PATH, "abc")?;
     drop(first);
     assert!(rt; opens(&rt, PATH));
     fs::remove_file(&rt, PATH)?;

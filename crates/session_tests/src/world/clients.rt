@@ -1,17 +1,17 @@
 //! A client that applies each answer, beside operations that are refused.
-use super::{driven, found, root, seen, shown, watch};
+use super::{driven, found, is_shown, root, seen, watch};
 use std::alloc::Global;
 use std::test::Fail;
 use wm_disk::MemDisk;
 use wm_expr::{Expr, Scope};
-use wm_world::Event;
+use wm_world::{Event, World};
 
-/// At the last question there are `a`, `d/a` and `d/c`; the first answer told of `d/b` as well.
-fn events(alloc: Global, test: Expr) -> Result<Vec<Event>, Fail> {
-    let mut events = Vec::new(alloc);
+/// For a client with the test at the place: at the last question there are `a`, `d/a` and `d/c`; the first
+/// answer told of `d/b` as well.
+fn put_events(alloc: Global, place: usize, events: &mut Vec<Event>) -> Result<(), Fail> {
     events.push(Event::Open)?;
     events.push(watch(alloc, "/r")?)?;
-    events.push(Event::Client(root(alloc)?, test))?;
+    events.push(Event::Client(root(alloc)?, test_at(alloc, place)?))?;
     // What comes before the first listing is refused.
     events.push(Event::Ask(0))?;
     events.push(seen(alloc, 1, "d/early", Some(1))?)?;
@@ -25,21 +25,17 @@ fn events(alloc: Global, test: Expr) -> Result<Vec<Event>, Fail> {
     events.push(Event::Ask(0))?;
     events.push(Event::Receive(0))?;
     events.push(seen(alloc, 6, "d/late", Some(2))?)?;
-    Ok(events)
+    Ok(())
 }
 
 /// `true`, `false`, a pattern, a suffix that no file has, and a test that doesn't read paths alone: that
 /// client doesn't come.
 fn test_at(alloc: Global, place: usize) -> Result<Expr, Fail> {
-    let mut pattern = String::new(alloc);
-    pattern.push_str("d/*")?;
-    let mut suffixes = Vec::new(alloc);
-    suffixes.push(String::new(alloc))?;
     Ok(match place {
         0 => Expr::True,
         1 => Expr::False,
-        2 => Expr::Match(pattern, Scope::Wholename),
-        3 => Expr::Suffix(suffixes),
+        2 => Expr::Match(String::from_str(alloc, "d/*")?, Scope::Wholename),
+        3 => Expr::Suffix(vec![in alloc; String::new(alloc)]?),
         _ => Expr::Exists,
     })
 }
@@ -53,14 +49,19 @@ const HELD: &[&str] = &[
     "1 /r",
 ];
 
-fn holds(alloc: Global, place: usize, held: &str) -> Result<bool, Fail> {
-    let events = events(alloc, test_at(alloc, place)?)?;
-    let world = driven(alloc, MemDisk::new(alloc, 0), events)?;
-    let is_fourth = match world.views() {
+/// Whether the root's view is at its fourth tick.
+fn is_fourth(world: &World<MemDisk>) -> bool {
+    match world.views() {
         [view] => view.tick() == 4,
         _ => false,
-    };
-    Ok(is_fourth && shown(alloc, &world)?.as_str() == held)
+    }
+}
+
+fn holds(alloc: Global, place: usize, held: &str) -> Result<bool, Fail> {
+    let mut events = Vec::new(alloc);
+    put_events(alloc, place, &mut events)?;
+    let world = driven(alloc, MemDisk::new(alloc, 0), events)?;
+    Ok(is_fourth(&world) && is_shown(alloc, &world, held)?)
 }
 
 #[test]

@@ -1,8 +1,7 @@
 //! Every prefix of a list of events of every kind, under choices of what a crash leaves.
-use super::{driven, found, root, seen, shown, watch};
+use super::{found, root, seen, shown_after, watch};
 use std::alloc::{AllocError, Global};
 use std::test::Fail;
-use wm_disk::MemDisk;
 use wm_expr::Expr;
 use wm_world::Event;
 
@@ -62,13 +61,19 @@ const FOUND: &[(u64, &str)] = &[
     (0xaaaa_aaaa_aaaa_aeaa, " /r"),
 ];
 
-/// The world after so many events of the sweep.
-fn swept(alloc: Global, choice: u64, count: usize) -> Result<String, Fail> {
-    let mut events = Vec::new(alloc);
+/// So many events of the sweep.
+fn put_events(alloc: Global, count: usize, events: &mut Vec<Event>) -> Result<(), Fail> {
     for place in 0..count {
         events.push(event_at(alloc, place)?)?;
     }
-    shown(alloc, &driven(alloc, MemDisk::new(alloc, choice), events)?)
+    Ok(())
+}
+
+/// The world after so many events of the sweep.
+fn swept(alloc: Global, choice: u64, count: usize) -> Result<String, Fail> {
+    let mut events = Vec::new(alloc);
+    put_events(alloc, count, &mut events)?;
+    shown_after(alloc, choice, events)
 }
 
 /// What a world shows where a restart finds these watches.

@@ -1,13 +1,13 @@
 //! A subscription that follows a viewer.
 ghost use Rattle.std.specs.Prelude.{◌≡◌};
 
-use crate::shared::making::{Handed, Keeper, every, hand, shown};
+use crate::shared::making::{Handed, Keeper, every, hand, share, shown};
 use std::alloc::Global;
 use std::marker::Brand;
 use std::process::Abort;
 use std::sync::Wait;
 use std::test::*;
-use wm_share::{Naming, Opened, Shares, Viewer};
+use wm_share::{Naming, Opened, Viewer};
 use wm_since::Every;
 use wm_subs::{Subscription, SubscriptionName};
 
@@ -34,6 +34,16 @@ fn told<J: Naming>(
     }
 }
 
+/// Whether the subscription tells this.
+fn tells<J: Naming>(
+    alloc: Global,
+    subscription: &mut Subscription<Every>,
+    viewer: &mut Viewer<J>,
+    wanted: &str,
+) -> Result<bool, Fail> {
+    Ok(told(alloc, subscription, viewer)?.as_str() == wanted)
+}
+
 /// Whether the row is so, from the state that the rows before left.
 fn holds<J: Naming, R: Wait>(
     alloc: Global,
@@ -44,22 +54,29 @@ fn holds<J: Naming, R: Wait>(
 ) -> Result<bool, Fail> {
     hand(alloc, keeper, row.0)?;
     viewer.learn(&keeper.publish()?);
-    let first = told(alloc, subscription, viewer)?;
-    let second = told(alloc, subscription, viewer)?;
-    Ok(first.as_str() == row.1 && second.as_str() == row.2)
+    let first = tells(alloc, subscription, viewer, row.1)?;
+    Ok(first && tells(alloc, subscription, viewer, row.2)?)
+}
+
+fn assert_follows<J: Naming, R: Wait + Abort>(
+    rt: &R,
+    alloc: Global,
+    keeper: &mut Keeper<'_, J, R>,
+    viewer: &mut Viewer<J>,
+) -> Result<(), Fail> {
+    let mut subscription = Subscription::new(SubscriptionName::read(alloc, "all")?, every());
+    for row in ROWS {
+        assert!(rt; holds(alloc, keeper, &mut subscription, viewer, row)?);
+    }
+    Ok(())
 }
 
 fn followed<J: Naming, R: Wait + Abort>(rt: &R, alloc: Global, opened: Opened) -> Result<(), Fail>
     requires { opened.seen.book ≡ J.book }
 {
-    let mut shares: Shares<J> = Shares::new(opened);
-    let (mut keeper, mut pool) = shares.share(rt, alloc, 1, 1)?;
+    let (mut keeper, mut pool) = share::<J, R>(rt, alloc, opened, 1, 1)?;
     let mut viewer = pool.take()?;
-    let mut subscription = Subscription::new(SubscriptionName::read(alloc, "all")?, every());
-    for row in ROWS {
-        assert!(rt; holds(alloc, &mut keeper, &mut subscription, &mut viewer, row)?);
-    }
-    Ok(())
+    assert_follows(rt, alloc, &mut keeper, &mut viewer)
 }
 
 #[test]

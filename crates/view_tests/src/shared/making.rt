@@ -1,14 +1,31 @@
 //! What is handed in to a keeper, as a table tells it, and answers as texts.
+ghost use Rattle.std.specs.Prelude.{◌≡◌};
+
+use crate::making::{file, pair};
 use std::alloc::Global;
 use std::sync::Wait;
 use wm_disk::Refusal;
-use wm_names::{Kind, Meta, RelPath, Subtree};
-use wm_share::{Naming, RootKeeper, Shown, Viewer};
+use wm_names::{RelPath, Subtree};
+use wm_share::{Naming, Opened, Pool, RootKeeper, Shares, Shown, Viewer};
 use wm_since::{Answer, Every, Query};
-use wm_view::{Listing, Pairs};
+use wm_view::Listing;
 
 /// The keeper of a root.
 pub type Keeper<'a, J, R> = RootKeeper<J, Shown<J>, &'a R>;
+
+/// The keeper and the viewers of the first share.
+pub fn share<'a, J: Naming, R: Wait>(
+    rt: &'a R,
+    alloc: Global,
+    opened: Opened,
+    incarnation: u64,
+    root: u64,
+) -> Result<(Keeper<'a, J, R>, Pool<J>), Refusal>
+    requires { opened.seen.book ≡ J.book }
+{
+    let mut shares: Shares<J> = Shares::new(opened);
+    shares.share(rt, alloc, incarnation, root)
+}
 
 /// What is handed in.
 #[derive(Clone, Copy)]
@@ -21,20 +38,6 @@ pub enum Handed {
     Gone(&'static str),
     /// At this time, what was deleted so long ago may be forgotten.
     Ages(u64, u64),
-}
-
-fn file(size: u64) -> Meta {
-    Meta {
-        kind: Kind::File,
-        size,
-        mtime_ms: 0,
-    }
-}
-
-fn pair(alloc: Global, path: &str, state: Option<Meta>) -> Result<Pairs, Refusal> {
-    let mut pairs = Vec::new(alloc);
-    pairs.push((RelPath::read(alloc, path)?, state))?;
-    Ok(Pairs::new(pairs))
 }
 
 fn listing(alloc: Global, paths: &[&str]) -> Result<Listing, Refusal> {
@@ -52,20 +55,11 @@ pub fn hand<J: Naming, R: Wait>(
     handed: Handed,
 ) -> Result<(), Refusal> {
     match handed {
-        Handed::Lists(begun_at, paths) => {
-            keeper.recrawl(10, begun_at, listing(alloc, paths)?)?;
-        }
-        Handed::Is(path, size) => {
-            keeper.observe(10, pair(alloc, path, Some(file(size)))?)?;
-        }
-        Handed::Gone(path) => {
-            keeper.observe(10, pair(alloc, path, None)?)?;
-        }
-        Handed::Ages(time, age) => {
-            keeper.age_out(time, age)?;
-        }
+        Handed::Lists(begun_at, paths) => keeper.recrawl(10, begun_at, listing(alloc, paths)?),
+        Handed::Is(path, size) => keeper.observe(10, pair(alloc, path, Some(file(size)))?),
+        Handed::Gone(path) => keeper.observe(10, pair(alloc, path, None)?),
+        Handed::Ages(time, age) => keeper.age_out(time, age),
     }
-    Ok(())
 }
 
 /// The question of every file, since no clock.
@@ -91,7 +85,7 @@ pub fn shown(alloc: Global, answer: &Answer) -> Result<String, Refusal> {
 }
 
 /// What a viewer answers of every file since no clock, or why it doesn't.
-pub fn answered<J: Naming>(alloc: Global, viewer: &mut Viewer<J>) -> Result<String, Refusal> {
+fn answered<J: Naming>(alloc: Global, viewer: &mut Viewer<J>) -> Result<String, Refusal> {
     match viewer.answer(alloc, &every()) {
         Ok(answer) => shown(alloc, &answer),
         Err(refusal) => refused(alloc, refusal),
@@ -100,4 +94,13 @@ pub fn answered<J: Naming>(alloc: Global, viewer: &mut Viewer<J>) -> Result<Stri
 
 fn refused(alloc: Global, refusal: Refusal) -> Result<String, Refusal> {
     Ok(String::from_str(alloc, refusal.text())?)
+}
+
+/// Whether that is what a viewer answers.
+pub fn answers<J: Naming>(
+    alloc: Global,
+    viewer: &mut Viewer<J>,
+    wanted: &str,
+) -> Result<bool, Refusal> {
+    Ok(answered(alloc, viewer)?.as_str() == wanted)
 }

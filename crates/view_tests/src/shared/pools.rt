@@ -9,16 +9,53 @@ use std::test::*;
 use wm_disk::Refusal;
 use wm_share::{MAX_VIEWERS, Naming, Opened, Pool, Shares, Viewer};
 
-/// All the viewers that the pool gives out.
-fn taken<J: Naming>(alloc: Global, pool: &mut Pool<J>) -> Result<Vec<Viewer<J>>, Fail> {
-    let mut viewers = Vec::new(alloc);
+/// Takes all the viewers that the pool gives out.
+fn take_all<J: Naming>(pool: &mut Pool<J>, viewers: &mut Vec<Viewer<J>>) -> Result<(), Fail> {
     for _ in 0..2 * MAX_VIEWERS {
         match pool.take() {
             Ok(viewer) => viewers.push(viewer)?,
             Err(_) => break,
         }
     }
-    Ok(viewers)
+    Ok(())
+}
+
+/// Whether the pool has no viewer to give out.
+fn is_empty<J: Naming>(pool: &mut Pool<J>) -> bool {
+    matches!(pool.take(), Err(Refusal::NoPlace))
+}
+
+/// Whether it has just one, which is let go.
+fn has_one<J: Naming>(pool: &mut Pool<J>) -> bool {
+    pool.take().is_ok() && pool.take().is_err()
+}
+
+/// Takes all the viewers out of a pool, which then lets go one of another share, and takes back one of its own.
+fn assert_takes_and_gives<J: Naming>(
+    rt: &impl Abort,
+    pool: &mut Pool<J>,
+    other_pool: &mut Pool<J>,
+    viewers: &mut Vec<Viewer<J>>,
+) -> Result<(), Fail> {
+    take_all(pool, viewers)?;
+    assert_eq!(rt; viewers.len(), 32);
+    assert!(rt; is_empty(pool));
+    pool.give(other_pool.take()?);
+    assert!(rt; is_empty(pool));
+    pool.give(viewers.pop().ok_or("no viewer")?);
+    assert!(rt; has_one(pool));
+    Ok(())
+}
+
+/// Does so beside the pool of another share.
+fn assert_beside_another<J: Naming, R: Wait + Abort>(
+    rt: &R,
+    alloc: Global,
+    shares: &mut Shares<J>,
+    pool: &mut Pool<J>,
+) -> Result<(), Fail> {
+    let (_other_keeper, mut other_pool) = shares.share(rt, alloc, 1, 2)?;
+    assert_takes_and_gives(rt, pool, &mut other_pool, &mut Vec::new(alloc))
 }
 
 fn taken_and_given<J: Naming, R: Wait + Abort>(
@@ -30,16 +67,7 @@ fn taken_and_given<J: Naming, R: Wait + Abort>(
 {
     let mut shares: Shares<J> = Shares::new(opened);
     let (_keeper, mut pool) = shares.share(rt, alloc, 1, 1)?;
-    let (_other_keeper, mut other_pool) = shares.share(rt, alloc, 1, 2)?;
-    let mut viewers = taken(alloc, &mut pool)?;
-    assert_eq!(rt; viewers.len(), 32);
-    assert!(rt; matches!(pool.take(), Err(Refusal::NoPlace)));
-    // a viewer of another share is let go
-    pool.give(other_pool.take()?);
-    assert!(rt; matches!(pool.take(), Err(Refusal::NoPlace)));
-    pool.give(viewers.pop().ok_or("no viewer")?);
-    assert!(rt; pool.take().is_ok() && pool.take().is_err());
-    Ok(())
+    assert_beside_another(rt, alloc, &mut shares, &mut pool)
 }
 
 #[test]

@@ -1,7 +1,7 @@
 //! What a publish tells and what a viewer answers, after one operation and the next.
 ghost use Rattle.std.specs.Prelude.{◌≡◌};
 
-use crate::shared::making::{Handed, Keeper, answered, hand};
+use crate::shared::making::{Handed, Keeper, answers, hand, share};
 use std::alloc::Global;
 use std::marker::Brand;
 use std::process::Abort;
@@ -9,7 +9,7 @@ use std::sync::Wait;
 use std::test::*;
 use wm_clock::ClockId;
 use wm_disk::Refusal;
-use wm_share::{Naming, Opened, ShareId, Shares, Told, Viewer};
+use wm_share::{Naming, Opened, Pool, ShareId, Shares, Told, Viewer};
 
 /// What is handed in; what the publish then tells: how many operations, the tick of the clock, the floor, and how
 /// the last operation was refused; and what a viewer then answers.
@@ -70,6 +70,17 @@ fn is_told<J: Naming>(told: &Told<J>, row: &Row) -> bool {
     counts && told.clock() == clock(row.2) && told.refusal() == row.4 && told.share() == SHARE
 }
 
+/// Publishes what waits. Whether this was told, which the viewer learns.
+fn tells<J: Naming, R: Wait>(
+    keeper: &mut Keeper<'_, J, R>,
+    viewer: &mut Viewer<J>,
+    row: &Row,
+) -> Result<bool, Fail> {
+    let told = keeper.publish()?;
+    viewer.learn(&told);
+    Ok(is_told(&told, row))
+}
+
 /// Whether the row is so, from the state that the rows before left.
 fn holds<J: Naming, R: Wait>(
     alloc: Global,
@@ -78,10 +89,21 @@ fn holds<J: Naming, R: Wait>(
     row: &Row,
 ) -> Result<bool, Fail> {
     hand(alloc, keeper, row.0)?;
-    let told = keeper.publish()?;
-    viewer.learn(&told);
-    let answer = answered(alloc, viewer)?;
-    Ok(is_told(&told, row) && answer.as_str() == row.5)
+    Ok(tells(keeper, viewer, row)? && answers(alloc, viewer, row.5)?)
+}
+
+fn assert_publishes<J: Naming, R: Wait + Abort>(
+    rt: &R,
+    alloc: Global,
+    keeper: &mut Keeper<'_, J, R>,
+    pool: &mut Pool<J>,
+) -> Result<(), Fail> {
+    let mut viewer = pool.take()?;
+    assert!(rt; pool.share() == SHARE && viewer.share() == SHARE);
+    for row in ROWS {
+        assert!(rt; holds(alloc, keeper, &mut viewer, row)?);
+    }
+    Ok(())
 }
 
 fn published_one_by_one<J: Naming, R: Wait + Abort>(
@@ -91,14 +113,8 @@ fn published_one_by_one<J: Naming, R: Wait + Abort>(
 ) -> Result<(), Fail>
     requires { opened.seen.book ≡ J.book }
 {
-    let mut shares: Shares<J> = Shares::new(opened);
-    let (mut keeper, mut pool) = shares.share(rt, alloc, 3, 7)?;
-    let mut viewer = pool.take()?;
-    assert!(rt; pool.share() == SHARE && viewer.share() == SHARE);
-    for row in ROWS {
-        assert!(rt; holds(alloc, &mut keeper, &mut viewer, row)?);
-    }
-    Ok(())
+    let (mut keeper, mut pool) = share::<J, R>(rt, alloc, opened, 3, 7)?;
+    assert_publishes(rt, alloc, &mut keeper, &mut pool)
 }
 
 #[test]
@@ -114,14 +130,29 @@ fn are_seen_at_once<J: Naming, R: Wait>(
 ) -> Result<bool, Fail> {
     hand(alloc, keeper, Handed::Lists(0, &["b"]))?;
     hand(alloc, keeper, Handed::Is("a", 5))?;
-    let before = answered(alloc, viewer)?;
-    let told = keeper.publish()?;
-    let after = answered(alloc, viewer)?;
-    Ok(
-        told.number() == 2
-            && before.as_str() == "6 NotReady"
-            && after.as_str() == "c:3:7:2 fresh a b",
-    )
+    let saw_nothing = answers(alloc, viewer, "6 NotReady")?;
+    let told_two = keeper.publish()?.number() == 2;
+    Ok(saw_nothing && told_two && answers(alloc, viewer, "c:3:7:2 fresh a b")?)
+}
+
+/// The same of a keeper that is then gone.
+fn are_seen_before_it_goes<J: Naming, R: Wait>(
+    alloc: Global,
+    mut keeper: Keeper<'_, J, R>,
+    viewer: &mut Viewer<J>,
+) -> Result<bool, Fail> {
+    are_seen_at_once(alloc, &mut keeper, viewer)
+}
+
+fn assert_seen_at_once<J: Naming, R: Wait + Abort>(
+    rt: &R,
+    alloc: Global,
+    keeper: Keeper<'_, J, R>,
+    viewer: &mut Viewer<J>,
+) -> Result<(), Fail> {
+    assert!(rt; are_seen_before_it_goes(alloc, keeper, viewer)?);
+    assert!(rt; answers(alloc, viewer, "18 NoPlace")?);
+    Ok(())
 }
 
 fn published_at_once<J: Naming, R: Wait + Abort>(
@@ -131,13 +162,9 @@ fn published_at_once<J: Naming, R: Wait + Abort>(
 ) -> Result<(), Fail>
     requires { opened.seen.book ≡ J.book }
 {
-    let mut shares: Shares<J> = Shares::new(opened);
-    let (mut keeper, mut pool) = shares.share(rt, alloc, 3, 7)?;
+    let (keeper, mut pool) = share::<J, R>(rt, alloc, opened, 3, 7)?;
     let mut viewer = pool.take()?;
-    assert!(rt; are_seen_at_once(alloc, &mut keeper, &mut viewer)?);
-    drop(keeper);
-    assert_eq!(rt; answered(alloc, &mut viewer)?.as_str(), "18 NoPlace");
-    Ok(())
+    assert_seen_at_once(rt, alloc, keeper, &mut viewer)
 }
 
 #[test]
@@ -145,17 +172,39 @@ fn publishes_at_once(rt: HostRuntime) -> Result<(), Fail> {
     published_at_once::<Brand, _>(&rt, rt.alloc(), Opened::new())
 }
 
-/// What is published on one root is told to a viewer of another. Whether that one learns nothing of it.
-fn is_of_no_concern<J: Naming, R: Wait>(
+/// Publishes what waits, and tells a viewer: the number of the share that was published.
+fn tell<J: Naming, R: Wait>(
+    keeper: &mut Keeper<'_, J, R>,
+    viewer: &mut Viewer<J>,
+) -> Result<u64, Fail> {
+    let told = keeper.publish()?;
+    viewer.learn(&told);
+    Ok(told.share().number)
+}
+
+/// What is published on one root is told to a viewer of another, which learns nothing of it.
+fn assert_no_concern<J: Naming, R: Wait + Abort>(
+    rt: &R,
     alloc: Global,
     keeper: &mut Keeper<'_, J, R>,
-    other: &mut Viewer<J>,
-) -> Result<bool, Fail> {
+    other_pool: &mut Pool<J>,
+) -> Result<(), Fail> {
     hand(alloc, keeper, Handed::Lists(0, &["b"]))?;
-    let told = keeper.publish()?;
-    other.learn(&told);
-    let answer = answered(alloc, other)?;
-    Ok(told.share().number == 0 && other.share().number == 1 && answer.as_str() == "6 NotReady")
+    let mut other = other_pool.take()?;
+    assert!(rt; tell(keeper, &mut other)? == 0 && other.share().number == 1);
+    assert!(rt; answers(alloc, &mut other, "6 NotReady")?);
+    Ok(())
+}
+
+/// Publishes on the first share, beside a second one.
+fn publish_beside_another<J: Naming, R: Wait + Abort>(
+    rt: &R,
+    alloc: Global,
+    shares: &mut Shares<J>,
+    keeper: &mut Keeper<'_, J, R>,
+) -> Result<(), Fail> {
+    let (_other_keeper, mut other_pool) = shares.share(rt, alloc, 3, 8)?;
+    assert_no_concern(rt, alloc, keeper, &mut other_pool)
 }
 
 fn published_on_one<J: Naming, R: Wait + Abort>(
@@ -167,10 +216,7 @@ fn published_on_one<J: Naming, R: Wait + Abort>(
 {
     let mut shares: Shares<J> = Shares::new(opened);
     let (mut keeper, _pool) = shares.share(rt, alloc, 3, 7)?;
-    let (_other_keeper, mut pool) = shares.share(rt, alloc, 3, 8)?;
-    let mut other = pool.take()?;
-    assert!(rt; is_of_no_concern(alloc, &mut keeper, &mut other)?);
-    Ok(())
+    publish_beside_another(rt, alloc, &mut shares, &mut keeper)
 }
 
 #[test]

@@ -4,13 +4,15 @@ mod names;
 mod sessions;
 mod telling;
 
+use crate::making::{file, pair};
+use crate::shared::making::shown;
 use std::alloc::Global;
 use std::test::Fail;
 use wm_clock::ClockId;
-use wm_names::{Kind, Meta, RelPath, Subtree};
+use wm_names::Subtree;
 use wm_since::{Answer, Every, Query};
 use wm_subs::{Subscription, SubscriptionName};
-use wm_view::{Listing, Op, Pairs, View};
+use wm_view::{Listing, Op, View};
 
 /// A clock of root 1 in incarnation 1.
 fn clock(tick: u64) -> ClockId {
@@ -53,52 +55,28 @@ enum Event {
     Forgets,
 }
 
-fn pair(alloc: Global, path: &str, size: Option<u64>) -> Result<Pairs, Fail> {
-    let meta = match size {
-        Some(size) => Some(Meta {
-            kind: Kind::File,
-            size,
-            mtime_ms: 0,
-        }),
-        None => None,
-    };
-    let mut pairs = Vec::new(alloc);
-    pairs.push((RelPath::read(alloc, path)?, meta))?;
-    Ok(Pairs::new(pairs))
+/// What happens at moment 10, and what is forgotten at moment 30.
+fn op_of(alloc: Global, event: &Event) -> Result<Op, Fail> {
+    Ok(match *event {
+        Event::Begins => Op::Recrawl(10, 0, Listing::new(alloc, Subtree::Whole)),
+        Event::Is(path, size) => Op::Observe(10, pair(alloc, path, Some(file(size)))?),
+        Event::Gone(path) => Op::Observe(10, pair(alloc, path, None)?),
+        Event::Forgets => Op::AgeOut(30, 20),
+    })
 }
 
-/// Lets these events happen, each at moment 10, and what is forgotten at moment 30.
+/// Lets these events happen, one after the other.
 fn happen(alloc: Global, view: &mut View, events: &[Event]) -> Result<(), Fail> {
     for event in events {
-        let op = match *event {
-            Event::Begins => Op::Recrawl(10, 0, Listing::new(alloc, Subtree::Whole)),
-            Event::Is(path, size) => Op::Observe(10, pair(alloc, path, Some(size))?),
-            Event::Gone(path) => Op::Observe(10, pair(alloc, path, None)?),
-            Event::Forgets => Op::AgeOut(30, 20),
-        };
-        view.perform(alloc, &op)?;
+        view.perform(alloc, &op_of(alloc, event)?)?;
     }
     Ok(())
-}
-
-/// An answer as a text: its clock, whether it is fresh, and its files, a `-` before those that are
-/// gone.
-fn shown(alloc: Global, answer: &Answer) -> Result<String, Fail> {
-    let mut text = answer.clock.text(alloc)?;
-    if answer.fresh {
-        text.push_str(" fresh")?;
-    }
-    for file in answer.files.as_slice() {
-        text.push_str(if file.entry.exists { " " } else { " -" })?;
-        text.push_str(file.entry.path.as_str())?;
-    }
-    Ok(text)
 }
 
 /// What is told, and `none` where nothing is.
 fn told(alloc: Global, answer: &Option<Answer>) -> Result<String, Fail> {
     match answer {
-        Some(answer) => shown(alloc, answer),
+        Some(answer) => Ok(shown(alloc, answer)?),
         None => Ok(String::from_str(alloc, "none")?),
     }
 }

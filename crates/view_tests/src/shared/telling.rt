@@ -1,7 +1,7 @@
 //! One thread publishes and hands on what it was told, and a viewer on another thread reads no less.
 ghost use Rattle.std.specs.Prelude.{◌≡◌};
 
-use crate::shared::making::{Handed, Keeper, every, hand, shown};
+use crate::shared::making::{Handed, Keeper, answers, every, hand, share};
 use crossbeam_channel::{Receiver, Sender};
 use std::alloc::{Alloc, Global};
 use std::marker::Brand;
@@ -9,7 +9,7 @@ use std::process::Abort;
 use std::sync::Wait;
 use std::test::*;
 use std::thread::{Threads, join};
-use wm_share::{Naming, Opened, Shares, Told, Viewer};
+use wm_share::{Naming, Opened, Told, Viewer};
 
 /// Publishes each of these, and hands on what was told.
 fn publish_each<J: Naming, R: Wait>(
@@ -36,17 +36,32 @@ fn publish_each<J: Naming, R: Wait>(
     true
 }
 
-/// What the viewer answers once it has learnt the next that was told.
+/// The viewer learns the next that was told: its tick.
+fn learn<J: Naming, R: Wait>(
+    rt: &R,
+    viewer: &mut Viewer<J>,
+    from: &Receiver<Told<J>>,
+) -> Option<u64> {
+    let told = from.recv(rt).ok()?;
+    viewer.learn(&told);
+    Some(told.clock()?.tick)
+}
+
+/// The tick of what the viewer answers.
+fn answer<J: Naming>(alloc: Global, viewer: &mut Viewer<J>) -> Option<u64> {
+    let answer = viewer.answer(alloc, &every()).ok()?;
+    Some(answer.clock.tick)
+}
+
+/// The tick of the next that was told, and of what the viewer answers once it has learnt that.
 fn read<J: Naming, R: Wait>(
     rt: &R,
     alloc: Global,
     viewer: &mut Viewer<J>,
     from: &Receiver<Told<J>>,
 ) -> Option<(u64, u64)> {
-    let told = from.recv(rt).ok()?;
-    viewer.learn(&told);
-    let answer = viewer.answer(alloc, &every()).ok()?;
-    Some((told.clock()?.tick, answer.clock.tick))
+    let told = learn(rt, viewer, from)?;
+    Some((told, answer(alloc, viewer)?))
 }
 
 /// Whether each of three answers is of the clock that was told before it, or of a later one.
@@ -65,6 +80,33 @@ fn read_each<J: Naming, R: Wait>(
     true
 }
 
+/// Whether one thread publishes and another one reads what was told.
+fn are_read<J: Naming + Send + Sync, R: Threads + Wait + Sync>(
+    rt: &R,
+    alloc: Global,
+    keeper: &mut Keeper<'_, J, R>,
+    viewer: &mut Viewer<J>,
+) -> Result<bool, Fail> {
+    let (to, from) = crossbeam_channel::unbounded(alloc)?;
+    let (published, read) = join(
+        rt,
+        || publish_each(rt, alloc, keeper, &to),
+        || read_each(rt, alloc, viewer, &from),
+    );
+    Ok(published && read)
+}
+
+fn assert_read<J: Naming + Send + Sync, R: Threads + Wait + Abort + Sync>(
+    rt: &R,
+    alloc: Global,
+    keeper: &mut Keeper<'_, J, R>,
+    viewer: &mut Viewer<J>,
+) -> Result<(), Fail> {
+    assert!(rt; are_read(rt, alloc, keeper, viewer)?);
+    assert!(rt; answers(alloc, viewer, "c:1:1:3 fresh a")?);
+    Ok(())
+}
+
 fn read_what_was_told<J: Naming + Send + Sync, R: Threads + Wait + Abort + Sync>(
     rt: &R,
     alloc: Global,
@@ -72,19 +114,9 @@ fn read_what_was_told<J: Naming + Send + Sync, R: Threads + Wait + Abort + Sync>
 ) -> Result<(), Fail>
     requires { opened.seen.book ≡ J.book }
 {
-    let mut shares: Shares<J> = Shares::new(opened);
-    let (mut keeper, mut pool) = shares.share(rt, alloc, 1, 1)?;
+    let (mut keeper, mut pool) = share::<J, R>(rt, alloc, opened, 1, 1)?;
     let mut viewer = pool.take()?;
-    let (to, from) = crossbeam_channel::unbounded(alloc)?;
-    let (published, read) = join(
-        rt,
-        || publish_each(rt, alloc, &mut keeper, &to),
-        || read_each(rt, alloc, &mut viewer, &from),
-    );
-    assert!(rt; published && read);
-    let answer = viewer.answer(alloc, &every())?;
-    assert_eq!(rt; shown(alloc, &answer)?.as_str(), "c:1:1:3 fresh a");
-    Ok(())
+    assert_read(rt, alloc, &mut keeper, &mut viewer)
 }
 
 #[test]

@@ -1,6 +1,7 @@
 //! Listings by themselves, before a view takes them in.
 use crate::making::{file, part_of};
 use std::alloc::Global;
+use std::process::Abort;
 use std::test::Fail;
 use wm_disk::Refusal;
 use wm_names::{Meta, RelPath};
@@ -55,14 +56,17 @@ fn is_part_with(alloc: Global, listing: &Listing, path: &str) -> Result<bool, Fa
     Ok(!listing.subtree().is_whole() && listing.subtree().covers(&path))
 }
 
-#[test]
-fn lists_each_path_once(rt: HostRuntime) -> Result<(), Fail> {
-    let alloc = rt.alloc();
-    let mut listing = Listing::new(alloc, part_of(alloc, Some("x"))?);
+fn assert_lists(rt: &impl Abort, alloc: Global, listing: &mut Listing) -> Result<(), Fail> {
     for (path, size, result) in ADDED {
-        assert!(rt; adds(alloc, &mut listing, path, *size, *result)?, "{path}");
+        assert!(rt; adds(alloc, listing, path, *size, *result)?, "{path}");
     }
     assert!(rt; finds(listing.files(), FOUND));
-    assert!(rt; is_part_with(alloc, &listing, "x/z")?);
+    assert!(rt; is_part_with(alloc, listing, "x/z")?);
     Ok(())
+}
+
+#[test]
+fn lists_each_path_once(rt: HostRuntime) -> Result<(), Fail> {
+    let part = part_of(rt.alloc(), Some("x"))?;
+    assert_lists(&rt, rt.alloc(), &mut Listing::new(rt.alloc(), part))
 }

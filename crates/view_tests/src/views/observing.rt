@@ -1,7 +1,8 @@
 //! What an observation makes of a view, and how many pairs one may have.
 use super::{Shown, exists_so, stands};
-use crate::making::{Told, file, pairs_of, ready_with};
+use crate::making::{Told, file, observe_at, pair, ready_with};
 use std::alloc::Global;
+use std::process::Abort;
 use std::test::Fail;
 use wm_disk::Refusal;
 use wm_names::{Kind, Meta, RelPath};
@@ -55,7 +56,7 @@ const OBSERVATIONS: &[Observation] = &[
 fn takes_so(alloc: Global, row: &Observation) -> Result<bool, Fail> {
     let (told, tick, shown) = *row;
     let mut view = ready_with(alloc, &[("a", 2), ("k", 1)])?;
-    view.observe(alloc, 20, &pairs_of(alloc, told)?)?;
+    observe_at(alloc, &mut view, 20, told)?;
     stands(alloc, &view, (tick, 0), 1, shown)
 }
 
@@ -78,9 +79,7 @@ const METADATA: &[(Kind, u64, u64, u64)] = &[
 /// What an observation of `a` alone makes of a view with it.
 fn with_metadata(alloc: Global, meta: Meta) -> Result<View, Fail> {
     let mut view = ready_with(alloc, &[("a", 1)])?;
-    let mut pairs = Vec::new(alloc);
-    pairs.push((RelPath::read(alloc, "a")?, Some(meta)))?;
-    view.observe(alloc, 20, &Pairs::new(pairs))?;
+    view.observe(alloc, 20, &pair(alloc, "a", Some(meta))?)?;
     Ok(view)
 }
 
@@ -139,16 +138,19 @@ fn takes_count(
     Ok(is_so_long && view.observe(alloc, 20, &pairs) == wanted && view.tick() == tick)
 }
 
-#[test]
-fn takes_so_many_pairs(rt: HostRuntime) -> Result<(), Fail> {
-    let alloc = rt.alloc();
-    let mut view = ready_with(alloc, &[])?;
+fn assert_counts(rt: &impl Abort, alloc: Global, view: &mut View) -> Result<(), Fail> {
     for (count, result, tick) in COUNTS {
         assert!(rt;
-            takes_count(alloc, &mut view, *count, *result, *tick)?,
+            takes_count(alloc, view, *count, *result, *tick)?,
             "{count}"
         );
     }
-    assert!(rt; exists_so(alloc, &view, &[("a", true, 1, 2, 2, 20)])?);
+    assert!(rt; exists_so(alloc, view, &[("a", true, 1, 2, 2, 20)])?);
     Ok(())
+}
+
+#[test]
+fn takes_so_many_pairs(rt: HostRuntime) -> Result<(), Fail> {
+    let mut view = ready_with(rt.alloc(), &[])?;
+    assert_counts(&rt, rt.alloc(), &mut view)
 }

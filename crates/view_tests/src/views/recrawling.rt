@@ -3,6 +3,7 @@ use super::{Shown, stands};
 use crate::making::{Found, Observed, listing_of, observed};
 use std::alloc::Global;
 use std::test::Fail;
+use wm_view::View;
 
 /// What is read, from which tick on, and what it finds; the tick then, and what has changed after tick 3.
 type Crawl = (Option<&'static str>, u64, Found, u64, &'static [Shown]);
@@ -80,12 +81,17 @@ const FIRST: Found = &[("x", 1), ("x/a", 1), ("x/b", 1), ("xy", 1), ("y/c", 1)];
 /// What was observed then, up to tick 3.
 const THEN: Observed = &[(20, &[("x/n", Some(1))]), (30, &[("x/a", Some(2))])];
 
-/// Whether a recrawl makes this of such a view.
-fn recrawls_so(alloc: Global, row: &Crawl) -> Result<bool, Fail> {
+/// Whether a recrawl makes this of a view.
+fn makes(alloc: Global, view: &mut View, row: &Crawl) -> Result<bool, Fail> {
     let (top, begun_at, found, tick, shown) = *row;
-    let mut view = observed(alloc, FIRST, THEN)?;
     view.recrawl(alloc, 40, begun_at, &listing_of(alloc, top, found)?)?;
-    stands(alloc, &view, (tick, 0), 3, shown)
+    stands(alloc, view, (tick, 0), 3, shown)
+}
+
+/// Whether it makes that of such a view.
+fn recrawls_so(alloc: Global, row: &Crawl) -> Result<bool, Fail> {
+    let mut view = observed(alloc, FIRST, THEN)?;
+    makes(alloc, &mut view, row)
 }
 
 #[test]

@@ -1,6 +1,8 @@
 //! Views through sessions, step by step.
 use super::walking::{Deed, Step, assert_walks};
 use super::{Shown, exists_so, stands};
+use std::alloc::Global;
+use std::process::Abort;
 use std::test::Fail;
 use wm_disk::Refusal;
 use wm_view::View;
@@ -67,15 +69,18 @@ const OBSERVED: &[Step] = &[
 /// What exists after that.
 const LEFT: &[Shown] = &[("a.c", true, 5, 7, 7, 70), ("b.c", true, 4, 3, 3, 30)];
 
+fn assert_session(rt: &impl Abort, alloc: Global, view: &mut View) -> Result<(), Fail> {
+    assert_walks(rt, alloc, view, OBSERVED, false)?;
+    assert!(rt; view.ready());
+    assert!(rt; exists_so(alloc, view, LEFT)?);
+    assert!(rt; stands(alloc, view, (7, 0), u64::MAX, &[])?);
+    Ok(())
+}
+
 #[test]
 fn follows_a_session(rt: HostRuntime) -> Result<(), Fail> {
-    let alloc = rt.alloc();
-    let mut view = View::new(alloc, 1, 1);
-    assert_walks(&rt, alloc, &mut view, OBSERVED, false)?;
-    assert!(rt; view.ready());
-    assert!(rt; exists_so(alloc, &view, LEFT)?);
-    assert!(rt; stands(alloc, &view, (7, 0), u64::MAX, &[])?);
-    Ok(())
+    let mut view = View::new(rt.alloc(), 1, 1);
+    assert_session(&rt, rt.alloc(), &mut view)
 }
 
 /// What a view refuses before a whole listing that began at tick 0.
@@ -124,17 +129,20 @@ fn is_of_root_5(view: &View, ready: bool) -> bool {
     (view.incarnation(), view.root()) == (3, 5) && view.ready() == ready
 }
 
+fn assert_waits(rt: &impl Abort, alloc: Global, view: &mut View) -> Result<(), Fail> {
+    assert!(rt; is_of_root_5(view, false));
+    assert_walks(rt, alloc, view, TOO_EARLY, false)?;
+    assert!(rt; is_of_root_5(view, false));
+    assert!(rt; exists_so(alloc, view, &[])?);
+    assert_walks(rt, alloc, view, FIRST_LISTING, false)?;
+    assert!(rt; is_of_root_5(view, true));
+    Ok(())
+}
+
 #[test]
 fn waits_for_a_whole_listing(rt: HostRuntime) -> Result<(), Fail> {
-    let alloc = rt.alloc();
-    let mut view = View::new(alloc, 3, 5);
-    assert!(rt; is_of_root_5(&view, false));
-    assert_walks(&rt, alloc, &mut view, TOO_EARLY, false)?;
-    assert!(rt; is_of_root_5(&view, false));
-    assert!(rt; exists_so(alloc, &view, &[])?);
-    assert_walks(&rt, alloc, &mut view, FIRST_LISTING, false)?;
-    assert!(rt; is_of_root_5(&view, true));
-    Ok(())
+    let mut view = View::new(rt.alloc(), 3, 5);
+    assert_waits(&rt, rt.alloc(), &mut view)
 }
 
 /// `a` is deleted at tick 2 and forgotten, and recrawls that find nothing begin at some tick.

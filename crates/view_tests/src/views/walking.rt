@@ -26,8 +26,7 @@ fn op_of(alloc: Global, deed: &Deed) -> Result<Op, Fail> {
     match deed {
         Deed::Observe(moment, told) => Ok(Op::Observe(*moment, pairs_of(alloc, told)?)),
         Deed::Recrawl(moment, begun_at, top, found) => {
-            let listing = listing_of(alloc, *top, found)?;
-            Ok(Op::Recrawl(*moment, *begun_at, listing))
+            Ok(Op::Recrawl(*moment, *begun_at, listing_of(alloc, *top, found)?))
         }
         Deed::AgeOut(time, age) => Ok(Op::AgeOut(*time, *age)),
     }
@@ -51,13 +50,14 @@ fn does(
     deed: &Deed,
     wanted: Result<(), Refusal>,
 ) -> Result<bool, Fail> {
-    match op_of(alloc, deed)? {
-        Op::Observe(moment, pairs) => Ok(view.observe(alloc, moment, &pairs) == wanted),
-        Op::Recrawl(moment, begun_at, listing) => {
-            Ok(view.recrawl(alloc, moment, begun_at, &listing) == wanted)
+    let result = match deed {
+        Deed::Observe(moment, told) => view.observe(alloc, *moment, &pairs_of(alloc, told)?),
+        Deed::Recrawl(moment, begun_at, top, found) => {
+            view.recrawl(alloc, *moment, *begun_at, &listing_of(alloc, *top, found)?)
         }
-        Op::AgeOut(time, age) => Ok(view.age_out(alloc, time, age) == wanted),
-    }
+        Deed::AgeOut(time, age) => view.age_out(alloc, *time, *age),
+    };
+    Ok(result == wanted)
 }
 
 /// Whether a step goes as told, as a value or by the method for it.

@@ -2,6 +2,7 @@
 use super::Event::{Begins, Forgets, Gone, Is};
 use super::{Event, happen, subscription};
 use std::alloc::Global;
+use std::process::Abort;
 use std::test::Fail;
 use wm_names::RootPath;
 use wm_since::{Every, Mirror};
@@ -47,16 +48,26 @@ const ROWS: &[Row] = &[
     (&[Gone("a.c")], &[]),
 ];
 
+fn assert_keeps(
+    rt: &impl Abort,
+    alloc: Global,
+    view: &mut View,
+    subscription: &mut Subscription<Every>,
+    client: &mut Mirror<Every>,
+) -> Result<(), Fail> {
+    for (i, row) in ROWS.iter().enumerate() {
+        happen(alloc, view, row.0)?;
+        follow(alloc, view, subscription, client)?;
+        assert!(rt; lists(client, row.1), "row {i}");
+    }
+    Ok(())
+}
+
 #[test]
 fn keeps_the_files_of_a_client(rt: HostRuntime) -> Result<(), Fail> {
     let alloc = rt.alloc();
-    let mut view = View::new(alloc, 1, 1);
     let mut subscription = subscription(alloc, "s", None)?;
     let mut client = Mirror::new(alloc, RootPath::read(alloc, "/r")?, Every)?;
-    for (i, row) in ROWS.iter().enumerate() {
-        happen(alloc, &mut view, row.0)?;
-        follow(alloc, &view, &mut subscription, &mut client)?;
-        assert!(rt; lists(&client, row.1), "row {i}");
-    }
-    Ok(())
+    let mut view = View::new(alloc, 1, 1);
+    assert_keeps(&rt, alloc, &mut view, &mut subscription, &mut client)
 }

@@ -2,6 +2,7 @@
 use super::Event::Begins;
 use super::{clock, happen, subscription, told};
 use std::alloc::Global;
+use std::process::Abort;
 use std::test::Fail;
 use wm_names::RootPath;
 use wm_since::{Every, Fields};
@@ -66,38 +67,58 @@ fn shown(alloc: Global, all: &Subscriptions<Every>) -> Result<String, Fail> {
     Ok(text)
 }
 
+/// Whether that is their text.
+fn stand_so(alloc: Global, all: &Subscriptions<Every>, wanted: &str) -> Result<bool, Fail> {
+    Ok(shown(alloc, all)?.as_str() == wanted)
+}
+
+fn assert_order(
+    rt: &impl Abort,
+    alloc: Global,
+    all: &mut Subscriptions<Every>,
+) -> Result<(), Fail> {
+    for (root, name) in [("/r", "s"), ("/q", "s"), ("/r", "t"), ("/q", "u")] {
+        assert!(rt; puts(alloc, all, root, name, "name")?);
+    }
+    assert!(rt; puts(alloc, all, "/r", "s", "size")?);
+    assert!(rt; stand_so(alloc, all, "/qsname /rtname /quname /rssize ")?);
+    assert!(rt; removes(alloc, all, "/r", "t")?);
+    assert!(rt; !removes(alloc, all, "/r", "t")?);
+    assert!(rt; !removes(alloc, all, "/r", "u")?);
+    assert!(rt; stand_so(alloc, all, "/qsname /quname /rssize ")?);
+    all.remove_root(&RootPath::read(alloc, "/q")?);
+    assert!(rt; stand_so(alloc, all, "/rssize ")?);
+    Ok(())
+}
+
 #[test]
 fn stand_in_the_order_of_subscribing(rt: HostRuntime) -> Result<(), Fail> {
-    let alloc = rt.alloc();
-    let mut all = Subscriptions::new(alloc);
-    for (root, name) in [("/r", "s"), ("/q", "s"), ("/r", "t"), ("/q", "u")] {
-        assert!(rt; puts(alloc, &mut all, root, name, "name")?);
+    let mut all = Subscriptions::new(rt.alloc());
+    assert_order(&rt, rt.alloc(), &mut all)
+}
+
+/// Puts one that is named by a number, and tells whether there was room.
+fn puts_number(alloc: Global, all: &mut Subscriptions<Every>, number: usize) -> Result<bool, Fail> {
+    let name = format!(in alloc; "{number}")?;
+    puts(alloc, all, "/r", name.as_str(), "name")
+}
+
+fn assert_room(rt: &impl Abort, alloc: Global, all: &mut Subscriptions<Every>) -> Result<(), Fail> {
+    for i in 0..MAX_SUBSCRIPTIONS {
+        assert!(rt; puts_number(alloc, all, i)?);
     }
-    assert!(rt; puts(alloc, &mut all, "/r", "s", "size")?);
-    assert!(rt; shown(alloc, &all)?.as_str() == "/qsname /rtname /quname /rssize ");
-    assert!(rt; removes(alloc, &mut all, "/r", "t")?);
-    assert!(rt; !removes(alloc, &mut all, "/r", "t")?);
-    assert!(rt; !removes(alloc, &mut all, "/r", "u")?);
-    assert!(rt; shown(alloc, &all)?.as_str() == "/qsname /quname /rssize ");
-    all.remove_root(&RootPath::read(alloc, "/q")?);
-    assert!(rt; shown(alloc, &all)?.as_str() == "/rssize ");
+    assert!(rt; !puts(alloc, all, "/r", "another", "name")?);
+    assert!(rt; puts(alloc, all, "/r", "7", "name")?);
+    assert!(rt; all.as_slice().len() == 32);
+    assert!(rt; holds(alloc, all, "/r", "7")?);
+    assert!(rt; !holds(alloc, all, "/q", "7")? && !holds(alloc, all, "/r", "another")?);
     Ok(())
 }
 
 #[test]
 fn has_room_for_32(rt: HostRuntime) -> Result<(), Fail> {
-    let alloc = rt.alloc();
-    let mut all = Subscriptions::new(alloc);
-    for i in 0..MAX_SUBSCRIPTIONS {
-        let name = format!(in alloc; "{i}")?;
-        assert!(rt; puts(alloc, &mut all, "/r", name.as_str(), "name")?);
-    }
-    assert!(rt; !puts(alloc, &mut all, "/r", "another", "name")?);
-    assert!(rt; puts(alloc, &mut all, "/r", "7", "name")?);
-    assert!(rt; all.as_slice().len() == 32);
-    assert!(rt; holds(alloc, &all, "/r", "7")?);
-    assert!(rt; !holds(alloc, &all, "/q", "7")? && !holds(alloc, &all, "/r", "another")?);
-    Ok(())
+    let mut all = Subscriptions::new(rt.alloc());
+    assert_room(&rt, rt.alloc(), &mut all)
 }
 
 /// Tells the one at a place of the first tick, where there is one.
@@ -107,22 +128,46 @@ fn tell(all: &mut Subscriptions<Every>, place: usize) {
     }
 }
 
+/// Adds to a text what is due to one, and a space.
+fn add_due(
+    alloc: Global,
+    text: &mut String,
+    view: &View,
+    subscribed: &Subscribed<Every>,
+) -> Result<(), Fail> {
+    let answer = subscribed.subscription.due_on(alloc, view)?;
+    text.push_str(told(alloc, &answer)?.as_str())?;
+    text.push(' ')?;
+    Ok(())
+}
+
+/// What is due to each.
+fn due(alloc: Global, view: &View, all: &Subscriptions<Every>) -> Result<String, Fail> {
+    let mut text = String::new(alloc);
+    for subscribed in all.as_slice() {
+        add_due(alloc, &mut text, view, subscribed)?;
+    }
+    Ok(text)
+}
+
+fn assert_told(
+    rt: &impl Abort,
+    alloc: Global,
+    view: &View,
+    all: &mut Subscriptions<Every>,
+) -> Result<(), Fail> {
+    for name in ["s", "t", "u"] {
+        assert!(rt; puts(alloc, all, "/r", name, "name")?);
+    }
+    tell(all, 1);
+    assert!(rt; due(alloc, view, all)?.as_str() == "c:1:1:1 fresh none c:1:1:1 fresh ");
+    Ok(())
+}
+
 #[test]
 fn are_told_one_by_one(rt: HostRuntime) -> Result<(), Fail> {
     let alloc = rt.alloc();
     let mut view = View::new(alloc, 1, 1);
     happen(alloc, &mut view, &[Begins])?;
-    let mut all = Subscriptions::new(alloc);
-    for name in ["s", "t", "u"] {
-        assert!(rt; puts(alloc, &mut all, "/r", name, "name")?);
-    }
-    tell(&mut all, 1);
-    let mut due = String::new(alloc);
-    for subscribed in all.as_slice() {
-        let answer = subscribed.subscription.due_on(alloc, &view)?;
-        due.push_str(told(alloc, &answer)?.as_str())?;
-        due.push(' ')?;
-    }
-    assert!(rt; due.as_str() == "c:1:1:1 fresh none c:1:1:1 fresh ");
-    Ok(())
+    assert_told(&rt, alloc, &view, &mut Subscriptions::new(alloc))
 }

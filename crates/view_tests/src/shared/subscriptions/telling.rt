@@ -11,6 +11,28 @@ use wm_view::View;
 /// What happens to the view, and what is then told.
 type Row = (&'static [Event], &'static str);
 
+/// Whether this is due.
+fn is_due(
+    alloc: Global,
+    view: &View,
+    subscription: &Subscription<Every>,
+    wanted: &str,
+) -> Result<bool, Fail> {
+    let due = subscription.due_on(alloc, view)?;
+    Ok(told(alloc, &due)?.as_str() == wanted)
+}
+
+/// Whether this is told next.
+fn tells_next(
+    alloc: Global,
+    view: &View,
+    subscription: &mut Subscription<Every>,
+    wanted: &str,
+) -> Result<bool, Fail> {
+    let next = subscription.next_on(alloc, view)?;
+    Ok(told(alloc, &next)?.as_str() == wanted)
+}
+
 /// Whether the events are followed by this answer. What is due is so until it is told.
 fn tells(
     alloc: Global,
@@ -19,24 +41,34 @@ fn tells(
     row: &Row,
 ) -> Result<bool, Fail> {
     happen(alloc, view, row.0)?;
-    let due = told(alloc, &subscription.due_on(alloc, view)?)?;
-    let next = told(alloc, &subscription.next_on(alloc, view)?)?;
-    Ok(due.as_str() == row.1 && next.as_str() == row.1)
+    let due = is_due(alloc, view, subscription, row.1)?;
+    Ok(due && tells_next(alloc, view, subscription, row.1)?)
 }
 
+fn assert_tells_each(
+    rt: &impl Abort,
+    alloc: Global,
+    view: &mut View,
+    subscription: &mut Subscription<Every>,
+    rows: &[Row],
+) -> Result<(), Fail> {
+    assert!(rt; subscription.name().as_str() == "s");
+    for (i, row) in rows.iter().enumerate() {
+        assert!(rt; tells(alloc, view, subscription, row)?, "row {i}");
+    }
+    Ok(())
+}
+
+/// What is told of a new view, to a subscription since a tick.
 fn assert_tells(
     rt: &impl Abort,
     alloc: Global,
     since: Option<u64>,
     rows: &[Row],
 ) -> Result<(), Fail> {
-    let mut view = View::new(alloc, 1, 1);
     let mut subscription = subscription(alloc, "s", since)?;
-    assert!(rt; subscription.name().as_str() == "s");
-    for (i, row) in rows.iter().enumerate() {
-        assert!(rt; tells(alloc, &mut view, &mut subscription, row)?, "row {i}");
-    }
-    Ok(())
+    let mut view = View::new(alloc, 1, 1);
+    assert_tells_each(rt, alloc, &mut view, &mut subscription, rows)
 }
 
 /// A subscription since tick 2 is told of the third, and then of what is deleted.
@@ -93,16 +125,24 @@ fn begins_anew_where_the_clock_is_none_of_the_view(rt: HostRuntime) -> Result<()
     assert_tells(&rt, rt.alloc(), Some(9), SINCE_A_LATER_CLOCK)
 }
 
+fn assert_told_up_to_a_clock(
+    rt: &impl Abort,
+    alloc: Global,
+    view: &mut View,
+    subscription: &mut Subscription<Every>,
+) -> Result<(), Fail> {
+    happen(alloc, view, &[Begins, Is("a.c", 3), Is("b.c", 4)])?;
+    subscription.told(clock(2));
+    assert!(rt; is_due(alloc, view, subscription, "c:1:1:3 b.c")?);
+    subscription.told(clock(3));
+    assert!(rt; subscription.due_on(alloc, view)?.is_none());
+    Ok(())
+}
+
 #[test]
 fn is_told_up_to_a_clock(rt: HostRuntime) -> Result<(), Fail> {
     let alloc = rt.alloc();
-    let mut view = View::new(alloc, 1, 1);
-    happen(alloc, &mut view, &[Begins, Is("a.c", 3), Is("b.c", 4)])?;
     let mut subscription = subscription(alloc, "s", None)?;
-    subscription.told(clock(2));
-    let due = told(alloc, &subscription.due_on(alloc, &view)?)?;
-    assert!(rt; due.as_str() == "c:1:1:3 b.c");
-    subscription.told(clock(3));
-    assert!(rt; subscription.due_on(alloc, &view)?.is_none());
-    Ok(())
+    let mut view = View::new(alloc, 1, 1);
+    assert_told_up_to_a_clock(&rt, alloc, &mut view, &mut subscription)
 }
