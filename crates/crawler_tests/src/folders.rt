@@ -1,5 +1,5 @@
 //! Crawls of real folders: each thing that a file system has.
-use crate::trees::told;
+use crate::trees::{allowed, told};
 use std::alloc::Global;
 use std::os::unix::net::UnixListener;
 use std::process::{Abort, Command};
@@ -43,11 +43,7 @@ fn lists<R: Threads + Sync, T: Tree + Sync>(
     wanted: &str,
     faults: u64,
 ) -> Result<bool, Fail> {
-    let workers = if workers < 1 || 16 < workers {
-        1
-    } else {
-        workers
-    };
+    let workers = allowed(workers);
     let found = crawl(rt, alloc, tree, &Subtree::Whole, workers, &Open)?;
     Ok(told(alloc, &found.listing)?.as_str() == wanted && found.faults == faults)
 }
@@ -225,11 +221,7 @@ fn goes_by_rights<R: Threads + Abort + Sync>(
     workers: usize,
     may_read: bool,
 ) -> bool {
-    let workers = if workers < 1 || 16 < workers {
-        1
-    } else {
-        workers
-    };
+    let workers = allowed(workers);
     match crawl(host, rt.alloc(), tree, &Subtree::Whole, workers, &Open) {
         Ok(found) => may_read && found.listing.files().len() == 2,
         Err(refused) => !may_read && matches!(refused, Refusal::DeviceFailed),

@@ -1,5 +1,5 @@
 //! Gates: how often they are passed, and that two workers are at work at once.
-use crate::trees::tree_of;
+use crate::trees::{allowed, tree_of};
 use std::alloc::Global;
 use std::sync::atomic::{AtomicBool, AtomicU64, Ordering};
 use std::test::Fail;
@@ -26,11 +26,7 @@ fn passed<R: Threads + Sync>(
     tree: &MemTree,
     workers: usize,
 ) -> Result<u64, Fail> {
-    let workers = if workers < 1 || 16 < workers {
-        1
-    } else {
-        workers
-    };
+    let workers = allowed(workers);
     let gate = Counted {
         passed: AtomicU64::new(0),
     };

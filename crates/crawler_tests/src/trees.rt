@@ -1,9 +1,23 @@
 //! Trees in memory, and listings as texts.
+ghost use Rattle.std.specs.Prelude.{◌≤◌};
+
 use std::alloc::Global;
-use wm_crawler::{Dir, MemTree};
+use wm_crawler::{Dir, MAX_WORKERS, MemTree};
 use wm_disk::{NoMemory, Refusal};
 use wm_names::{Kind, Meta, RelPath, Subtree};
 use wm_view::Listing;
+
+/// So many workers, or one where a crawl can't have so many.
+pub(crate) fn allowed(workers: usize) -> usize
+    ensures some { 1 ≤ result }
+    ensures few { result ≤ 16 }
+{
+    if workers < 1 || MAX_WORKERS < workers {
+        1
+    } else {
+        workers
+    }
+}
 
 /// The root where the text is empty, and else what is below the path.
 pub(crate) fn part(alloc: Global, text: &str) -> Result<Subtree, Refusal> {
