@@ -49,16 +49,14 @@ const STATUSES: &str = "Exit status:
 fn command<'a>(alloc: Global) -> Result<Command<'a>, NoMemory>
     ensures { IfOk result (λ c. app_of c ≡ wmfeed_app) }
 {
-    let socket = needed(alloc, "SOCKET", "The path of the server's socket");
-    let root = needed(alloc, "ROOT", "The folder to be watched, an absolute path");
     let command = Command::new(alloc, "wmfeed")
         .about("Tells a file watch server what changes in a folder, as inotifywait tells it")
         .after_help(STATUSES)
         .version(VERSION)
         .no_binary_name(true)
         .bin_name("wmfeed")?
-        .arg(socket)?
-        .arg(root)?;
+        .arg(needed(alloc, "SOCKET", "The path of the server's socket"))?
+        .arg(needed(alloc, "ROOT", "The folder to be watched, an absolute path"))?;
     Ok(command)
 }
 

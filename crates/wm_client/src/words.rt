@@ -55,16 +55,14 @@ const STATUSES: &str = "Exit status:
 fn command<'a>(alloc: Global) -> Result<Command<'a>, NoMemory>
     ensures { IfOk result (λ c. app_of c ≡ wmctl_app) }
 {
-    let socket = needed(alloc, "SOCKET", "The path of the server's socket");
-    let json = needed(alloc, "JSON", "The request, one line, as [\"watch-list\"]");
     let command = Command::new(alloc, "wmctl")
         .about("Sends a request to a file watch server and prints its reply")
         .after_help(STATUSES)
         .version(VERSION)
         .no_binary_name(true)
         .bin_name("wmctl")?
-        .arg(socket)?
-        .arg(json)?
+        .arg(needed(alloc, "SOCKET", "The path of the server's socket"))?
+        .arg(needed(alloc, "JSON", "The request, one line, as [\"watch-list\"]"))?
         .arg(follow(alloc))?;
     Ok(command)
 }

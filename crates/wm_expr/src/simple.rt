@@ -1,6 +1,7 @@
 //! Reads and judges the terms that hold no other term, such as `name`, `size` and `match`.
 //! Definitions: specs/Readings.antt. Tests: view_tests/src/expressions/readings.rt.
 ghost use Rattle.std.specs.Prelude.{◌≡◌, ◌≢◌, Some, None, IfOk, IfErr, is_some, map, string_bytes, option_and_then, option_map};
+ghost use Rattle.serde_json.specs.Data.{item};
 ghost use Rattle.serde_json.specs.Find.{as_str};
 ghost use Rattle.serde_json.specs.View.{items_view, view};
 ghost use Rattle.wm_names.specs.Entries.{kind_of};
@@ -169,15 +170,12 @@ pub(crate) fn plain_term(word: &str) -> Result<Expr, Refusal>
     }
 }
 
-/// A term that holds no other, by its word and what follows it.
-pub(crate) fn simple_term(alloc: Global, word: &str, parts: &[Value]) -> Result<Expr, Refusal>
-    ensures ok { IfOk result (λ e. simple_term_lem word.now (items_view parts.now) ≡ Some (term e)) }
+/// A term that holds no other, by its word, the first value behind it and the rest.
+fn worded_term(alloc: Global, word: &str, first: &Value, rest: &[Value]) -> Result<Expr, Refusal>
+    ensures ok { IfOk result (λ e. simple_term_lem word.now (item (view first.now) (items_view rest.now)) ≡ Some (term e)) }
     ensures flat { IfOk result (λ e. depth (term e) ≡ 1) }
-    ensures refused { IfErr result (λ e. e ≢ Refusal.NoMemory → (e ≡ Refusal.BadExpression) × (simple_term_lem word.now (items_view parts.now) ≡ None)) }
+    ensures refused { IfErr result (λ e. e ≢ Refusal.NoMemory → (e ≡ Refusal.BadExpression) × (simple_term_lem word.now (item (view first.now) (items_view rest.now)) ≡ None)) }
 {
-    let [first, rest @ ..] = parts else {
-        return plain_term(word);
-    };
     match word {
         "name" => name_term(alloc, first, rest),
         "suffix" => suffix_term(alloc, first, rest),
@@ -185,6 +183,18 @@ pub(crate) fn simple_term(alloc: Global, word: &str, parts: &[Value]) -> Result<
         "size" => size_term(first, rest),
         "match" => match_term(alloc, first, rest),
         _ => Err(Refusal::BadExpression),
+    }
+}
+
+/// A term that holds no other, by its word and what follows it.
+pub(crate) fn simple_term(alloc: Global, word: &str, parts: &[Value]) -> Result<Expr, Refusal>
+    ensures ok { IfOk result (λ e. simple_term_lem word.now (items_view parts.now) ≡ Some (term e)) }
+    ensures flat { IfOk result (λ e. depth (term e) ≡ 1) }
+    ensures refused { IfErr result (λ e. e ≢ Refusal.NoMemory → (e ≡ Refusal.BadExpression) × (simple_term_lem word.now (items_view parts.now) ≡ None)) }
+{
+    match parts {
+        [] => plain_term(word),
+        [first, rest @ ..] => worded_term(alloc, word, first, rest),
     }
 }
 
@@ -241,13 +251,10 @@ pub(crate) fn is_plain_term(word: &str) -> bool
     plain(word).is_some()
 }
 
-/// Whether a word with what follows it is a term that holds no other.
-pub(crate) fn is_simple_term(word: &str, parts: &[Value]) -> bool
-    ensures { result ≡ is_some (simple_term_lem word.now (items_view parts.now)) }
+/// Whether a word with the first value behind it and the rest is a term that holds no other.
+fn is_worded_term(word: &str, first: &Value, rest: &[Value]) -> bool
+    ensures { result ≡ is_some (simple_term_lem word.now (item (view first.now) (items_view rest.now))) }
 {
-    let [first, rest @ ..] = parts else {
-        return is_plain_term(word);
-    };
     match word {
         "name" => is_name_term(first, rest),
         "suffix" => is_suffix_term(first, rest),
@@ -255,5 +262,15 @@ pub(crate) fn is_simple_term(word: &str, parts: &[Value]) -> bool
         "size" => is_size_term(first, rest),
         "match" => is_match_term(first, rest),
         _ => false,
+    }
+}
+
+/// Whether a word with what follows it is a term that holds no other.
+pub(crate) fn is_simple_term(word: &str, parts: &[Value]) -> bool
+    ensures { result ≡ is_some (simple_term_lem word.now (items_view parts.now)) }
+{
+    match parts {
+        [] => is_plain_term(word),
+        [first, rest @ ..] => is_worded_term(word, first, rest),
     }
 }

@@ -4,23 +4,36 @@ ghost use Rattle.std.specs.Prelude.{◌≡◌, IfOk, Some, map, string_bytes};
 ghost use Rattle.serde_json.specs.Read.{read};
 ghost use Rattle.serde_json.specs.View.{view, items_view, items_of};
 ghost use Rattle.serde_json.specs.Written.{compact_text};
-ghost use Rattle.wm_feed.specs.Observes.{observe_data, pair_data};
+ghost use Rattle.wm_feed.specs.Observes.{meta_data, observe_data, pair_data, state_data};
 
 use serde_json::{Value, json};
 use std::alloc::{AllocError, Global};
 use wm_disk::NoMemory;
 use wm_names::{Meta, RelPath};
 
+/// Metadata, as a line has it.
+fn metadata(alloc: Global, meta: Meta) -> Result<Value, AllocError>
+    ensures { IfOk result (λ v. view v ≡ meta_data meta) }
+{
+    json!(in alloc; {"mtime_ms": meta.mtime_ms, "size": meta.size, "type": meta.kind.letter()})
+}
+
+/// What stands at a path, as a line has it.
+fn standing(alloc: Global, state: Option<Meta>) -> Result<Value, AllocError>
+    ensures { IfOk result (λ v. view v ≡ state_data state) }
+{
+    match state {
+        None => Ok(Value::Null),
+        Some(meta) => metadata(alloc, meta),
+    }
+}
+
 /// A path and what stands there, as a line has them.
 fn pair(alloc: Global, path: &str, state: Option<Meta>) -> Result<Value, AllocError>
     ensures { IfOk result (λ v. view v ≡ pair_data (path.now, state)) }
 {
-    match state {
-        None => json!(in alloc; [path, null]),
-        Some(meta) => {
-            json!(in alloc; [path, {"mtime_ms": meta.mtime_ms, "size": meta.size, "type": meta.kind.letter()}])
-        }
-    }
+    let state = standing(alloc, state)?;
+    json!(in alloc; [path, state])
 }
 
 /// The pairs as values.

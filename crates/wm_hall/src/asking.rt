@@ -57,14 +57,39 @@ pub fn tell_by<J: Naming>(
     ensures room { vec_capacity out.old ≤ vec_capacity out.new }
 {
     query.since = cursors.clock(&name);
-    if !cursors.has_room(&name) {
+    let has_room = cursors.has_room(&name);
+    match tell_with_room(alloc, viewer, has_room, &query, fields, out) {
+        Ok(clock) => {
+            cursors.moved(name, clock);
+            Ok(())
+        }
+        Err(refusal) => Err(refusal),
+    }
+}
+
+/// Appends the answer to a question by a cursor, and gives its clock. It is refused as `tell` is, and `TooMany` where there is no
+/// room for the cursor.
+fn tell_with_room<J: Naming>(
+    alloc: Global,
+    viewer: &mut Viewer<J>,
+    has_room: bool,
+    query: &Query<Expression>,
+    fields: &Fields,
+    out: &mut Vec<u8>,
+) -> Result<ClockId, Refusal>
+    ensures seen { Begins viewer.old viewer.new }
+    ensures ok { IfOk result (λ clock. (is_ready (history viewer.new) ≡ true) × (has_room ≡ true) × (clock ≡ clock_of_history (history viewer.new))) }
+    ensures told { IfOk result (λ _. out.new.items ≡ out.old.items ++ line_text (query_reply fields.now (answer_to (holds query.now.test) (history viewer.new) (question query.now)))) }
+    ensures refused { IfErr result (λ e. (e ≡ Refusal.NoMemory) ⊎ (e ≡ Refusal.NoPlace) ⊎ ((e ≡ Refusal.NotReady) × (is_ready (history viewer.new) ≡ false)) ⊎ ((e ≡ Refusal.TooMany) × (is_ready (history viewer.new) ≡ true) × (has_room ≡ false))) }
+    ensures err { OnErr result (out.new.items ≡ out.old.items) }
+    ensures room { vec_capacity out.old ≤ vec_capacity out.new }
+{
+    if !has_room {
         // a root that isn't ready says so first
-        viewer.answer(alloc, &query)?;
+        viewer.answer(alloc, query)?;
         return Err(Refusal::TooMany);
     }
-    let clock = tell(alloc, viewer, &query, fields, out)?;
-    cursors.moved(name, clock);
-    Ok(())
+    tell(alloc, viewer, query, fields, out)
 }
 
 /// Where the root stands, as the viewer sees it. It costs what changed since a clock that it was told before. `NotReady` before the

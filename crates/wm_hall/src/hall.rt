@@ -9,11 +9,11 @@ use std::alloc::Global;
 use std::sync::{Mutex, Wait};
 use wm_clock::{ClockId, ClockSpec, CursorName};
 use wm_disk::{NoMemory, Refusal};
-use wm_lines::{Inquiry, Progress};
+use wm_lines::{Expression, Inquiry, Progress};
 use wm_names::RootPath;
 use wm_registry::Trigger;
 use wm_share::{Naming, Pool, RootKeeper, Shown, Told, Viewer};
-use wm_since::{Cursors, Query};
+use wm_since::{Cursors, Fields, Query};
 use wm_view::Op;
 
 /// One watched root.
@@ -42,16 +42,17 @@ impl<J: Naming, K: Wait + Drop> RootHall<J, K> {
         keeper: RootKeeper<J, Shown<J>, K>,
         pool: Pool<J>,
     ) -> Result<RootHall<J, K>, NoMemory> {
+        let (path, work, cursors) = fittings(alloc, path)?;
         Ok(RootHall {
-            path: path.copy(alloc)?,
+            path,
             number,
-            work: Work::new(alloc)?,
+            work,
             triggers: Mutex::new(Vec::new(alloc)),
             keeper: Mutex::new(keeper),
             left: Mutex::new(Left::new()),
             pool: Mutex::new(pool),
             told: Mutex::new(None),
-            cursors: Mutex::new(Cursors::new(alloc)?),
+            cursors: Mutex::new(cursors),
         })
     }
 
@@ -83,22 +84,35 @@ impl<J: Naming, K: Wait + Drop> RootHall<J, K> {
     ) -> Result<Progress, Refusal> {
         let mut keeper = self.keeper.lock(rt);
         let mut left = self.left.lock(rt);
-        if let Some(told) = pay(&mut keeper, &mut left)? {
-            *self.told.lock(rt) = Some(told);
-        }
-        let met = match operate(&mut keeper, &mut left, forgetting, op) {
-            Ok(told) => {
-                let met = progress_of(&told);
-                *self.told.lock(rt) = Some(told);
-                met
-            }
-            Err(refusal) => Err(refusal),
-        };
+        let met = self.perform(rt, &mut keeper, &mut left, forgetting, op);
         drop(left);
         drop(keeper);
         // also of what was owed, where the operation is refused
         self.work.stir(rt);
         met
+    }
+
+    /// Publishes what is owed, and then the operation, under the keeper's lock.
+    fn perform<R: Wait>(
+        &self,
+        rt: &R,
+        keeper: &mut RootKeeper<J, Shown<J>, K>,
+        left: &mut Left,
+        forgetting: Forgetting,
+        op: Op,
+    ) -> Result<Progress, Refusal> {
+        if let Some(told) = pay(keeper, left)? {
+            self.keep_told(rt, told);
+        }
+        let told = operate(keeper, left, forgetting, op)?;
+        let met = progress_of(&told);
+        self.keep_told(rt, told);
+        met
+    }
+
+    /// Keeps what was published last.
+    fn keep_told<R: Wait>(&self, rt: &R, told: Told<J>) {
+        *self.told.lock(rt) = Some(told);
     }
 
     /// A viewer, which has learnt what was published last. `NoPlace` where the pool is empty.
@@ -166,20 +180,62 @@ impl<J: Naming, K: Wait + Drop> RootHall<J, K> {
             fields,
             empty_on_fresh,
         } = inquiry;
-        let mut query = Query {
-            since: None,
+        let query = Query {
+            since: clock_of(&since),
             test: expression,
             empty_on_fresh,
         };
-        if let Some(ClockSpec::Cursor(name)) = since {
-            let mut cursors = self.cursors.lock(rt);
-            return tell_by(alloc, viewer, &mut cursors, name, query, &fields, out);
+        match since {
+            Some(ClockSpec::Cursor(name)) => {
+                self.inquire_by(rt, alloc, viewer, name, query, &fields, out)
+            }
+            Some(ClockSpec::Clock(_)) | Some(ClockSpec::Another) | None => {
+                inquire_of(alloc, viewer, query, &fields, out)
+            }
         }
-        if let Some(ClockSpec::Clock(clock)) = since {
-            query.since = Some(clock);
-        }
-        tell(alloc, viewer, &query, &fields, out)?;
-        Ok(())
+    }
+
+    /// Appends the answer to a question by a cursor of the root.
+    fn inquire_by<R: Wait>(
+        &self,
+        rt: &R,
+        alloc: Global,
+        viewer: &mut Viewer<J>,
+        name: CursorName,
+        query: Query<Expression>,
+        fields: &Fields,
+        out: &mut Vec<u8>,
+    ) -> Result<(), Refusal> {
+        let mut cursors = self.cursors.lock(rt);
+        tell_by(alloc, viewer, &mut cursors, name, query, fields, out)
+    }
+}
+
+/// Appends the answer to a question without a cursor.
+fn inquire_of<J: Naming>(
+    alloc: Global,
+    viewer: &mut Viewer<J>,
+    query: Query<Expression>,
+    fields: &Fields,
+    out: &mut Vec<u8>,
+) -> Result<(), Refusal> {
+    tell(alloc, viewer, &query, fields, out)?;
+    Ok(())
+}
+
+/// What a new hall has beside its keeper and its viewers: its path, the crawl that is asked for, and no cursor.
+fn fittings(alloc: Global, path: &RootPath) -> Result<(RootPath, Work, Cursors), NoMemory> {
+    let path = path.copy(alloc)?;
+    let work = Work::new(alloc)?;
+    let cursors = Cursors::new(alloc)?;
+    Ok((path, work, cursors))
+}
+
+/// The clock by which is asked, where it is one of this instance.
+fn clock_of(since: &Option<ClockSpec>) -> Option<ClockId> {
+    match since {
+        Some(ClockSpec::Clock(clock)) => Some(*clock),
+        Some(ClockSpec::Cursor(_)) | Some(ClockSpec::Another) | None => None,
     }
 }
 

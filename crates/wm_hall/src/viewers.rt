@@ -34,7 +34,8 @@ impl<J: Naming> Viewers<J> {
     {
         if self.place(hall.number).is_none() {
             self.all.try_reserve(1)?;
-            self.all.push(hall.lend(rt)?)?;
+            let viewer = hall.lend(rt)?;
+            self.all.push_reserved(viewer);
         }
         let own = self
             .all

@@ -7,6 +7,8 @@ use Rattle.serde_json.specs.Read.{read}
 use Rattle.serde_json.specs.Find.{at, as_str}
 use Rattle.wm_disk.specs.declared.refusal.Refusal.{Refusal}
 use Rattle.wm_disk.specs.declared.refusal.Refusal.TheVariants.{BadLine, BadCommand, BadArguments}
+use Rattle.wm_lines.specs.declared.request.CommandName.{CommandName}
+use Rattle.wm_lines.specs.declared.request.CommandName.TheVariants as named
 use Rattle.wm_lines.specs.declared.request.Request.{Request}
 use Rattle.wm_lines.specs.AgeOutLines.{age_out_request}
 use Rattle.wm_lines.specs.Arguments.{only_root}
@@ -39,29 +41,47 @@ abbrev pub request_with : (List ℕ → Request) → Result (List ℕ) Refusal �
 request_with make (Ok path) = Ok (make path)
 request_with make (Err e) = Err e
 
+-- the command of a name
+abbrev pub command_of : List ℕ → Option CommandName
+command_of name =
+    if bytes_eq name (codes "version") then Some named.Version
+    else (if bytes_eq name (codes "watch") then Some named.Watch
+    else (if bytes_eq name (codes "watch-del") then Some named.WatchDel
+    else (if bytes_eq name (codes "watch-list") then Some named.WatchList
+    else (if bytes_eq name (codes "trigger") then Some named.Trigger
+    else (if bytes_eq name (codes "trigger-list") then Some named.TriggerList
+    else (if bytes_eq name (codes "trigger-del") then Some named.TriggerDel
+    else (if bytes_eq name (codes "observe") then Some named.Observe
+    else (if bytes_eq name (codes "listing") then Some named.Listing
+    else (if bytes_eq name (codes "age-out") then Some named.AgeOut
+    else (if bytes_eq name (codes "clock") then Some named.Clock
+    else (if bytes_eq name (codes "since") then Some named.Since
+    else (if bytes_eq name (codes "query") then Some named.Query
+    else (if bytes_eq name (codes "subscribe") then Some named.Subscribe
+    else (if bytes_eq name (codes "unsubscribe") then Some named.Unsubscribe
+    else None))))))))))))))
+
 -- the table of the commands
-abbrev pub command_named : Data → Option (List ℕ) → Result Request Refusal
-command_named d None = Err BadCommand
-command_named d (Some name) =
-    if bytes_eq name (codes "version") then plain_request d Version
-    else (if bytes_eq name (codes "watch") then request_with (λ path. Watch path) (only_root d)
-    else (if bytes_eq name (codes "watch-del") then request_with (λ path. WatchDel path) (only_root d)
-    else (if bytes_eq name (codes "watch-list") then plain_request d WatchList
-    else (if bytes_eq name (codes "trigger") then trigger_request d
-    else (if bytes_eq name (codes "trigger-list") then request_with (λ path. TriggerList path) (only_root d)
-    else (if bytes_eq name (codes "trigger-del") then trigger_del_request d
-    else (if bytes_eq name (codes "observe") then observe_request d
-    else (if bytes_eq name (codes "listing") then listing_request d
-    else (if bytes_eq name (codes "age-out") then age_out_request d
-    else (if bytes_eq name (codes "clock") then request_with (λ path. Clock path) (only_root d)
-    else (if bytes_eq name (codes "since") then since_request d
-    else (if bytes_eq name (codes "query") then query_request d
-    else (if bytes_eq name (codes "subscribe") then subscribe_request d
-    else (if bytes_eq name (codes "unsubscribe") then unsubscribe_request d
-    else Err BadCommand))))))))))))))
+abbrev pub request_named : Data → Option CommandName → Result Request Refusal
+request_named d None = Err BadCommand
+request_named d (Some named.Version) = plain_request d Version
+request_named d (Some named.Watch) = request_with (λ path. Watch path) (only_root d)
+request_named d (Some named.WatchDel) = request_with (λ path. WatchDel path) (only_root d)
+request_named d (Some named.WatchList) = plain_request d WatchList
+request_named d (Some named.Trigger) = trigger_request d
+request_named d (Some named.TriggerList) = request_with (λ path. TriggerList path) (only_root d)
+request_named d (Some named.TriggerDel) = trigger_del_request d
+request_named d (Some named.Observe) = observe_request d
+request_named d (Some named.Listing) = listing_request d
+request_named d (Some named.AgeOut) = age_out_request d
+request_named d (Some named.Clock) = request_with (λ path. Clock path) (only_root d)
+request_named d (Some named.Since) = since_request d
+request_named d (Some named.Query) = query_request d
+request_named d (Some named.Subscribe) = subscribe_request d
+request_named d (Some named.Unsubscribe) = unsubscribe_request d
 
 unfoldable pub request_of : Data → Result Request Refusal
-request_of d = command_named d (option_and_then as_str (at 0 d))
+request_of d = request_named d (option_and_then command_of (option_and_then as_str (at 0 d)))
 
 abbrev pub request_of_text : Option Data → Result Request Refusal
 request_of_text None = Err BadLine

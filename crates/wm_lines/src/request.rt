@@ -1,8 +1,9 @@
 //! What a line asks, and the table of the commands. Its definitions are in specs/Lines.
 //! Tests: session_tests/src/requests.
-ghost use Rattle.std.specs.Prelude.{◌≡◌, ◌≢◌, Ok, Err, Some, None, IfOk, IfErr};
+ghost use Rattle.std.specs.Prelude.{◌≡◌, ◌≢◌, Ok, Err, Some, None, option_and_then, IfOk, IfErr};
 ghost use Rattle.serde_json.specs.View.{view};
-ghost use Rattle.wm_lines.specs.Lines.{is_whole_line, plain_request, request_of, request_of_line, value_of_line};
+ghost use Rattle.wm_lines.specs.Arguments.{text_at as text_at_lem};
+ghost use Rattle.wm_lines.specs.Lines.{command_of as command_of_lem, is_whole_line, plain_request, request_of, request_of_line, value_of_line};
 
 use crate::age_out::age_out;
 use crate::arguments::{has_items, only_root, text_at};
@@ -91,10 +92,61 @@ fn plain(value: &Value, request: Request) -> Result<Request, Refusal>
     ensures { result ≡ plain_request (view value.now) request }
 {
     if has_items(value, 1) {
-        Ok(request)
-    } else {
-        Err(Refusal::BadArguments)
+        return Ok(request);
     }
+    drop(request);
+    Err(Refusal::BadArguments)
+}
+
+/// A command, by its name.
+#[derive(Clone, Copy)]
+enum CommandName {
+    Version,
+    Watch,
+    WatchDel,
+    WatchList,
+    Trigger,
+    TriggerList,
+    TriggerDel,
+    Observe,
+    Listing,
+    AgeOut,
+    Clock,
+    Since,
+    Query,
+    Subscribe,
+    Unsubscribe,
+}
+
+/// The command of a name.
+fn command_of(name: &str) -> Option<CommandName>
+    ensures { result ≡ command_of_lem name.now }
+{
+    match name {
+        "version" => Some(CommandName::Version),
+        "watch" => Some(CommandName::Watch),
+        "watch-del" => Some(CommandName::WatchDel),
+        "watch-list" => Some(CommandName::WatchList),
+        "trigger" => Some(CommandName::Trigger),
+        "trigger-list" => Some(CommandName::TriggerList),
+        "trigger-del" => Some(CommandName::TriggerDel),
+        "observe" => Some(CommandName::Observe),
+        "listing" => Some(CommandName::Listing),
+        "age-out" => Some(CommandName::AgeOut),
+        "clock" => Some(CommandName::Clock),
+        "since" => Some(CommandName::Since),
+        "query" => Some(CommandName::Query),
+        "subscribe" => Some(CommandName::Subscribe),
+        "unsubscribe" => Some(CommandName::Unsubscribe),
+        _ => None,
+    }
+}
+
+/// The command that a JSON value names.
+fn command_in(value: &Value) -> Option<CommandName>
+    ensures { result ≡ option_and_then command_of_lem (text_at_lem 0 (view value.now)) }
+{
+    command_of(text_at(value, 0)?)
 }
 
 /// The request that a JSON value is: the table of the commands.
@@ -103,26 +155,25 @@ pub(crate) fn request_in(alloc: Global, value: &Value) -> Result<Request, Refusa
     ensures ok { IfOk result (λ r. request_of (view value.now) ≡ Ok r) }
     ensures refused { IfErr result (λ e. e ≢ Refusal.NoMemory → request_of (view value.now) ≡ Err e) }
 {
-    let Some(name) = text_at(value, 0) else {
+    let Some(command) = command_in(value) else {
         return Err(Refusal::BadCommand);
     };
-    match name {
-        "version" => plain(value, Request::Version),
-        "watch" => Ok(Request::Watch(only_root(alloc, value)?)),
-        "watch-del" => Ok(Request::WatchDel(only_root(alloc, value)?)),
-        "watch-list" => plain(value, Request::WatchList),
-        "trigger" => trigger(alloc, value),
-        "trigger-list" => Ok(Request::TriggerList(only_root(alloc, value)?)),
-        "trigger-del" => trigger_del(alloc, value),
-        "observe" => observe(alloc, value),
-        "listing" => listing(alloc, value),
-        "age-out" => age_out(alloc, value),
-        "clock" => Ok(Request::Clock(only_root(alloc, value)?)),
-        "since" => since(alloc, value),
-        "query" => query(alloc, value),
-        "subscribe" => subscribe(alloc, value),
-        "unsubscribe" => unsubscribe(alloc, value),
-        _ => Err(Refusal::BadCommand),
+    match command {
+        CommandName::Version => plain(value, Request::Version),
+        CommandName::Watch => Ok(Request::Watch(only_root(alloc, value)?)),
+        CommandName::WatchDel => Ok(Request::WatchDel(only_root(alloc, value)?)),
+        CommandName::WatchList => plain(value, Request::WatchList),
+        CommandName::Trigger => trigger(alloc, value),
+        CommandName::TriggerList => Ok(Request::TriggerList(only_root(alloc, value)?)),
+        CommandName::TriggerDel => trigger_del(alloc, value),
+        CommandName::Observe => observe(alloc, value),
+        CommandName::Listing => listing(alloc, value),
+        CommandName::AgeOut => age_out(alloc, value),
+        CommandName::Clock => Ok(Request::Clock(only_root(alloc, value)?)),
+        CommandName::Since => since(alloc, value),
+        CommandName::Query => query(alloc, value),
+        CommandName::Subscribe => subscribe(alloc, value),
+        CommandName::Unsubscribe => unsubscribe(alloc, value),
     }
 }
 

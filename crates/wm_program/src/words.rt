@@ -4,7 +4,7 @@ ghost use Rattle.std.specs.Prelude.{◌≡◌, ◌≤◌, ℕ, IfOk, None, false
 ghost use Rattle.std.specs.Option.{MatchOption};
 ghost use Rattle.std.specs.Str.{bytes_eq};
 ghost use Rattle.clap.specs.Values.{kind_of};
-ghost use Rattle.clap.specs.Words.{app_of, found_of, rows_of, rule_of, subcommand_rows_of};
+ghost use Rattle.clap.specs.Words.{app_of, found_of, new_app, rows_of, rule_of, subcommand_rows_of};
 ghost use Rattle.clap.specs.declared.builder.Command.TheViews.{out-Command};
 ghost use Rattle.wm_crawler.specs.Crawls.{max_workers};
 ghost use Rattle.wm_serve.specs.declared.serving.Settings.{Settings as settings_lem};
@@ -69,46 +69,48 @@ fn command<'a>(alloc: Global) -> Result<Command<'a>, NoMemory>
     Ok(command)
 }
 
+// `serve` with no words yet.
+fn bare_serve<'a>(alloc: Global) -> Command<'a>
+    ensures app { app_of result ≡ new_app (codes "serve") }
+    ensures local { (out-Command result).has_globals ≡ false }
+{
+    Command::new(alloc, "serve")
+        .about("Answers request lines on a Unix socket over a state file")
+        .after_help(STATUSES)
+}
+
 // `serve`.
 fn serve_command<'a>(alloc: Global) -> Result<Command<'a>, NoMemory>
     ensures app { IfOk result (λ c. app_of c ≡ serve_app) }
     ensures local { IfOk result (λ c. (out-Command c).has_globals ≡ false) }
 {
-    let file = needed(alloc, "FILE", "The path of the state file");
-    let socket = needed(alloc, "SOCKET", "The path of the socket, which is made");
-    let workers = number(
-        alloc,
-        "workers",
-        "N",
-        "How many threads crawl a root, 1 to 16 [default: 4]",
-    );
-    let age = number(
-        alloc,
-        "gc-age",
-        "S",
-        "After how many seconds a deleted path is forgotten [default: 43200]",
-    );
-    let interval = number(
-        alloc,
-        "gc-interval",
-        "S",
-        "How many seconds pass between two times of forgetting [default: 86400]",
-    );
-    let sessions = number(
-        alloc,
-        "sessions",
-        "N",
-        "After how many sessions the server ends [default: never]",
-    );
-    let command = Command::new(alloc, "serve")
-        .about("Answers request lines on a Unix socket over a state file")
-        .after_help(STATUSES)
-        .arg(file)?
-        .arg(socket)?
-        .arg(workers)?
-        .arg(age)?
-        .arg(interval)?
-        .arg(sessions)?;
+    let command = bare_serve(alloc)
+        .arg(needed(alloc, "FILE", "The path of the state file"))?
+        .arg(needed(alloc, "SOCKET", "The path of the socket, which is made"))?
+        .arg(number(
+            alloc,
+            "workers",
+            "N",
+            "How many threads crawl a root, 1 to 16 [default: 4]",
+        ))?
+        .arg(number(
+            alloc,
+            "gc-age",
+            "S",
+            "After how many seconds a deleted path is forgotten [default: 43200]",
+        ))?
+        .arg(number(
+            alloc,
+            "gc-interval",
+            "S",
+            "How many seconds pass between two times of forgetting [default: 86400]",
+        ))?
+        .arg(number(
+            alloc,
+            "sessions",
+            "N",
+            "After how many sessions the server ends [default: never]",
+        ))?;
     Ok(command)
 }
 

@@ -1,11 +1,12 @@
 //! The watched roots with the counters beside them, and the one call that changes them.
 //! Definitions: specs/Registry.antt, specs/Roots.antt. Tests: registry_tests/src/registries.rt.
-ghost use Rattle.std.specs.Prelude.{◌≡◌, ◌≢◌, true, IfOk};
+ghost use Rattle.std.specs.Prelude.{◌≡◌, ◌≢◌, [], true, IfOk, OnOk};
 
 use crate::command::Command;
 use crate::limits::MAX_BATCH;
 use crate::reply::Reply;
 use crate::root::Root;
+use crate::roots::put_new;
 use indexmap::IndexMap;
 use std::alloc::Global;
 use std::marker::Model;
@@ -44,12 +45,24 @@ fn copied(
 {
     // a batch's new roots fit too
     let mut copy = IndexMap::with_capacity(alloc, roots.len().saturating_add(MAX_BATCH))?;
-    for (path, root) in roots.iter() {
-        let path = path.copy(alloc)?;
-        let root = root.copy(alloc)?;
-        copy.insert(path, root)?;
-    }
+    put_copies(alloc, roots, &mut copy)?;
     Ok(copy)
+}
+
+/// Puts the same roots again into a map that has none yet.
+fn put_copies(
+    alloc: Global,
+    roots: &IndexMap<RootPath, Root>,
+    copy: &mut IndexMap<RootPath, Root>,
+) -> Result<(), NoMemory>
+    requires { copy.old.entries ≡ [] }
+    ensures { OnOk result (copy.new.entries ≡ roots.now.entries) }
+{
+    for (path, root) in roots.iter() {
+        // each path is new, since none is there twice
+        put_new(alloc, copy, path, root.copy(alloc)?)?;
+    }
+    Ok(())
 }
 
 impl Registry {

@@ -74,6 +74,18 @@ fn tell<R: Wait, D: Disk + Drop, J: Naming, K: Wait + Copy + Drop>(
     Ok(())
 }
 
+/// How a command was met at a session's seat. `NoMemory` where the session has none.
+fn submit<R: Wait, D: Disk + Drop>(
+    rt: &R,
+    place: &mut Option<Place<'_, D>>,
+    command: Command,
+) -> Reply {
+    match place {
+        Some(place) => place.submit(rt, command),
+        None => Reply::Refused(Refusal::NoMemory),
+    }
+}
+
 /// Submits a command. Each reply that it may have is made first, with its room, so that an accepted command has its reply.
 /// `NoMemory` where that finds no room, for a session without a seat and for a `Begin`: then nothing is submitted. Else it is
 /// refused as [`Place::submit`] is. A refusal appends nothing.
@@ -85,10 +97,11 @@ pub fn command<R: Wait, D: Disk + Drop, J: Naming, K: Wait + Copy + Drop>(
     command: Command,
     out: &mut Vec<u8>,
 ) -> Result<(), Refusal> {
-    let Some(place) = place else {
-        return Err(Refusal::NoMemory);
-    };
-    let prepared = prepare(alloc, &command, out)?;
-    let reply = place.submit(rt, command);
-    tell(rt, alloc, shared, &prepared, reply, out)
+    match prepare(alloc, &command, out) {
+        Ok(prepared) => {
+            let reply = submit(rt, place, command);
+            tell(rt, alloc, shared, &prepared, reply, out)
+        }
+        Err(refusal) => Err(refusal),
+    }
 }

@@ -25,7 +25,10 @@ impl<'a, D: Disk + Drop> Place<'a, D> {
     /// How a command was met: it is refused as `Desk::submit` refuses it.
     pub fn submit<R: Wait>(&mut self, rt: &R, command: Command) -> Reply {
         match self.desk.submit(rt, &mut self.seat, command) {
-            Ok((reply, _)) => reply,
+            Ok((reply, receipt)) => {
+                drop(receipt);
+                reply
+            }
             Err(refusal) => Reply::Refused(refusal),
         }
     }

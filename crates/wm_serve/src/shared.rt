@@ -120,7 +120,7 @@ impl<D: Disk + Drop, J: Naming, K: Wait + Copy + Drop> Shared<D, J, K> {
         Ok(())
     }
 
-    /// A hall for a root, with its triggers.
+    /// A hall for a root, with no triggers yet.
     fn new_hall<R: Wait>(
         &self,
         rt: &R,
@@ -134,16 +134,17 @@ impl<D: Disk + Drop, J: Naming, K: Wait + Copy + Drop> Shared<D, J, K> {
             return Err(NoMemory);
         };
         drop(shares);
-        let hall = RootHall::new(alloc, path, root.number, keeper, pool)?;
-        hall.keep_triggers(rt, alloc, root.triggers.as_slice())?;
-        Ok(hall)
+        RootHall::new(alloc, path, root.number, keeper, pool)
     }
 
     /// Puts a hall into the table, and has its workers started.
     fn put<R: Wait>(&self, rt: &R, hall: Arc<RootHall<J, K>>) -> Result<(), NoMemory> {
         let number = hall.number;
         let mut missing = self.missing.lock(rt);
-        missing.workers.try_reserve(2)?;
+        if missing.workers.try_reserve(2).is_err() {
+            drop(hall);
+            return Err(NoMemory);
+        }
         self.halls.lock(rt).push(hall)?;
         missing.workers.push(Worker::Crawler(number))?;
         missing.workers.push(Worker::Triggers(number))?;
@@ -162,6 +163,7 @@ impl<D: Disk + Drop, J: Naming, K: Wait + Copy + Drop> Shared<D, J, K> {
         let Ok(hall) = Arc::new(alloc, hall) else {
             return Err(NoMemory);
         };
+        hall.keep_triggers(rt, alloc, root.triggers.as_slice())?;
         self.put(rt, hall)?;
         self.came.notify_all();
         Ok(())

@@ -98,6 +98,33 @@ fn subscribed_to(
     }
 }
 
+/// Subscribes under the lock of the session's subscriptions: a root that is still in the table takes the subscription along when it
+/// goes.
+fn subscribe_under_lock<R: Wait, D: Disk + Drop, J: Naming, K: Wait + Copy + Drop>(
+    rt: &R,
+    alloc: Global,
+    shared: &Shared<D, J, K>,
+    chair: &Chair<J>,
+    root: RootPath,
+    name: SubscriptionName,
+    inquiry: Inquiry,
+    out: &mut Vec<u8>,
+) -> Result<(), Refusal> {
+    let mut all = chair.subscriptions.lock(rt);
+    let mut viewers = chair.viewers.lock(rt);
+    let begun = begin(rt, alloc, shared, &mut viewers, &root, &inquiry.since);
+    drop(viewers);
+    match begun {
+        Ok((clock, since)) => {
+            let subscribed = subscribed_to(root, name, inquiry, since);
+            put(alloc, &mut all, clock, subscribed, out)?;
+            chair.recount(all.as_slice().len());
+            Ok(())
+        }
+        Err(refusal) => Err(refusal),
+    }
+}
+
 /// Subscribes to a root under a name, in place of a subscription of that root and name, and appends the reply. `NotWatched`,
 /// `NoPlace` where no viewer of the root is left or the root is gone, `NotReady` before the first whole listing, `TooMany` where
 /// the session has no room for one more, and `NoMemory`: then nothing is appended, and the subscriptions are as they were.
@@ -111,22 +138,11 @@ pub fn subscribe<R: Wait, D: Disk + Drop, J: Naming, K: Wait + Copy + Drop>(
     inquiry: Inquiry,
     out: &mut Vec<u8>,
 ) -> Result<(), Refusal> {
-    // Under this lock a root that is still in the table takes the subscription along when it goes.
-    let mut all = chair.subscriptions.lock(rt);
-    let (clock, since) = begin(
-        rt,
-        alloc,
-        shared,
-        &mut chair.viewers.lock(rt),
-        &root,
-        &inquiry.since,
-    )?;
-    let subscribed = subscribed_to(root, name, inquiry, since);
-    put(alloc, &mut all, clock, subscribed, out)?;
-    chair.recount(all.as_slice().len());
-    drop(all);
-    chair.ring(rt);
-    Ok(())
+    let met = subscribe_under_lock(rt, alloc, shared, chair, root, name, inquiry, out);
+    if met.is_ok() {
+        chair.ring(rt);
+    }
+    met
 }
 
 /// Ends the subscription of a watched root and a name, where there is one, and appends the reply. `NotWatched`, and `NoMemory`:

@@ -5,7 +5,7 @@ ghost use Rattle.wm_registry.specs.Roots.{root_at};
 ghost use Rattle.wm_server.specs.session.Asked.{asked_by};
 ghost use Rattle.wm_lines.specs.Lines.{request_of_line};
 ghost use Rattle.wm_server.specs.session.Sessions.{commanded, triggers_met, question_met, line_met, inquiry_met, handled, operation_outcome, by_request, subscriptions_by, view_of};
-ghost use Rattle.wm_lines.specs.Replies.{clock_reply};
+ghost use Rattle.wm_lines.specs.Replies.{clock_reply, command_reply, line_text};
 ghost use Rattle.wm_server.specs.session.Watched.{answer_of, clock_answer};
 ghost use Rattle.wm_server.specs.session.Faults.{Meeting, RepliesAs, RepliesTo, Way, faults_at, faults_of, is_fault as is_fault_lem, seen};
 ghost use Rattle.wm_server.specs.session.Stands.{without_subscriptions, standing};
@@ -50,6 +50,25 @@ fn is_fault(refusal: Refusal) -> bool
     matches!(refusal, Refusal::DeviceFailed | Refusal::NoMemory)
 }
 
+/// The lines that an accepted command may be answered with, as a change, a replacement and no change, and room for each.
+fn lines_to(
+    alloc: Global,
+    command: &Command,
+    out: &mut Vec<u8>,
+) -> Result<(Vec<u8>, Vec<u8>, Vec<u8>), NoMemory>
+    ensures changed { IfOk result (λ lines. (lines.0.items ≡ line_text (command_reply command.now Reply.Changed)) × (vec_len out.new + vec_len lines.0 ≤ vec_capacity out.new)) }
+    ensures replaced { IfOk result (λ lines. (lines.1.items ≡ line_text (command_reply command.now Reply.Replaced)) × (vec_len out.new + vec_len lines.1 ≤ vec_capacity out.new)) }
+    ensures unchanged { IfOk result (λ lines. (lines.2.items ≡ line_text (command_reply command.now Reply.Unchanged)) × (vec_len out.new + vec_len lines.2 ≤ vec_capacity out.new)) }
+    ensures items { out.new.items ≡ out.old.items }
+    ensures room { vec_capacity out.old ≤ vec_capacity out.new }
+{
+    let changed = reply::line_to(alloc, command, Reply::Changed)?;
+    let replaced = reply::line_to(alloc, command, Reply::Replaced)?;
+    let unchanged = reply::line_to(alloc, command, Reply::Unchanged)?;
+    out.try_reserve(changed.len().max(replaced.len()).max(unchanged.len()))?;
+    Ok((changed, replaced, unchanged))
+}
+
 impl<F: Front> Session<F> {
     /// A session that has answered no line yet. It takes no memory.
     pub fn new(alloc: Global, front: F) -> Session<F>
@@ -70,10 +89,7 @@ impl<F: Front> Session<F> {
         ensures later { F.leads_to self.old.front (command ∷ []) self.new.front }
         ensures kept { self.new.subscriptions ≡ self.old.subscriptions }
     {
-        let changed = reply::line_to(alloc, &command, Reply::Changed)?;
-        let replaced = reply::line_to(alloc, &command, Reply::Replaced)?;
-        let unchanged = reply::line_to(alloc, &command, Reply::Unchanged)?;
-        out.try_reserve(changed.len().max(replaced.len()).max(unchanged.len()))?;
+        let (changed, replaced, unchanged) = lines_to(alloc, &command, out)?;
         let line = match self.front.submit(alloc, command) {
             Reply::Changed => &changed,
             Reply::Replaced => &replaced,
@@ -208,34 +224,37 @@ impl<F: Front> Session<F> {
         ensures err { OnErr result (self.new.subscriptions ≡ self.old.subscriptions) }
     {
         match request {
-            Request::Version => reply::put_version(alloc, out)?,
-            Request::Watch(path) => self.command(alloc, Command::Watch(path), out)?,
-            Request::WatchDel(path) => self.unwatch(alloc, path, out)?,
+            Request::Version => Ok(reply::put_version(alloc, out)?),
+            Request::Watch(path) => self.command(alloc, Command::Watch(path), out),
+            Request::WatchDel(path) => self.unwatch(alloc, path, out),
             Request::Trigger(path, trigger) => {
-                self.command(alloc, Command::Trigger(path, trigger), out)?
+                self.command(alloc, Command::Trigger(path, trigger), out)
             }
-            Request::TriggerList(path) => self.triggers(alloc, &path, out)?,
+            Request::TriggerList(path) => self.triggers(alloc, &path, out),
             Request::TriggerDel(path, name) => {
-                self.command(alloc, Command::TriggerDel(path, name), out)?
+                self.command(alloc, Command::TriggerDel(path, name), out)
             }
-            Request::WatchList => reply::put_watch_list(alloc, self.front.registry().roots(), out)?,
+            Request::WatchList => Ok(reply::put_watch_list(
+                alloc,
+                self.front.registry().roots(),
+                out,
+            )?),
             Request::Observe(root, pairs) => {
-                self.operate(alloc, &root, &Op::Observe(moment, pairs), out)?
+                self.operate(alloc, &root, &Op::Observe(moment, pairs), out)
             }
             Request::Listing(root, begun_at, listing) => {
-                self.operate(alloc, &root, &Op::Recrawl(moment, begun_at, listing), out)?
+                self.operate(alloc, &root, &Op::Recrawl(moment, begun_at, listing), out)
             }
             Request::AgeOut(root, age) => {
-                self.operate(alloc, &root, &Op::AgeOut(moment, age), out)?
+                self.operate(alloc, &root, &Op::AgeOut(moment, age), out)
             }
-            Request::Clock(root) => self.clock(&root, out)?,
-            Request::Query(root, inquiry) => self.inquire(alloc, &root, inquiry, out)?,
+            Request::Clock(root) => self.clock(&root, out),
+            Request::Query(root, inquiry) => self.inquire(alloc, &root, inquiry, out),
             Request::Subscribe(root, name, inquiry) => {
-                self.subscribe(alloc, root, name, inquiry, out)?
+                self.subscribe(alloc, root, name, inquiry, out)
             }
-            Request::Unsubscribe(root, name) => self.unsubscribe(alloc, &root, &name, out)?,
+            Request::Unsubscribe(root, name) => self.unsubscribe(alloc, &root, &name, out),
         }
-        Ok(())
     }
 
     /// Reads a line and meets its request.
@@ -288,7 +307,10 @@ impl<F: Front> Session<F> {
         ensures full { OnErr result (vec_capacity out.old < vec_len out.old + REFUSAL_ROOM) }
         ensures later { F.leads_to self.old.front (asked_by (Ok request)) self.new.front }
     {
-        out.try_reserve(reply::REFUSAL_ROOM)?;
+        if out.try_reserve(reply::REFUSAL_ROOM).is_err() {
+            drop(request);
+            return Err(NoMemory);
+        }
         match self.meet(alloc, moment, request, out) {
             Ok(()) => Ok(0),
             Err(refusal) => {

@@ -1,7 +1,8 @@
 //! The keeper of a root, which alone changes its view.
 //! Definitions: specs/PublishedLists.antt, specs/Operations.antt. Tests: view_tests/src/shared/shares.rt.
-ghost use Rattle.std.specs.Prelude.{◌≡◌, ◌++◌, ◌∷◌, [], None, MatchResult};
+ghost use Rattle.std.specs.Prelude.{◌≡◌, ◌≤◌, ◌⊎◌, ◌++◌, ◌∷◌, [], length, Some, None, MatchResult};
 ghost use Rattle.left_right.specs.Handles.{published as shown_by, pending as waiting};
+ghost use Rattle.wm_disk.specs.Counters.{max_counter};
 ghost use Rattle.wm_view.specs.declared.op.Op.{Op};
 ghost use Rattle.wm_view.specs.declared.op.Op.TheVariants.{Observe, Recrawl, AgeOut};
 ghost use Rattle.wm_share.specs.Operations.{MayRefuse, Operations, held_list};
@@ -52,6 +53,24 @@ impl<J: Naming, T: Listed<J> + Drop, R: Wait + Drop> Model for RootKeeper<J, T, 
     ghost invariant = { λ k. (k.head.number ≡ k.front.share.number) × (k.front ≡ with_operations (T.state (shown_by k.desk)) (waiting k.desk ++ held_list k.held)) };
 }
 
+/// Hands an operation to the desk, or holds it where the desk has no room for it.
+fn send<J: Naming, T: Listed<J> + Drop, R: Wait + Drop>(
+    desk: &mut WriteHandle<T, Step<J>, R>,
+    held: &mut Option<Step<J>>,
+    step: Step<J>,
+) -> Result<(), Refusal>
+    ensures published { shown_by desk.new ≡ shown_by desk.old }
+    ensures pending { MatchResult result (λ _. (waiting desk.new ≡ waiting desk.old ++ step ∷ []) × (held.new ≡ held.old)) (λ e. (e ≡ Refusal.NoMemory) × (waiting desk.new ≡ waiting desk.old) × (held.new ≡ Some step)) }
+{
+    match desk.append(step) {
+        Ok(()) => Ok(()),
+        Err(step) => {
+            *held = Some(step);
+            Err(Refusal::NoMemory)
+        }
+    }
+}
+
 /// Hands the held operation to the desk, if there is one.
 fn send_held<J: Naming, T: Listed<J> + Drop, R: Wait + Drop>(
     desk: &mut WriteHandle<T, Step<J>, R>,
@@ -60,15 +79,29 @@ fn send_held<J: Naming, T: Listed<J> + Drop, R: Wait + Drop>(
     ensures published { shown_by desk.new ≡ shown_by desk.old }
     ensures pending { MatchResult result (λ _. (waiting desk.new ≡ waiting desk.old ++ held_list held.old) × (held.new ≡ None)) (λ e. (e ≡ Refusal.NoMemory) × (waiting desk.new ≡ waiting desk.old) × (held.new ≡ held.old)) }
 {
-    let Some(step) = held.take() else {
-        return Ok(());
-    };
-    match desk.append(step) {
-        Ok(()) => Ok(()),
-        Err(step) => {
-            *held = Some(step);
-            Err(Refusal::NoMemory)
-        }
+    match held.take() {
+        Some(step) => send(desk, held, step),
+        None => Ok(()),
+    }
+}
+
+/// The list with the entry's operation behind it. `NoMemory`, and `Exhausted` where it has 2^63 - 1 operations.
+fn lengthened<J: Naming>(
+    front: &Front<J>,
+    head: &Head<J>,
+    entry: &Entry,
+) -> Result<Front<J>, Refusal>
+    requires { (head.now.number ≡ front.now.share.number) × (entry.now.share ≡ front.now.share.number) }
+    ensures { MatchResult result (λ f. f ≡ with_operations front.now (entry.now.op ∷ [])) (λ e. (e ≡ Refusal.NoMemory) ⊎ ((e ≡ Refusal.Exhausted) × (max_counter ≤ length front.now.operations))) }
+{
+    if front.len() >= MAX_COUNTER {
+        return Err(Refusal::Exhausted);
+    }
+    let mut front = front.again();
+    if front.add(head, entry) {
+        Ok(front)
+    } else {
+        Err(Refusal::NoMemory)
     }
 }
 
@@ -80,22 +113,14 @@ impl<J: Naming, T: Listed<J> + Drop, R: Wait + Drop> RootKeeper<J, T, R> {
         ensures appended { MatchResult result (λ _. self.new.pending ≡ self.old.pending ++ op ∷ []) (λ e. MayRefuse self.new e × (self.new.pending ≡ self.old.pending)) }
     {
         send_held(&mut self.desk, &mut self.held)?;
-        if self.front.len() >= MAX_COUNTER {
-            return Err(Refusal::Exhausted);
-        }
         let entry = Entry {
             share: self.front.share().number,
             op,
         };
-        let mut front = self.front.again();
-        if !front.add(&self.head, &entry) {
-            return Err(Refusal::NoMemory);
-        }
-        let step = Step::new(entry, front.again());
-        self.front = front;
-        if let Err(step) = self.desk.append(step) {
-            self.held = Some(step);
-        }
+        let front = lengthened(&self.front, &self.head, &entry)?;
+        self.front = front.again();
+        // where the desk has no room for it, it waits with the others
+        let _ = send(&mut self.desk, &mut self.held, Step::new(entry, front));
         Ok(())
     }
 

@@ -40,9 +40,7 @@ pub(crate) fn begin_in<D: Disk + Drop>(
     if let Err(refusal) = find_room(alloc, keeper) {
         return Err(refusal);
     }
-    let Ok(group) = vec![in alloc; Command::Begin] else {
-        return Err(Refusal::NoMemory);
-    };
+    let group = [Command::Begin];
     keeper.commit(alloc, &group, next)
 }
 

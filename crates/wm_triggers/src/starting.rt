@@ -1,6 +1,6 @@
 //! The command of a run, and what its program reads.
 //! Definitions: specs/Starting.antt. Tests: registry_tests/src/trigger_runs/commands.rt.
-ghost use Rattle.std.specs.Prelude.{◌≡◌, ◌++◌, ℕ, List, Some, None, false, map, drop, option_map, IfOk, OnOk};
+ghost use Rattle.std.specs.Prelude.{◌≡◌, ◌++◌, ℕ, List, Some, None, false, drop, option_map, IfOk, OnOk};
 ghost use Rattle.std.specs.Process.{SameDir, SameEnv, clears_env, command_args, command_dir, command_program, command_var};
 ghost use Rattle.wm_triggers.specs.Starting.{input_for, path_lines, file_paths, program_in, words_for};
 
@@ -32,36 +32,29 @@ fn behind_program(words: &[Word]) -> &[Word]
     }
 }
 
-/// The texts of words.
-fn texts(alloc: Global, words: &[Word]) -> Result<Vec<&str>, NoMemory>
-    ensures { IfOk result (λ texts. map (λ t. t.now) texts.items ≡ words.now) }
-{
-    let mut texts = Vec::new(alloc);
-    for word in words {
-        texts.push(word.as_str())?;
-    }
-    Ok(texts)
-}
-
-/// The paths of files.
-fn paths(alloc: Global, files: &[Listed]) -> Result<Vec<&str>, NoMemory>
-    ensures { IfOk result (λ paths. map (λ p. p.now) paths.items ≡ file_paths files.now) }
-{
-    let mut paths = Vec::new(alloc);
-    for file in files {
-        paths.push(file.entry.path.as_str())?;
-    }
-    Ok(paths)
-}
-
 /// Adds words to a command.
-fn add_words(command: &mut Command, words: &[&str]) -> Result<(), NoMemory>
-    ensures words { OnOk result (command_args command.new ≡ command_args command.old ++ map (λ w. w.now) words.now) }
+fn add_words(command: &mut Command, words: &[Word]) -> Result<(), NoMemory>
+    ensures words { OnOk result (command_args command.new ≡ command_args command.old ++ words.now) }
     ensures program { OnOk result (command_program command.new ≡ command_program command.old) }
     ensures environment { OnOk result (SameEnv command.old command.new) }
     ensures folder { OnOk result (SameDir command.old command.new) }
 {
-    command.args(words)?;
+    for word in words {
+        command.arg(word.as_str())?;
+    }
+    Ok(())
+}
+
+/// Adds the paths of files to a command.
+fn add_paths(command: &mut Command, files: &[Listed]) -> Result<(), NoMemory>
+    ensures words { OnOk result (command_args command.new ≡ command_args command.old ++ file_paths files.now) }
+    ensures program { OnOk result (command_program command.new ≡ command_program command.old) }
+    ensures environment { OnOk result (SameEnv command.old command.new) }
+    ensures folder { OnOk result (SameDir command.old command.new) }
+{
+    for file in files {
+        command.arg(file.entry.path.as_str())?;
+    }
     Ok(())
 }
 
@@ -82,11 +75,9 @@ pub fn run_command(
     let words = trigger.command();
     let mut command = Command::new(alloc, program(words))?;
     command.current_dir(root.as_str())?;
-    let rest = texts(alloc, behind_program(words))?;
-    add_words(&mut command, &rest)?;
+    add_words(&mut command, behind_program(words))?;
     if trigger.append_files() {
-        let paths = paths(alloc, run.files())?;
-        add_words(&mut command, &paths)?;
+        add_paths(&mut command, run.files())?;
     }
     Ok(command)
 }

@@ -29,7 +29,7 @@ fn any_out_of_memory(replies: &[Reply]) -> bool
 }
 
 /// `NoMemory`, where memory ran out for one of the commands.
-pub(crate) fn unless_out_of_memory(replies: &[Reply]) -> Result<(), NoMemory>
+fn unless_out_of_memory(replies: &[Reply]) -> Result<(), NoMemory>
     ensures { OnOk result (IsOutOfMemory replies.now → ⊥) }
 {
     if any_out_of_memory(replies) {
@@ -62,7 +62,7 @@ pub(crate) fn takes_down(refusal: Refusal) -> Result<bool, NoMemory>
 }
 
 /// Adds a view for each root number from one up to another.
-pub(crate) fn begin_views(
+fn begin_views(
     alloc: Global,
     views: &mut Vec<View>,
     incarnation: u64,
@@ -75,6 +75,28 @@ pub(crate) fn begin_views(
         views.push(View::new(alloc, incarnation, number))?;
     }
     Ok(())
+}
+
+/// Adds a view for each root that a batch watched, whose numbers begin where the registry's next one stood. `NoMemory` too where
+/// memory ran out for one of the commands.
+pub(crate) fn show(
+    alloc: Global,
+    registry: &Registry,
+    from: u64,
+    replies: &[Reply],
+    views: &mut Vec<View>,
+) -> Result<(), NoMemory>
+    ensures memory { OnOk result (IsOutOfMemory replies.now → ⊥) }
+    ensures views { OnOk result (views.new.items ≡ views.old.items ++ map summary (map (new_history registry.now.incarnation) (range_with_len from (registry.now.next - from)))) }
+{
+    unless_out_of_memory(replies)?;
+    begin_views(
+        alloc,
+        views,
+        registry.incarnation(),
+        from,
+        registry.next_root(),
+    )
 }
 
 /// A view for each root of the registry.

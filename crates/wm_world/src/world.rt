@@ -102,29 +102,15 @@ impl<D: Crashed + Drop> World<D> {
                 Ok(self)
             }
             Event::Observe(path, moment, pairs) => {
-                self.operate(alloc, &path, &Op::Observe(moment, pairs))?;
-                Ok(self)
+                self.operate(alloc, &path, &Op::Observe(moment, pairs))
             }
             Event::Recrawl(path, moment, begun_at, listing) => {
-                self.operate(alloc, &path, &Op::Recrawl(moment, begun_at, listing))?;
-                Ok(self)
+                self.operate(alloc, &path, &Op::Recrawl(moment, begun_at, listing))
             }
-            Event::AgeOut(path, time, age) => {
-                self.operate(alloc, &path, &Op::AgeOut(time, age))?;
-                Ok(self)
-            }
-            Event::Client(path, test) => {
-                self.connect(alloc, path, test)?;
-                Ok(self)
-            }
-            Event::Ask(n) => {
-                self.ask(alloc, n)?;
-                Ok(self)
-            }
-            Event::Receive(n) => {
-                self.receive(alloc, n)?;
-                Ok(self)
-            }
+            Event::AgeOut(path, time, age) => self.operate(alloc, &path, &Op::AgeOut(time, age)),
+            Event::Client(path, test) => self.connect(alloc, path, test),
+            Event::Ask(n) => self.ask(alloc, n),
+            Event::Receive(n) => self.receive(alloc, n),
         }
     }
 
@@ -160,8 +146,8 @@ impl<D: Crashed + Drop> World<D> {
         self.shown.views.as_slice()
     }
 
-    /// Does the operation to the view of the root at the path.
-    fn operate(&mut self, alloc: Global, path: &RootPath, op: &Op) -> Result<(), NoMemory>
+    /// Performs the operation on the view of the root at the path.
+    fn perform(&mut self, alloc: Global, path: &RootPath, op: &Op) -> Result<(), NoMemory>
         ensures { OnOk result (Simulates D.Disk (λ w v. v ≡ cond w.up (operated path.now op.now w) w) (Leaves D.Disk) self.old self.new) }
     {
         every_operation();
@@ -171,22 +157,30 @@ impl<D: Crashed + Drop> World<D> {
         views::perform(alloc, &mut self.shown.views, number, op)
     }
 
+    /// Does the operation to the view of the root at the path.
+    fn operate(mut self, alloc: Global, path: &RootPath, op: &Op) -> Result<World<D>, NoMemory>
+        ensures { IfOk result (Simulates D.Disk (λ w v. v ≡ cond w.up (operated path.now op.now w) w) (Leaves D.Disk) self) }
+    {
+        self.perform(alloc, path, op)?;
+        Ok(self)
+    }
+
     /// A new client of the root at the path.
-    fn connect(&mut self, alloc: Global, path: RootPath, test: Expr) -> Result<(), NoMemory>
-        ensures { OnOk result (Simulates D.Disk (λ w v. v ≡ cond (is_path_only (term test)) (record w { clients = w.clients ++ connected path test ∷ [] }) w) (Leaves D.Disk) self.old self.new) }
+    fn connect(mut self, alloc: Global, path: RootPath, test: Expr) -> Result<World<D>, NoMemory>
+        ensures { IfOk result (Simulates D.Disk (λ w v. v ≡ cond (is_path_only (term test)) (record w { clients = w.clients ++ connected path test ∷ [] }) w) (Leaves D.Disk) self) }
     {
         let Ok(mirror) = Mirror::new(alloc, path, test) else {
-            return Ok(());
+            return Ok(self);
         };
         self.shown.clients.push(Connection {
             mirror,
             answer: None,
         })?;
-        Ok(())
+        Ok(self)
     }
 
-    /// The client with this number asks.
-    fn ask(&mut self, alloc: Global, n: usize) -> Result<(), NoMemory>
+    /// Puts the question of the client with this number.
+    fn put_question(&mut self, alloc: Global, n: usize) -> Result<(), NoMemory>
         ensures { OnOk result (Simulates D.Disk (λ w v. v ≡ cond w.up (with_client (asking w) n w) w) (Leaves D.Disk) self.old self.new) }
     {
         let Server::Up(store) = &self.server else {
@@ -204,15 +198,24 @@ impl<D: Crashed + Drop> World<D> {
         )
     }
 
+    /// The client with this number asks.
+    fn ask(mut self, alloc: Global, n: usize) -> Result<World<D>, NoMemory>
+        ensures { IfOk result (Simulates D.Disk (λ w v. v ≡ cond w.up (with_client (asking w) n w) w) (Leaves D.Disk) self) }
+    {
+        self.put_question(alloc, n)?;
+        Ok(self)
+    }
+
     /// The answer on its way to the client with this number comes.
-    fn receive(&mut self, alloc: Global, n: usize) -> Result<(), NoMemory>
-        ensures { OnOk result (Simulates D.Disk (λ w v. v ≡ with_client receiving n w) (Leaves D.Disk) self.old self.new) }
+    fn receive(mut self, alloc: Global, n: usize) -> Result<World<D>, NoMemory>
+        ensures { IfOk result (Simulates D.Disk (λ w v. v ≡ with_client receiving n w) (Leaves D.Disk) self) }
     {
         if n >= self.shown.clients.len() {
-            return Ok(());
+            return Ok(self);
         }
         every_client();
-        connection::receive(alloc, &mut self.shown.clients[n])
+        connection::receive(alloc, &mut self.shown.clients[n])?;
+        Ok(self)
     }
 
     /// The answer on its way to the client with this number is lost.
@@ -254,16 +257,7 @@ impl<D: Crashed + Drop> World<D> {
         let next = store.registry().next_root();
         match store.commit_batch(alloc, commands) {
             Ok(replies) => {
-                starting::unless_out_of_memory(&replies)?;
-                let registry = store.registry();
-                let incarnation = registry.incarnation();
-                starting::begin_views(
-                    alloc,
-                    &mut shown.views,
-                    incarnation,
-                    next,
-                    registry.next_root(),
-                )?;
+                starting::show(alloc, store.registry(), next, &replies, &mut shown.views)?;
                 shown.replies = replies;
                 Ok(World {
                     server: Server::Up(store),

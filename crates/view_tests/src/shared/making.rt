@@ -5,7 +5,7 @@ use crate::making::{file, pair};
 use std::alloc::Global;
 use std::sync::Wait;
 use wm_disk::Refusal;
-use wm_names::{RelPath, Subtree};
+use wm_names::{Meta, RelPath, Subtree};
 use wm_share::{Naming, Opened, Pool, RootKeeper, Shares, Shown, Viewer};
 use wm_since::{Answer, Every, Query};
 use wm_view::Listing;
@@ -48,6 +48,26 @@ fn listing(alloc: Global, paths: &[&str]) -> Result<Listing, Refusal> {
     Ok(listing)
 }
 
+fn hand_listing<J: Naming, R: Wait>(
+    alloc: Global,
+    keeper: &mut Keeper<'_, J, R>,
+    begun_at: u64,
+    paths: &[&str],
+) -> Result<(), Refusal> {
+    let found = listing(alloc, paths)?;
+    keeper.recrawl(10, begun_at, found)
+}
+
+fn hand_pair<J: Naming, R: Wait>(
+    alloc: Global,
+    keeper: &mut Keeper<'_, J, R>,
+    path: &str,
+    state: Option<Meta>,
+) -> Result<(), Refusal> {
+    let pairs = pair(alloc, path, state)?;
+    keeper.observe(10, pairs)
+}
+
 /// Hands it in.
 pub fn hand<J: Naming, R: Wait>(
     alloc: Global,
@@ -55,9 +75,9 @@ pub fn hand<J: Naming, R: Wait>(
     handed: Handed,
 ) -> Result<(), Refusal> {
     match handed {
-        Handed::Lists(begun_at, paths) => keeper.recrawl(10, begun_at, listing(alloc, paths)?),
-        Handed::Is(path, size) => keeper.observe(10, pair(alloc, path, Some(file(size)))?),
-        Handed::Gone(path) => keeper.observe(10, pair(alloc, path, None)?),
+        Handed::Lists(begun_at, paths) => hand_listing(alloc, keeper, begun_at, paths),
+        Handed::Is(path, size) => hand_pair(alloc, keeper, path, Some(file(size))),
+        Handed::Gone(path) => hand_pair(alloc, keeper, path, None),
         Handed::Ages(time, age) => keeper.age_out(time, age),
     }
 }

@@ -3,9 +3,8 @@
 ghost use Rattle.std.specs.Prelude.{◌≡◌, IfOk, Some, false, is_some, map, true};
 ghost use Rattle.clap.specs.Values.{kind_of};
 ghost use Rattle.clap.specs.declared.builder.Command.TheViews.{out-Command};
-ghost use Rattle.clap.specs.Words.{app_of, rule_of, subcommand_rows_of};
-ghost use Rattle.wm_server.specs.program.Words.{asked, asked_by, asked_of, file_app, file_rule, shown_for};
-ghost use Rattle.wm_server.specs.program.Words.{watchmand_app};
+ghost use Rattle.clap.specs.Words.{app_of, rule_of, subcommand_rows_of, with_subcommand};
+ghost use Rattle.wm_server.specs.program.Words.{asked, asked_by, asked_of, bare_app, file_app, file_rule, shown_for, watchmand_app};
 
 use clap::error::ErrorKind;
 use clap::{Arg, ArgAction, ArgMatches, Command, Error};
@@ -51,16 +50,26 @@ const STATUSES: &str = "Exit status:
 pub fn watchmand<'a>(alloc: Global) -> Result<Command<'a>, NoMemory>
     ensures { IfOk result (λ c. app_of c ≡ watchmand_app) }
 {
-    let format = file_command(
+    let bare = bare(alloc)?;
+    let formatting = with_file_command(
         alloc,
+        bare,
         "format",
         "Makes a state file; FILE must not be there yet",
     )?;
-    let lines = file_command(
+    let command = with_file_command(
         alloc,
+        formatting,
         "lines",
         "Answers request lines from standard input over a state file",
     )?;
+    Ok(command)
+}
+
+// The program's command with none in it yet.
+fn bare<'a>(alloc: Global) -> Result<Command<'a>, NoMemory>
+    ensures { IfOk result (λ c. app_of c ≡ bare_app) }
+{
     let command = Command::new(alloc, "watchmand")
         .about("A file watch server whose answers can be trusted")
         .after_help(STATUSES)
@@ -69,9 +78,21 @@ pub fn watchmand<'a>(alloc: Global) -> Result<Command<'a>, NoMemory>
         .no_binary_name(true)
         .disable_help_subcommand(true)
         .subcommand_required(true)
-        .bin_name("watchmand")?
-        .subcommand(format)?
-        .subcommand(lines)?;
+        .bin_name("watchmand")?;
+    Ok(command)
+}
+
+// The command with one in it that takes one FILE.
+fn with_file_command<'a>(
+    alloc: Global,
+    command: Command<'a>,
+    name: &'a str,
+    about: &'a str,
+) -> Result<Command<'a>, NoMemory>
+    ensures { IfOk result (λ c. app_of c ≡ with_subcommand (app_of command.entry) (file_app name.entry.now).top) }
+{
+    let inner = file_command(alloc, name, about)?;
+    let command = command.subcommand(inner)?;
     Ok(command)
 }
 

@@ -1,10 +1,11 @@
 //! The subscriptions of a session: how they begin and end, and what is due to them after a line. Their
 //! definitions are in specs/session: Sessions, Dues.
 //! Tests: session_tests/src/lines/subscriptions.rt.
-ghost use Rattle.std.specs.Prelude.{◌≡◌, ◌≤◌, ◌<◌, ◌∷◌, [], length, vec_capacity, IsOk, OnOk, OnErr};
+ghost use Rattle.std.specs.Prelude.{◌≡◌, ◌≤◌, ◌<◌, ◌∷◌, ◌++◌, ◌+◌, [], true, length, vec_len, vec_capacity, IsOk, IfOk, IfErr, OnOk, OnErr};
 ghost use Rattle.wm_registry.specs.Roots.{root_at};
 ghost use Rattle.wm_registry.specs.declared.command.Command as commands;
-ghost use Rattle.wm_subs.specs.SessionLists.{with_subscription, without_subscribed, without_subscription};
+ghost use Rattle.wm_lines.specs.Replies.{line_text, subscribe_reply};
+ghost use Rattle.wm_subs.specs.SessionLists.{may_subscribe, with_subscription, without_subscribed, without_subscription};
 ghost use Rattle.wm_server.specs.session.Inquiries.{since_point};
 ghost use Rattle.wm_server.specs.session.Pages.{Handles, page};
 ghost use Rattle.wm_server.specs.session.Sessions.{commanded, cursors_of, subscribe_met, subscribed_by, unsubscribe_met, view_of};
@@ -15,12 +16,30 @@ use crate::session::Session;
 use crate::session::front::Front;
 use std::alloc::Global;
 use wm_clock::{ClockId, ClockSpec};
-use wm_disk::Refusal;
+use wm_disk::{NoMemory, Refusal};
 use wm_lines::{Expression, Inquiry, reply};
 use wm_names::RootPath;
 use wm_registry::Command;
 use wm_since::Query;
 use wm_subs::{Subscribed, Subscription, SubscriptionName};
+
+/// The line that tells of a new subscription, and room for it.
+fn line_with_room(
+    alloc: Global,
+    clock: ClockId,
+    name: &SubscriptionName,
+    out: &mut Vec<u8>,
+) -> Result<Vec<u8>, NoMemory>
+    ensures line { IfOk result (λ line. line.items ≡ line_text (subscribe_reply clock name.now)) }
+    ensures fits { IfOk result (λ line. vec_len out.new + vec_len line ≤ vec_capacity out.new) }
+    ensures items { out.new.items ≡ out.old.items }
+    ensures room { vec_capacity out.old ≤ vec_capacity out.new }
+{
+    let mut line = Vec::new(alloc);
+    reply::put_subscribe(alloc, clock, name, &mut line)?;
+    out.try_reserve(line.len())?;
+    Ok(line)
+}
 
 impl<F: Front> Session<F> {
     /// Deletes a watch. The root's subscriptions end where that isn't refused.
@@ -106,12 +125,30 @@ impl<F: Front> Session<F> {
         if !self.subscriptions.has_room(&root, &name) {
             return Err(Refusal::TooMany);
         }
-        let mut told = Vec::new(alloc);
-        reply::put_subscribe(alloc, clock, &name, &mut told)?;
-        out.try_reserve(told.len())?;
+        let told = line_with_room(alloc, clock, &name, out)?;
         let subscribed = self.subscribed(root, name, inquiry);
+        self.begin(subscribed, &told, out)?;
+        Ok(())
+    }
+
+    /// Begins a subscription, whose line is told. `NoMemory` changes nothing.
+    fn begin(
+        &mut self,
+        subscribed: Subscribed<Expression>,
+        line: &[u8],
+        out: &mut Vec<u8>,
+    ) -> Result<(), Refusal>
+        requires may { may_subscribe subscribed.root subscribed.subscription.name self.old.subscriptions ≡ true }
+        requires room { vec_len out.old + length line.now ≤ vec_capacity out.old }
+        ensures ok { OnOk result (self.new.subscriptions ≡ with_subscription subscribed self.old.subscriptions) }
+        ensures told { OnOk result (out.new.items ≡ out.old.items ++ line.now) }
+        ensures err { OnErr result ((self.new.subscriptions ≡ self.old.subscriptions) × (out.new.items ≡ out.old.items)) }
+        ensures refused { IfErr result (λ e. e ≡ Refusal.NoMemory) }
+        ensures front { self.new.front ≡ self.old.front }
+        ensures grown { vec_capacity out.old ≤ vec_capacity out.new }
+    {
         self.subscriptions.put(subscribed)?;
-        out.extend_from_slice(&told).unwrap();
+        out.extend_from_slice(line).unwrap();
         Ok(())
     }
 

@@ -6,5 +6,5 @@ use Rattle.wm_client.proofs.feed_words.command.Goals as goal
 pub returns : goal.returns
 returns c =
     let bare : app_of c.in_ok-bin_name.field-0 ≡ bare_wmfeed = search rules in
-    let one = c.in_ok-arg.ensures.shape c.needed-socket.ensures.local ∙ ap₂ with_rule bare c.needed-socket.ensures.rule in
-    c.in_ok-command.ensures.shape c.needed-root.ensures.local ∙ ap₂ with_rule one c.needed-root.ensures.rule
+    let one = c.in_ok-arg.ensures.shape c.needed.ensures.local ∙ ap₂ with_rule bare c.needed.ensures.rule in
+    c.in_ok-command.ensures.shape c.needed-2.ensures.local ∙ ap₂ with_rule one c.needed-2.ensures.rule

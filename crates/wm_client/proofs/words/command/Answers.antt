@@ -6,6 +6,6 @@ use Rattle.wm_client.proofs.words.command.Goals as goal
 pub returns : goal.returns
 returns c =
     let bare : app_of c.in_ok-bin_name.field-0 ≡ bare_wmctl = search rules in
-    let one = c.in_ok-arg.ensures.shape c.needed-socket.ensures.local ∙ ap₂ with_rule bare c.needed-socket.ensures.rule in
-    let two = c.in_ok-arg-2.ensures.shape c.needed-json.ensures.local ∙ ap₂ with_rule one c.needed-json.ensures.rule in
+    let one = c.in_ok-arg.ensures.shape c.needed.ensures.local ∙ ap₂ with_rule bare c.needed.ensures.rule in
+    let two = c.in_ok-arg-2.ensures.shape c.needed-2.ensures.local ∙ ap₂ with_rule one c.needed-2.ensures.rule in
     c.in_ok-command.ensures.shape c.follow.ensures.local ∙ ap₂ with_rule two c.follow.ensures.rule

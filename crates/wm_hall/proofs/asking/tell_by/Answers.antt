@@ -6,9 +6,9 @@ use Rattle.wm_lines.specs.Replies.{line_text, query_reply}
 use Rattle.wm_hall.proofs.asking.tell_by.Goals as goal
 
 -- the question is since where the cursor stands
-pub returns-clause-told : goal.returns-clause-told
-returns-clause-told g c =
+pub returns-in-Ok-clause-told : goal.returns-in-Ok-clause-told
+returns-in-Ok-clause-told g c =
     subst
-    (λ s. c.tell.new.out.items ≡ c.args.out.now.items ++ line_text (query_reply c.args.fields.now (answer_to (holds c.args.query.test) (history c.tell.new.viewer) (record { since = s; empty_on_fresh = c.args.query.empty_on_fresh }))))
+    (λ s. c.tell_with_room.new.out.items ≡ c.args.out.now.items ++ line_text (query_reply c.args.fields.now (answer_to (holds c.args.query.test) (history c.tell_with_room.new.viewer) (record { since = s; empty_on_fresh = c.args.query.empty_on_fresh }))))
     c.clock-query.ensures
-    c.in_ok-clock.ensures.told
+    c.in-Ok.ensures.told

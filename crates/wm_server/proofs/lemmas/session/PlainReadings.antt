@@ -21,7 +21,7 @@ use Rattle.wm_lines.specs.Arguments.{only_root, root_named, text_at, count_of}
 use Rattle.wm_lines.specs.ClockLines.{may_be_clock, since_clock, since_root}
 use Rattle.wm_lines.specs.ListingLines.{are_below, files_of, found, listing_with, subtree_of}
 use Rattle.wm_lines.specs.PairLines.{Pair, observe_with, pairs_of}
-use Rattle.wm_lines.specs.Lines.{command_named, plain_request, request_of, request_of_line, request_of_text, request_with, value_of_line}
+use Rattle.wm_lines.specs.Lines.{command_of, plain_request, request_named, request_of, request_of_line, request_of_text, request_with, value_of_line}
 use Rattle.wm_expr.specs.Readings.{expression_of}
 use Rattle.wm_expr.specs.Terms.{Term}
 use Rattle.wm_since.specs.Fields.{fields_of}
@@ -178,24 +178,29 @@ deleted_plain (Some root) (Some name) =
     either {A = Request} (is_root_path root) (cond (is_name name) (Ok (TriggerDel root name)) (Err BadTrigger)) (Err BadPath) (either {A = Request} (is_name name) (Ok (TriggerDel root name)) (Err BadTrigger) refl refl) refl
 deleted_plain _ _ = refl
 
-command_plain : (d : Data) (name : Option (List ℕ)) → tells_fault (command_named d name) ≡ false
+-- whichever of two commands it is
+either_command : {C : Type 0} (reads : C → Result Request Refusal) (b : Bool) (x y : C) → tells_fault (reads x) ≡ false → tells_fault (reads y) ≡ false → tells_fault (reads (cond b x y)) ≡ false
+either_command reads true x y p q = p
+either_command reads false x y p q = q
+
+command_plain : (d : Data) (name : Option (List ℕ)) → tells_fault (request_named d (option_and_then command_of name)) ≡ false
 command_plain d None = refl
 command_plain d (Some name) =
-    either (bytes_eq name (codes "version")) _ _ (plain_plain d Version)
-    (either (bytes_eq name (codes "watch")) _ _ (with_plain (λ path. Watch path) (only_root d) (alone_plain d))
-    (either (bytes_eq name (codes "watch-del")) _ _ (with_plain (λ path. WatchDel path) (only_root d) (alone_plain d))
-    (either (bytes_eq name (codes "watch-list")) _ _ (plain_plain d WatchList)
-    (either (bytes_eq name (codes "trigger")) _ _ (either (is_none (at 3 d)) _ _ (defined_plain (text_at 1 d) (object_at 2 d)) refl)
-    (either (bytes_eq name (codes "trigger-list")) _ _ (with_plain (λ path. TriggerList path) (only_root d) (alone_plain d))
-    (either (bytes_eq name (codes "trigger-del")) _ _ (either (is_none (at 3 d)) _ _ (deleted_plain (text_at 1 d) (text_at 2 d)) refl)
-    (either (bytes_eq name (codes "observe")) _ _ (either (is_none (at 3 d)) _ _ (observed_plain (text_at 1 d) (option_and_then pairs_of (at 2 d))) refl)
-    (either (bytes_eq name (codes "listing")) _ _ (either (is_none (at 5 d)) _ _ (listed_plain (text_at 1 d) (option_and_then count_of (at 2 d)) (text_at 3 d) (option_and_then files_of (at 4 d))) refl)
-    (either (bytes_eq name (codes "age-out")) _ _ (either (is_none (at 3 d)) _ _ (aged_plain (text_at 1 d) (option_and_then count_of (at 2 d))) refl)
-    (either (bytes_eq name (codes "clock")) _ _ (with_plain (λ path. Clock path) (only_root d) (alone_plain d))
-    (either (bytes_eq name (codes "since")) _ _ (either (is_none (at 3 d)) _ _ (since_plain (unwrap_or (option_map may_be_clock (at 2 d)) false) (text_at 1 d) (option_and_then spec_of (text_at 2 d))) refl)
-    (either (bytes_eq name (codes "query")) _ _ (either (is_none (at 3 d)) _ _ (queried_plain (text_at 1 d) (object_at 2 d)) refl)
-    (either (bytes_eq name (codes "subscribe")) _ _ (either (is_none (at 4 d)) _ _ (subscribed_plain (text_at 1 d) (text_at 2 d) (object_at 3 d)) refl)
-    (either (bytes_eq name (codes "unsubscribe")) _ _ (either (is_none (at 3 d)) _ _ (unsubscribed_plain (text_at 1 d) (text_at 2 d)) refl) refl))))))))))))))
+    either_command (request_named d) (bytes_eq name (codes "version")) _ _ (plain_plain d Version)
+    (either_command (request_named d) (bytes_eq name (codes "watch")) _ _ (with_plain (λ path. Watch path) (only_root d) (alone_plain d))
+    (either_command (request_named d) (bytes_eq name (codes "watch-del")) _ _ (with_plain (λ path. WatchDel path) (only_root d) (alone_plain d))
+    (either_command (request_named d) (bytes_eq name (codes "watch-list")) _ _ (plain_plain d WatchList)
+    (either_command (request_named d) (bytes_eq name (codes "trigger")) _ _ (either (is_none (at 3 d)) _ _ (defined_plain (text_at 1 d) (object_at 2 d)) refl)
+    (either_command (request_named d) (bytes_eq name (codes "trigger-list")) _ _ (with_plain (λ path. TriggerList path) (only_root d) (alone_plain d))
+    (either_command (request_named d) (bytes_eq name (codes "trigger-del")) _ _ (either (is_none (at 3 d)) _ _ (deleted_plain (text_at 1 d) (text_at 2 d)) refl)
+    (either_command (request_named d) (bytes_eq name (codes "observe")) _ _ (either (is_none (at 3 d)) _ _ (observed_plain (text_at 1 d) (option_and_then pairs_of (at 2 d))) refl)
+    (either_command (request_named d) (bytes_eq name (codes "listing")) _ _ (either (is_none (at 5 d)) _ _ (listed_plain (text_at 1 d) (option_and_then count_of (at 2 d)) (text_at 3 d) (option_and_then files_of (at 4 d))) refl)
+    (either_command (request_named d) (bytes_eq name (codes "age-out")) _ _ (either (is_none (at 3 d)) _ _ (aged_plain (text_at 1 d) (option_and_then count_of (at 2 d))) refl)
+    (either_command (request_named d) (bytes_eq name (codes "clock")) _ _ (with_plain (λ path. Clock path) (only_root d) (alone_plain d))
+    (either_command (request_named d) (bytes_eq name (codes "since")) _ _ (either (is_none (at 3 d)) _ _ (since_plain (unwrap_or (option_map may_be_clock (at 2 d)) false) (text_at 1 d) (option_and_then spec_of (text_at 2 d))) refl)
+    (either_command (request_named d) (bytes_eq name (codes "query")) _ _ (either (is_none (at 3 d)) _ _ (queried_plain (text_at 1 d) (object_at 2 d)) refl)
+    (either_command (request_named d) (bytes_eq name (codes "subscribe")) _ _ (either (is_none (at 4 d)) _ _ (subscribed_plain (text_at 1 d) (text_at 2 d) (object_at 3 d)) refl)
+    (either_command (request_named d) (bytes_eq name (codes "unsubscribe")) _ _ (either (is_none (at 3 d)) _ _ (unsubscribed_plain (text_at 1 d) (text_at 2 d)) refl) refl))))))))))))))
 
 text_plain : (o : Option Data) → tells_fault (request_of_text o) ≡ false
 unfolding request_of

@@ -1,15 +1,10 @@
-use Rattle.std.proofs.Common.{◌+◌, ◌≡◌, ◌≢◌, ◌≤◌, ◌⊎◌, ⊎_elim, inl, inr, refl, ap, sym, ◌∙◌, arith, ℕ, List, [], ◌∷◌, subst, Err}
+use Rattle.std.proofs.Common.{◌+◌, ◌≡◌, ◌≢◌, ◌⊎◌, ⊎_elim, inl, inr, refl, ap, sym, ◌∙◌, arith, ℕ, [], ◌∷◌, subst, Err}
 use Rattle.std.specs.Prelude.{true, false}
 use Rattle.std.proofs.lemmas.Result.{on_ok_weaker}
 use Rattle.wm_checkpoint.specs.Kept.{disk_of, state_of, has_failed, slot_number_of, room_left}
-use Rattle.wm_checkpoint.specs.Machines.{Accepts, replay_on}
-use Rattle.wm_checkpoint.specs.Meanings.{MeansPrefix}
 use Rattle.wm_disk.specs.Contents.{Rose}
-use Rattle.wm_disk.specs.Moments.{LeavesOnly}
 use Rattle.wm_journal.specs.Records.{taken}
 use Rattle.wm_registry.specs.Commands.{command_spelling}
-use Rattle.wm_registry.specs.MachineLaws.{watches}
-use Rattle.wm_registry.specs.declared.command.Command.{Command}
 use Rattle.wm_disk.specs.declared.refusal.Refusal.{Refusal}
 use Rattle.wm_disk.specs.declared.refusal.Refusal.TheVariants.{NoMemory, Exhausted}
 use Rattle.wm_registry.specs.declared.command.Command.TheVariants.{Begin}
@@ -72,43 +67,18 @@ returns-in-Err g c =
       kinds = f.kinds;
     }
 
-pub returns-in_default-vec : goal.returns-in_default-vec
-returns-in_default-vec g c =
-    let k = c.args.keeper.now in
-    let f = c.find_room.ensures in
-    let there = ok_told c.find_room.result c.in_default-find_room.not-Err f.calls.works in
-    let same = ok_told c.find_room.result c.in_default-find_room.not-Err f.calls.device.no_failure in
-    record {
-      calls = record {
-        kept = f.calls.kept;
-        calls = f.calls.calls;
-        device = record { honest = f.calls.device.honest; failures_grow = f.calls.device.failures_grow; no_failure = tt; failed = λ e. absurd cc; failures_kept = λ no. same };
-        works = tt;
-        unfailed = λ no. there;
-      };
-      begun = tt;
-      any_moment = λ h. unbegun g.D.Disk (disk_of k) (disk_of c.find_room.new.keeper) (state_of k) (Begin ∷ []) (f.still.any_moment h);
-      unbegun = λ no. f.still;
-      exhausted = λ e. absurd cc;
-      kinds = inr (inl refl);
-    }
-
 pub commit-requires : goal.commit-requires
 commit-requires g c =
     let k = c.args.keeper.now in
     let new = c.find_room.new.keeper in
     let f = c.find_room.ensures in
-    let group : c.deref.result.now ≡ Begin ∷ [] = c.deref.ensures.value ∙ c.in-Ok-vec.ensures.items in
     let found = ok_told c.find_room.result c.in_default-find_room.not-Err f.found in
     let made = after_begin (state_of k) c.in-Ok.next c.apply.new.self c.apply.result (c.in-Ok.ensures ∙ c.state.ensures) c.apply.ensures.reply c.apply.ensures.state c.in_default-apply.not-Refused in
     let there : (c.apply.new.self ≡ after_command (state_of new) Begin) × (changes (state_of new) Begin ≡ true) = subst (λ (t : State). (c.apply.new.self ≡ after_command t Begin) × (changes t Begin ≡ true)) (sym f.still.state) made in
     record {
       kept = f.calls.kept;
-      fits = subst (λ (l : List Command). taken command_spelling l ≤ room_left new) (sym group) found.room;
-      leads = record {
-        accepted = subst (λ (l : List Command). Accepts watches (state_of new) l) (sym group) (there.1, tt);
-        is = subst (λ (l : List Command). c.apply.new.self ≡ replay_on watches (state_of new) l) (sym group) there.0;
-      };
+      fits = found.room;
+      leads = record { accepted = (there.1, tt); is = there.0 };
     }
 
 pub returns : goal.returns
@@ -119,12 +89,10 @@ returns g c =
     let new = c.commit.new.self in
     let f = c.find_room.ensures in
     let e = c.commit.ensures in
-    let m = commit_facts mid c.commit.new.self c.deref.result.now c.apply.new.self c.commit.result e.kept e.committed e.crash e.device e.refusals in
-    let group : c.deref.result.now ≡ Begin ∷ [] = c.deref.ensures.value ∙ c.in-Ok-vec.ensures.items in
+    let m = commit_facts mid c.commit.new.self (Begin ∷ []) c.apply.new.self c.commit.result e.kept e.committed e.crash e.device e.refusals in
     let there = ok_told c.find_room.result c.in_default-find_room.not-Err f.calls.works in
     let same = ok_told c.find_room.result c.in_default-find_room.not-Err f.calls.device.no_failure in
     let found = ok_told c.find_room.result c.in_default-find_room.not-Err f.found in
-    let fits = λ (h : room_left new + taken command_spelling c.deref.result.now ≡ room_left mid). subst (λ (l : List Command). room_left new + taken command_spelling l ≡ room_left mid) group h in
     let made = after_begin (state_of k) c.in-Ok.next c.apply.new.self c.apply.result (c.in-Ok.ensures ∙ c.state.ensures) c.apply.ensures.reply c.apply.ensures.state c.in_default-apply.not-Refused in
     record {
       calls = record {
@@ -151,15 +119,15 @@ returns g c =
             (λ e. ap (λ y. has_failed y) (m.down e).1 ∙ there);
       };
       begun = both_ok c.commit.result
-          (λ (p : (state_of new ≡ c.apply.new.self) × (has_failed new ≡ false)) (q : room_left new + taken command_spelling c.deref.result.now ≡ room_left mid). record {
+          (λ (p : (state_of new ≡ c.apply.new.self) × (has_failed new ≡ false)) (q : room_left new + taken command_spelling (Begin ∷ []) ≡ room_left mid). record {
             state = p.0 ∙ made.0;
             changed = begin_changed (state_of k) made.1;
-            stays = λ le. (m.slot.1 ∙ ap (λ y. slot_number_of y) (f.stays le), fits q ∙ ap (λ y. room_left y) (f.stays le));
-            moves = λ less. (m.slot.1 ∙ (found.moves less).0, fits q ∙ (found.moves less).1);
+            stays = λ le. (m.slot.1 ∙ ap (λ y. slot_number_of y) (f.stays le), q ∙ ap (λ y. room_left y) (f.stays le));
+            moves = λ less. (m.slot.1 ∙ (found.moves less).0, q ∙ (found.moves less).1);
           })
           m.state m.room;
       any_moment = λ h. then_begun D (disk_of k) (disk_of mid) (disk_of new) (state_of k) (state_of mid) (Begin ∷ []) f.still.state (f.still.any_moment (m.honest h))
-          (subst (λ (l : List Command). LeavesOnly D.moment D.left_since (disk_of mid) (disk_of new) (MeansPrefix watches (state_of mid) l)) group (m.any_moment there h));
+          (m.any_moment there h);
       unbegun = told_three c.commit.result (StandsStill D k new) m.kinds
           (λ e. subst (λ y. StandsStill D k y) (sym (m.memory e)) f.still)
           (λ e. subst (λ y. StandsStill D k y) (sym (m.down e).1) f.still);

@@ -13,17 +13,16 @@ use Rattle.wm_world.proofs.world.World.commands.Goals as goal
 pub returns-then-len-gt-MAX_BATCH : goal.returns-then-len-gt-MAX_BATCH
 returns-then-len-gt-MAX_BATCH g c = too_long g.D.Disk g.met.D.Disk.only_now c.args.self c.args.commands.items (omega (arith, c.if-len-gt-MAX_BATCH.true, c.len.ensures))
 
-pub returns-in_ok-begin_views-in-Ok : goal.returns-in_ok-begin_views-in-Ok
-returns-in_ok-begin_views-in-Ok g c =
+pub returns-in_ok-show-in-Ok : goal.returns-in_ok-show-in-Ok
+returns-in_ok-show-in-Ok g c =
     let e = c.commit_batch.ensures in
     let r = c.in-Ok.ensures in
     let from : c.next_root-next.result ≡ c.in-Up.store.registry.next = c.next_root-next.ensures ∙ ap (λ (x : State). x.next) c.registry.ensures.value in
-    let to : c.next_root.result ≡ c.commit_batch.new.self.registry.next = c.next_root.ensures ∙ ap (λ (x : State). x.next) c.registry-registry.ensures.value in
-    let incarnation : c.incarnation-incarnation.result ≡ c.commit_batch.new.self.registry.incarnation = c.incarnation-incarnation.ensures ∙ ap (λ (x : State). x.incarnation) c.registry-registry.ensures.value in
+    let registry = c.registry-in-Ok.ensures.value in
     batch_done g.D.Disk c.args.self _ c.in-Up.store c.commit_batch.new.self c.args.commands.items c.in-Ok.replies.items c.in-Up.is (omega (arith, c.if-len-gt-MAX_BATCH.false, c.len.ensures))
     refl refl refl
-    (c.in_ok-begin_views-in-Ok.ensures ∙ (λ i. c.args.self.shown.views.items ++ map summary (map (new_history (incarnation i)) (range_with_len (from i) (to i - from i)))))
-    r.committed.batch.answered (λ is. c.in_ok-unless_out_of_memory-in-Ok.ensures (subst IsOutOfMemory (sym c.deref.ensures.value) is)) r.committed.registry e.calls.device.honest r.calls.device.no_failure r.calls.works r.committed.open_yet e.number.1 r.committed.means
+    (c.in_ok-show-in-Ok.ensures.views ∙ (λ i. c.args.self.shown.views.items ++ map summary (map (new_history (registry i).incarnation) (range_with_len (from i) ((registry i).next - from i)))))
+    r.committed.batch.answered (λ is. c.in_ok-show-in-Ok.ensures.memory (subst IsOutOfMemory (sym c.deref.ensures.value) is)) r.committed.registry e.calls.device.honest r.calls.device.no_failure r.calls.works r.committed.open_yet e.number.1 r.committed.means
     e.numbered r.committed.batch.any_moment
 
 pub returns-in_ok-unless_memory-in-Err : goal.returns-in_ok-unless_memory-in-Err

@@ -1,7 +1,7 @@
 use Rattle.std.proofs.Common.{◌≡◌, ℕ, Option, Some, None, sym, ◌∙◌, refl}
 use Rattle.std.proofs.lemmas.Result.{on_ok_weaker}
 use Rattle.wm_world.proofs.Calls.{operate_none, operate_some}
-use Rattle.wm_world.proofs.world.World.operate.Goals as goal
+use Rattle.wm_world.proofs.world.World.perform.Goals as goal
 
 none_of : (o : Option ℕ) → ((n : ℕ) → o ≡ Some n → ⊥) → o ≡ None
 none_of None f = refl

@@ -3,7 +3,7 @@ use Rattle.std.proofs.lemmas.Result.{on_ok_weaker}
 use Rattle.wm_world.specs.Refinement.{asking_by}
 use Rattle.wm_world.specs.Steps.{asking, with_client}
 use Rattle.wm_world.proofs.Calls.{ask_none, ask_one, while_down}
-use Rattle.wm_world.proofs.world.World.ask.Goals as goal
+use Rattle.wm_world.proofs.world.World.put_question.Goals as goal
 
 pub returns-in_default : goal.returns-in_default
 returns-in_default g c = while_down g.D.Disk g.met.D.Disk.only_now c.args.self.now (λ w. with_client (asking w) c.args.n w) c.in_default.not-Up
