@@ -1,6 +1,6 @@
 //! Times a desk on a real file: commands submitted by so many threads at once, each from a seat of its own, and the
 //! sync of the same device by hand.
-ghost use Rattle.std.specs.Thread.{IsSync};
+ghost use Rattle.std.specs.Thread.{IsSend, IsSync};
 ghost use Rattle.wm_groupcommit.specs.Seats.{IsSeatOf};
 
 use crate::measured::median;
@@ -24,9 +24,6 @@ const THREADS: [u64; 3] = [1, 8, 31];
 /// How many syncs by hand are timed.
 const SYNCS: u32 = 200;
 
-/// A desk on a real file.
-type Kept = Desk<FileDisk<Unknown>>;
-
 /// The command of a round: in one the path is watched, in the next its watch ends.
 fn command(alloc: Global, thread: u64, round: u32) -> Option<Command> {
     let text = format!(in alloc; "/home/user/project-{thread:02}").ok()?;
@@ -39,7 +36,12 @@ fn command(alloc: Global, thread: u64, round: u32) -> Option<Command> {
 }
 
 /// Whether a command from the seat is accepted.
-fn is_accepted<R: Wait>(rt: &R, desk: &Kept, seat: &mut Seat, command: Command) -> bool
+fn is_accepted<R: Wait, D: Disk + Drop>(
+    rt: &R,
+    desk: &Desk<D>,
+    seat: &mut Seat,
+    command: Command,
+) -> bool
     requires { IsSeatOf desk.now seat.old }
     ensures { IsSeatOf desk.now seat.new }
 {
@@ -50,10 +52,10 @@ fn is_accepted<R: Wait>(rt: &R, desk: &Kept, seat: &mut Seat, command: Command) 
 }
 
 /// Submits so many commands, one after the other, and adds how many of them were accepted.
-fn submit_all<R: Wait>(
+fn submit_all<R: Wait, D: Disk + Drop>(
     rt: &R,
     alloc: Global,
-    desk: &Kept,
+    desk: &Desk<D>,
     thread: u64,
     rounds: u32,
     accepted: &AtomicU64,
@@ -71,10 +73,10 @@ fn submit_all<R: Wait>(
 }
 
 /// Submits from so many threads at once, and then closes the desk.
-fn submit_from<R: Threads + Wait + Sync>(
+fn submit_from<R: Threads + Wait + Sync, D: Disk + Drop + Send>(
     rt: &R,
     alloc: Global,
-    desk: &Kept,
+    desk: &Desk<D>,
     threads: u64,
     rounds: u32,
     accepted: &AtomicU64,
@@ -84,7 +86,8 @@ fn submit_from<R: Threads + Wait + Sync>(
         thread::scope_env(),
         rt,
         |scope|
-            requires { IsSync R.row }
+            requires host { IsSync R.row }
+            requires disk { IsSend D.row }
         {
             for thread in 0..threads {
                 let _ = scope.spawn(move || submit_all(rt, alloc, desk, thread, rounds, accepted));
@@ -96,7 +99,7 @@ fn submit_from<R: Threads + Wait + Sync>(
 }
 
 /// Flushes until the submitting has ended, asleep while there is nothing to flush.
-fn flush_all<R: Wait>(rt: &R, desk: &Kept, ended: &AtomicU64) {
+fn flush_all<R: Wait, D: Disk + Drop>(rt: &R, desk: &Desk<D>, ended: &AtomicU64) {
     let Ok(mut flusher) = desk.flusher(rt) else {
         return;
     };
@@ -111,7 +114,7 @@ fn flush_all<R: Wait>(rt: &R, desk: &Kept, ended: &AtomicU64) {
 }
 
 /// A desk on a new file.
-fn made(rt: &HostRuntime, file: &str) -> Result<Kept> {
+fn made(rt: &HostRuntime, file: &str) -> Result<Desk<FileDisk<Unknown>>> {
     let alloc = rt.alloc();
     let mut disk = FileDisk::<Unknown>::create(rt, file).context(format_args!("making {file}"))?;
     wm_store::format(alloc, &mut disk)?;
@@ -133,10 +136,10 @@ fn sync_time(rt: &HostRuntime, file: &str) -> Result<u128> {
 }
 
 /// Lets so many threads submit all their commands while one flushes, and then closes the desk.
-fn work<R: Threads + Wait + Sync>(
+fn work<R: Threads + Wait + Sync, D: Disk + Drop + Send>(
     host: &R,
     alloc: Global,
-    desk: &Kept,
+    desk: &Desk<D>,
     threads: u64,
     rounds: u32,
     accepted: &AtomicU64,

@@ -43,30 +43,40 @@ fn bench<R: Threads + Wait + Sync>(rt: &HostRuntime, host: &R, task: &Task<'_>) 
     }
 }
 
+/// Tells how the program is used.
+fn refuse(rt: &HostRuntime) -> Result<ExitCode> {
+    rt.eprintln(USAGE)?;
+    Ok(ExitCode::from(2))
+}
+
+/// The tree of a real folder.
+fn tree_of(rt: &HostRuntime, folder: &str) -> Result<FolderTree<HostRuntime>> {
+    let root = RootPath::read(rt.alloc(), folder)
+        .ok()
+        .context("no absolute path")?;
+    Ok(FolderTree::new(rt.clone()?, root))
+}
+
 fn main(rt: HostRuntime) -> Result<ExitCode> {
     let alloc = rt.alloc();
     let Ok(args) = env::args(&rt) else {
-        rt.eprintln(USAGE)?;
-        return Ok(ExitCode::from(2));
+        return refuse(&rt);
     };
     let args: Vec<String> = args.skip(1).collect(alloc)?;
     let args: Vec<&str> = args.iter().map(|word| word.as_str()).collect(alloc)?;
     let Some(tasks) = tasks(alloc, &args)? else {
-        rt.eprintln(USAGE)?;
-        return Ok(ExitCode::from(2));
+        return refuse(&rt);
     };
     for task in &tasks {
-        match task {
-            Task::Crawl(folder, workers) => {
-                let root = RootPath::read(alloc, folder)
-                    .ok()
-                    .context("no absolute path")?;
-                let tree = FolderTree::new(rt.clone()?, root);
-                crawling::bench(&rt, &tree, *workers)?;
-            }
-            Task::Share(files, milliseconds) => viewers::bench(&rt, *files, *milliseconds)?,
-            _ => bench(&rt, &rt, task)?,
-        }
+        let done = match task {
+            Task::Crawl(folder, workers) => match tree_of(&rt, folder) {
+                Ok(tree) => crawling::bench(&rt, &tree, *workers),
+                Err(error) => Err(error),
+            },
+            Task::Share(files, milliseconds) => viewers::bench(&rt, *files, *milliseconds),
+            _ => bench(&rt, &rt, task),
+        };
+        done?;
     }
     Ok(ExitCode::from(0))
 }

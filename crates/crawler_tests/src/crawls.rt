@@ -1,89 +1,39 @@
 //! What a crawl of a tree in memory lists, counts and refuses.
-use crate::trees::{Folder, meta, part, told, tree_of};
+use crate::trees::{Folder, Row, assert_lists, crawled, meta, part, tree_of, tried};
 use std::alloc::Global;
 use std::process::Abort;
-use std::test::Fail;
 use std::thread::Threads;
-use wm_crawler::{Crawled, Dir, MAX_WORKERS, MemTree, Open, crawl};
+use wm_crawler::{Dir, MAX_WORKERS, MemTree, Open};
 use wm_disk::Refusal;
 use wm_names::{Kind, Meta, RelPath, Subtree};
 use wm_view::Listing;
 
-/// What so many workers find below a folder.
-fn found<R: Threads + Sync>(
-    rt: &R,
-    alloc: Global,
-    tree: &MemTree,
-    top: &str,
-    workers: usize,
-) -> Result<Crawled, Refusal> {
-    if workers < 1 || MAX_WORKERS < workers {
-        return Err(Refusal::BadArguments);
-    }
-    let top = part(alloc, top)?;
-    crawl(rt, alloc, tree, &top, workers, &Open)
-}
-
-/// Whether so many workers list that below a folder, and leave so many names out.
-fn lists<R: Threads + Sync>(
-    rt: &R,
-    alloc: Global,
-    tree: &MemTree,
-    workers: usize,
-    (top, wanted, faults): Row,
-) -> Result<bool, Refusal> {
-    let found = found(rt, alloc, tree, top, workers)?;
-    Ok(told(alloc, &found.listing)?.as_str() == wanted && found.faults == faults)
-}
-
 /// Whether so many workers list so many files of the whole tree, and leave so many names out.
-fn counts<R: Threads + Sync>(
+fn counts<R: Threads + Abort + Sync>(
     rt: &R,
     alloc: Global,
     tree: &MemTree,
     workers: usize,
     files: usize,
     faults: u64,
-) -> Result<bool, Refusal> {
-    let found = found(rt, alloc, tree, "", workers)?;
-    Ok(found.listing.files().len() == files && found.faults == faults)
+) -> bool {
+    let found = crawled(rt, alloc, tree, &Subtree::Whole, workers, &Open);
+    found.listing.files().len() == files && found.faults == faults
 }
 
-fn is_refused<R: Threads + Sync>(
+fn is_refused<R: Threads + Abort + Sync>(
     rt: &R,
     alloc: Global,
     tree: &MemTree,
     top: &str,
     workers: usize,
 ) -> bool {
+    let top = part(rt, alloc, top);
     matches!(
-        found(rt, alloc, tree, top, workers),
+        tried(rt, alloc, tree, &top, workers, &Open),
         Err(Refusal::DeviceFailed)
     )
 }
-
-/// Asserts that each of these numbers of workers lists what the rows tell.
-fn assert_lists<R: Threads + Abort + Sync>(
-    rt: &R,
-    alloc: Global,
-    tree: &MemTree,
-    numbers: &[usize],
-    rows: &[Row],
-) -> Result<(), Fail> {
-    for row in rows {
-        for workers in numbers {
-            assert!(rt;
-                lists(rt, alloc, tree, *workers, *row)?,
-                "{workers} workers below {}",
-                row.0
-            );
-        }
-    }
-    Ok(())
-}
-
-/// A folder, what is listed below it, and how many names are left out.
-type Row = (&'static str, &'static str, u64);
 
 /// Folders in folders, a link that leads to one, and a name that stands twice.
 const FOLDERS: &[Folder<'static>] = &[
@@ -127,10 +77,10 @@ const LISTED: &[Row] = &[
 const EACH: &[usize] = &[1, 2, 3, 4, 5, 6, 7, 8, 9, 10, 11, 12, 13, 14, 15, 16];
 
 #[test]
-fn lists_each_path_once(rt: HostRuntime) -> Result<(), Fail> {
+fn lists_each_path_once(rt: HostRuntime) {
     assert!(rt; EACH.len() == MAX_WORKERS);
-    let tree = tree_of(rt.alloc(), FOLDERS, FILES)?;
-    assert_lists(&rt, rt.alloc(), &tree, EACH, LISTED)
+    let tree = tree_of(&rt, rt.alloc(), FOLDERS, FILES);
+    assert_lists(&rt, rt.alloc(), &tree, EACH, LISTED);
 }
 
 /// Names with a slash, of dots, empty, and with a zero byte; `f` holds one that isn't text, and `f/g` nothing else.
@@ -155,89 +105,88 @@ const COUNTED: &[Row] = &[
 ];
 
 #[test]
-fn counts_names_that_are_no_paths(rt: HostRuntime) -> Result<(), Fail> {
-    let tree = tree_of(rt.alloc(), WITH_FAULTS, FILES_WITH_FAULTS)?;
-    assert_lists(&rt, rt.alloc(), &tree, &[1, 2, 4], COUNTED)
+fn counts_names_that_are_no_paths(rt: HostRuntime) {
+    let tree = tree_of(&rt, rt.alloc(), WITH_FAULTS, FILES_WITH_FAULTS);
+    assert_lists(&rt, rt.alloc(), &tree, &[1, 2, 4], COUNTED);
 }
 
 /// A name of so many bytes.
-fn long_name(alloc: Global, len: usize) -> Result<String, Fail> {
+fn long_name(rt: &impl Abort, alloc: Global, len: usize) -> String {
     let mut name = String::new(alloc);
     for _ in 0..len {
-        name.push('n')?;
+        name.push('n').expect(rt, "memory");
     }
-    Ok(name)
+    name
 }
 
 /// Lets a folder have one name.
-fn hold_one(alloc: Global, tree: &mut MemTree, folder: Subtree, name: &str) -> Result<(), Refusal> {
+fn hold_one(rt: &impl Abort, alloc: Global, tree: &mut MemTree, folder: Subtree, name: &str) {
     let mut dir = Dir::new(alloc);
-    dir.add(alloc, name)?;
-    tree.hold(folder, dir)?;
-    Ok(())
+    dir.add(alloc, name).expect(rt, "memory");
+    tree.hold(folder, dir).expect(rt, "memory");
 }
 
 /// A tree of a folder with one name of so many bytes, and a file there where that is a path.
-fn with_long_name(alloc: Global, len: usize) -> Result<MemTree, Fail> {
-    let mut tree = tree_of(alloc, &[("", "f", 0)], &[("f", Kind::Folder)])?;
-    put_long_name(alloc, &mut tree, len)?;
-    Ok(tree)
+fn with_long_name(rt: &impl Abort, alloc: Global, len: usize) -> MemTree {
+    let mut tree = tree_of(rt, alloc, &[("", "f", 0)], &[("f", Kind::Folder)]);
+    put_long_name(rt, alloc, &mut tree, len);
+    tree
 }
 
-fn put_long_name(alloc: Global, tree: &mut MemTree, len: usize) -> Result<(), Fail> {
-    let name = long_name(alloc, len)?;
-    hold_one(alloc, tree, part(alloc, "f")?, &name)?;
-    let path = format!(in alloc; "f/{name}")?;
+fn put_long_name(rt: &impl Abort, alloc: Global, tree: &mut MemTree, len: usize) {
+    let name = long_name(rt, alloc, len);
+    hold_one(rt, alloc, tree, part(rt, alloc, "f"), &name);
+    let path = format!(in alloc; "f/{name}").expect(rt, "memory");
     if let Ok(path) = RelPath::read(alloc, &path) {
-        tree.put(path, meta(Kind::File, 7))?;
+        tree.put(path, meta(Kind::File, 7)).expect(rt, "memory");
     }
-    Ok(())
 }
+
+/// How long a name is, how many files are found then, and how many names are left out.
+const LENGTHS: &[(usize, usize, u64)] = &[(1022, 2, 0), (1023, 1, 1)];
 
 /// The longest path has 1,024 bytes; a longer one is a fault.
 #[test]
-fn leaves_out_paths_that_are_too_long(rt: HostRuntime) -> Result<(), Fail> {
-    for (len, files, faults) in [(1022, 2, 0), (1023, 1, 1)] {
-        let tree = with_long_name(rt.alloc(), len)?;
+fn leaves_out_paths_that_are_too_long(rt: HostRuntime) {
+    for (len, files, faults) in LENGTHS {
+        let tree = with_long_name(&rt, rt.alloc(), *len);
         assert!(rt;
-            counts(&rt, rt.alloc(), &tree, 1, files, faults)?,
+            counts(&rt, rt.alloc(), &tree, 1, *files, *faults),
             "a name of {len} bytes"
         );
     }
-    Ok(())
 }
 
 /// Puts a folder that has one of its own name.
-fn put_folder(alloc: Global, tree: &mut MemTree, path: &str) -> Result<(), Refusal> {
-    let place = RelPath::read(alloc, path)?;
-    tree.put(place.copy()?, meta(Kind::Folder, 0))?;
-    hold_one(alloc, tree, Subtree::Below(place), "folder7")
+fn put_folder(rt: &impl Abort, alloc: Global, tree: &mut MemTree, path: &str) {
+    let folder = RelPath::read(alloc, path).expect(rt, "a path");
+    tree.put(folder, meta(Kind::Folder, 0)).expect(rt, "memory");
+    hold_one(rt, alloc, tree, part(rt, alloc, path), "folder7");
 }
 
-fn put_folders(alloc: Global, tree: &mut MemTree) -> Result<(), Fail> {
-    let mut path = String::from_str(alloc, "folder7")?;
+fn put_folders(rt: &impl Abort, alloc: Global, tree: &mut MemTree) {
+    let mut path = String::from_str(alloc, "folder7").expect(rt, "memory");
     for _ in 0..128 {
-        put_folder(alloc, tree, &path)?;
-        path.push_str("/folder7")?;
+        put_folder(rt, alloc, tree, &path);
+        path.push_str("/folder7").expect(rt, "memory");
     }
-    Ok(())
 }
 
 /// As deep as a path can be with names of 7 bytes: 128 folders, each in the one before. The name in the last folder, whose path
 /// would have 1,031 bytes, is left out.
 #[test]
-fn goes_as_deep_as_paths_do(rt: HostRuntime) -> Result<(), Fail> {
+fn goes_as_deep_as_paths_do(rt: HostRuntime) {
     let alloc = rt.alloc();
-    let mut tree = tree_of(alloc, &[("", "folder7", 0)], &[])?;
-    put_folders(alloc, &mut tree)?;
-    assert!(rt; counts(&rt, alloc, &tree, 1, 128, 1)?);
-    assert!(rt; counts(&rt, alloc, &tree, 4, 128, 1)?);
-    Ok(())
+    let mut tree = tree_of(&rt, alloc, &[("", "folder7", 0)], &[]);
+    put_folders(&rt, alloc, &mut tree);
+    assert!(rt; counts(&rt, alloc, &tree, 1, 128, 1));
+    assert!(rt; counts(&rt, alloc, &tree, 4, 128, 1));
 }
 
 /// A tree with a folder that can't be read.
-fn with_closed_folder(alloc: Global) -> Result<MemTree, Refusal> {
+fn with_closed_folder(rt: &impl Abort, alloc: Global) -> MemTree {
     let mut tree = tree_of(
+        rt,
         alloc,
         &[("", "a|b", 0), ("a", "c", 0)],
         &[
@@ -245,84 +194,99 @@ fn with_closed_folder(alloc: Global) -> Result<MemTree, Refusal> {
             ("b", Kind::Folder),
             ("a/c", Kind::File),
         ],
-    )?;
-    tree.close(part(alloc, "b")?)?;
-    Ok(tree)
+    );
+    tree.close(part(rt, alloc, "b")).expect(rt, "memory");
+    tree
+}
+
+/// Asserts that each of these numbers of workers is refused below each of these folders.
+fn assert_refused<R: Threads + Abort + Sync>(
+    rt: &R,
+    alloc: Global,
+    tree: &MemTree,
+    numbers: &[usize],
+    tops: &[&str],
+) {
+    for workers in numbers {
+        for top in tops {
+            assert!(rt; is_refused(rt, alloc, tree, top, *workers));
+        }
+    }
 }
 
 /// What stands elsewhere doesn't matter.
 #[test]
-fn is_refused_where_a_folder_cannot_be_read(rt: HostRuntime) -> Result<(), Fail> {
-    let tree = with_closed_folder(rt.alloc())?;
-    for workers in [1, 2, 16] {
-        for top in ["", "b"] {
-            assert!(rt; is_refused(&rt, rt.alloc(), &tree, top, workers));
-        }
-    }
-    assert_lists(&rt, rt.alloc(), &tree, &[1, 2, 16], &[("a", "f:a/c ", 0)])
+fn is_refused_where_a_folder_cannot_be_read(rt: HostRuntime) {
+    let alloc = rt.alloc();
+    let tree = with_closed_folder(&rt, alloc);
+    assert_refused(&rt, alloc, &tree, &[1, 2, 16], &["", "b"]);
+    assert_lists(&rt, alloc, &tree, &[1, 2, 16], &[("a", "f:a/c ", 0)]);
 }
 
-fn with_hidden_file(alloc: Global) -> Result<MemTree, Refusal> {
-    let mut tree = tree_of(alloc, &[("", "a|b", 0)], &[("a", Kind::File)])?;
-    tree.hide(RelPath::read(alloc, "b")?)?;
-    Ok(tree)
+fn with_hidden_file(rt: &impl Abort, alloc: Global) -> MemTree {
+    let mut tree = tree_of(rt, alloc, &[("", "a|b", 0)], &[("a", Kind::File)]);
+    let hidden = RelPath::read(alloc, "b").expect(rt, "a path");
+    tree.hide(hidden).expect(rt, "memory");
+    tree
 }
 
 #[test]
-fn is_refused_where_metadata_cannot_be_told(rt: HostRuntime) -> Result<(), Fail> {
-    let tree = with_hidden_file(rt.alloc())?;
-    for workers in [1, 2] {
-        assert!(rt; is_refused(&rt, rt.alloc(), &tree, "", workers));
-    }
-    Ok(())
+fn is_refused_where_metadata_cannot_be_told(rt: HostRuntime) {
+    let tree = with_hidden_file(&rt, rt.alloc());
+    assert_refused(&rt, rt.alloc(), &tree, &[1, 2], &[""]);
 }
 
 /// Puts a file whose name and size are a number.
-fn put_numbered(
-    alloc: Global,
-    tree: &mut MemTree,
-    dir: &mut Dir,
-    number: u64,
-) -> Result<(), Refusal> {
-    let name = format!(in alloc; "{number}.c")?;
-    tree.put(RelPath::read(alloc, &name)?, meta(Kind::File, number))?;
-    dir.add(alloc, &name)?;
-    Ok(())
+fn put_numbered(rt: &impl Abort, alloc: Global, tree: &mut MemTree, dir: &mut Dir, number: u64) {
+    let name = format!(in alloc; "{number}.c").expect(rt, "memory");
+    let path = RelPath::read(alloc, &name).expect(rt, "a path");
+    tree.put(path, meta(Kind::File, number))
+        .expect(rt, "memory");
+    dir.add(alloc, &name).expect(rt, "memory");
 }
 
 /// A tree of one folder with 2,000 files.
-fn wide(alloc: Global) -> Result<MemTree, Refusal> {
+fn wide(rt: &impl Abort, alloc: Global) -> MemTree {
     let mut tree = MemTree::new(alloc);
     let mut dir = Dir::new(alloc);
     for number in 0..2_000 {
-        put_numbered(alloc, &mut tree, &mut dir, number)?;
+        put_numbered(rt, alloc, &mut tree, &mut dir, number);
     }
-    tree.hold(Subtree::Whole, dir)?;
-    Ok(tree)
+    tree.hold(Subtree::Whole, dir).expect(rt, "memory");
+    tree
 }
 
 /// Whether a file's name is its size.
-fn is_numbered(alloc: Global, path: &RelPath, meta: &Meta) -> Result<bool, Refusal> {
-    let name = format!(in alloc; "{}.c", meta.size)?;
-    Ok(path.as_str() == name.as_str())
+fn is_numbered(rt: &impl Abort, alloc: Global, path: &RelPath, meta: &Meta) -> bool {
+    let name = format!(in alloc; "{}.c", meta.size).expect(rt, "memory");
+    path.as_str() == name.as_str()
 }
 
-fn are_numbered(alloc: Global, listing: &Listing) -> Result<bool, Refusal> {
+fn are_numbered(rt: &impl Abort, alloc: Global, listing: &Listing) -> bool {
     for (path, meta) in listing.files() {
-        if !is_numbered(alloc, path, meta)? {
-            return Ok(false);
+        if !is_numbered(rt, alloc, path, meta) {
+            return false;
         }
     }
-    Ok(listing.files().len() == 2_000)
+    listing.files().len() == 2_000
+}
+
+/// Whether so many workers find the 2,000 files.
+fn finds_numbered<R: Threads + Abort + Sync>(
+    rt: &R,
+    alloc: Global,
+    tree: &MemTree,
+    workers: usize,
+) -> bool {
+    let found = crawled(rt, alloc, tree, &Subtree::Whole, workers, &Open);
+    are_numbered(rt, alloc, &found.listing)
 }
 
 /// 2,000 names in one folder, so that several workers ask for them.
 #[test]
-fn lists_a_wide_folder(rt: HostRuntime) -> Result<(), Fail> {
-    let tree = wide(rt.alloc())?;
-    for workers in [1, 3, 16] {
-        let found = found(&rt, rt.alloc(), &tree, "", workers)?;
-        assert!(rt; are_numbered(rt.alloc(), &found.listing)?);
+fn lists_a_wide_folder(rt: HostRuntime) {
+    let tree = wide(&rt, rt.alloc());
+    for workers in &[1, 3, 16] {
+        assert!(rt; finds_numbered(&rt, rt.alloc(), &tree, *workers));
     }
-    Ok(())
 }

@@ -1,51 +1,32 @@
 //! Crawls of real folders: each thing that a file system has.
-use crate::trees::{allowed, told};
+use crate::trees::{assert_lists, crawled, lists, part, told, tried};
 use std::alloc::Global;
 use std::os::unix::net::UnixListener;
 use std::process::{Abort, Command};
-use std::test::Fail;
 use std::thread::Threads;
 use std::{env, fs};
-use wm_crawler::{FolderTree, Open, SystemFolders, Tree, Turnstile, crawl, crawl_root};
+use wm_crawler::{FolderTree, Open, SystemFolders, Turnstile, crawl_root};
 use wm_disk::Refusal;
 use wm_names::{Kind, Meta, RelPath, RootPath, Subtree};
 
 /// The absolute path of a name in the folder where the tests run.
-fn root_of(rt: &HostRuntime, name: &str) -> Result<RootPath, Fail> {
-    let alloc = rt.alloc();
-    let mut path = String::from_str(alloc, env::current_dir(rt)?.as_str())?;
-    path.push('/')?;
-    path.push_str(name)?;
-    Ok(RootPath::read(alloc, &path)?)
+fn root_of(rt: &HostRuntime, host: &impl Abort, name: &str) -> RootPath {
+    let folder = env::current_dir(rt).expect(host, "a folder");
+    let path = format!(in rt.alloc(); "{}/{name}", folder.as_str()).expect(host, "memory");
+    RootPath::read(rt.alloc(), &path).expect(host, "a path")
 }
 
 /// Whether a command line of the shell succeeded.
-fn sh(rt: &HostRuntime, line: &str) -> Result<bool, Fail> {
-    let status = Command::new(rt.alloc(), "sh")?
-        .arg("-c")?
-        .arg(line)?
-        .status(rt)?;
-    Ok(status.success())
+fn sh(rt: &HostRuntime, host: &impl Abort, line: &str) -> bool {
+    let mut command = Command::new(rt.alloc(), "sh").expect(host, "memory");
+    command.args(["-c", line]).expect(host, "memory");
+    command.status(rt).expect(host, "a shell").success()
 }
 
 /// The tree of a folder where the tests run.
-fn tree_at(rt: &HostRuntime, name: &str) -> Result<FolderTree<HostRuntime>, Fail> {
-    let root = root_of(rt, name)?;
-    Ok(FolderTree::new(rt.clone()?, root))
-}
-
-/// Whether so many workers list that below the root, and leave so many names out.
-fn lists<R: Threads + Sync, T: Tree + Sync>(
-    rt: &R,
-    alloc: Global,
-    tree: &T,
-    workers: usize,
-    wanted: &str,
-    faults: u64,
-) -> Result<bool, Fail> {
-    let workers = allowed(workers);
-    let found = crawl(rt, alloc, tree, &Subtree::Whole, workers, &Open)?;
-    Ok(told(alloc, &found.listing)?.as_str() == wanted && found.faults == faults)
+fn tree_at(rt: &HostRuntime, host: &impl Abort, name: &str) -> FolderTree<HostRuntime> {
+    let root = root_of(rt, host, name);
+    FolderTree::new(rt.clone().expect(host, "memory"), root)
 }
 
 /// Files, folders, links that lead to a file, to nowhere and in a ring, a pipe and a socket; names with
@@ -60,24 +41,17 @@ const ALL: &str =
     "f:a b d:d d:d/e f:d/e/f l:d/up l:link l:lost f:n\nl o:pipe l:ring1 l:ring2 o:sock f:x\ny f:\u{e9} ";
 
 /// Asserts that crawls list all of it.
-fn assert_lists_all<R: Threads + Abort + Sync>(rt: &HostRuntime, host: &R) -> Result<(), Fail> {
-    let tree = tree_at(rt, "crawl_all")?;
-    for workers in [1, 2, 4] {
-        assert!(host;
-            lists(host, rt.alloc(), &tree, workers, ALL, 3)?,
-            "{workers} workers"
-        );
-    }
-    Ok(())
+fn assert_lists_all<R: Threads + Abort + Sync>(rt: &HostRuntime, host: &R) {
+    let tree = tree_at(rt, host, "crawl_all");
+    assert_lists(host, rt.alloc(), &tree, &[1, 2, 4], &[("", ALL, 3)]);
 }
 
 #[test]
-fn lists_what_a_file_system_has(rt: HostRuntime) -> Result<(), Fail> {
-    assert!(rt; sh(&rt, MAKE)?);
-    let _socket = UnixListener::bind(&rt, "crawl_all/sock")?;
-    assert_lists_all(&rt, &rt)?;
-    assert!(rt; sh(&rt, "rm -rf crawl_all")?);
-    Ok(())
+fn lists_what_a_file_system_has(rt: HostRuntime) {
+    assert!(rt; sh(&rt, &rt, MAKE));
+    let _socket = UnixListener::bind(&rt, "crawl_all/sock").expect(&rt, "a socket");
+    assert_lists_all(&rt, &rt);
+    assert!(rt; sh(&rt, &rt, "rm -rf crawl_all"));
 }
 
 /// Whether a crawl of one of many roots lists that.
@@ -88,36 +62,32 @@ fn lists_of_root<R: Threads + Abort + Sync>(
     root: &RootPath,
     workers: usize,
     wanted: &str,
-) -> Result<bool, Fail> {
+) -> bool {
     let alloc = rt.alloc();
-    let listing = crawl_root(host, alloc, folders, root, &Subtree::Whole, workers, &Open)?;
-    Ok(told(alloc, &listing)?.as_str() == wanted)
+    let listing = crawl_root(host, alloc, folders, root, &Subtree::Whole, workers, &Open);
+    let listing = listing.expect(host, "a crawl");
+    told(host, alloc, &listing).as_str() == wanted
 }
 
-fn assert_lists_of_root<R: Threads + Abort + Sync>(
-    rt: &HostRuntime,
-    host: &R,
-    root: &RootPath,
-) -> Result<(), Fail> {
-    let folders = SystemFolders::new(rt.clone()?);
-    for workers in [0, 1, 17] {
-        assert!(host; lists_of_root(rt, host, &folders, root, workers, "d:d f:d/f ")?);
+fn assert_lists_of_root<R: Threads + Abort + Sync>(rt: &HostRuntime, host: &R, root: &RootPath) {
+    let folders = SystemFolders::new(rt.clone().expect(host, "memory"));
+    for workers in &[0, 1, 17] {
+        assert!(host; lists_of_root(rt, host, &folders, root, *workers, "d:d f:d/f "));
     }
-    Ok(())
 }
 
 /// By way of the folders of all roots: none or too many workers are as few or as many as may be.
 #[test]
-fn crawls_one_of_many_roots(rt: HostRuntime) -> Result<(), Fail> {
+fn crawls_one_of_many_roots(rt: HostRuntime) {
     assert!(rt;
         sh(
             &rt,
+            &rt,
             "rm -rf crawl_root && mkdir -p crawl_root/d && : > crawl_root/d/f"
-        )?
+        )
     );
-    assert_lists_of_root(&rt, &rt, &root_of(&rt, "crawl_root")?)?;
-    assert!(rt; sh(&rt, "rm -rf crawl_root")?);
-    Ok(())
+    assert_lists_of_root(&rt, &rt, &root_of(&rt, &rt, "crawl_root"));
+    assert!(rt; sh(&rt, &rt, "rm -rf crawl_root"));
 }
 
 /// Two files, their sizes and their times.
@@ -132,22 +102,21 @@ fn are_times(files: &[(RelPath, Meta)]) -> bool {
             && file.1.mtime_ms == row.2)
 }
 
-fn tells_times<R: Threads + Abort + Sync>(rt: &HostRuntime, host: &R) -> Result<bool, Fail> {
-    let tree = tree_at(rt, "crawl_times")?;
-    let found = crawl(host, rt.alloc(), &tree, &Subtree::Whole, 1, &Open)?;
-    Ok(are_times(found.listing.files()))
+fn tells_times<R: Threads + Abort + Sync>(rt: &HostRuntime, host: &R) -> bool {
+    let tree = tree_at(rt, host, "crawl_times");
+    let found = crawled(host, rt.alloc(), &tree, &Subtree::Whole, 1, &Open);
+    are_times(found.listing.files())
 }
 
 /// Sizes in bytes, and times in milliseconds; one before 1970 is 0.
 #[test]
-fn tells_sizes_and_times(rt: HostRuntime) -> Result<(), Fail> {
+fn tells_sizes_and_times(rt: HostRuntime) {
     const MADE: &str =
         "rm -rf crawl_times && mkdir crawl_times && cd crawl_times && printf abc > new && : > old && \
         touch -d '2001-09-09 01:46:40.123456789 UTC' new && touch -d '1969-12-31 23:59:59 UTC' old";
-    assert!(rt; sh(&rt, MADE)?);
-    assert!(rt; tells_times(&rt, &rt)?);
-    assert!(rt; sh(&rt, "rm -rf crawl_times")?);
-    Ok(())
+    assert!(rt; sh(&rt, &rt, MADE));
+    assert!(rt; tells_times(&rt, &rt));
+    assert!(rt; sh(&rt, &rt, "rm -rf crawl_times"));
 }
 
 /// Roots, and what is listed below them.
@@ -162,10 +131,10 @@ fn lists_below<R: Threads + Abort + Sync>(
     rt: &HostRuntime,
     host: &R,
     root: &str,
-    wanted: &str,
-) -> Result<bool, Fail> {
-    let tree = tree_at(rt, root)?;
-    lists(host, rt.alloc(), &tree, 1, wanted, 0)
+    wanted: &'static str,
+) -> bool {
+    let tree = tree_at(rt, host, root);
+    lists(host, rt.alloc(), &tree, 1, ("", wanted, 0))
 }
 
 /// Parts of a root, and how many files are listed below them.
@@ -183,34 +152,32 @@ fn counts_below<R: Threads + Abort + Sync>(
     tree: &FolderTree<HostRuntime>,
     top: &str,
     files: usize,
-) -> Result<bool, Fail> {
-    let top = Subtree::Below(RelPath::read(rt.alloc(), top)?);
-    let found = crawl(host, rt.alloc(), tree, &top, 1, &Open)?;
-    Ok(found.listing.files().len() == files)
+) -> bool {
+    let top = part(host, rt.alloc(), top);
+    let found = crawled(host, rt.alloc(), tree, &top, 1, &Open);
+    found.listing.files().len() == files
 }
 
-fn assert_counts_below<R: Threads + Abort + Sync>(rt: &HostRuntime, host: &R) -> Result<(), Fail> {
-    let tree = tree_at(rt, "crawl_tops")?;
+fn assert_counts_below<R: Threads + Abort + Sync>(rt: &HostRuntime, host: &R) {
+    let tree = tree_at(rt, host, "crawl_tops");
     for (top, files) in PARTS {
-        assert!(host; counts_below(rt, host, &tree, top, *files)?, "below {top}");
+        assert!(host; counts_below(rt, host, &tree, top, *files), "below {top}");
     }
-    Ok(())
 }
 
 /// A root that is missing, one that is a file, and one that a link leads to; parts that are missing, a
 /// file, and a link.
 #[test]
-fn lists_nothing_below_what_is_no_folder(rt: HostRuntime) -> Result<(), Fail> {
+fn lists_nothing_below_what_is_no_folder(rt: HostRuntime) {
     const MADE: &str =
         "rm -rf crawl_tops crawl_link && mkdir -p crawl_tops/d && : > crawl_tops/d/f && \
         ln -s d crawl_tops/l && ln -s crawl_tops crawl_link";
-    assert!(rt; sh(&rt, MADE)?);
+    assert!(rt; sh(&rt, &rt, MADE));
     for (root, wanted) in ROOTS {
-        assert!(rt; lists_below(&rt, &rt, root, wanted)?, "below {root}");
+        assert!(rt; lists_below(&rt, &rt, root, wanted), "below {root}");
     }
-    assert_counts_below(&rt, &rt)?;
-    assert!(rt; sh(&rt, "rm -rf crawl_tops crawl_link")?);
-    Ok(())
+    assert_counts_below(&rt, &rt);
+    assert!(rt; sh(&rt, &rt, "rm -rf crawl_tops crawl_link"));
 }
 
 /// Whether a crawl lists two files where all may be read, and else is refused.
@@ -221,38 +188,32 @@ fn goes_by_rights<R: Threads + Abort + Sync>(
     workers: usize,
     may_read: bool,
 ) -> bool {
-    let workers = allowed(workers);
-    match crawl(host, rt.alloc(), tree, &Subtree::Whole, workers, &Open) {
+    match tried(host, rt.alloc(), tree, &Subtree::Whole, workers, &Open) {
         Ok(found) => may_read && found.listing.files().len() == 2,
         Err(refused) => !may_read && matches!(refused, Refusal::DeviceFailed),
     }
 }
 
-fn assert_goes_by_rights<R: Threads + Abort + Sync>(
-    rt: &HostRuntime,
-    host: &R,
-    may_read: bool,
-) -> Result<(), Fail> {
-    let tree = tree_at(rt, "crawl_rights")?;
-    for workers in [1, 2] {
-        assert!(host; goes_by_rights(rt, host, &tree, workers, may_read));
+fn assert_goes_by_rights<R: Threads + Abort + Sync>(rt: &HostRuntime, host: &R, may_read: bool) {
+    let tree = tree_at(rt, host, "crawl_rights");
+    for workers in &[1, 2] {
+        assert!(host; goes_by_rights(rt, host, &tree, *workers, may_read));
     }
-    Ok(())
 }
 
 /// Whoever may read all reads it, and for anybody else the crawl is refused whole.
 #[test]
-fn is_refused_where_rights_are_missing(rt: HostRuntime) -> Result<(), Fail> {
+fn is_refused_where_rights_are_missing(rt: HostRuntime) {
     assert!(rt;
         sh(
             &rt,
+            &rt,
             "rm -rf crawl_rights && mkdir -p crawl_rights/a crawl_rights/b && chmod 000 crawl_rights/b"
-        )?
+        )
     );
-    let may_read = sh(&rt, "ls crawl_rights/b 2>/dev/null")?;
-    assert_goes_by_rights(&rt, &rt, may_read)?;
-    assert!(rt; sh(&rt, "chmod 755 crawl_rights/b && rm -rf crawl_rights")?);
-    Ok(())
+    let may_read = sh(&rt, &rt, "ls crawl_rights/b 2>/dev/null");
+    assert_goes_by_rights(&rt, &rt, may_read);
+    assert!(rt; sh(&rt, &rt, "chmod 755 crawl_rights/b && rm -rf crawl_rights"));
 }
 
 /// A gate that takes a folder away, as another program would, before it is read.
@@ -272,28 +233,30 @@ fn told_meanwhile<R: Threads + Abort + Sync>(
     rt: &HostRuntime,
     host: &R,
     tree: &FolderTree<HostRuntime>,
-) -> Result<String, Fail> {
+) -> String {
     let gate = Takes { rt };
-    let found = crawl(host, rt.alloc(), tree, &Subtree::Whole, 1, &gate)?;
-    Ok(told(rt.alloc(), &found.listing)?)
+    let found = crawled(host, rt.alloc(), tree, &Subtree::Whole, 1, &gate);
+    told(host, rt.alloc(), &found.listing)
 }
 
-fn assert_folder_goes<R: Threads + Abort + Sync>(rt: &HostRuntime, host: &R) -> Result<(), Fail> {
-    let tree = tree_at(rt, "crawl_going")?;
-    assert_eq!(host; told_meanwhile(rt, host, &tree)?.as_str(), "d:a f:a/f d:b ");
-    assert!(host; lists(host, rt.alloc(), &tree, 1, "d:a f:a/f ", 0)?);
-    Ok(())
+fn assert_folder_goes<R: Threads + Abort + Sync>(
+    rt: &HostRuntime,
+    host: &R,
+    tree: &FolderTree<HostRuntime>,
+) {
+    assert_eq!(host; told_meanwhile(rt, host, tree).as_str(), "d:a f:a/f d:b ");
+    assert!(host; lists(host, rt.alloc(), tree, 1, ("", "d:a f:a/f ", 0)));
 }
 
 #[test]
-fn a_folder_may_go_while_it_is_read(rt: HostRuntime) -> Result<(), Fail> {
+fn a_folder_may_go_while_it_is_read(rt: HostRuntime) {
     assert!(rt;
         sh(
             &rt,
+            &rt,
             "rm -rf crawl_going && mkdir -p crawl_going/a crawl_going/b && : > crawl_going/a/f"
-        )?
+        )
     );
-    assert_folder_goes(&rt, &rt)?;
-    assert!(rt; sh(&rt, "rm -rf crawl_going")?);
-    Ok(())
+    assert_folder_goes(&rt, &rt, &tree_at(&rt, &rt, "crawl_going"));
+    assert!(rt; sh(&rt, &rt, "rm -rf crawl_going"));
 }

@@ -1,10 +1,10 @@
 //! Gates: how often they are passed, and that two workers are at work at once.
-use crate::trees::{allowed, tree_of};
+use crate::trees::{Folder, crawled, tree_of};
 use std::alloc::Global;
+use std::process::Abort;
 use std::sync::atomic::{AtomicBool, AtomicU64, Ordering};
-use std::test::Fail;
 use std::thread::Threads;
-use wm_crawler::{MemTree, Turnstile, crawl};
+use wm_crawler::{MemTree, Turnstile};
 use wm_names::{Kind, Subtree};
 
 /// A gate that counts.
@@ -20,38 +20,39 @@ impl Turnstile for Counted {
 }
 
 /// How often the gate is passed in a crawl by so many workers.
-fn passed<R: Threads + Sync>(
-    rt: &R,
-    alloc: Global,
-    tree: &MemTree,
-    workers: usize,
-) -> Result<u64, Fail> {
-    let workers = allowed(workers);
+fn passed<R: Threads + Abort + Sync>(rt: &R, alloc: Global, tree: &MemTree, workers: usize) -> u64 {
     let gate = Counted {
         passed: AtomicU64::new(0),
     };
-    crawl(rt, alloc, tree, &Subtree::Whole, workers, &gate)?;
-    Ok(gate.passed.load(Ordering::SeqCst))
+    crawled(rt, alloc, tree, &Subtree::Whole, workers, &gate);
+    gate.passed.load(Ordering::SeqCst)
 }
+
+const FOLDERS: &[Folder<'static>] = &[("", "a|b|c|f", 0), ("b", "d", 0), ("b/d", "e", 0)];
+
+const FILES: &[(&str, Kind)] = &[
+    ("a", Kind::Folder),
+    ("b", Kind::Folder),
+    ("b/d", Kind::Folder),
+    ("b/d/e", Kind::File),
+    ("c", Kind::Link),
+    ("f", Kind::File),
+];
+
+/// So many workers.
+const NUMBERS: &[usize] = &[1, 2, 4, 16];
 
 /// One for each folder that is entered below the top: the top itself doesn't pass.
 #[test]
-fn is_passed_once_for_each_folder_below_the_top(rt: HostRuntime) -> Result<(), Fail> {
-    let alloc = rt.alloc();
-    let folders = [("", "a|b|c|f", 0), ("b", "d", 0), ("b/d", "e", 0)];
-    let files = [
-        ("a", Kind::Folder),
-        ("b", Kind::Folder),
-        ("b/d", Kind::Folder),
-        ("b/d/e", Kind::File),
-        ("c", Kind::Link),
-        ("f", Kind::File),
-    ];
-    let tree = tree_of(alloc, &folders, &files)?;
-    for workers in [1, 2, 4, 16] {
-        assert_eq!(rt; passed(&rt, alloc, &tree, workers)?, 3, "{workers} workers");
+fn is_passed_once_for_each_folder_below_the_top(rt: HostRuntime) {
+    let tree = tree_of(&rt, rt.alloc(), FOLDERS, FILES);
+    for workers in NUMBERS {
+        assert_eq!(rt;
+            passed(&rt, rt.alloc(), &tree, *workers),
+            3,
+            "{workers} workers"
+        );
     }
-    Ok(())
 }
 
 /// A gate that holds the first reading back until the second was let through.
@@ -80,22 +81,31 @@ impl Turnstile for Meeting {
     }
 }
 
+/// How many files two workers find who pass the gate.
+fn found_by_two<R: Threads + Abort + Sync>(
+    rt: &R,
+    alloc: Global,
+    tree: &MemTree,
+    gate: &Meeting,
+) -> usize {
+    let found = crawled(rt, alloc, tree, &Subtree::Whole, 2, gate);
+    found.listing.files().len()
+}
+
 /// Two workers read the folders x and y at once: by one alone the first reading would never be let through.
 #[test]
-fn two_crawlers_meet(rt: HostRuntime) -> Result<(), Fail> {
-    let alloc = rt.alloc();
+fn two_crawlers_meet(rt: HostRuntime) {
     let tree = tree_of(
-        alloc,
+        &rt,
+        rt.alloc(),
         &[("", "x|y", 0)],
         &[("x", Kind::Folder), ("y", Kind::Folder)],
-    )?;
+    );
     let gate = Meeting {
         calls: AtomicU64::new(0),
         second_is_through: AtomicBool::new(false),
         gave_up: AtomicBool::new(false),
     };
-    let found = crawl(&rt, alloc, &tree, &Subtree::Whole, 2, &gate)?;
-    assert_eq!(rt; found.listing.files().len(), 2);
+    assert_eq!(rt; found_by_two(&rt, rt.alloc(), &tree, &gate), 2);
     assert!(rt; !gate.gave_up.load(Ordering::SeqCst));
-    Ok(())
 }

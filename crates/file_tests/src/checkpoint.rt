@@ -12,8 +12,9 @@ mod switch;
 
 use crate::disks::{content_of, overwrite};
 use register::Register;
-use std::alloc::{AllocError, Global};
+use std::alloc::Global;
 use std::marker::Model;
+use std::process::Abort;
 use wm_checkpoint::{Keeper, Machine};
 use wm_disk::{MemDisk, Refusal};
 use wm_wire::Wire;
@@ -36,23 +37,29 @@ impl Model for Kept {
 }
 
 /// A disk with a formatted file.
-fn formatted(alloc: Global, first: u64) -> Result<MemDisk, Refusal> {
+fn formatted(rt: &impl Abort, alloc: Global, first: u64) -> MemDisk {
     let mut disk = MemDisk::new(alloc, 0);
-    RegisterKeeper::format(alloc, &mut disk, &first)?;
-    Ok(disk)
+    RegisterKeeper::format(alloc, &mut disk, &first).expect(rt, "a file");
+    disk
 }
 
-fn open(alloc: Global, disk: MemDisk) -> Result<Kept, Refusal> {
-    match RegisterKeeper::open(alloc, disk) {
-        Ok(keeper) => Ok(Kept { keeper }),
-        Err((refusal, _)) => Err(refusal),
+fn open(rt: &impl Abort, alloc: Global, disk: MemDisk) -> Kept {
+    let opened = RegisterKeeper::open(alloc, disk).map_err(|(refusal, _)| refusal);
+    Kept {
+        keeper: opened.expect(rt, "a keeper"),
     }
 }
 
+/// The refusal of an opening on this disk, and the disk that it hands back.
+fn refused(rt: &impl Abort, alloc: Global, disk: MemDisk) -> (Refusal, MemDisk) {
+    let answer = RegisterKeeper::open(alloc, disk);
+    answer.err().expect(rt, "a refusal")
+}
+
 /// The state that is found on a disk.
-fn found(alloc: Global, disk: MemDisk) -> Result<u64, Refusal> {
-    let kept = open(alloc, disk)?;
-    Ok(*kept.keeper.state())
+fn found(rt: &impl Abort, alloc: Global, disk: MemDisk) -> u64 {
+    let kept = open(rt, alloc, disk);
+    *kept.keeper.state()
 }
 
 /// Commits one command, which has to differ from the state.
@@ -105,18 +112,17 @@ fn meet(alloc: Global, kept: &mut Kept, call: Call) -> Result<(), Refusal> {
 }
 
 /// Makes calls, none of which may be refused.
-fn meet_all(alloc: Global, kept: &mut Kept, calls: &[Call]) -> Result<(), Refusal> {
+fn meet_all(rt: &impl Abort, alloc: Global, kept: &mut Kept, calls: &[Call]) {
     for call in calls {
-        meet(alloc, kept, *call)?;
+        meet(alloc, kept, *call).expect(rt, "a call");
     }
-    Ok(())
 }
 
 /// The file behind these calls of a keeper that begins with the state 1.
-fn content_after(alloc: Global, calls: &[Call]) -> Result<Vec<u8>, Refusal> {
-    let mut kept = open(alloc, formatted(alloc, 1)?)?;
-    meet_all(alloc, &mut kept, calls)?;
-    content_of(alloc, kept.keeper.into_disk())
+fn content_after(rt: &impl Abort, alloc: Global, calls: &[Call]) -> Vec<u8> {
+    let mut kept = open(rt, alloc, formatted(rt, alloc, 1));
+    meet_all(rt, alloc, &mut kept, calls);
+    content_of(rt, alloc, kept.keeper.into_disk())
 }
 
 /// A file without a checkpoint, of the state 6.
@@ -153,21 +159,23 @@ const USED_TWICE: &[Call] = &[
 const TWO_SLOTS: &[Call] = &[Call::Set(2), Call::Set(3), Call::Checkpoint, Call::Set(4)];
 
 /// A journal with as many commands as it takes, 5 and 6 in turn, and its closed gate.
-fn full_journal(alloc: Global) -> Result<Vec<u8>, AllocError> {
+fn full_journal(rt: &impl Abort, alloc: Global) -> Vec<u8> {
+    const FIRST: &[u8] = b"\xa5\0\0\0\0\0\0\0\x05";
+    const PAIR: &[u8] = b"\xa5\0\0\0\0\0\0\0\x06\xa5\0\0\0\0\0\0\0\x05";
     let mut journal = Vec::new(alloc);
-    journal.extend_from_slice(b"\xa5\0\0\0\0\0\0\0\x05")?;
+    journal.extend_from_slice(FIRST).expect(rt, "memory");
     for _ in 0..14_563 {
-        journal.extend_from_slice(b"\xa5\0\0\0\0\0\0\0\x06\xa5\0\0\0\0\0\0\0\x05")?;
+        journal.extend_from_slice(PAIR).expect(rt, "memory");
     }
-    journal.push(0)?;
-    Ok(journal)
+    journal.push(0).expect(rt, "memory");
+    journal
 }
 
 /// The content with other bytes at these places.
-fn edited(alloc: Global, content: &[u8], edits: &[(usize, &[u8])]) -> Result<Vec<u8>, Refusal> {
-    let mut content = Vec::from_slice(alloc, content)?;
+fn edited(rt: &impl Abort, alloc: Global, content: &[u8], edits: &[(usize, &[u8])]) -> Vec<u8> {
+    let mut content = Vec::from_slice(alloc, content).expect(rt, "memory");
     for (at, bytes) in edits {
-        overwrite(&mut content, *at, bytes)?;
+        overwrite(rt, &mut content, *at, bytes);
     }
-    Ok(content)
+    content
 }

@@ -1,27 +1,31 @@
 //! Disks in memory, and the bytes on them.
 use std::alloc::Global;
 use std::process::Abort;
-use wm_disk::{Crashed, Disk, MemDisk, Refusal};
+use wm_disk::{Crashed, Disk, MemDisk};
 
 /// How many writes, syncs and other calls a disk had.
 pub(crate) type Calls = (u64, u64, u64);
 
 /// A disk that holds these bytes, all of them durable, after one write and one sync; the choice says what its
 /// crashes leave.
-pub(crate) fn disk_of(alloc: Global, choice: u64, content: &[u8]) -> Result<MemDisk, Refusal> {
+pub(crate) fn disk_of(rt: &impl Abort, alloc: Global, choice: u64, content: &[u8]) -> MemDisk {
     let mut disk = MemDisk::new(alloc, choice);
-    disk.write_at(0, content)?;
-    disk.sync()?;
-    Ok(disk)
+    disk.write_at(0, content).expect(rt, "a write");
+    disk.sync().expect(rt, "a sync");
+    disk
 }
 
 /// What a disk holds, also one whose calls fail.
-pub(crate) fn content_of(alloc: Global, disk: MemDisk) -> Result<Vec<u8>, Refusal> {
-    let mut disk = disk.stop();
-    let len = disk.len()? as usize;
-    let mut content = vec![in alloc; 0u8; len]?;
-    disk.read_at(0, &mut content)?;
-    Ok(content)
+pub(crate) fn content_of(rt: &impl Abort, alloc: Global, disk: MemDisk) -> Vec<u8> {
+    read_whole(rt, alloc, &mut disk.stop())
+}
+
+/// All bytes of the disk, as reads give them.
+pub(crate) fn read_whole(rt: &impl Abort, alloc: Global, disk: &mut MemDisk) -> Vec<u8> {
+    let len = disk.len().expect(rt, "a length") as usize;
+    let mut content = vec![in alloc; 0u8; len].expect(rt, "memory");
+    disk.read_at(0, &mut content).expect(rt, "the bytes");
+    content
 }
 
 /// So many bytes from a place on, or none where the content is too short.
@@ -44,11 +48,8 @@ pub(crate) fn assert_stand(rt: &impl Abort, content: &[u8], parts: &[(usize, &[u
     }
 }
 
-/// Puts bytes at a place. `3 BadArguments` where the content is too short.
-pub(crate) fn overwrite(content: &mut Vec<u8>, at: usize, bytes: &[u8]) -> Result<(), Refusal> {
-    if at > content.len() || bytes.len() > content.len() - at {
-        return Err(Refusal::BadArguments);
-    }
+/// Puts bytes at a place. The content has to reach so far.
+pub(crate) fn overwrite(rt: &impl Abort, content: &mut Vec<u8>, at: usize, bytes: &[u8]) {
+    assert!(rt; at <= content.len() && bytes.len() <= content.len() - at);
     content[at..at + bytes.len()].copy_from_slice(bytes);
-    Ok(())
 }

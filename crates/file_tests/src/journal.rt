@@ -1,5 +1,5 @@
 //! Journals on disks in memory.
-ghost use Rattle.std.specs.Prelude.{◌+◌, IfOk, OnOk};
+ghost use Rattle.std.specs.Prelude.{◌+◌, OnOk};
 ghost use Rattle.wm_journal.specs.Regions.{InSamePlace, IsAt, LiesOn};
 
 mod bytes;
@@ -7,58 +7,47 @@ mod calls;
 mod crashes;
 mod refused;
 
+use crate::disks;
 use std::alloc::Global;
-use wm_disk::{Disk, MemDisk, NoMemory, Refusal};
+use std::process::Abort;
+use wm_disk::{Disk, MemDisk, Refusal};
 use wm_journal::Region;
 use wm_wire::{Text, Wire};
 
 /// A disk on which these bytes are durable.
-fn disk_of(alloc: Global, choice: u64, parts: &[&[u8]]) -> Result<MemDisk, Refusal> {
+fn disk_of(rt: &impl Abort, alloc: Global, choice: u64, parts: &[&[u8]]) -> MemDisk {
     let mut bytes = Vec::new(alloc);
     for part in parts {
-        bytes.extend_from_slice(part)?;
+        bytes.extend_from_slice(part).expect(rt, "memory");
     }
-    let mut disk = MemDisk::new(alloc, choice);
-    disk.write_at(0, &bytes)?;
-    disk.sync()?;
-    Ok(disk)
-}
-
-/// All bytes of the disk, as reads give them.
-fn content(alloc: Global, disk: &mut MemDisk) -> Result<Vec<u8>, Refusal> {
-    let len = disk.len()?;
-    let mut bytes = vec![in alloc; 0u8; len as usize]?;
-    disk.read_at(0, &mut bytes)?;
-    Ok(bytes)
+    disks::disk_of(rt, alloc, choice, &bytes)
 }
 
 /// The area of a disk that reaches so far. It takes one call, for the disk's length.
 fn region_of(
+    rt: &impl Abort,
     alloc: Global,
     mut disk: MemDisk,
     offset: u16,
     len: u16,
-) -> Result<Region<MemDisk>, Refusal>
-    ensures lies { IfOk result (λ region. LiesOn region) }
-    ensures place { IfOk result (λ region. IsAt region offset len) }
+) -> Region<MemDisk>
+    ensures lies { LiesOn result }
+    ensures place { IsAt result offset len }
 {
     let (offset, len) = (u64::from(offset), u64::from(len));
-    if len == 0 || disk.len()? < offset + len {
-        return Err(Refusal::BadArguments);
-    }
-    Ok(Region::new(alloc, disk, offset, len))
+    assert!(rt; len > 0);
+    assert!(rt; disk.len().expect(rt, "a length") >= offset + len);
+    Region::new(alloc, disk, offset, len)
 }
 
 /// Finds that the disk still reaches to the journal's end, by one call.
-fn see_whole(region: &mut Region<MemDisk>, offset: u16, len: u16) -> Result<(), Refusal>
+fn see_whole(rt: &impl Abort, region: &mut Region<MemDisk>, offset: u16, len: u16)
     requires { IsAt region.old offset len }
-    ensures lies { OnOk result (LiesOn region.new) }
+    ensures lies { LiesOn region.new }
     ensures place { IsAt region.new offset len }
 {
-    if region.disk.len()? < u64::from(offset) + u64::from(len) {
-        return Err(Refusal::BadArguments);
-    }
-    Ok(())
+    let reached = region.disk.len().expect(rt, "a length");
+    assert!(rt; reached >= u64::from(offset) + u64::from(len));
 }
 
 /// Writes a group that has room, its gates closed.
@@ -82,23 +71,22 @@ fn append<W: Wire>(
     region.append_closed(alloc, records)
 }
 
-fn texts(alloc: Global, values: &[&str]) -> Result<Vec<Text<8>>, Refusal> {
+fn texts(rt: &impl Abort, alloc: Global, values: &[&str]) -> Vec<Text<8>> {
     let mut texts = Vec::new(alloc);
     for value in values {
-        if value.len() > 8 {
-            return Err(Refusal::BadArguments);
-        }
-        texts.push(Text::new(alloc, value)?)?;
+        assert!(rt; value.len() <= 8);
+        let text = Text::new(alloc, value).expect(rt, "a text");
+        texts.push(text).expect(rt, "memory");
     }
-    Ok(texts)
+    texts
 }
 
 /// The texts, a bar behind each.
-fn joined(alloc: Global, texts: &[Text<8>]) -> Result<String, NoMemory> {
+fn joined(rt: &impl Abort, alloc: Global, texts: &[Text<8>]) -> String {
     let mut all = String::new(alloc);
     for text in texts {
-        all.push_str(text.as_str())?;
-        all.push_str("|")?;
+        all.push_str(text.as_str()).expect(rt, "memory");
+        all.push_str("|").expect(rt, "memory");
     }
-    Ok(all)
+    all
 }

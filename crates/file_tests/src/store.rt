@@ -8,6 +8,7 @@ mod sweeps;
 
 use crate::disks::{content_of, disk_of, overwrite};
 use std::alloc::Global;
+use std::process::Abort;
 use wm_disk::{MemDisk, Refusal};
 use wm_names::RootPath;
 use wm_registry::{Command, MAX_BATCH, Reply};
@@ -29,27 +30,26 @@ const JOURNAL_B: usize = 2_363_392;
 const START_CALLS: u64 = 7;
 
 /// A disk with a formatted file.
-fn formatted(alloc: Global) -> Result<MemDisk, Refusal> {
+fn formatted(rt: &impl Abort, alloc: Global) -> MemDisk {
     let mut disk = MemDisk::new(alloc, 0);
-    format(alloc, &mut disk)?;
-    Ok(disk)
+    format(alloc, &mut disk).expect(rt, "a file");
+    disk
 }
 
-fn open(alloc: Global, disk: MemDisk) -> Result<Kept, Refusal> {
-    match Store::open(alloc, disk) {
-        Ok(store) => Ok(store),
-        Err((refusal, _)) => Err(refusal),
-    }
+/// A store on this disk.
+pub(crate) fn open(rt: &impl Abort, alloc: Global, disk: MemDisk) -> Kept {
+    let opened = Store::open(alloc, disk).map_err(|(refusal, _)| refusal);
+    opened.expect(rt, "a start")
 }
 
 /// A store on a disk with these bytes; the choice says what its crashes leave.
-fn open_bytes(alloc: Global, choice: u64, content: &[u8]) -> Result<Kept, Refusal> {
-    open(alloc, disk_of(alloc, choice, content)?)
+fn open_bytes(rt: &impl Abort, alloc: Global, choice: u64, content: &[u8]) -> Kept {
+    open(rt, alloc, disk_of(rt, alloc, choice, content))
 }
 
 /// A new file, opened once.
-pub(crate) fn opened(alloc: Global) -> Result<Kept, Refusal> {
-    open(alloc, formatted(alloc)?)
+pub(crate) fn opened(rt: &impl Abort, alloc: Global) -> Kept {
+    open(rt, alloc, formatted(rt, alloc))
 }
 
 /// Whether these are the paths of the roots.
@@ -68,67 +68,82 @@ fn is_numbered(store: &Kept, incarnation: u64, next_root: u64) -> bool {
 }
 
 /// A batch that watches these paths.
-fn watching(alloc: Global, paths: &[&str]) -> Result<Vec<Command>, Refusal> {
+fn watching(rt: &impl Abort, alloc: Global, paths: &[&str]) -> Vec<Command> {
     let mut commands = Vec::new(alloc);
     for path in paths {
-        commands.push(Command::Watch(RootPath::read(alloc, path)?))?;
+        let path = RootPath::read(alloc, path).expect(rt, "a path");
+        commands.push(Command::Watch(path)).expect(rt, "memory");
     }
-    Ok(commands)
+    commands
 }
 
 /// Meets a batch, which has to be no longer than a batch may be.
-fn meet(alloc: Global, store: &mut Kept, commands: Vec<Command>) -> Result<Vec<Reply>, Refusal> {
-    if commands.len() > MAX_BATCH {
-        return Err(Refusal::TooMany);
-    }
+fn meet(
+    rt: &impl Abort,
+    alloc: Global,
+    store: &mut Kept,
+    commands: Vec<Command>,
+) -> Result<Vec<Reply>, Refusal> {
+    assert!(rt; commands.len() <= MAX_BATCH);
     store.commit_batch(alloc, commands)
 }
 
 /// Whether a batch is met with these replies.
 fn replies(
+    rt: &impl Abort,
     alloc: Global,
     store: &mut Kept,
     commands: Vec<Command>,
     wanted: &[Reply],
-) -> Result<bool, Refusal> {
-    let replies = meet(alloc, store, commands)?;
-    Ok(replies.as_slice() == wanted)
+) -> bool {
+    let replies = meet(rt, alloc, store, commands).expect(rt, "replies");
+    replies.as_slice() == wanted
 }
 
 /// How many commands of a batch are accepted.
-fn accept(alloc: Global, store: &mut Kept, commands: Vec<Command>) -> Result<usize, Refusal> {
-    let replies = meet(alloc, store, commands)?;
+fn accept(
+    rt: &impl Abort,
+    alloc: Global,
+    store: &mut Kept,
+    commands: Vec<Command>,
+) -> Result<usize, Refusal> {
+    let replies = meet(rt, alloc, store, commands)?;
     Ok(replies.iter().filter(|reply| reply.is_change()).count())
 }
 
 /// How many of these paths are accepted, watched in one batch.
-fn watch(alloc: Global, store: &mut Kept, paths: &[&str]) -> Result<usize, Refusal> {
-    accept(alloc, store, watching(alloc, paths)?)
+fn watch(
+    rt: &impl Abort,
+    alloc: Global,
+    store: &mut Kept,
+    paths: &[&str],
+) -> Result<usize, Refusal> {
+    accept(rt, alloc, store, watching(rt, alloc, paths))
 }
 
 /// A new file, opened once, which watches `/r`.
-fn watching_one(alloc: Global) -> Result<Kept, Refusal> {
-    let mut store = opened(alloc)?;
-    watch(alloc, &mut store, &["/r"])?;
-    Ok(store)
+fn watching_one(rt: &impl Abort, alloc: Global) -> Kept {
+    let mut store = opened(rt, alloc);
+    watch(rt, alloc, &mut store, &["/r"]).expect(rt, "a watch");
+    store
 }
 
 /// The disk of a store that watches `/r` and made a checkpoint.
-fn checkpointed_disk(alloc: Global) -> Result<MemDisk, Refusal> {
-    let mut store = watching_one(alloc)?;
-    store.checkpoint(alloc)?;
-    Ok(store.into_disk())
+fn checkpointed_disk(rt: &impl Abort, alloc: Global) -> MemDisk {
+    let mut store = watching_one(rt, alloc);
+    store.checkpoint(alloc).expect(rt, "a checkpoint");
+    store.into_disk()
 }
 
 /// The bytes of a file that watches `/r` since its first start, behind a checkpoint: so the next start finds an open gate to
 /// close.
-fn checkpointed(alloc: Global) -> Result<Vec<u8>, Refusal> {
-    content_of(alloc, checkpointed_disk(alloc)?)
+fn checkpointed(rt: &impl Abort, alloc: Global) -> Vec<u8> {
+    content_of(rt, alloc, checkpointed_disk(rt, alloc))
 }
 
 /// A new file with other bytes at a place.
-fn edited(alloc: Global, at: usize, bytes: &[u8]) -> Result<Vec<u8>, Refusal> {
-    let mut content = content_of(alloc, formatted(alloc)?)?;
-    overwrite(&mut content, at, bytes)?;
-    Ok(content)
+fn edited(rt: &impl Abort, alloc: Global, at: usize, bytes: &[u8]) -> Vec<u8> {
+    let mut content = content_of(rt, alloc, formatted(rt, alloc));
+    overwrite(rt, &mut content, at, bytes);
+    content
 }

@@ -59,6 +59,7 @@ fn submit_beside<R: Threads + Wait + Sync>(
             requires { IsSync R.row }
         {
             if scope.spawn(move || flush(rt, desk, is_done)).is_err() {
+                drop(commands);
                 return Err(Refusal::NoMemory);
             }
             let both = submit_both(rt, desk, commands);
@@ -70,14 +71,22 @@ fn submit_beside<R: Threads + Wait + Sync>(
     )
 }
 
-pub(crate) fn submitting<R: Threads + Wait + Sync>(rt: &R, alloc: Global) -> Twice {
+/// Submits the command that watches `/a` twice.
+fn submit_twice<R: Threads + Wait + Sync>(rt: &R, alloc: Global, desk: &Desk<MemDisk>) -> Twice {
     let commands = (watch(alloc, "/a")?, watch(alloc, "/a")?);
-    let desk = match Desk::new(alloc, watching_one(alloc)?) {
-        Ok(desk) => desk,
-        Err((refusal, _)) => return Err(refusal),
-    };
-    let is_done = AtomicBool::new(false);
-    let both = submit_beside(rt, &desk, commands, &is_done);
+    submit_beside(rt, desk, commands, &AtomicBool::new(false))
+}
+
+fn desk_of_one(alloc: Global) -> Result<Desk<MemDisk>, Refusal> {
+    match Desk::new(alloc, watching_one(alloc)?) {
+        Ok(desk) => Ok(desk),
+        Err((refusal, _)) => Err(refusal),
+    }
+}
+
+pub(crate) fn submitting<R: Threads + Wait + Sync>(rt: &R, alloc: Global) -> Twice {
+    let desk = desk_of_one(alloc)?;
+    let both = submit_twice(rt, alloc, &desk);
     let store = desk.into_store();
     let both = both?;
     ending(alloc, both, store, (has_right(both), false))

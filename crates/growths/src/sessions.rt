@@ -28,7 +28,10 @@ fn session(alloc: Global) -> Result<MemSession, Refusal> {
     let mut session = Session::new(alloc, front(alloc)?);
     match is_listed(alloc, &mut session) {
         Ok(true) => Ok(session),
-        _ => Err(Refusal::NoMemory),
+        _ => {
+            drop(session);
+            Err(Refusal::NoMemory)
+        }
     }
 }
 
@@ -37,11 +40,21 @@ const LISTING: &[u8] =
 
 const LISTED: &[u8] = b"{\"clock\":\"c:2:1:1\",\"version\":\"w1\"}\n";
 
-const NO_MEMORY: &[u8] = b"{\"error\":\"16 NoMemory\",\"version\":\"w1\"}\n";
-
-const DEVICE_FAILED: &[u8] = b"{\"error\":\"13 DeviceFailed\",\"version\":\"w1\"}\n";
-
-const STORE_FAILED: &[u8] = b"{\"error\":\"12 StoreFailed\",\"version\":\"w1\"}\n";
+/// The lines that a growth which is refused may lead to.
+const REFUSALS: [(&[u8], Refusal); 3] = [
+    (
+        b"{\"error\":\"16 NoMemory\",\"version\":\"w1\"}\n",
+        Refusal::NoMemory,
+    ),
+    (
+        b"{\"error\":\"13 DeviceFailed\",\"version\":\"w1\"}\n",
+        Refusal::DeviceFailed,
+    ),
+    (
+        b"{\"error\":\"12 StoreFailed\",\"version\":\"w1\"}\n",
+        Refusal::StoreFailed,
+    ),
+];
 
 /// What was written in answer to a line, where that is right or a refusal.
 fn met(answered: Result<u64, NoMemory>, out: &[u8], reply: &[u8]) -> Met {
@@ -50,13 +63,15 @@ fn met(answered: Result<u64, NoMemory>, out: &[u8], reply: &[u8]) -> Met {
         Err(NoMemory) => return Met::Wrong,
         Ok(_) => {}
     }
-    match out {
-        text if text == reply => Met::Right,
-        NO_MEMORY => Met::Refused(Refusal::NoMemory),
-        DEVICE_FAILED => Met::Refused(Refusal::DeviceFailed),
-        STORE_FAILED => Met::Refused(Refusal::StoreFailed),
-        _ => Met::Wrong,
+    if out == reply {
+        return Met::Right;
     }
+    for (text, refusal) in &REFUSALS {
+        if out == *text {
+            return Met::Refused(*refusal);
+        }
+    }
+    Met::Wrong
 }
 
 /// What a line is replied, where that is right or a refusal.
@@ -146,13 +161,20 @@ pub(crate) fn commanding(alloc: Global) -> Twice {
     ending(alloc, both, disk, listed)
 }
 
+/// A file with a trigger.
+fn with_trigger(alloc: Global) -> Result<MemDisk, Refusal> {
+    let mut session = session(alloc)?;
+    let made = line(alloc, &mut session, 2, TRIGGER, CREATED);
+    let (_, disk) = session.front.close();
+    match made {
+        Met::Right => Ok(disk),
+        _ => Err(Refusal::NoMemory),
+    }
+}
+
 /// Two starts over a file with a trigger.
 pub(crate) fn starting(alloc: Global) -> Twice {
-    let mut session = session(alloc)?;
-    let Met::Right = line(alloc, &mut session, 2, TRIGGER, CREATED) else {
-        return Err(Refusal::NoMemory);
-    };
-    let (_, disk) = session.front.close();
+    let disk = with_trigger(alloc)?;
     let (first, disk) = started(alloc, disk, BUILD);
     let (second, disk) = started(alloc, disk, BUILD);
     ending(alloc, [first, second], disk, BUILD)

@@ -30,16 +30,25 @@ fn commit(alloc: Global, store: &mut Kept, commands: Vec<Command>) -> Result<Vec
     store.commit_batch(alloc, commands)
 }
 
-/// A store that watches `/r`.
-pub(crate) fn watching_one(alloc: Global) -> Result<Kept, Refusal> {
+fn formatted(alloc: Global) -> Result<MemDisk, Refusal> {
     let mut disk = MemDisk::new(alloc, 1);
     format(alloc, &mut disk)?;
-    let mut store = open(alloc, disk)?;
+    Ok(disk)
+}
+
+fn watch_first(alloc: Global, store: &mut Kept) -> Result<(), Refusal> {
     let commands = vec![in alloc; watch(alloc, "/r")?]?;
-    match commit(alloc, &mut store, commands)?.as_slice() {
-        [Reply::Changed] => Ok(store),
+    match commit(alloc, store, commands)?.as_slice() {
+        [Reply::Changed] => Ok(()),
         _ => Err(Refusal::NoMemory),
     }
+}
+
+/// A store that watches `/r`.
+pub(crate) fn watching_one(alloc: Global) -> Result<Kept, Refusal> {
+    let mut store = open(alloc, formatted(alloc)?)?;
+    watch_first(alloc, &mut store)?;
+    Ok(store)
 }
 
 fn has(store: &Kept, path: &str) -> bool {
@@ -145,13 +154,19 @@ fn by_replies(replies: &[Reply], before: Watched) -> (Met, Watched) {
     }
 }
 
+/// The batch twice, and what is watched after it.
+fn batch_twice(alloc: Global, store: &mut Kept) -> Result<([Met; 2], Watched), Refusal> {
+    let commands = watch_both(alloc)?;
+    let again = watch_both(alloc)?;
+    let (first, after) = batch(alloc, store, commands, (false, false));
+    let is_shown = watched(store) == Some(after);
+    let (second, after) = batch(alloc, store, again, after);
+    Ok(([if is_shown { first } else { Met::Wrong }, second], after))
+}
+
 pub(crate) fn batching(alloc: Global) -> Twice {
     let mut store = watching_one(alloc)?;
-    let (commands, again) = (watch_both(alloc)?, watch_both(alloc)?);
-    let (first, after) = batch(alloc, &mut store, commands, (false, false));
-    let is_shown = watched(&store) == Some(after);
-    let (second, after) = batch(alloc, &mut store, again, after);
-    let both = [if is_shown { first } else { Met::Wrong }, second];
+    let (both, after) = batch_twice(alloc, &mut store)?;
     ending(alloc, both, store, after)
 }
 

@@ -1,7 +1,7 @@
 //! Paths, and what is said of a file.
 use std::alloc::Global;
+use std::process::Abort;
 use std::string::String;
-use wm_disk::NoMemory;
 
 mod entries;
 mod rel_paths;
@@ -10,10 +10,10 @@ mod subtrees;
 mod text_orders;
 
 // The text with an `a` for each byte that it lacks of so many.
-fn long(alloc: Global, start: &str, len: usize) -> Result<String, NoMemory> {
-    let mut text = String::from_str(alloc, start)?;
+fn long(rt: &impl Abort, alloc: Global, start: &str, len: usize) -> String {
+    let mut text = String::from_str(alloc, start).expect(rt, "memory");
     for _ in start.len()..len {
-        text.push('a')?;
+        text.push('a').expect(rt, "memory");
     }
-    Ok(text)
+    text
 }

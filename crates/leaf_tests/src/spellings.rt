@@ -1,6 +1,6 @@
 //! Values, each with its exact bytes, and bytes that are no spelling.
 use std::alloc::Global;
-use wm_disk::NoMemory;
+use std::process::Abort;
 use wm_wire::Wire;
 
 mod lists;
@@ -11,25 +11,25 @@ mod values;
 
 // Puts a value behind a byte, and takes it back from in front of two others. `None` where the
 // spelling or its size isn't what is wanted.
-fn again<W: Wire + Drop>(alloc: Global, value: &W, want: &[u8]) -> Result<Option<W>, NoMemory> {
-    let mut out = vec![in alloc; 7u8]?;
-    value.put(&mut out)?;
+fn again<W: Wire + Drop>(rt: &impl Abort, alloc: Global, value: &W, want: &[u8]) -> Option<W> {
+    let mut out = vec![in alloc; 7u8].expect(rt, "memory");
+    value.put(&mut out).expect(rt, "memory");
     let spelled = match out.as_slice() {
         [7, rest @ ..] => rest == want,
         _ => false,
     };
     if !spelled || value.size() != want.len() as u64 {
-        return Ok(None);
+        return None;
     }
-    out.push(0xff)?;
-    out.push(0)?;
-    match W::take(alloc, &out[1..])? {
-        Some((value, size)) if size == want.len() => Ok(Some(value)),
-        _ => Ok(None),
+    out.push(0xff).expect(rt, "memory");
+    out.push(0).expect(rt, "memory");
+    match W::take(alloc, &out[1..]).expect(rt, "memory") {
+        Some((value, size)) if size == want.len() => Some(value),
+        _ => None,
     }
 }
 
 // Whether the bytes begin with no spelling.
-fn is_none<W: Wire + Drop>(alloc: Global, bytes: &[u8]) -> Result<bool, NoMemory> {
-    Ok(W::take(alloc, bytes)?.is_none())
+fn is_none<W: Wire + Drop>(rt: &impl Abort, alloc: Global, bytes: &[u8]) -> bool {
+    W::take(alloc, bytes).expect(rt, "memory").is_none()
 }

@@ -2,7 +2,7 @@
 use crate::lines::named;
 use crate::spelling::{is_spelled, taken};
 use std::alloc::Global;
-use wm_disk::Refusal;
+use std::process::Abort;
 use wm_registry::{Command, Stdin, Trigger};
 
 /// A command by its verb, its path, its trigger's name and its program, and its spelling.
@@ -57,27 +57,26 @@ fn is_row(command: &Command, row: &Row) -> bool {
 }
 
 // Whether the row's command is spelled so, and no cut of its spelling is one.
-fn is_put(alloc: Global, row: &Row) -> Result<bool, Refusal> {
+fn is_put(rt: &impl Abort, alloc: Global, row: &Row) -> bool {
     let (verb, path, name, program, want) = *row;
-    let command = named(alloc, verb, path, name, program)?;
-    Ok(is_row(&command, row) && is_spelled(alloc, &command, want)?)
+    let command = named(rt, alloc, verb, path, name, program);
+    is_row(&command, row) && is_spelled(rt, alloc, &command, want)
 }
 
 // Whether the row's command is taken from the bytes.
-fn is_taken(alloc: Global, row: &Row) -> Result<bool, Refusal> {
-    match taken::<Command>(alloc, row.4)? {
-        Some(command) => Ok(is_row(&command, row)),
-        None => Ok(false),
+fn is_taken(rt: &impl Abort, alloc: Global, row: &Row) -> bool {
+    match taken::<Command>(rt, alloc, row.4) {
+        Some(command) => is_row(&command, row),
+        None => false,
     }
 }
 
 #[test]
-fn spells_commands(rt: HostRuntime) -> Result<(), Refusal> {
+fn spells_commands(rt: HostRuntime) {
     for row in SPELLINGS {
-        let put = is_put(rt.alloc(), row)?;
-        assert!(rt; put && is_taken(rt.alloc(), row)?, "{}", row.0);
+        let put = is_put(&rt, rt.alloc(), row);
+        assert!(rt; put && is_taken(&rt, rt.alloc(), row), "{}", row.0);
     }
-    Ok(())
 }
 
 /// Bytes that are no command's.

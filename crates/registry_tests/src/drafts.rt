@@ -29,10 +29,10 @@ const ROWS: &[Row] = &[
 ];
 
 // A draft of the four roots.
-fn begun(rt: &impl Abort, alloc: Global) -> Result<Draft, Refusal> {
+fn begun(rt: &impl Abort, alloc: Global) -> Draft {
     let mut registry = Registry::new(alloc);
-    apply_all(rt, alloc, &mut registry, FOUR)?;
-    Ok(Draft::new(alloc, &registry)?)
+    apply_all(rt, alloc, &mut registry, FOUR);
+    Draft::new(alloc, &registry).expect(rt, "memory")
 }
 
 // How the command is met.
@@ -46,41 +46,42 @@ fn reply_to(draft: &mut Draft, command: Command) -> Reply {
 }
 
 // How the command of a line is met.
-fn tell(alloc: Global, draft: &mut Draft, line: &str) -> Result<Reply, Refusal> {
-    Ok(apply(alloc, draft, command(alloc, line)?))
+fn tell(rt: &impl Abort, alloc: Global, draft: &mut Draft, line: &str) -> Reply {
+    apply(alloc, draft, command(rt, alloc, line))
 }
 
 // How the command of a line would be met.
-fn ask(alloc: Global, draft: &mut Draft, line: &str) -> Result<Reply, Refusal> {
-    Ok(reply_to(draft, command(alloc, line)?))
+fn ask(rt: &impl Abort, alloc: Global, draft: &mut Draft, line: &str) -> Reply {
+    reply_to(draft, command(rt, alloc, line))
 }
 
 // Whether a copy of the draft is that registry.
-fn is_left(alloc: Global, draft: &Draft, state: &str) -> Result<bool, Refusal> {
-    let copy = draft.copy(alloc)?;
-    Ok(is_shown(alloc, &copy, state)?)
+fn is_left(rt: &impl Abort, alloc: Global, draft: &Draft, state: &str) -> bool {
+    let copy = draft.copy(alloc).expect(rt, "memory");
+    is_shown(rt, alloc, &copy, state)
 }
 
 // Asserts that the draft is told so and becomes that, and that the last root is watched then.
-fn walk(rt: &impl Abort, alloc: Global, draft: &mut Draft) -> Result<(), Refusal> {
+fn walk(rt: &impl Abort, alloc: Global, draft: &mut Draft) {
     for (line, reply, state) in ROWS {
-        let met = tell(alloc, draft, line)? == *reply;
-        assert!(rt; met && is_left(alloc, draft, state)?, "{line} to {state}");
+        let met = tell(rt, alloc, draft, line) == *reply;
+        assert!(rt;
+            met && is_left(rt, alloc, draft, state),
+            "{line} to {state}"
+        );
     }
-    assert!(rt; ask(alloc, draft, "watch /a")? == Reply::Unchanged);
-    Ok(())
+    assert!(rt; ask(rt, alloc, draft, "watch /a") == Reply::Unchanged);
 }
 
 // Whether the draft becomes that registry.
-fn is_left_at_last(alloc: Global, draft: Draft, state: &str) -> Result<bool, Refusal> {
+fn is_left_at_last(rt: &impl Abort, alloc: Global, draft: Draft, state: &str) -> bool {
     let registry = draft.into_registry();
-    Ok(is_shown(alloc, &registry, state)?)
+    is_shown(rt, alloc, &registry, state)
 }
 
 #[test]
-fn takes_roots_out(rt: HostRuntime) -> Result<(), Refusal> {
-    let mut draft = begun(&rt, rt.alloc())?;
-    walk(&rt, rt.alloc(), &mut draft)?;
-    assert!(rt; is_left_at_last(rt.alloc(), draft, "0 6; /a 5")?);
-    Ok(())
+fn takes_roots_out(rt: HostRuntime) {
+    let mut draft = begun(&rt, rt.alloc());
+    walk(&rt, rt.alloc(), &mut draft);
+    assert!(rt; is_left_at_last(&rt, rt.alloc(), draft, "0 6; /a 5"));
 }

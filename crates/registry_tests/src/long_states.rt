@@ -1,129 +1,128 @@
 //! States with as many roots and as many bytes as there may be.
 use crate::spelling::{spells, taken, takes};
 use std::alloc::Global;
-use wm_disk::NoMemory;
+use std::process::Abort;
 use wm_registry::Registry;
 use wm_wire::Wire;
 
 // The bytes of so many roots, which have paths and numbers of their own.
-fn crowd(alloc: Global, count: u8, more: u8) -> Result<Vec<u8>, NoMemory> {
+fn crowd(rt: &impl Abort, alloc: Global, count: u8, more: u8) -> Vec<u8> {
     let all = u64::from(count) + u64::from(more);
     let mut out = Vec::new(alloc);
-    0u64.put(&mut out)?;
-    (all + 1).put(&mut out)?;
-    (u32::from(count) + u32::from(more)).put(&mut out)?;
+    0u64.put(&mut out).expect(rt, "memory");
+    (all + 1).put(&mut out).expect(rt, "memory");
+    (u32::from(count) + u32::from(more))
+        .put(&mut out)
+        .expect(rt, "memory");
     for number in 0..all {
-        3u32.put(&mut out)?;
-        out.extend_from_slice(&[b'/', b'a' + (number / 20) as u8, b'a' + (number % 20) as u8])?;
-        (number + 1).put(&mut out)?;
-        0u32.put(&mut out)?;
+        3u32.put(&mut out).expect(rt, "memory");
+        out.extend_from_slice(&[b'/', b'a' + (number / 20) as u8, b'a' + (number % 20) as u8])
+            .expect(rt, "memory");
+        (number + 1).put(&mut out).expect(rt, "memory");
+        0u32.put(&mut out).expect(rt, "memory");
     }
-    Ok(out)
+    out
 }
 
 // Whether the bytes are those of a state of 256 roots.
-fn is_crowded(alloc: Global, bytes: &[u8]) -> Result<bool, NoMemory> {
-    let Some(registry) = taken::<Registry>(alloc, bytes)? else {
-        return Ok(false);
+fn is_crowded(rt: &impl Abort, alloc: Global, bytes: &[u8]) -> bool {
+    let Some(registry) = taken::<Registry>(rt, alloc, bytes) else {
+        return false;
     };
-    Ok(registry.roots().len() == 256 && spells(alloc, &registry, bytes)?)
+    registry.roots().len() == 256 && spells(rt, alloc, &registry, bytes)
 }
 
 // Whether a state of so many more than 255 roots is taken whole.
-fn is_crowd(alloc: Global, more: u8) -> Result<bool, NoMemory> {
-    let bytes = crowd(alloc, 255, more)?;
-    is_crowded(alloc, &bytes)
+fn is_crowd(rt: &impl Abort, alloc: Global, more: u8) -> bool {
+    let bytes = crowd(rt, alloc, 255, more);
+    is_crowded(rt, alloc, &bytes)
 }
 
 // Whether a state of 257 roots is taken.
-fn is_crowd_too_many(alloc: Global) -> Result<bool, NoMemory> {
-    let bytes = crowd(alloc, 255, 2)?;
-    takes::<Registry>(alloc, &bytes)
+fn is_crowd_too_many(rt: &impl Abort, alloc: Global) -> bool {
+    let bytes = crowd(rt, alloc, 255, 2);
+    takes::<Registry>(rt, alloc, &bytes)
 }
 
 #[test]
-fn takes_256_roots(rt: HostRuntime) -> Result<(), NoMemory> {
-    assert!(rt; is_crowd(rt.alloc(), 1)?, "256 roots");
-    assert!(rt; !is_crowd_too_many(rt.alloc())?, "one too many");
-    Ok(())
+fn takes_256_roots(rt: HostRuntime) {
+    assert!(rt; is_crowd(&rt, rt.alloc(), 1), "256 roots");
+    assert!(rt; !is_crowd_too_many(&rt, rt.alloc()), "one too many");
 }
 
 // Appends a text of so many bytes.
-fn put_letters(out: &mut Vec<u8>, count: u32) -> Result<(), NoMemory> {
-    count.put(out)?;
+fn put_letters(rt: &impl Abort, out: &mut Vec<u8>, count: u32) {
+    count.put(out).expect(rt, "memory");
     for _ in 0..count {
-        out.push(b'w')?;
+        out.push(b'w').expect(rt, "memory");
     }
-    Ok(())
 }
 
 // Appends a trigger of 16 words of 1,019 bytes, whose name ends in the letter: 16,378 bytes, and those of
 // the expression.
-fn put_long(out: &mut Vec<u8>, letter: u8) -> Result<(), NoMemory> {
-    2u32.put(out)?;
-    out.push(b'0' + letter / 16)?;
-    out.push(b'a' + letter % 16)?;
-    16u32.put(out)?;
+fn put_long(rt: &impl Abort, out: &mut Vec<u8>, letter: u8) {
+    2u32.put(out).expect(rt, "memory");
+    out.push(b'0' + letter / 16).expect(rt, "memory");
+    out.push(b'a' + letter % 16).expect(rt, "memory");
+    16u32.put(out).expect(rt, "memory");
     for _ in 0..16u8 {
-        put_letters(out, 1019)?;
+        put_letters(rt, out, 1019);
     }
-    Ok(())
 }
 
 // Appends what stands in front of the 64 triggers of a first root.
-fn put_head(out: &mut Vec<u8>) -> Result<(), NoMemory> {
-    0u64.put(out)?;
-    2u64.put(out)?;
-    1u32.put(out)?;
-    2u32.put(out)?;
-    out.extend_from_slice(b"/r")?;
-    1u64.put(out)?;
-    64u32.put(out)
+fn put_head(rt: &impl Abort, out: &mut Vec<u8>) {
+    0u64.put(out).expect(rt, "memory");
+    2u64.put(out).expect(rt, "memory");
+    1u32.put(out).expect(rt, "memory");
+    2u32.put(out).expect(rt, "memory");
+    out.extend_from_slice(b"/r").expect(rt, "memory");
+    1u64.put(out).expect(rt, "memory");
+    64u32.put(out).expect(rt, "memory");
 }
 
 // Appends 63 long triggers without an expression, and the name and the words of another.
-fn put_triggers(out: &mut Vec<u8>) -> Result<(), NoMemory> {
+fn put_triggers(rt: &impl Abort, out: &mut Vec<u8>) {
     for letter in 0..63u8 {
-        put_long(out, letter)?;
-        out.extend_from_slice(b"\0\0\0")?;
+        put_long(rt, out, letter);
+        out.extend_from_slice(b"\0\0\0").expect(rt, "memory");
     }
-    put_long(out, 63)
+    put_long(rt, out, 63);
 }
 
 // The bytes of a root with 64 long triggers, of which the last alone has an expression, of so many bytes.
-fn long_state(alloc: Global, expression: u32) -> Result<Vec<u8>, NoMemory> {
+fn long_state(rt: &impl Abort, alloc: Global, expression: u32) -> Vec<u8> {
     let mut out = Vec::new(alloc);
-    put_head(&mut out)?;
-    put_triggers(&mut out)?;
-    out.push(1)?;
-    put_letters(&mut out, expression)?;
-    out.extend_from_slice(b"\0\0")?;
-    Ok(out)
+    put_head(rt, &mut out);
+    put_triggers(rt, &mut out);
+    out.push(1).expect(rt, "memory");
+    put_letters(rt, &mut out, expression);
+    out.extend_from_slice(b"\0\0").expect(rt, "memory");
+    out
 }
 
 // Whether the bytes are so many, and those of a state that knows how many.
-fn is_long(alloc: Global, bytes: &[u8], size: u64) -> Result<bool, NoMemory> {
-    match taken::<Registry>(alloc, bytes)? {
-        Some(registry) => Ok(bytes.len() as u64 == size && registry.size() == size),
-        None => Ok(false),
+fn is_long(rt: &impl Abort, alloc: Global, bytes: &[u8], size: u64) -> bool {
+    match taken::<Registry>(rt, alloc, bytes) {
+        Some(registry) => bytes.len() as u64 == size && registry.size() == size,
+        None => false,
     }
 }
 
 // Whether the longest state is taken whole.
-fn is_longest(alloc: Global) -> Result<bool, NoMemory> {
-    let bytes = long_state(alloc, 137)?;
-    is_long(alloc, &bytes, 1_048_563)
+fn is_longest(rt: &impl Abort, alloc: Global) -> bool {
+    let bytes = long_state(rt, alloc, 137);
+    is_long(rt, alloc, &bytes, 1_048_563)
 }
 
 // Whether a state has one byte too many, and isn't taken.
-fn is_too_long(alloc: Global) -> Result<bool, NoMemory> {
-    let bytes = long_state(alloc, 138)?;
-    Ok(bytes.len() == 1_048_564 && !takes::<Registry>(alloc, &bytes)?)
+fn is_too_long(rt: &impl Abort, alloc: Global) -> bool {
+    let bytes = long_state(rt, alloc, 138);
+    bytes.len() == 1_048_564 && !takes::<Registry>(rt, alloc, &bytes)
 }
 
 #[test]
-fn takes_the_longest_state(rt: HostRuntime) -> Result<(), NoMemory> {
-    assert!(rt; is_longest(rt.alloc())?, "the longest");
-    assert!(rt; is_too_long(rt.alloc())?, "one byte too many");
-    Ok(())
+fn takes_the_longest_state(rt: HostRuntime) {
+    assert!(rt; is_longest(&rt, rt.alloc()), "the longest");
+    assert!(rt; is_too_long(&rt, rt.alloc()), "one byte too many");
 }

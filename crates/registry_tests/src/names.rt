@@ -1,29 +1,30 @@
 //! The names of triggers.
 use crate::spelling::{is_spelled, taken};
 use std::alloc::Global;
-use wm_disk::{NoMemory, Refusal};
+use std::process::Abort;
+use wm_disk::Refusal;
 use wm_registry::TriggerName;
 
 /// A text of so many bytes.
-pub(crate) fn long(alloc: Global, len: usize) -> Result<String, NoMemory> {
+pub(crate) fn long(rt: &impl Abort, alloc: Global, len: usize) -> String {
     let mut text = String::new(alloc);
     for _ in 0..len {
-        text.push('a')?;
+        text.push('a').expect(rt, "memory");
     }
-    Ok(text)
+    text
 }
 
 // Whether the name and a copy of it are the text.
-fn is_of(alloc: Global, name: &TriggerName, text: &str) -> Result<bool, NoMemory> {
-    let copy = name.copy(alloc)?;
-    Ok(name.as_str() == text && copy.as_str() == text)
+fn is_of(rt: &impl Abort, alloc: Global, name: &TriggerName, text: &str) -> bool {
+    let copy = name.copy(alloc).expect(rt, "memory");
+    name.as_str() == text && copy.as_str() == text
 }
 
 // Whether the text is read as a name, where it is one, and is refused where it isn't.
-fn is_read(alloc: Global, text: &str, is_name: bool) -> Result<bool, NoMemory> {
+fn is_read(rt: &impl Abort, alloc: Global, text: &str, is_name: bool) -> bool {
     match TriggerName::read(alloc, text) {
-        Ok(name) => Ok(is_name && is_of(alloc, &name, text)?),
-        Err(refusal) => Ok(!is_name && refusal == Refusal::BadTrigger),
+        Ok(name) => is_name && is_of(rt, alloc, &name, text),
+        Err(refusal) => !is_name && refusal == Refusal::BadTrigger,
     }
 }
 
@@ -31,38 +32,36 @@ fn is_read(alloc: Global, text: &str, is_name: bool) -> Result<bool, NoMemory> {
 const LENGTHS: &[(usize, bool)] = &[(0, false), (1, true), (64, true), (65, false)];
 
 #[test]
-fn reads_names(rt: HostRuntime) -> Result<(), NoMemory> {
+fn reads_names(rt: HostRuntime) {
     for (len, is_name) in LENGTHS {
-        let text = long(rt.alloc(), *len)?;
-        assert!(rt; is_read(rt.alloc(), &text, *is_name)?, "{len} bytes");
+        let text = long(&rt, rt.alloc(), *len);
+        assert!(rt; is_read(&rt, rt.alloc(), &text, *is_name), "{len} bytes");
     }
-    Ok(())
 }
 
 /// Names, each with its spelling.
 const SPELLINGS: &[(&str, &[u8])] = &[("t", b"\0\0\0\x01t"), ("\u{e9} e", b"\0\0\0\x04\xc3\xa9 e")];
 
 // Whether the name is spelled so, and no cut of its spelling is one.
-fn is_put(alloc: Global, text: &str, want: &[u8]) -> Result<bool, Refusal> {
-    let name = TriggerName::read(alloc, text)?;
-    Ok(is_spelled(alloc, &name, want)?)
+fn is_put(rt: &impl Abort, alloc: Global, text: &str, want: &[u8]) -> bool {
+    let name = TriggerName::read(alloc, text).expect(rt, "a name");
+    is_spelled(rt, alloc, &name, want)
 }
 
 // Whether the name is taken from the bytes.
-fn is_taken(alloc: Global, text: &str, bytes: &[u8]) -> Result<bool, Refusal> {
-    match taken::<TriggerName>(alloc, bytes)? {
-        Some(name) => Ok(name.as_str() == text),
-        None => Ok(false),
+fn is_taken(rt: &impl Abort, alloc: Global, text: &str, bytes: &[u8]) -> bool {
+    match taken::<TriggerName>(rt, alloc, bytes) {
+        Some(name) => name.as_str() == text,
+        None => false,
     }
 }
 
 #[test]
-fn spells_names(rt: HostRuntime) -> Result<(), Refusal> {
+fn spells_names(rt: HostRuntime) {
     for (text, want) in SPELLINGS {
-        let put = is_put(rt.alloc(), text, want)?;
-        assert!(rt; put && is_taken(rt.alloc(), text, want)?, "{text}");
+        let put = is_put(&rt, rt.alloc(), text, want);
+        assert!(rt; put && is_taken(&rt, rt.alloc(), text, want), "{text}");
     }
-    Ok(())
 }
 
 /// Bytes that are no name's.

@@ -4,13 +4,12 @@ use crate::names::NO_NAMES;
 use crate::spelling::takes_none;
 use crate::states::NO_STATES;
 use crate::triggers::NO_TRIGGERS;
-use wm_disk::NoMemory;
 use wm_registry::{Command, Registry, Trigger, TriggerName};
 
 #[test]
-fn takes_no_other_bytes(rt: HostRuntime) -> Result<(), NoMemory> {
-    takes_none::<TriggerName>(&rt, rt.alloc(), NO_NAMES)?;
-    takes_none::<Trigger>(&rt, rt.alloc(), NO_TRIGGERS)?;
-    takes_none::<Command>(&rt, rt.alloc(), NO_COMMANDS)?;
-    takes_none::<Registry>(&rt, rt.alloc(), NO_STATES)
+fn takes_no_other_bytes(rt: HostRuntime) {
+    takes_none::<TriggerName>(&rt, rt.alloc(), NO_NAMES);
+    takes_none::<Trigger>(&rt, rt.alloc(), NO_TRIGGERS);
+    takes_none::<Command>(&rt, rt.alloc(), NO_COMMANDS);
+    takes_none::<Registry>(&rt, rt.alloc(), NO_STATES);
 }

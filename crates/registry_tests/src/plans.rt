@@ -1,5 +1,6 @@
 //! What triggers are made of.
 use std::alloc::Global;
+use std::process::Abort;
 use wm_disk::Refusal;
 use wm_names::RootPath;
 use wm_registry::{Command, Stdin, Trigger};
@@ -45,9 +46,9 @@ pub(crate) fn made(alloc: Global, plan: Plan<'_>) -> Result<Trigger, Refusal> {
 }
 
 /// The command that defines a trigger of that plan for `/r`.
-pub(crate) fn definition(alloc: Global, plan: Plan<'_>) -> Result<Command, Refusal> {
-    let path = RootPath::read(alloc, "/r")?;
-    Ok(Command::Trigger(path, made(alloc, plan)?))
+pub(crate) fn definition(rt: &impl Abort, alloc: Global, plan: Plan<'_>) -> Command {
+    let path = RootPath::read(alloc, "/r").expect(rt, "a path");
+    Command::Trigger(path, made(alloc, plan).expect(rt, "a trigger"))
 }
 
 // Whether the words are those of the plan.

@@ -4,7 +4,7 @@ use crate::roots::{PLACES, TRIGGERS, TWO, TWO_LEFT};
 use std::alloc::Global;
 use std::process::Abort;
 use wm_checkpoint::Machine;
-use wm_disk::{NoMemory, Refusal};
+use wm_disk::Refusal;
 use wm_registry::{Command, Registry, Reply};
 use wm_wire::Wire;
 
@@ -15,67 +15,55 @@ pub(crate) type Row = (&'static str, Reply, &'static str);
 const UNKNOWN: Reply = Reply::Refused(Refusal::NotWatched);
 
 // Whether the registry is that.
-fn is_left(alloc: Global, registry: Registry, state: &str) -> Result<bool, Refusal> {
-    Ok(is_shown(alloc, &registry, state)?)
+fn is_left(rt: &impl Abort, alloc: Global, registry: Registry, state: &str) -> bool {
+    is_shown(rt, alloc, &registry, state)
 }
 
 // Whether the bytes are all of the spelling of that registry.
-fn are_bytes_of(alloc: Global, bytes: &[u8], state: &str) -> Result<bool, Refusal> {
-    match Registry::take(alloc, bytes)? {
-        Some((registry, size)) if size == bytes.len() => is_left(alloc, registry, state),
-        _ => Ok(false),
+fn are_bytes_of(rt: &impl Abort, alloc: Global, bytes: &[u8], state: &str) -> bool {
+    match Registry::take(alloc, bytes).expect(rt, "memory") {
+        Some((registry, size)) if size == bytes.len() => is_left(rt, alloc, registry, state),
+        _ => false,
     }
 }
 
 // Whether the registry is taken back from its spelling, which has the size that it says.
-fn is_taken_back(alloc: Global, registry: &Registry, state: &str) -> Result<bool, Refusal> {
+fn is_taken_back(rt: &impl Abort, alloc: Global, registry: &Registry, state: &str) -> bool {
     let mut out = Vec::new(alloc);
-    registry.put(&mut out)?;
-    Ok(registry.size() == out.len() as u64 && are_bytes_of(alloc, &out, state)?)
+    registry.put(&mut out).expect(rt, "memory");
+    registry.size() == out.len() as u64 && are_bytes_of(rt, alloc, &out, state)
 }
 
 // Whether the command is met so, and leaves that.
-fn is_met(alloc: Global, registry: &mut Registry, row: &Row) -> Result<bool, Refusal> {
+fn is_met(rt: &impl Abort, alloc: Global, registry: &mut Registry, row: &Row) -> bool {
     let (line, reply, state) = *row;
-    let met = applied(alloc, registry, line)? == reply;
-    Ok(met && is_shown(alloc, registry, state)? && is_taken_back(alloc, registry, state)?)
+    let met = applied(rt, alloc, registry, line) == reply;
+    met && is_shown(rt, alloc, registry, state) && is_taken_back(rt, alloc, registry, state)
 }
 
 // Asserts that the commands are met so, one after another, and leave that.
-fn walk(
-    rt: &impl Abort,
-    alloc: Global,
-    registry: &mut Registry,
-    rows: &[Row],
-) -> Result<(), Refusal> {
+fn walk(rt: &impl Abort, alloc: Global, registry: &mut Registry, rows: &[Row]) {
     for row in rows {
-        assert!(rt; is_met(alloc, registry, row)?, "{} to {}", row.0, row.2);
+        assert!(rt; is_met(rt, alloc, registry, row), "{} to {}", row.0, row.2);
     }
-    Ok(())
 }
 
 // Whether the command is met so by a copy of the registry, which has its size, and leaves that.
-fn is_met_by_copy(alloc: Global, registry: &Registry, row: &Row) -> Result<bool, Refusal> {
-    let mut copy = registry.copy(alloc)?;
-    Ok(copy.size() == registry.size() && is_met(alloc, &mut copy, row)?)
+fn is_met_by_copy(rt: &impl Abort, alloc: Global, registry: &Registry, row: &Row) -> bool {
+    let mut copy = registry.copy(alloc).expect(rt, "memory");
+    copy.size() == registry.size() && is_met(rt, alloc, &mut copy, row)
 }
 
 // Asserts that each of the commands is met so by a copy of the registry, and leaves that.
-fn try_each(
-    rt: &impl Abort,
-    alloc: Global,
-    registry: &Registry,
-    rows: &[Row],
-) -> Result<(), Refusal> {
+fn try_each(rt: &impl Abort, alloc: Global, registry: &Registry, rows: &[Row]) {
     for row in rows {
         assert!(rt;
-            is_met_by_copy(alloc, registry, row)?,
+            is_met_by_copy(rt, alloc, registry, row),
             "{} to {}",
             row.0,
             row.2
         );
     }
-    Ok(())
 }
 
 /// Commands of each kind, which change the registry, change nothing and are refused.
@@ -127,17 +115,16 @@ const AGAIN: &[Row] = &[
 const WALKS: &[&[Row]] = &[COMMANDS, AGAIN, TRIGGERS];
 
 // Asserts that a new registry meets the commands so, one after another.
-fn walk_anew(rt: &impl Abort, alloc: Global, rows: &[Row]) -> Result<(), Refusal> {
+fn walk_anew(rt: &impl Abort, alloc: Global, rows: &[Row]) {
     let mut registry = Registry::new(alloc);
-    walk(rt, alloc, &mut registry, rows)
+    walk(rt, alloc, &mut registry, rows);
 }
 
 #[test]
-fn applies_commands(rt: HostRuntime) -> Result<(), Refusal> {
+fn applies_commands(rt: HostRuntime) {
     for rows in WALKS {
-        walk_anew(&rt, rt.alloc(), rows)?;
+        walk_anew(&rt, rt.alloc(), rows);
     }
-    Ok(())
 }
 
 /// What is copied.
@@ -168,36 +155,34 @@ fn walk_with_copies(
     alloc: Global,
     registry: &mut Registry,
     (first, copies, left): &Try,
-) -> Result<(), Refusal> {
-    walk(rt, alloc, registry, first)?;
-    try_each(rt, alloc, registry, copies)?;
-    walk(rt, alloc, registry, left)
+) {
+    walk(rt, alloc, registry, first);
+    try_each(rt, alloc, registry, copies);
+    walk(rt, alloc, registry, left);
 }
 
 #[test]
-fn copies_registries(rt: HostRuntime) -> Result<(), Refusal> {
+fn copies_registries(rt: HostRuntime) {
     for row in TRIES {
         let mut registry = Registry::new(rt.alloc());
-        walk_with_copies(&rt, rt.alloc(), &mut registry, row)?;
+        walk_with_copies(&rt, rt.alloc(), &mut registry, row);
     }
-    Ok(())
 }
 
 // The incarnation of a copy of the state.
-fn copied(alloc: Global, state: &Registry) -> Result<u64, NoMemory> {
-    let copy = <Registry as Machine>::copy(alloc, state)?;
-    Ok(copy.incarnation())
+fn copied(rt: &impl Abort, alloc: Global, state: &Registry) -> u64 {
+    let copy = <Registry as Machine>::copy(alloc, state).expect(rt, "memory");
+    copy.incarnation()
 }
 
 // Whether a new state is changed by a start, and a copy has the first incarnation then.
-fn begins(alloc: Global) -> Result<bool, NoMemory> {
+fn begins(rt: &impl Abort, alloc: Global) -> bool {
     let mut state = Registry::new(alloc);
-    let met = <Registry as Machine>::apply(alloc, &mut state, &Command::Begin)?;
-    Ok(met.0 == Reply::Changed && met.1 && copied(alloc, &state)? == 1)
+    let met = <Registry as Machine>::apply(alloc, &mut state, &Command::Begin).expect(rt, "memory");
+    met.0 == Reply::Changed && met.1 && copied(rt, alloc, &state) == 1
 }
 
 #[test]
-fn copies_a_state(rt: HostRuntime) -> Result<(), NoMemory> {
-    assert!(rt; begins(rt.alloc())?);
-    Ok(())
+fn copies_a_state(rt: HostRuntime) {
+    assert!(rt; begins(&rt, rt.alloc()));
 }

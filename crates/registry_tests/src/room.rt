@@ -1,8 +1,8 @@
 //! Where a registry has no room: counters that are spent, and a root, a trigger or a byte too many.
 use crate::lines::{applied, apply, apply_all, ask_all, asked};
-use std::alloc::{AllocError, Global};
+use std::alloc::Global;
 use std::process::Abort;
-use wm_disk::{NoMemory, Refusal};
+use wm_disk::Refusal;
 use wm_names::RootPath;
 use wm_registry::{Command, Registry, Reply, Stdin, Trigger};
 use wm_wire::Wire;
@@ -30,43 +30,43 @@ const COUNTERS: &[(u64, u64, Reply, Reply)] = &[
 ];
 
 // The bytes of a state with those counters and no roots.
-fn counters(alloc: Global, incarnation: u64, next: u64) -> Result<Vec<u8>, NoMemory> {
+fn counters(rt: &impl Abort, alloc: Global, incarnation: u64, next: u64) -> Vec<u8> {
     let mut bytes = Vec::new(alloc);
-    incarnation.put(&mut bytes)?;
-    next.put(&mut bytes)?;
-    0u32.put(&mut bytes)?;
-    Ok(bytes)
+    incarnation.put(&mut bytes).expect(rt, "memory");
+    next.put(&mut bytes).expect(rt, "memory");
+    0u32.put(&mut bytes).expect(rt, "memory");
+    bytes
 }
 
 // Whether a start and a watch are met so.
 fn are_met(
+    rt: &impl Abort,
     alloc: Global,
     registry: &Registry,
     begin: Reply,
     watch: Reply,
-) -> Result<bool, Refusal> {
-    let begins = asked(alloc, registry, "begin")? == begin;
-    Ok(begins && asked(alloc, registry, "watch /r")? == watch)
+) -> bool {
+    let begins = asked(rt, alloc, registry, "begin") == begin;
+    begins && asked(rt, alloc, registry, "watch /r") == watch
 }
 
 // Whether the registry that the bytes begin with meets them so.
-fn meets(alloc: Global, bytes: &[u8], begin: Reply, watch: Reply) -> Result<bool, Refusal> {
-    match Registry::take(alloc, bytes)? {
-        Some((registry, _)) => are_met(alloc, &registry, begin, watch),
-        None => Ok(false),
+fn meets(rt: &impl Abort, alloc: Global, bytes: &[u8], begin: Reply, watch: Reply) -> bool {
+    match Registry::take(alloc, bytes).expect(rt, "memory") {
+        Some((registry, _)) => are_met(rt, alloc, &registry, begin, watch),
+        None => false,
     }
 }
 
 #[test]
-fn refuses_a_spent_counter(rt: HostRuntime) -> Result<(), Refusal> {
+fn refuses_a_spent_counter(rt: HostRuntime) {
     for (incarnation, next, begin, watch) in COUNTERS {
-        let bytes = counters(rt.alloc(), *incarnation, *next)?;
+        let bytes = counters(&rt, rt.alloc(), *incarnation, *next);
         assert!(rt;
-            meets(rt.alloc(), &bytes, *begin, *watch)?,
+            meets(&rt, rt.alloc(), &bytes, *begin, *watch),
             "{incarnation} {next}"
         );
     }
-    Ok(())
 }
 
 // Asserts that a line for each number below the count, which stands between the two texts, changes the
@@ -77,15 +77,14 @@ fn fill(
     registry: &mut Registry,
     (before, after): (&str, &str),
     count: u32,
-) -> Result<(), Refusal> {
+) {
     for number in 0..count {
-        let line = format!(in alloc; "{before}{number}{after}")?;
+        let line = format!(in alloc; "{before}{number}{after}").expect(rt, "memory");
         assert!(rt;
-            applied(alloc, registry, &line)? == Reply::Changed,
+            applied(rt, alloc, registry, &line) == Reply::Changed,
             "{line}"
         );
     }
-    Ok(())
 }
 
 /// How roots are met behind 256 of them.
@@ -106,21 +105,20 @@ fn misplaced(registry: &Registry) -> Option<usize> {
 }
 
 // Asserts that the registry, which has no roots, takes 256 of them.
-fn crowd_roots(rt: &impl Abort, alloc: Global, registry: &mut Registry) -> Result<(), Refusal> {
-    fill(rt, alloc, registry, ("watch /", ""), 256)?;
-    apply_all(rt, alloc, registry, ROOTS)?;
+fn crowd_roots(rt: &impl Abort, alloc: Global, registry: &mut Registry) {
+    fill(rt, alloc, registry, ("watch /", ""), 256);
+    apply_all(rt, alloc, registry, ROOTS);
     let misplaced = misplaced(registry);
     assert!(rt;
         registry.roots().len() == 256 && misplaced.is_none(),
         "{misplaced:?}"
     );
-    Ok(())
 }
 
 #[test]
-fn refuses_one_root_too_many(rt: HostRuntime) -> Result<(), Refusal> {
+fn refuses_one_root_too_many(rt: HostRuntime) {
     let mut registry = Registry::new(rt.alloc());
-    crowd_roots(&rt, rt.alloc(), &mut registry)
+    crowd_roots(&rt, rt.alloc(), &mut registry);
 }
 
 /// The root that the triggers are of.
@@ -136,65 +134,62 @@ const TRIGGERS: &[(&str, Reply)] = &[
 ];
 
 // Asserts that a root of the registry, which has no roots, takes 64 triggers.
-fn crowd_triggers(rt: &impl Abort, alloc: Global, registry: &mut Registry) -> Result<(), Refusal> {
-    apply_all(rt, alloc, registry, ROOT)?;
-    fill(rt, alloc, registry, ("trigger /r ", " x"), 64)?;
-    ask_all(rt, alloc, registry, TRIGGERS)
+fn crowd_triggers(rt: &impl Abort, alloc: Global, registry: &mut Registry) {
+    apply_all(rt, alloc, registry, ROOT);
+    fill(rt, alloc, registry, ("trigger /r ", " x"), 64);
+    ask_all(rt, alloc, registry, TRIGGERS);
 }
 
 #[test]
-fn refuses_one_trigger_too_many(rt: HostRuntime) -> Result<(), Refusal> {
+fn refuses_one_trigger_too_many(rt: HostRuntime) {
     let mut registry = Registry::new(rt.alloc());
-    crowd_triggers(&rt, rt.alloc(), &mut registry)
+    crowd_triggers(&rt, rt.alloc(), &mut registry);
 }
 
 // So many bytes.
-fn word(alloc: Global, length: u32) -> Result<String, AllocError> {
+fn word(rt: &impl Abort, alloc: Global, length: u32) -> String {
     let mut word = String::new(alloc);
     for _ in 0..length {
-        word.push('w')?;
+        word.push('w').expect(rt, "memory");
     }
-    Ok(word)
+    word
 }
 
 // What defines a trigger of /r with this name and these words.
-fn trigger(alloc: Global, name: &str, words: &[&str]) -> Result<Command, Refusal> {
-    let path = RootPath::read(alloc, "/r")?;
-    let trigger = Trigger::new(alloc, name, words, None, false, Stdin::DevNull)?;
-    Ok(Command::Trigger(path, trigger))
+fn trigger(rt: &impl Abort, alloc: Global, name: &str, words: &[&str]) -> Command {
+    let path = RootPath::read(alloc, "/r").expect(rt, "a path");
+    let made = Trigger::new(alloc, name, words, None, false, Stdin::DevNull);
+    Command::Trigger(path, made.expect(rt, "a trigger"))
 }
 
 // What defines the trigger of /r that is the sixty-fourth: eleven long words and a last one.
-fn last_trigger(alloc: Global, long: &str, last: &str) -> Result<Command, Refusal> {
+fn last_trigger(rt: &impl Abort, alloc: Global, long: &str, last: &str) -> Command {
     let words = [
         long, long, long, long, long, long, long, long, long, long, long, last,
     ];
-    trigger(alloc, "63", &words)
+    trigger(rt, alloc, "63", &words)
 }
 
 // Defines a trigger of as many words as there may be, each of as many bytes as it may have.
-fn define(alloc: Global, registry: &mut Registry, i: u32, long: &str) -> Result<Reply, Refusal> {
-    let name = format!(in alloc; "{i:02}")?;
-    let command = trigger(alloc, name.as_str(), &[long; 16])?;
-    Ok(apply(alloc, registry, command))
+fn define(rt: &impl Abort, alloc: Global, registry: &mut Registry, i: u32, long: &str) -> Reply {
+    let name = format!(in alloc; "{i:02}").expect(rt, "memory");
+    let command = trigger(rt, alloc, name.as_str(), &[long; 16]);
+    apply(alloc, registry, command)
 }
 
 // Watches the root /r and defines 63 such triggers.
-fn almost_fill(alloc: Global, registry: &mut Registry, long: &str) -> Result<(), Refusal> {
-    applied(alloc, registry, "watch /r")?;
+fn almost_fill(rt: &impl Abort, alloc: Global, registry: &mut Registry, long: &str) {
+    applied(rt, alloc, registry, "watch /r");
     for i in 0..63u32 {
-        if define(alloc, registry, i, long)? != Reply::Changed {
-            return Err(Refusal::Damaged);
-        }
+        assert!(rt; define(rt, alloc, registry, i, long) == Reply::Changed);
     }
-    Ok(())
 }
 
 // How the registry meets the sixty-fourth trigger with a last word of so many bytes.
-fn met(alloc: Global, registry: &mut Registry, long: &str, length: u32) -> Result<Reply, Refusal> {
-    let last = word(alloc, length)?;
-    let command = last_trigger(alloc, long, last.as_str())?;
-    Ok(apply(alloc, registry, command))
+fn met(rt: &impl Abort, alloc: Global, registry: &mut Registry, long: &str, length: u32) -> Reply {
+    let last = word(rt, alloc, length);
+    let command = last_trigger(rt, alloc, long, last.as_str());
+    apply(alloc, registry, command)
 }
 
 /// The bytes of the last word, how the trigger is met, and how many bytes the spelling has then.
@@ -216,24 +211,19 @@ const ROOM: &[(&str, Reply)] = &[
 
 // Asserts of a new registry that the last triggers are met so, one after another, and that a root finds
 // room once a trigger is shorter.
-fn refuse(
-    rt: &impl Abort,
-    alloc: Global,
-    registry: &mut Registry,
-    long: &str,
-) -> Result<(), Refusal> {
-    almost_fill(alloc, registry, long)?;
+fn refuse(rt: &impl Abort, alloc: Global, registry: &mut Registry, long: &str) {
+    almost_fill(rt, alloc, registry, long);
     for (length, reply, size) in BYTES {
-        let found = met(alloc, registry, long, *length)? == *reply;
+        let found = met(rt, alloc, registry, long, *length) == *reply;
         let bytes = registry.size();
         assert!(rt; found && bytes == *size, "{length}: {bytes} bytes");
     }
-    apply_all(rt, alloc, registry, ROOM)
+    apply_all(rt, alloc, registry, ROOM);
 }
 
 #[test]
-fn refuses_a_byte_too_many(rt: HostRuntime) -> Result<(), Refusal> {
-    let long = word(rt.alloc(), 1024)?;
+fn refuses_a_byte_too_many(rt: HostRuntime) {
+    let long = word(&rt, rt.alloc(), 1024);
     let mut registry = Registry::new(rt.alloc());
-    refuse(&rt, rt.alloc(), &mut registry, long.as_str())
+    refuse(&rt, rt.alloc(), &mut registry, long.as_str());
 }

@@ -1,7 +1,7 @@
 //! Tables of states, each with its exact bytes, and bytes that are no spelling.
 use crate::spelling::{is_spelled, spells, taken};
 use std::alloc::Global;
-use wm_disk::{NoMemory, Refusal};
+use std::process::Abort;
 use wm_names::RootPath;
 use wm_registry::{Registry, Root};
 use wm_wire::Wire;
@@ -112,39 +112,38 @@ fn is_of(registry: &Registry, state: &State) -> bool {
 }
 
 // Whether the registry is the state, and spelled so, and no cut of that is a spelling.
-fn is_state(alloc: Global, registry: &Registry, state: &State) -> Result<bool, NoMemory> {
-    Ok(is_of(registry, state) && is_spelled(alloc, registry, state.bytes)?)
+fn is_state(rt: &impl Abort, alloc: Global, registry: &Registry, state: &State) -> bool {
+    is_of(registry, state) && is_spelled(rt, alloc, registry, state.bytes)
 }
 
 // Whether a copy of the registry is the state, and spelled so.
-fn is_copied(alloc: Global, registry: &Registry, state: &State) -> Result<bool, NoMemory> {
-    let copy = registry.copy(alloc)?;
-    is_state(alloc, &copy, state)
+fn is_copied(rt: &impl Abort, alloc: Global, registry: &Registry, state: &State) -> bool {
+    let copy = registry.copy(alloc).expect(rt, "memory");
+    is_state(rt, alloc, &copy, state)
 }
 
 // Whether the state is taken from its bytes and spelled so, and a copy of it too.
-fn is_kept(alloc: Global, state: &State) -> Result<bool, NoMemory> {
-    match taken::<Registry>(alloc, state.bytes)? {
+fn is_kept(rt: &impl Abort, alloc: Global, state: &State) -> bool {
+    match taken::<Registry>(rt, alloc, state.bytes) {
         Some(registry) => {
-            Ok(is_state(alloc, &registry, state)? && is_copied(alloc, &registry, state)?)
+            is_state(rt, alloc, &registry, state) && is_copied(rt, alloc, &registry, state)
         }
-        None => Ok(false),
+        None => false,
     }
 }
 
 // Whether a new registry is spelled as the first.
-fn spells_new(alloc: Global) -> Result<bool, NoMemory> {
+fn spells_new(rt: &impl Abort, alloc: Global) -> bool {
     let registry = Registry::new(alloc);
-    Ok(registry.size() == 20 && spells(alloc, &registry, FIRST)?)
+    registry.size() == 20 && spells(rt, alloc, &registry, FIRST)
 }
 
 #[test]
-fn spells_states(rt: HostRuntime) -> Result<(), NoMemory> {
-    assert!(rt; spells_new(rt.alloc())?, "a new registry");
+fn spells_states(rt: HostRuntime) {
+    assert!(rt; spells_new(&rt, rt.alloc()), "a new registry");
     for state in STATES {
-        assert!(rt; is_kept(rt.alloc(), state)?, "{}", state.name);
+        assert!(rt; is_kept(&rt, rt.alloc(), state), "{}", state.name);
     }
-    Ok(())
 }
 
 /// A state, and a root of it: its path, its number, how many triggers it has, and the last one's name.
@@ -168,29 +167,28 @@ fn is_root(root: &Root, number: u64, count: usize, last: &str) -> bool {
 }
 
 // Whether the registry has the row's root.
-fn has_root(alloc: Global, registry: &Registry, row: &RootRow) -> Result<bool, Refusal> {
+fn has_root(rt: &impl Abort, alloc: Global, registry: &Registry, row: &RootRow) -> bool {
     let (_, path, number, count, last) = *row;
-    let path = RootPath::read(alloc, path)?;
+    let path = RootPath::read(alloc, path).expect(rt, "a path");
     match registry.roots().get(&path) {
-        Some(root) => Ok(is_root(root, number, count, last)),
-        None => Ok(false),
+        Some(root) => is_root(root, number, count, last),
+        None => false,
     }
 }
 
 // Whether the row's root is taken with its state.
-fn is_taken(alloc: Global, row: &RootRow) -> Result<bool, Refusal> {
-    match taken::<Registry>(alloc, row.0)? {
-        Some(registry) => has_root(alloc, &registry, row),
-        None => Ok(false),
+fn is_taken(rt: &impl Abort, alloc: Global, row: &RootRow) -> bool {
+    match taken::<Registry>(rt, alloc, row.0) {
+        Some(registry) => has_root(rt, alloc, &registry, row),
+        None => false,
     }
 }
 
 #[test]
-fn takes_roots(rt: HostRuntime) -> Result<(), Refusal> {
+fn takes_roots(rt: HostRuntime) {
     for row in ROOTS {
-        assert!(rt; is_taken(rt.alloc(), row)?, "{} of {}", row.1, row.2);
+        assert!(rt; is_taken(&rt, rt.alloc(), row), "{} of {}", row.1, row.2);
     }
-    Ok(())
 }
 
 /// Bytes that are no state's.

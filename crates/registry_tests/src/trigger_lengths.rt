@@ -2,7 +2,8 @@
 use crate::names::long;
 use crate::plans::{Plan, made};
 use std::alloc::Global;
-use wm_disk::{NoMemory, Refusal};
+use std::process::Abort;
+use wm_disk::Refusal;
 use wm_registry::{Stdin, Trigger};
 use wm_wire::Wire;
 
@@ -45,10 +46,11 @@ fn front(text: &str, len: usize) -> &str {
 }
 
 // Whether a trigger of such lengths is accepted. The text has the bytes of each part.
-fn is_accepted(alloc: Global, text: &str, lengths: Lengths) -> Result<bool, Refusal> {
+fn is_accepted(rt: &impl Abort, alloc: Global, text: &str, lengths: Lengths) -> bool {
     let mut words = Vec::new(alloc);
     for index in 0..lengths.words {
-        words.push(front(text, lengths.word(index)))?;
+        let word = front(text, lengths.word(index));
+        words.push(word).expect(rt, "memory");
     }
     let expression = match lengths.expression {
         Some(len) => Some(front(text, len)),
@@ -62,69 +64,67 @@ fn is_accepted(alloc: Global, text: &str, lengths: Lengths) -> Result<bool, Refu
         stdin: Stdin::DevNull,
     };
     match made(alloc, plan) {
-        Ok(_) => Ok(true),
-        Err(Refusal::BadTrigger) => Ok(false),
-        Err(refusal) => Err(refusal),
+        Ok(_) => true,
+        Err(Refusal::BadTrigger) => false,
+        Err(refusal) => panic!(rt; "{refusal:?}"),
     }
 }
 
 // Appends a number in four bytes.
-fn put_number(number: usize, out: &mut Vec<u8>) -> Result<(), NoMemory> {
+fn put_number(rt: &impl Abort, number: usize, out: &mut Vec<u8>) {
     let (high, low) = (number / 256 % 256, number % 256);
-    out.extend_from_slice(&[0, 0, high as u8, low as u8])?;
-    Ok(())
+    out.extend_from_slice(&[0, 0, high as u8, low as u8])
+        .expect(rt, "memory");
 }
 
 // Appends a text of so many bytes.
-fn put_long(len: usize, out: &mut Vec<u8>) -> Result<(), NoMemory> {
-    put_number(len, out)?;
+fn put_long(rt: &impl Abort, len: usize, out: &mut Vec<u8>) {
+    put_number(rt, len, out);
     for _ in 0..len {
-        out.push(b'a')?;
+        out.push(b'a').expect(rt, "memory");
     }
-    Ok(())
 }
 
 // Appends an expression of so many bytes, where there is one.
-fn put_expression(len: Option<usize>, out: &mut Vec<u8>) -> Result<(), NoMemory> {
+fn put_expression(rt: &impl Abort, len: Option<usize>, out: &mut Vec<u8>) {
     match len {
         Some(len) => {
-            out.push(1)?;
-            put_long(len, out)
+            out.push(1).expect(rt, "memory");
+            put_long(rt, len, out)
         }
-        None => Ok(out.push(0)?),
+        None => out.push(0).expect(rt, "memory"),
     }
 }
 
 // Appends a trigger of such lengths.
-fn put(lengths: Lengths, out: &mut Vec<u8>) -> Result<(), NoMemory> {
-    put_long(lengths.name, out)?;
-    put_number(lengths.words, out)?;
+fn put(rt: &impl Abort, lengths: Lengths, out: &mut Vec<u8>) {
+    put_long(rt, lengths.name, out);
+    put_number(rt, lengths.words, out);
     for index in 0..lengths.words {
-        put_long(lengths.word(index), out)?;
+        put_long(rt, lengths.word(index), out);
     }
-    put_expression(lengths.expression, out)?;
-    out.push(1)?;
-    out.push(0)?;
-    Ok(())
+    put_expression(rt, lengths.expression, out);
+    out.push(1).expect(rt, "memory");
+    out.push(0).expect(rt, "memory");
 }
 
 // Whether a trigger of such lengths is taken.
-fn is_taken(alloc: Global, lengths: Lengths) -> Result<bool, Refusal> {
+fn is_taken(rt: &impl Abort, alloc: Global, lengths: Lengths) -> bool {
     let mut bytes = Vec::new(alloc);
-    put(lengths, &mut bytes)?;
-    Ok(Trigger::take(alloc, &bytes)?.is_some())
+    put(rt, lengths, &mut bytes);
+    Trigger::take(alloc, &bytes).expect(rt, "memory").is_some()
 }
 
 // Whether a trigger of such lengths is accepted, and taken, where it is to be.
-fn is_right(alloc: Global, text: &str, lengths: Lengths, want: bool) -> Result<bool, Refusal> {
-    let accepted = is_accepted(alloc, text, lengths)?;
-    let taken = is_taken(alloc, lengths)?;
-    Ok(accepted == want && taken == want)
+fn is_right(rt: &impl Abort, alloc: Global, text: &str, lengths: Lengths, want: bool) -> bool {
+    let accepted = is_accepted(rt, alloc, text, lengths);
+    let taken = is_taken(rt, alloc, lengths);
+    accepted == want && taken == want
 }
 
 #[test]
-fn keeps_the_rules(rt: HostRuntime) -> Result<(), Refusal> {
-    let text = long(rt.alloc(), 4097)?;
+fn keeps_the_rules(rt: HostRuntime) {
+    let text = long(&rt, rt.alloc(), 4097);
     for (why, name, words, first, later, expression, want) in LENGTHS {
         let lengths = Lengths {
             name: *name,
@@ -133,7 +133,6 @@ fn keeps_the_rules(rt: HostRuntime) -> Result<(), Refusal> {
             later: *later,
             expression: *expression,
         };
-        assert!(rt; is_right(rt.alloc(), &text, lengths, *want)?, "{why}");
+        assert!(rt; is_right(&rt, rt.alloc(), &text, lengths, *want), "{why}");
     }
-    Ok(())
 }

@@ -3,7 +3,7 @@ use crate::lines::{applied, apply, ask};
 use crate::plans::{LEAST, MORE, Plan, definition, is_of, made};
 use crate::spelling::{is_spelled, taken};
 use std::alloc::Global;
-use wm_disk::Refusal;
+use std::process::Abort;
 use wm_registry::{Registry, Reply, Stdin, Trigger};
 
 /// Triggers, each with its spelling.
@@ -16,34 +16,37 @@ const SPELLINGS: &[(Plan<'static>, &[u8])] = &[
 ];
 
 // Whether a copy of the trigger is of the plan.
-fn is_copied(trigger: &Trigger, plan: Plan<'_>) -> Result<bool, Refusal> {
-    let copy = trigger.copy()?;
-    Ok(is_of(&copy, plan))
+fn is_copied(rt: &impl Abort, trigger: &Trigger, plan: Plan<'_>) -> bool {
+    let copy = trigger.copy().expect(rt, "memory");
+    is_of(&copy, plan)
 }
 
 // Whether the trigger and a copy of it are of the plan, and it is spelled so, and no cut of that is a
 // spelling.
-fn is_put(alloc: Global, plan: Plan<'_>, want: &[u8]) -> Result<bool, Refusal> {
-    let trigger = made(alloc, plan)?;
-    let shown = is_of(&trigger, plan) && is_copied(&trigger, plan)?;
-    Ok(shown && is_spelled(alloc, &trigger, want)?)
+fn is_put(rt: &impl Abort, alloc: Global, plan: Plan<'_>, want: &[u8]) -> bool {
+    let trigger = made(alloc, plan).expect(rt, "a trigger");
+    let shown = is_of(&trigger, plan) && is_copied(rt, &trigger, plan);
+    shown && is_spelled(rt, alloc, &trigger, want)
 }
 
 // Whether a trigger of the plan is taken from the bytes.
-fn is_taken(alloc: Global, plan: Plan<'_>, bytes: &[u8]) -> Result<bool, Refusal> {
-    match taken::<Trigger>(alloc, bytes)? {
-        Some(trigger) => Ok(is_of(&trigger, plan)),
-        None => Ok(false),
+fn is_taken(rt: &impl Abort, alloc: Global, plan: Plan<'_>, bytes: &[u8]) -> bool {
+    match taken::<Trigger>(rt, alloc, bytes) {
+        Some(trigger) => is_of(&trigger, plan),
+        None => false,
     }
 }
 
 #[test]
-fn spells_triggers(rt: HostRuntime) -> Result<(), Refusal> {
+fn spells_triggers(rt: HostRuntime) {
     for (plan, want) in SPELLINGS {
-        let put = is_put(rt.alloc(), *plan, want)?;
-        assert!(rt; put && is_taken(rt.alloc(), *plan, want)?, "{}", plan.name);
+        let put = is_put(&rt, rt.alloc(), *plan, want);
+        assert!(rt;
+            put && is_taken(&rt, rt.alloc(), *plan, want),
+            "{}",
+            plan.name
+        );
     }
-    Ok(())
 }
 
 /// Bytes that are no trigger's.
@@ -130,25 +133,26 @@ const MEETINGS: &[(&str, Plan<'static>, Reply)] = &[
 ];
 
 // Watches the root and defines the trigger.
-fn define(alloc: Global, registry: &mut Registry, plan: Plan<'_>) -> Result<(), Refusal> {
-    applied(alloc, registry, "watch /r")?;
-    apply(alloc, registry, definition(alloc, plan)?);
-    Ok(())
+fn define(rt: &impl Abort, alloc: Global, registry: &mut Registry, plan: Plan<'_>) {
+    applied(rt, alloc, registry, "watch /r");
+    apply(alloc, registry, definition(rt, alloc, plan));
 }
 
 // How the second trigger is met where the first is there.
-fn met(alloc: Global, first: Plan<'_>, second: Plan<'_>) -> Result<Reply, Refusal> {
-    let second = definition(alloc, second)?;
+fn met(rt: &impl Abort, alloc: Global, first: Plan<'_>, second: Plan<'_>) -> Reply {
+    let second = definition(rt, alloc, second);
     let mut registry = Registry::new(alloc);
-    define(alloc, &mut registry, first)?;
-    Ok(ask(&registry, second))
+    define(rt, alloc, &mut registry, first);
+    ask(&registry, second)
 }
 
 #[test]
-fn tells_triggers_apart(rt: HostRuntime) -> Result<(), Refusal> {
+fn tells_triggers_apart(rt: HostRuntime) {
     for (why, plan, reply) in MEETINGS {
-        let forth = met(rt.alloc(), PLAN, *plan)? == *reply;
-        assert!(rt; forth && met(rt.alloc(), *plan, PLAN)? == *reply, "{why}");
+        let forth = met(&rt, rt.alloc(), PLAN, *plan) == *reply;
+        assert!(rt;
+            forth && met(&rt, rt.alloc(), *plan, PLAN) == *reply,
+            "{why}"
+        );
     }
-    Ok(())
 }

@@ -1,7 +1,8 @@
 //! A client of the socket that a test serves.
 use std::alloc::Global;
-use std::io::{BufRead, BufReader, ErrorKind, Write};
+use std::io::{BufRead, BufReader, Write};
 use std::os::unix::net::UnixStream;
+use std::process::Abort;
 use std::time::Duration;
 use std::{io, thread};
 
@@ -18,24 +19,24 @@ pub struct Client {
 
 impl Client {
     /// A session on the socket of a path, once somebody serves it.
-    pub fn connect(rt: &HostRuntime, path: &str) -> io::Result<Client> {
-        let alloc = rt.alloc();
+    pub fn connect(rt: &HostRuntime, host: &impl Abort, path: &str) -> Client {
         for _ in 0..TRIES {
             if let Ok(stream) = UnixStream::connect(rt, path) {
-                return Client::over(alloc, stream);
+                return Client::over(host, rt.alloc(), stream);
             }
             thread::sleep(rt, Duration::from_millis(10));
         }
-        Err(io::Error::from(ErrorKind::TimedOut))
+        panic!(host; "nobody serves {path}")
     }
 
-    fn over(alloc: Global, stream: UnixStream) -> io::Result<Client> {
-        let replies = BufReader::new(alloc, stream.try_clone()?)?;
-        Ok(Client {
+    fn over(host: &impl Abort, alloc: Global, stream: UnixStream) -> Client {
+        let twin = stream.try_clone().expect(host, "a stream");
+        let replies = BufReader::new(alloc, twin).expect(host, "memory");
+        Client {
             stream,
             replies,
             alloc,
-        })
+        }
     }
 
     /// The next line that comes, without its newline; an empty text where the session has ended.
@@ -61,25 +62,20 @@ impl Client {
     }
 
     /// Asks again and again while the root isn't ready, and gives the first other reply.
-    pub fn ask_ready(&mut self, rt: &HostRuntime, request: &str) -> io::Result<String> {
+    pub fn ask_ready(&mut self, rt: &HostRuntime, host: &impl Abort, request: &str) -> String {
         for _ in 0..TRIES {
-            let reply = self.ask(request)?;
+            let reply = self.ask(request).expect(host, "a reply");
             if reply.as_str() != "{\"error\":\"6 NotReady\",\"version\":\"w1\"}" {
-                return Ok(reply);
+                return reply;
             }
             thread::sleep(rt, Duration::from_millis(10));
         }
-        Err(io::Error::from(ErrorKind::TimedOut))
+        panic!(host; "the root isn't ready")
     }
 }
 
 /// Asks by a command of one argument, a root.
-pub fn ask_of(
-    rt: &HostRuntime,
-    client: &mut Client,
-    command: &str,
-    root: &str,
-) -> io::Result<String> {
-    let line = format!(in rt.alloc(); "[\"{command}\",\"{root}\"]")?;
-    client.ask(line.as_str())
+pub fn ask_of(host: &impl Abort, client: &mut Client, command: &str, root: &str) -> String {
+    let line = format!(in client.alloc; "[\"{command}\",\"{root}\"]").expect(host, "memory");
+    client.ask(line.as_str()).expect(host, "a reply")
 }

@@ -5,7 +5,6 @@ use std::alloc::{Alloc, Global};
 use std::marker::Brand;
 use std::process::Abort;
 use std::sync::Wait;
-use std::test::*;
 use wm_disk::Refusal;
 use wm_hall::{Forgetting, RootHall, Viewers};
 use wm_lines::{Inquiry, Request, reply};
@@ -79,25 +78,24 @@ const FORGETTING: Forgetting = Forgetting {
 };
 
 /// A hall of the root 5.
-fn opened_hall<'a, J: Naming, R: Wait>(
+fn opened_hall<'a, J: Naming, R: Wait + Abort>(
     rt: &'a R,
     alloc: Global,
     mut shares: Shares<J>,
-) -> Result<RootHall<J, &'a R>, Refusal> {
-    let path = RootPath::read(alloc, "/r")?;
-    let (keeper, pool) = shares.share(rt, alloc, 1, 5)?;
-    let hall = RootHall::new(alloc, &path, 5, keeper, pool)?;
-    Ok(hall)
+) -> RootHall<J, &'a R> {
+    let path = RootPath::read(alloc, "/r").expect(rt, "a path");
+    let (keeper, pool) = shares.share(rt, alloc, 1, 5).expect(rt, "a share");
+    RootHall::new(alloc, &path, 5, keeper, pool).expect(rt, "a hall")
 }
 
 /// Performs an operation, and tells where the view stands then.
-fn operate<J: Naming, R: Wait, K: Wait + Drop>(
+fn operate<J: Naming, R: Wait + Abort, K: Wait + Drop>(
     rt: &R,
     hall: &RootHall<J, K>,
     op: Op,
     out: &mut Vec<u8>,
 ) -> Result<(), Refusal> {
-    out.try_reserve(reply::PROGRESS_ROOM)?;
+    out.try_reserve(reply::PROGRESS_ROOM).expect(rt, "memory");
     let tells_floor = matches!(op, Op::AgeOut(_, _));
     let met = hall.operate(rt, FORGETTING, op)?;
     if tells_floor {
@@ -109,14 +107,14 @@ fn operate<J: Naming, R: Wait, K: Wait + Drop>(
 }
 
 /// Tells the clock that a session sees.
-fn tell_clock<J: Naming, R: Wait, K: Wait + Drop>(
+fn tell_clock<J: Naming, R: Wait + Abort, K: Wait + Drop>(
     rt: &R,
     alloc: Global,
     hall: &RootHall<J, K>,
     viewers: &mut Viewers<J>,
     out: &mut Vec<u8>,
 ) -> Result<(), Refusal> {
-    out.try_reserve(reply::PROGRESS_ROOM)?;
+    out.try_reserve(reply::PROGRESS_ROOM).expect(rt, "memory");
     let viewer = viewers.of_root(rt, hall)?;
     let clock = hall.clock(rt, alloc, viewer)?;
     reply::put_clock(clock, out);
@@ -137,7 +135,7 @@ fn tell_answer<J: Naming, R: Wait, K: Wait + Drop>(
 }
 
 /// Meets a request of the session that has these viewers.
-fn meet<J: Naming, R: Wait, K: Wait + Drop>(
+fn meet<J: Naming, R: Wait + Abort, K: Wait + Drop>(
     rt: &R,
     alloc: Global,
     hall: &RootHall<J, K>,
@@ -153,12 +151,15 @@ fn meet<J: Naming, R: Wait, K: Wait + Drop>(
         Request::AgeOut(_, age) => operate(rt, hall, Op::AgeOut(MOMENT, age), out),
         Request::Clock(_) => tell_clock(rt, alloc, hall, viewers, out),
         Request::Query(_, inquiry) => tell_answer(rt, alloc, hall, viewers, inquiry, out),
-        _ => Err(Refusal::BadCommand),
+        another => {
+            drop(another);
+            Err(Refusal::BadCommand)
+        }
     }
 }
 
 /// Meets a line, after which the session's viewer knows of it.
-fn meet_line<J: Naming, R: Wait, K: Wait + Drop>(
+fn meet_line<J: Naming, R: Wait + Abort, K: Wait + Drop>(
     rt: &R,
     alloc: Global,
     hall: &RootHall<J, K>,
@@ -200,15 +201,11 @@ fn tell_rows<J: Naming, R: Wait + Abort, K: Wait + Drop>(
     }
 }
 
-fn tells_two_sessions<J: Naming, R: Wait + Abort>(
-    rt: &R,
-    alloc: Global,
-    opened: Opened,
-) -> Result<(), Fail>
+fn tells_two_sessions<J: Naming, R: Wait + Abort>(rt: &R, alloc: Global, opened: Opened)
     requires { opened.seen.book ≡ J.book }
 {
     let shares: Shares<J> = Shares::new(opened);
-    let hall = opened_hall(rt, alloc, shares)?;
+    let hall = opened_hall(rt, alloc, shares);
     tell_rows(
         rt,
         alloc,
@@ -217,25 +214,24 @@ fn tells_two_sessions<J: Naming, R: Wait + Abort>(
         &mut Viewers::new(alloc),
     );
     assert_eq!(rt; hall.tick(rt), 2);
-    Ok(())
 }
 
 #[test]
-fn two_sessions_are_told(rt: HostRuntime) -> Result<(), Fail> {
-    tells_two_sessions::<Brand, _>(&rt, rt.alloc(), Opened::new())
+fn two_sessions_are_told(rt: HostRuntime) {
+    tells_two_sessions::<Brand, _>(&rt, rt.alloc(), Opened::new());
 }
 
 /// Moves the cursor of a number to the clock that is told.
-fn move_cursor<J: Naming, R: Wait, K: Wait + Drop>(
+fn move_cursor<J: Naming, R: Wait + Abort, K: Wait + Drop>(
     rt: &R,
     alloc: Global,
     hall: &RootHall<J, K>,
     viewers: &mut Viewers<J>,
     number: usize,
     out: &mut Vec<u8>,
-) -> Result<(), Refusal> {
-    let line = format!(in alloc; "[\"since\",\"/r\",\"n:{number}\"]\n")?;
-    meet_line(rt, alloc, hall, viewers, &line, out)
+) {
+    let line = format!(in alloc; "[\"since\",\"/r\",\"n:{number}\"]\n").expect(rt, "memory");
+    meet_line(rt, alloc, hall, viewers, &line, out).expect(rt, "a cursor");
 }
 
 /// Moves as many cursors as may be. A further one is refused, and one that is there is moved again.
@@ -245,30 +241,30 @@ fn keeps_cursor_limit<J: Naming, R: Wait + Abort, K: Wait + Drop>(
     hall: &RootHall<J, K>,
     viewers: &mut Viewers<J>,
     out: &mut Vec<u8>,
-) -> Result<(), Fail> {
+) {
     let listing = "[\"listing\",\"/r\",0,\"\",[]]\n";
-    meet_line(rt, alloc, hall, viewers, listing, out)?;
+    meet_line(rt, alloc, hall, viewers, listing, out).expect(rt, "a listing");
     for number in 0..MAX_CURSORS {
-        move_cursor(rt, alloc, hall, viewers, number, out)?;
+        move_cursor(rt, alloc, hall, viewers, number, out);
     }
     let more = "[\"since\",\"/r\",\"n:more\"]\n";
     let refused = meet_line(rt, alloc, hall, viewers, more, out);
     assert_eq!(rt; refused, Err(Refusal::TooMany));
-    move_cursor(rt, alloc, hall, viewers, 7, out)?;
-    Ok(())
+    move_cursor(rt, alloc, hall, viewers, 7, out);
 }
 
 /// All viewers of the pool but the first, which the session has.
-fn lent<J: Naming, R: Wait, K: Wait + Drop>(
+fn lent<J: Naming, R: Wait + Abort, K: Wait + Drop>(
     rt: &R,
     alloc: Global,
     hall: &RootHall<J, K>,
-) -> Result<Vec<Viewer<J>>, Fail> {
+) -> Vec<Viewer<J>> {
     let mut lent = Vec::new(alloc);
     for _ in 1..MAX_VIEWERS {
-        lent.push(hall.lend(rt)?)?;
+        let viewer = hall.lend(rt).expect(rt, "a viewer");
+        lent.push(viewer).expect(rt, "memory");
     }
-    Ok(lent)
+    lent
 }
 
 /// Where no viewer is left another session is refused, until the first one gives its viewer back.
@@ -279,41 +275,36 @@ fn keeps_viewer_limit<J: Naming, R: Wait + Abort, K: Wait + Drop>(
     viewers: Viewers<J>,
     other: &mut Viewers<J>,
     out: &mut Vec<u8>,
-) -> Result<(), Fail> {
+) {
     let refused = tell_clock(rt, alloc, hall, other, out);
     assert_eq!(rt; refused, Err(Refusal::NoPlace));
     for viewer in viewers.into_vec() {
         hall.take_back(rt, viewer);
     }
-    tell_clock(rt, alloc, hall, other, out)?;
-    Ok(())
+    tell_clock(rt, alloc, hall, other, out).expect(rt, "a clock");
 }
 
 fn keeps_both_limits<J: Naming, R: Wait + Abort, K: Wait + Drop>(
     rt: &R,
     alloc: Global,
     hall: &RootHall<J, K>,
-) -> Result<(), Fail> {
+) {
     let mut viewers = Viewers::new(alloc);
     let mut out = Vec::new(alloc);
-    keeps_cursor_limit(rt, alloc, hall, &mut viewers, &mut out)?;
-    let _lent = lent(rt, alloc, hall)?;
-    keeps_viewer_limit(rt, alloc, hall, viewers, &mut Viewers::new(alloc), &mut out)
+    keeps_cursor_limit(rt, alloc, hall, &mut viewers, &mut out);
+    let _lent = lent(rt, alloc, hall);
+    keeps_viewer_limit(rt, alloc, hall, viewers, &mut Viewers::new(alloc), &mut out);
 }
 
-fn keeps_limits<J: Naming, R: Wait + Abort>(
-    rt: &R,
-    alloc: Global,
-    opened: Opened,
-) -> Result<(), Fail>
+fn keeps_limits<J: Naming, R: Wait + Abort>(rt: &R, alloc: Global, opened: Opened)
     requires { opened.seen.book ≡ J.book }
 {
     let shares: Shares<J> = Shares::new(opened);
-    let hall = opened_hall(rt, alloc, shares)?;
-    keeps_both_limits(rt, alloc, &hall)
+    let hall = opened_hall(rt, alloc, shares);
+    keeps_both_limits(rt, alloc, &hall);
 }
 
 #[test]
-fn cursors_and_viewers_have_limits(rt: HostRuntime) -> Result<(), Fail> {
-    keeps_limits::<Brand, _>(&rt, rt.alloc(), Opened::new())
+fn cursors_and_viewers_have_limits(rt: HostRuntime) {
+    keeps_limits::<Brand, _>(&rt, rt.alloc(), Opened::new());
 }

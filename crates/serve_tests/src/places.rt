@@ -3,9 +3,8 @@ use std::alloc::Global;
 use std::env;
 use std::fs::{File, Files};
 use std::net::Net;
-use std::process::Command;
+use std::process::{Abort, Command};
 use std::sync::Wait;
-use std::test::Fail;
 use std::thread::Threads;
 use std::time::Clock;
 use wm_crawler::{SystemFolders, Turnstile};
@@ -26,50 +25,45 @@ pub struct Place {
 }
 
 /// A path in the folder where the tests run.
-pub fn path_of(rt: &HostRuntime, name: &str) -> Result<String, Fail> {
-    let folder = env::current_dir(rt)?;
+pub fn path_of(rt: &HostRuntime, host: &impl Abort, name: &str) -> String {
+    let folder = env::current_dir(rt).expect(host, "a folder");
     let folder = folder.as_str();
-    Ok(format!(in rt.alloc(); "{folder}/{name}")?)
+    format!(in rt.alloc(); "{folder}/{name}").expect(host, "memory")
 }
 
 /// Whether a command line of the shell succeeded.
-pub fn sh(rt: &HostRuntime, line: &str) -> Result<bool, Fail> {
-    let status = Command::new(rt.alloc(), "sh")?
-        .arg("-c")?
-        .arg(line)?
-        .status(rt)?;
-    Ok(status.success())
+pub fn sh(rt: &HostRuntime, host: &impl Abort, line: &str) -> bool {
+    let mut command = Command::new(rt.alloc(), "sh").expect(host, "memory");
+    command.arg("-c").expect(host, "memory");
+    command.arg(line).expect(host, "memory");
+    command.status(rt).expect(host, "a status").success()
 }
 
 /// Makes a state file.
-fn format_file(rt: &HostRuntime, alloc: Global, path: &str) -> Result<(), Refusal> {
-    let Ok(mut disk) = FileDisk::<Unknown>::create(rt, path) else {
-        return Err(Refusal::DeviceFailed);
-    };
-    wm_store::format(alloc, &mut disk)
+fn format_file(rt: &HostRuntime, host: &impl Abort, path: &str) {
+    let mut disk = FileDisk::<Unknown>::create(rt, path).expect(host, "a state file");
+    wm_store::format(rt.alloc(), &mut disk).expect(host, "a format");
 }
 
 impl Place {
     /// A place of a name, with a new state file, a folder that has `a` (3 bytes) and `d/b`, and no socket yet.
-    pub fn new(rt: &HostRuntime, name: &str) -> Result<Place, Fail> {
+    pub fn new(rt: &HostRuntime, host: &impl Abort, name: &str) -> Place {
         let alloc = rt.alloc();
-        let root = path_of(rt, name)?;
-        sh(
-            rt,
-            format!(in alloc;
-                "rm -rf {name}* && mkdir -p {name}/d && printf abc > {name}/a && : > {name}/d/b"
-            )?.as_str(),
-        )?;
-        let state = format!(in alloc; "{name}.state")?;
-        let socket = format!(in alloc; "{name}.socket")?;
-        format_file(rt, alloc, state.as_str())?;
-        Ok(Place {
+        let root = path_of(rt, host, name);
+        let line = format!(in alloc;
+            "rm -rf {name}* && mkdir -p {name}/d && printf abc > {name}/a && : > {name}/d/b"
+        ).expect(host, "memory");
+        sh(rt, host, line.as_str());
+        let state = format!(in alloc; "{name}.state").expect(host, "memory");
+        let socket = format!(in alloc; "{name}.socket").expect(host, "memory");
+        format_file(rt, host, state.as_str());
+        Place {
             state,
             socket,
             root,
-            folders: SystemFolders::new(rt.clone()?),
-            programs: SystemPrograms::new(rt.clone()?),
-        })
+            folders: SystemFolders::new(rt.clone().expect(host, "a handle")),
+            programs: SystemPrograms::new(rt.clone().expect(host, "a handle")),
+        }
     }
 
     /// Serves it until so many sessions have ended.

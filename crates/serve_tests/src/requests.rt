@@ -1,6 +1,5 @@
 //! What a line asks of a server.
 use std::alloc::{AllocError, Global};
-use std::test::Fail;
 use wm_disk::Refusal;
 use wm_lines::{Request, ServerRequest};
 use wm_names::{RootPath, Subtree};
@@ -51,10 +50,9 @@ fn told(alloc: Global, line: &str) -> Result<String, AllocError> {
 }
 
 #[test]
-fn lines_of_the_table(rt: HostRuntime) -> Result<(), Fail> {
+fn lines_of_the_table(rt: HostRuntime) {
     for (line, wanted) in ASKED {
-        let told = told(rt.alloc(), line)?;
+        let told = told(rt.alloc(), line).expect(&rt, "memory");
         assert!(rt; told.as_str() == *wanted, "{line}: {told}");
     }
-    Ok(())
 }

@@ -2,7 +2,7 @@
 use crate::client::{Client, TRIES, ask_of};
 use crate::places::Place;
 use std::alloc::{AllocError, Global};
-use std::test::Fail;
+use std::process::Abort;
 use std::time::Duration;
 use std::{io, thread};
 use wm_crawler::Open;
@@ -14,99 +14,103 @@ fn is_answered(client: &mut Client) -> io::Result<bool> {
 }
 
 /// Whether a session that comes is answered.
-fn is_served(rt: &HostRuntime, place: &Place) -> io::Result<bool> {
-    let mut client = Client::connect(rt, place.socket.as_str())?;
+fn is_served(rt: &HostRuntime, host: &impl Abort, place: &Place) -> io::Result<bool> {
+    let mut client = Client::connect(rt, host, place.socket.as_str());
     is_answered(&mut client)
 }
 
 /// Whether a second session is answered beside a first one, and then the first once more.
-fn beside(rt: &HostRuntime, place: &Place, first: &mut Client) -> io::Result<bool> {
-    let mut second = Client::connect(rt, place.socket.as_str())?;
-    let two = is_answered(&mut second)?;
-    let three = is_answered(first)?;
-    Ok(two && three)
+fn beside(rt: &HostRuntime, host: &impl Abort, place: &Place, first: &mut Client) -> bool {
+    let mut second = Client::connect(rt, host, place.socket.as_str());
+    let two = is_answered(&mut second).expect(host, "an answer");
+    let three = is_answered(first).expect(host, "an answer");
+    two && three
 }
 
 /// Whether a first session is answered, then a second beside it, and then the first once more.
-fn one_after_another(rt: &HostRuntime, place: &Place) -> io::Result<bool> {
-    let mut first = Client::connect(rt, place.socket.as_str())?;
-    let one = is_answered(&mut first)?;
-    let others = beside(rt, place, &mut first)?;
-    Ok(one && others)
+fn one_after_another(rt: &HostRuntime, host: &impl Abort, place: &Place) -> bool {
+    let mut first = Client::connect(rt, host, place.socket.as_str());
+    let one = is_answered(&mut first).expect(host, "an answer");
+    let others = beside(rt, host, place, &mut first);
+    one && others
 }
 
 #[test]
-fn one_session_after_another(rt: HostRuntime) -> Result<(), Fail> {
+fn one_session_after_another(rt: HostRuntime) {
     let alloc = rt.alloc();
-    let place = Place::new(&rt, "serve_two")?;
+    let place = Place::new(&rt, &rt, "serve_two");
     let (served, answered) = thread::join(
         &rt,
         || place.serve(&rt, alloc, &Open, 2),
-        || one_after_another(&rt, &place),
+        || one_after_another(&rt, &rt, &place),
     );
     assert!(rt; served.is_ok());
-    assert!(rt; answered?);
-    Ok(())
+    assert!(rt; answered);
 }
 
 /// Comes in once there is a chair.
-fn come_in(rt: &HostRuntime, place: &Place) -> io::Result<bool> {
+fn come_in(rt: &HostRuntime, host: &impl Abort, place: &Place) -> bool {
     for _ in 0..TRIES {
         // a session that finds no chair may also be cut off
-        if let Ok(true) = is_served(rt, place) {
-            return Ok(true);
+        if let Ok(true) = is_served(rt, host, place) {
+            return true;
         }
         thread::sleep(rt, Duration::from_millis(10));
     }
-    Ok(false)
+    false
 }
 
 /// Lets one more session in, and tells whether it is answered.
-fn sit_down(rt: &HostRuntime, place: &Place, clients: &mut Vec<Client>) -> io::Result<bool> {
-    let mut client = Client::connect(rt, place.socket.as_str())?;
-    let is_answered = is_answered(&mut client)?;
-    clients.push(client)?;
-    Ok(is_answered)
+fn sit_down(rt: &HostRuntime, host: &impl Abort, place: &Place, clients: &mut Vec<Client>) -> bool {
+    let mut client = Client::connect(rt, host, place.socket.as_str());
+    let is_answered = is_answered(&mut client).expect(host, "an answer");
+    clients.push(client).expect(host, "memory");
+    is_answered
 }
 
 /// Fills each chair, and tells how many sessions were answered.
-fn sit_on_each(rt: &HostRuntime, place: &Place, clients: &mut Vec<Client>) -> io::Result<u64> {
+fn sit_on_each(
+    rt: &HostRuntime,
+    host: &impl Abort,
+    place: &Place,
+    clients: &mut Vec<Client>,
+) -> u64 {
     let mut answered: u64 = 0;
     for _ in 0..31 {
-        if sit_down(rt, place, clients)? {
+        if sit_down(rt, host, place, clients) {
             answered = answered.saturating_add(1);
         }
     }
-    Ok(answered)
+    answered
 }
 
 /// What one session more is told, and a line later.
-fn told_late(rt: &HostRuntime, place: &Place) -> io::Result<(String, String)> {
-    let mut late = Client::connect(rt, place.socket.as_str())?;
-    let first = late.line()?;
-    Ok((first, late.line()?))
+fn told_late(rt: &HostRuntime, host: &impl Abort, place: &Place) -> (String, String) {
+    let mut late = Client::connect(rt, host, place.socket.as_str());
+    let first = late.line().expect(host, "a line");
+    (first, late.line().expect(host, "a line"))
 }
 
 /// Fills each chair, tells what one session more is told and a line later, and lets one more in once another left.
-fn too_many(rt: &HostRuntime, place: &Place) -> io::Result<(u64, String, String)> {
+fn too_many(rt: &HostRuntime, host: &impl Abort, place: &Place) -> (u64, String, String) {
     let mut clients = Vec::new(rt.alloc());
-    let answered = sit_on_each(rt, place, &mut clients)?;
-    let (first, second) = told_late(rt, place)?;
+    let answered = sit_on_each(rt, host, place, &mut clients);
+    let (first, second) = told_late(rt, host, place);
     clients.pop();
-    come_in(rt, place)?;
-    Ok((answered, first, second))
+    come_in(rt, host, place);
+    (answered, first, second)
 }
 
 #[test]
-fn one_session_too_many(rt: HostRuntime) -> Result<(), Fail> {
+fn one_session_too_many(rt: HostRuntime) {
     let alloc = rt.alloc();
-    let place = Place::new(&rt, "serve_many")?;
+    let place = Place::new(&rt, &rt, "serve_many");
     let (served, told) = thread::join(
         &rt,
         || place.serve(&rt, alloc, &Open, 32),
-        || too_many(&rt, &place),
+        || too_many(&rt, &rt, &place),
     );
-    let (answered, first, second) = told?;
+    let (answered, first, second) = told;
     assert!(rt; served.is_ok());
     assert_eq!(rt; answered, 31);
     assert!(rt;
@@ -114,44 +118,45 @@ fn one_session_too_many(rt: HostRuntime) -> Result<(), Fail> {
         "{first}"
     );
     assert!(rt; second.is_empty());
-    Ok(())
 }
 
 /// Watches the root, and subscribes to it.
-fn subscribe(rt: &HostRuntime, client: &mut Client, root: &str) -> io::Result<String> {
-    ask_of(rt, client, "watch", root)?;
+fn subscribe(rt: &HostRuntime, host: &impl Abort, client: &mut Client, root: &str) -> String {
+    ask_of(host, client, "watch", root);
     let line = format!(in rt.alloc();
         "[\"subscribe\",\"{root}\",\"s\",{{\"fields\":[\"name\"]}}]"
-    )?;
-    client.ask_ready(rt, line.as_str())
+    ).expect(host, "memory");
+    client.ask_ready(rt, host, line.as_str())
 }
 
 /// Tells that `a` is gone.
-fn observe(rt: &HostRuntime, client: &mut Client, root: &str) -> io::Result<String> {
-    let line = format!(in rt.alloc(); "[\"observe\",\"{root}\",[[\"a\",null]]]")?;
-    client.ask(line.as_str())
+fn observe(rt: &HostRuntime, host: &impl Abort, client: &mut Client, root: &str) {
+    let line = format!(in rt.alloc(); "[\"observe\",\"{root}\",[[\"a\",null]]]");
+    let line = line.expect(host, "memory");
+    client.ask(line.as_str()).expect(host, "a reply");
 }
 
 /// The next line, and the one after it, before which a second session tells that `a` is gone.
 fn told_by_another(
     rt: &HostRuntime,
+    host: &impl Abort,
     client: &mut Client,
     second: &mut Client,
     root: &str,
-) -> io::Result<(String, String)> {
-    let told = client.line()?;
-    observe(rt, second, root)?;
-    Ok((told, client.line()?))
+) -> (String, String) {
+    let told = client.line().expect(host, "a line");
+    observe(rt, host, second, root);
+    (told, client.line().expect(host, "a line"))
 }
 
 /// Subscribes in one session, observes in another, and gives the first three lines of the first.
-fn tell_unasked(rt: &HostRuntime, place: &Place) -> io::Result<(String, String, String)> {
+fn tell_unasked(rt: &HostRuntime, host: &impl Abort, place: &Place) -> (String, String, String) {
     let root = place.root.as_str();
-    let mut first = Client::connect(rt, place.socket.as_str())?;
-    let mut second = Client::connect(rt, place.socket.as_str())?;
-    let subscribed = subscribe(rt, &mut first, root)?;
-    let (told, again) = told_by_another(rt, &mut first, &mut second, root)?;
-    Ok((subscribed, told, again))
+    let mut first = Client::connect(rt, host, place.socket.as_str());
+    let mut second = Client::connect(rt, host, place.socket.as_str());
+    let subscribed = subscribe(rt, host, &mut first, root);
+    let (told, again) = told_by_another(rt, host, &mut first, &mut second, root);
+    (subscribed, told, again)
 }
 
 /// The line of the root's subscription with this clock, these files and whether it begins anew.
@@ -168,23 +173,22 @@ fn due_line(
 }
 
 #[test]
-fn told_unasked(rt: HostRuntime) -> Result<(), Fail> {
+fn told_unasked(rt: HostRuntime) {
     let alloc = rt.alloc();
-    let place = Place::new(&rt, "serve_told")?;
+    let place = Place::new(&rt, &rt, "serve_told");
     let (served, told) = thread::join(
         &rt,
         || place.serve(&rt, alloc, &Open, 2),
-        || tell_unasked(&rt, &place),
+        || tell_unasked(&rt, &rt, &place),
     );
     assert!(rt; served.is_ok());
-    let (subscribed, first, second) = told?;
+    let (subscribed, first, second) = told;
     let root = place.root.as_str();
     assert!(rt;
         subscribed.as_str() == "{\"clock\":\"c:1:1:1\",\"subscribe\":\"s\",\"version\":\"w1\"}"
     );
-    let fresh = due_line(alloc, root, "c:1:1:1", "\"a\",\"d\",\"d/b\"", true)?;
-    let gone = due_line(alloc, root, "c:1:1:2", "\"a\"", false)?;
+    let fresh = due_line(alloc, root, "c:1:1:1", "\"a\",\"d\",\"d/b\"", true).expect(&rt, "memory");
+    let gone = due_line(alloc, root, "c:1:1:2", "\"a\"", false).expect(&rt, "memory");
     assert!(rt; first == fresh, "{first}");
     assert!(rt; second == gone, "{second}");
-    Ok(())
 }

@@ -1,6 +1,5 @@
 //! What the command-line words ask of `watchmand`, `serve` among them.
 use std::alloc::{AllocError, Global};
-use std::test::Fail;
 use wm_program::Words;
 
 /// Lists of words, and what they ask for.
@@ -69,11 +68,11 @@ fn asked(alloc: Global, words: &Words) -> Result<String, AllocError> {
 }
 
 #[test]
-fn words_of_the_table(rt: HostRuntime) -> Result<(), Fail> {
+fn words_of_the_table(rt: HostRuntime) {
     let alloc = rt.alloc();
     for (words, wanted) in ASKED {
-        let told = asked(alloc, &Words::read(alloc, words)?)?;
+        let read = Words::read(alloc, words).expect(&rt, "words");
+        let told = asked(alloc, &read).expect(&rt, "memory");
         assert!(rt; told.as_str() == *wanted, "{words:?}: {told}");
     }
-    Ok(())
 }

@@ -1,7 +1,7 @@
 //! Disks in memory with the files on which sessions run.
 use crate::ends::end_of;
 use std::alloc::Global;
-use std::test::Fail;
+use std::process::Abort;
 use wm_disk::{Crashed, Disk, MemDisk};
 
 /// Where the journal of a new file lies, which is that of its first slot.
@@ -17,35 +17,35 @@ pub(crate) fn journal(content: &[u8], len: usize) -> &[u8] {
 }
 
 /// A disk with a new file.
-pub(crate) fn new_file(alloc: Global) -> Result<MemDisk, Fail> {
+pub(crate) fn new_file(rt: &impl Abort, alloc: Global) -> MemDisk {
     let mut disk = MemDisk::new(alloc, 0);
-    wm_store::format(alloc, &mut disk)?;
-    Ok(disk)
+    wm_store::format(alloc, &mut disk).expect(rt, "a file");
+    disk
 }
 
 /// A disk with a new file, after sessions with these lines.
-pub(crate) fn file_after(alloc: Global, sessions: &[&str]) -> Result<MemDisk, Fail> {
-    let mut disk = new_file(alloc)?;
+pub(crate) fn file_after(rt: &impl Abort, alloc: Global, sessions: &[&str]) -> MemDisk {
+    let mut disk = new_file(rt, alloc);
     for input in sessions {
-        let end = end_of(alloc, disk, &mut input.as_bytes())?;
-        disk = disk_of(alloc, &end.content)?;
+        let end = end_of(rt, alloc, disk, &mut input.as_bytes());
+        disk = disk_of(rt, alloc, &end.content);
     }
-    Ok(disk)
+    disk
 }
 
 /// A disk that holds these bytes.
-pub(crate) fn disk_of(alloc: Global, content: &[u8]) -> Result<MemDisk, Fail> {
+pub(crate) fn disk_of(rt: &impl Abort, alloc: Global, content: &[u8]) -> MemDisk {
     let mut disk = MemDisk::new(alloc, 0);
-    disk.write_at(0, content)?;
-    disk.sync()?;
-    Ok(disk)
+    disk.write_at(0, content).expect(rt, "a write");
+    disk.sync().expect(rt, "a sync");
+    disk
 }
 
 /// What a disk holds, also one whose calls fail.
-pub(crate) fn content_of(alloc: Global, disk: MemDisk) -> Result<Vec<u8>, Fail> {
+pub(crate) fn content_of(rt: &impl Abort, alloc: Global, disk: MemDisk) -> Vec<u8> {
     let mut disk = disk.stop();
-    let len = disk.len()? as usize;
-    let mut content = vec![in alloc; 0u8; len]?;
-    disk.read_at(0, &mut content)?;
-    Ok(content)
+    let len = disk.len().expect(rt, "a length") as usize;
+    let mut content = vec![in alloc; 0u8; len].expect(rt, "memory");
+    disk.read_at(0, &mut content).expect(rt, "a read");
+    content
 }

@@ -1,9 +1,8 @@
 //! How sessions end: their replies, what they tell of faults, and what they leave in their files.
 use crate::disks::{content_of, file_after, journal, new_file};
-use std::alloc::{AllocError, Global};
+use std::alloc::Global;
 use std::io::BufRead;
 use std::process::Abort;
-use std::test::Fail;
 use wm_disk::{MemDisk, OneFault};
 use wm_server::lines::lines_on;
 use wm_server::{Input, Output};
@@ -31,47 +30,50 @@ pub(crate) struct End {
 }
 
 pub(crate) fn end_of<R: BufRead>(
+    rt: &impl Abort,
     alloc: Global,
     disk: MemDisk,
     reader: &mut R,
-) -> Result<End, Fail> {
+) -> End {
     let mut output = Vec::new(alloc);
     let mut faults = Vec::new(alloc);
     let mut reader = Input::new(reader);
     let mut writer = Output::new(&mut output);
     let mut told = Output::new(&mut faults);
     let (status, disk) = lines_on(alloc, disk, &mut reader, &mut writer, &mut told);
-    end_with(alloc, status, output, faults, disk)
+    end_with(rt, alloc, status, output, faults, disk)
 }
 
 /// How a session ended on a disk of which one call fails.
 pub(crate) fn end_of_one_fault<R: BufRead>(
+    rt: &impl Abort,
     alloc: Global,
     disk: OneFault<MemDisk>,
     reader: &mut R,
-) -> Result<End, Fail> {
+) -> End {
     let mut output = Vec::new(alloc);
     let mut faults = Vec::new(alloc);
     let mut reader = Input::new(reader);
     let mut writer = Output::new(&mut output);
     let mut told = Output::new(&mut faults);
     let (status, disk) = lines_on(alloc, disk, &mut reader, &mut writer, &mut told);
-    end_with(alloc, status, output, faults, disk.disk)
+    end_with(rt, alloc, status, output, faults, disk.disk)
 }
 
 fn end_with(
+    rt: &impl Abort,
     alloc: Global,
     status: u8,
     output: Vec<u8>,
     faults: Vec<u8>,
     disk: MemDisk,
-) -> Result<End, Fail> {
-    Ok(End {
+) -> End {
+    End {
         status,
-        output: String::from_utf8(output)?,
-        faults: String::from_utf8(faults)?,
-        content: content_of(alloc, disk)?,
-    })
+        output: String::from_utf8(output).expect(rt, "a text"),
+        faults: String::from_utf8(faults).expect(rt, "a text"),
+        content: content_of(rt, alloc, disk),
+    }
 }
 
 /// How a session must end: its status, its replies, what it tells of faults, and how the journal begins.
@@ -92,28 +94,32 @@ pub(crate) fn assert_ends(rt: &impl Abort, end: &End, wanted: Wanted<'_>, about:
 }
 
 /// The lines of a session, and their replies.
-pub(crate) fn texts(alloc: Global, tables: &[&[Row<'_>]]) -> Result<(String, String), AllocError> {
+pub(crate) fn texts(rt: &impl Abort, alloc: Global, tables: &[&[Row<'_>]]) -> (String, String) {
     let mut input = String::new(alloc);
     let mut output = String::new(alloc);
     for rows in tables {
         for (line, reply) in *rows {
-            put_row(line, reply, &mut input, &mut output)?;
+            put_row(rt, line, reply, &mut input, &mut output);
         }
     }
-    Ok((input, output))
+    (input, output)
 }
 
 /// A line more, and its reply.
 pub(crate) fn put_row(
+    rt: &impl Abort,
     line: &str,
     reply: &str,
     input: &mut String,
     output: &mut String,
-) -> Result<(), AllocError> {
-    input.push_str(line)?;
-    input.push('\n')?;
-    output.push_str(reply)?;
-    output.push('\n')
+) {
+    put_line(rt, line, input);
+    put_line(rt, reply, output);
+}
+
+fn put_line(rt: &impl Abort, line: &str, text: &mut String) {
+    text.push_str(line).expect(rt, "memory");
+    text.push('\n').expect(rt, "memory");
 }
 
 /// A session over a disk with these lines, which must end so.
@@ -124,11 +130,10 @@ pub(crate) fn assert_serves(
     input: &[u8],
     wanted: Wanted<'_>,
     about: &str,
-) -> Result<(), Fail> {
+) {
     let mut reader = input;
-    let end = end_of(alloc, disk, &mut reader)?;
+    let end = end_of(rt, alloc, disk, &mut reader);
     assert_ends(rt, &end, wanted, about);
-    Ok(())
 }
 
 /// A session over a new file with lines of which some are accepted, which must be answered so.
@@ -138,9 +143,10 @@ pub(crate) fn assert_answers(
     input: &str,
     output: &str,
     about: &str,
-) -> Result<(), Fail> {
+) {
     let wanted = (0, output, "", ACCEPTED);
-    assert_serves(rt, alloc, new_file(alloc)?, input.as_bytes(), wanted, about)
+    let disk = new_file(rt, alloc);
+    assert_serves(rt, alloc, disk, input.as_bytes(), wanted, about);
 }
 
 /// A session over a disk with the rows of these tables, one after the other.
@@ -151,10 +157,10 @@ pub(crate) fn assert_rows(
     tables: &[&[Row<'_>]],
     used: &[u8],
     about: &str,
-) -> Result<(), Fail> {
-    let (input, output) = texts(alloc, tables)?;
+) {
+    let (input, output) = texts(rt, alloc, tables);
     let wanted = (0, output.as_str(), "", used);
-    assert_serves(rt, alloc, disk, input.as_bytes(), wanted, about)
+    assert_serves(rt, alloc, disk, input.as_bytes(), wanted, about);
 }
 
 /// A session: what it shows, the lines of the sessions before it, its tables, and how the journal begins
@@ -162,14 +168,9 @@ pub(crate) fn assert_rows(
 pub(crate) type Told<'a> = (&'a str, &'a [&'a str], &'a [&'a [Row<'a>]], &'a [u8]);
 
 /// Each session over a new file, or one that earlier sessions left.
-pub(crate) fn assert_sessions(
-    rt: &impl Abort,
-    alloc: Global,
-    sessions: &[Told<'_>],
-) -> Result<(), Fail> {
+pub(crate) fn assert_sessions(rt: &impl Abort, alloc: Global, sessions: &[Told<'_>]) {
     for (about, earlier, tables, used) in sessions {
-        let disk = file_after(alloc, earlier)?;
-        assert_rows(rt, alloc, disk, tables, used, about)?;
+        let disk = file_after(rt, alloc, earlier);
+        assert_rows(rt, alloc, disk, tables, used, about);
     }
-    Ok(())
 }

@@ -11,8 +11,6 @@ use self::shown::show;
 use crate::ends::Row;
 use std::alloc::Global;
 use std::process::Abort;
-use std::test::Fail;
-use wm_disk::NoMemory;
 use wm_server::Request;
 
 const ARGUMENTS: &str = "3 BadArguments";
@@ -26,64 +24,64 @@ const EXPRESSION: &str = "8 BadExpression";
 const FIELD: &str = "9 BadField";
 
 /// Appends what was read.
-fn show_read(request: Request, text: &mut String) -> Result<(), NoMemory> {
-    show(&request, text)
+fn show_read(rt: &impl Abort, request: Request, text: &mut String) {
+    show(rt, &request, text);
+    drop(request);
 }
 
 /// What is read of a line, or the refusal.
-fn read(alloc: Global, line: &str) -> Result<String, Fail> {
-    let mut bytes = Vec::from_slice(alloc, line.as_bytes())?;
-    bytes.push(b'\n')?;
+fn read(rt: &impl Abort, alloc: Global, line: &str) -> String {
+    let mut bytes = Vec::from_slice(alloc, line.as_bytes()).expect(rt, "memory");
+    bytes.push(b'\n').expect(rt, "memory");
     let mut text = String::new(alloc);
     match Request::read(alloc, &bytes) {
-        Ok(request) => show_read(request, &mut text)?,
-        Err(refusal) => text.push_str(refusal.text())?,
+        Ok(request) => show_read(rt, request, &mut text),
+        Err(refusal) => text.push_str(refusal.text()).expect(rt, "memory"),
     }
-    Ok(text)
+    text
 }
 
 /// Each line is read as what stands beside it.
-fn assert_reads(rt: &impl Abort, alloc: Global, table: &[Row<'_>]) -> Result<(), Fail> {
+fn assert_reads(rt: &impl Abort, alloc: Global, table: &[Row<'_>]) {
     for (line, wanted) in table {
-        let text = read(alloc, line)?;
+        let text = read(rt, alloc, line);
         assert!(rt; text.as_str() == *wanted, "{line}: {text}");
     }
-    Ok(())
 }
 
 #[test]
-fn reads_requests(rt: HostRuntime) -> Result<(), Fail> {
-    assert_reads(&rt, rt.alloc(), observed::ROWS)?;
-    assert_reads(&rt, rt.alloc(), listed::ROWS)?;
-    assert_reads(&rt, rt.alloc(), clocks::ROWS)
+fn reads_requests(rt: HostRuntime) {
+    assert_reads(&rt, rt.alloc(), observed::ROWS);
+    assert_reads(&rt, rt.alloc(), listed::ROWS);
+    assert_reads(&rt, rt.alloc(), clocks::ROWS);
 }
 
 #[test]
-fn reads_queries_and_subscriptions(rt: HostRuntime) -> Result<(), Fail> {
-    assert_reads(&rt, rt.alloc(), queries::ROWS)?;
-    assert_reads(&rt, rt.alloc(), subscriptions::ROWS)
+fn reads_queries_and_subscriptions(rt: HostRuntime) {
+    assert_reads(&rt, rt.alloc(), queries::ROWS);
+    assert_reads(&rt, rt.alloc(), subscriptions::ROWS);
 }
 
 #[test]
-fn reads_triggers(rt: HostRuntime) -> Result<(), Fail> {
-    assert_reads(&rt, rt.alloc(), triggers::ENDED)?;
-    assert_reads(&rt, rt.alloc(), triggers::DEFINED)
+fn reads_triggers(rt: HostRuntime) {
+    assert_reads(&rt, rt.alloc(), triggers::ENDED);
+    assert_reads(&rt, rt.alloc(), triggers::DEFINED);
 }
 
 /// A line that lists so many paths, the last first.
-fn long_line(alloc: Global, front: &str, count: usize, back: &str) -> Result<String, Fail> {
-    let mut line = String::from_str(alloc, front)?;
+fn long_line(rt: &impl Abort, alloc: Global, front: &str, count: usize, back: &str) -> String {
+    let mut line = String::from_str(alloc, front).expect(rt, "memory");
     for number in (0..count).rev() {
         let comma = if number == 0 { "" } else { "," };
-        write!(line, "[\"{number:05}\",{back}]{comma}")?;
+        write!(line, "[\"{number:05}\",{back}]{comma}").expect(rt, "memory");
     }
-    line.push_str("]]\n")?;
-    Ok(line)
+    line.push_str("]]\n").expect(rt, "memory");
+    line
 }
 
 /// How many pairs the request observes, and how many files it lists.
-fn counts(request: Request) -> (usize, usize) {
-    match &request {
+fn counts(request: &Request) -> (usize, usize) {
+    match request {
         Request::Observe(_, pairs) => (pairs.as_slice().len(), 0),
         Request::Listing(_, _, listing) => (0, listing.files().len()),
         _ => (0, 0),
@@ -91,19 +89,21 @@ fn counts(request: Request) -> (usize, usize) {
 }
 
 /// How many pairs are observed by a line, and how many files are listed.
-fn counts_read(alloc: Global, line: &str) -> Result<(usize, usize), Fail> {
-    Ok(counts(Request::read(alloc, line.as_bytes())?))
+fn counts_read(rt: &impl Abort, alloc: Global, line: &str) -> (usize, usize) {
+    let request = Request::read(alloc, line.as_bytes()).expect(rt, "a request");
+    let counted = counts(&request);
+    drop(request);
+    counted
 }
 
 #[test]
-fn reads_long_lines(rt: HostRuntime) -> Result<(), Fail> {
+fn reads_long_lines(rt: HostRuntime) {
     let alloc = rt.alloc();
-    let line = long_line(alloc, "[\"observe\",\"/r\",[", 65_537, "null")?;
-    let (pairs, _) = counts_read(alloc, &line)?;
+    let line = long_line(&rt, alloc, "[\"observe\",\"/r\",[", 65_537, "null");
+    let (pairs, _) = counts_read(&rt, alloc, &line);
     assert!(rt; pairs == 65_537);
     let meta = "{\"type\":\"f\",\"size\":0,\"mtime_ms\":0}";
-    let line = long_line(alloc, "[\"listing\",\"/r\",0,\"\",[", 2_000, meta)?;
-    let (_, files) = counts_read(alloc, &line)?;
+    let line = long_line(&rt, alloc, "[\"listing\",\"/r\",0,\"\",[", 2_000, meta);
+    let (_, files) = counts_read(&rt, alloc, &line);
     assert!(rt; files == 2_000);
-    Ok(())
 }

@@ -1,6 +1,6 @@
 //! Worlds on a disk in memory, driven by lists of events.
 use std::alloc::Global;
-use std::test::Fail;
+use std::process::Abort;
 use wm_disk::{Crashed, MemDisk, Refusal};
 use wm_names::{Kind, Meta, RelPath, RootPath, Subtree};
 use wm_registry::{Command, Registry};
@@ -23,27 +23,32 @@ fn driven<D: Crashed + Drop>(
     drive(alloc, disk, events)
 }
 
-fn root(alloc: Global) -> Result<RootPath, Fail> {
-    Ok(RootPath::read(alloc, "/r")?)
+/// Appends an event.
+fn put(rt: &impl Abort, event: Event, events: &mut Vec<Event>) {
+    events.push(event).expect(rt, "memory");
+}
+
+fn root(rt: &impl Abort, alloc: Global) -> RootPath {
+    RootPath::read(alloc, "/r").expect(rt, "a path")
 }
 
 /// Appends watches of these paths.
-fn put_watches(alloc: Global, paths: &[&str], commands: &mut Vec<Command>) -> Result<(), Fail> {
+fn put_watches(rt: &impl Abort, alloc: Global, paths: &[&str], commands: &mut Vec<Command>) {
     for path in paths {
-        commands.push(Command::Watch(RootPath::read(alloc, path)?))?;
+        let path = RootPath::read(alloc, path).expect(rt, "a path");
+        commands.push(Command::Watch(path)).expect(rt, "memory");
     }
-    Ok(())
 }
 
 /// A batch that watches these paths.
-fn watch_all(alloc: Global, paths: &[&str]) -> Result<Event, Fail> {
+fn watch_all(rt: &impl Abort, alloc: Global, paths: &[&str]) -> Event {
     let mut commands = Vec::new(alloc);
-    put_watches(alloc, paths, &mut commands)?;
-    Ok(Event::Commands(commands))
+    put_watches(rt, alloc, paths, &mut commands);
+    Event::Commands(commands)
 }
 
-fn watch(alloc: Global, path: &str) -> Result<Event, Fail> {
-    watch_all(alloc, &[path])
+fn watch(rt: &impl Abort, alloc: Global, path: &str) -> Event {
+    watch_all(rt, alloc, &[path])
 }
 
 fn file(size: u64) -> Meta {
@@ -55,64 +60,64 @@ fn file(size: u64) -> Meta {
 }
 
 /// A reading of the whole of `/r` that finds these files, and began at a tick.
-fn found(alloc: Global, moment: u64, begun_at: u64, names: &[&str]) -> Result<Event, Fail> {
+fn found(rt: &impl Abort, alloc: Global, moment: u64, begun_at: u64, names: &[&str]) -> Event {
     let mut listing = Listing::new(alloc, Subtree::Whole);
     for name in names {
-        listing.add(RelPath::read(alloc, name)?, file(1))?;
+        let path = RelPath::read(alloc, name).expect(rt, "a path");
+        listing.add(path, file(1)).expect(rt, "a listing");
     }
-    Ok(Event::Recrawl(root(alloc)?, moment, begun_at, listing))
+    Event::Recrawl(root(rt, alloc), moment, begun_at, listing)
 }
 
 /// An observation of one file of `/r`: its size, and `None` where it is gone.
-fn seen(alloc: Global, moment: u64, name: &str, size: Option<u64>) -> Result<Event, Fail> {
+fn seen(rt: &impl Abort, alloc: Global, moment: u64, name: &str, size: Option<u64>) -> Event {
+    let path = RelPath::read(alloc, name).expect(rt, "a path");
     let mut pairs = Vec::new(alloc);
-    pairs.push((RelPath::read(alloc, name)?, size.map(file)))?;
-    Ok(Event::Observe(root(alloc)?, moment, Pairs::new(pairs)))
+    pairs.push((path, size.map(file))).expect(rt, "memory");
+    Event::Observe(root(rt, alloc), moment, Pairs::new(pairs))
 }
 
 /// Appends the incarnation and the watches.
-fn show_registry(registry: &Registry, text: &mut String) -> Result<(), Fail> {
-    write!(text, "{}", registry.incarnation())?;
+fn show_registry(rt: &impl Abort, registry: &Registry, text: &mut String) {
+    write!(text, "{}", registry.incarnation()).expect(rt, "memory");
     for (path, _) in registry.roots().iter() {
-        write!(text, " {}", path.as_str())?;
+        write!(text, " {}", path.as_str()).expect(rt, "memory");
     }
-    Ok(())
 }
 
 /// Appends the client's files at its clock.
-fn show_client(alloc: Global, client: &Connection, text: &mut String) -> Result<(), Fail> {
-    text.push_str(";")?;
+fn show_client(rt: &impl Abort, alloc: Global, client: &Connection, text: &mut String) {
+    text.push_str(";").expect(rt, "memory");
     for file in client.mirror.files() {
-        write!(text, " {}", file.as_str())?;
+        write!(text, " {}", file.as_str()).expect(rt, "memory");
     }
     if let Some(clock) = client.mirror.clock() {
-        write!(text, " at {}", clock.text(alloc)?.as_str())?;
+        let clock = clock.text(alloc).expect(rt, "memory");
+        write!(text, " at {clock}").expect(rt, "memory");
     }
-    Ok(())
 }
 
 /// Appends the incarnation and the watches, and each client's files at its clock.
-fn show(alloc: Global, world: &World<MemDisk>, text: &mut String) -> Result<(), Fail> {
+fn show(rt: &impl Abort, alloc: Global, world: &World<MemDisk>, text: &mut String) {
     if let Some(registry) = world.registry() {
-        show_registry(registry, text)?;
+        show_registry(rt, registry, text);
     }
     for client in world.clients() {
-        show_client(alloc, client, text)?;
+        show_client(rt, alloc, client, text);
     }
-    Ok(())
 }
 
 /// Whether the world shows that.
-fn is_shown(alloc: Global, world: &World<MemDisk>, wanted: &str) -> Result<bool, Fail> {
+fn is_shown(rt: &impl Abort, alloc: Global, world: &World<MemDisk>, wanted: &str) -> bool {
     let mut text = String::new(alloc);
-    show(alloc, world, &mut text)?;
-    Ok(text.as_str() == wanted)
+    show(rt, alloc, world, &mut text);
+    text.as_str() == wanted
 }
 
 /// What a world shows after these events on a new file, where this choice says what a crash leaves.
-fn shown_after(alloc: Global, choice: u64, events: Vec<Event>) -> Result<String, Fail> {
+fn shown_after(rt: &impl Abort, alloc: Global, choice: u64, events: Vec<Event>) -> String {
     let mut text = String::new(alloc);
-    let world = driven(alloc, MemDisk::new(alloc, choice), events)?;
-    show(alloc, &world, &mut text)?;
-    Ok(text)
+    let world = driven(alloc, MemDisk::new(alloc, choice), events).expect(rt, "a world");
+    show(rt, alloc, &world, &mut text);
+    text
 }

@@ -4,7 +4,7 @@ ghost use Rattle.std.proofs.Common.{sym, true≢false};
 
 use serde_json::Value;
 use std::alloc::Global;
-use std::test::Fail;
+use std::process::Abort;
 use wm_clock::ClockId;
 use wm_disk::NoMemory;
 use wm_expr::Expr;
@@ -45,9 +45,9 @@ impl Test for Smaller {
 }
 
 /// The expression that a JSON text is.
-fn read(alloc: Global, text: &str) -> Result<Expr, Fail> {
-    let value = Value::from_slice(alloc, text.as_bytes())?;
-    Ok(Expr::read(alloc, &value)?)
+fn read(rt: &impl Abort, alloc: Global, text: &str) -> Expr {
+    let value = Value::from_slice(alloc, text.as_bytes()).expect(rt, "JSON");
+    Expr::read(alloc, &value).expect(rt, "an expression")
 }
 
 fn clock(incarnation: u64, root: u64, tick: u64) -> ClockId {
@@ -68,45 +68,47 @@ fn clock_at(tick: Option<u64>) -> Option<ClockId> {
 
 /// What is answered since a tick of root 1 in incarnation 1, and since no clock where there is none.
 fn answer_since<T: Test>(
+    rt: &impl Abort,
     alloc: Global,
     view: &View,
     since: Option<u64>,
     test: T,
-) -> Result<Answer, Fail> {
+) -> Answer {
     let query = Query {
         since: clock_at(since),
         test,
         empty_on_fresh: false,
     };
-    Ok(answer(alloc, view, &query)?)
+    answer(alloc, view, &query).expect(rt, "an answer")
 }
 
 /// The answer's files as a text.
-fn rendered(alloc: Global, answer: &Answer, fields: &Fields) -> Result<String, Fail> {
+fn rendered(rt: &impl Abort, alloc: Global, answer: &Answer, fields: &Fields) -> String {
     let mut text = Vec::new(alloc);
-    render(alloc, answer, fields, &mut text)?;
-    Ok(String::from_utf8(text)?)
+    render(alloc, answer, fields, &mut text).expect(rt, "memory");
+    String::from_utf8(text).expect(rt, "a text")
 }
 
 /// The same, with the fields of these names.
-fn rendered_by(alloc: Global, answer: &Answer, names: &[&str]) -> Result<String, Fail> {
-    rendered(alloc, answer, &Fields::read(alloc, names)?)
+fn rendered_by(rt: &impl Abort, alloc: Global, answer: &Answer, names: &[&str]) -> String {
+    let fields = Fields::read(alloc, names).expect(rt, "fields");
+    rendered(rt, alloc, answer, &fields)
 }
 
 /// What a mirror asks; nothing where a question is open already.
-fn ask<T: Test>(alloc: Global, mirror: &mut Mirror<T>) -> Result<Option<Query<T>>, Fail> {
+fn ask<T: Test>(rt: &impl Abort, alloc: Global, mirror: &mut Mirror<T>) -> Option<Query<T>> {
     if mirror.open() {
-        return Ok(None);
+        return None;
     }
-    Ok(Some(mirror.ask(alloc)?))
+    Some(mirror.ask(alloc).expect(rt, "memory"))
 }
 
 /// The paths of a mirror's files, each followed by a space.
-fn names<T: Test>(alloc: Global, mirror: &Mirror<T>) -> Result<String, Fail> {
+fn names<T: Test>(rt: &impl Abort, alloc: Global, mirror: &Mirror<T>) -> String {
     let mut names = String::new(alloc);
     for path in mirror.files() {
-        names.push_str(path.as_str())?;
-        names.push(' ')?;
+        names.push_str(path.as_str()).expect(rt, "memory");
+        names.push(' ').expect(rt, "memory");
     }
-    Ok(names)
+    names
 }

@@ -1,8 +1,7 @@
 //! Expressions: which JSON texts are ones, and of which files they hold.
 use serde_json::Value;
 use std::alloc::Global;
-use std::test::Fail;
-use wm_disk::{NoMemory, Refusal};
+use std::process::Abort;
 use wm_expr::Expr;
 use wm_names::{Entry, Kind, Meta, RelPath};
 
@@ -11,34 +10,35 @@ mod patterns;
 mod readings;
 
 /// The expression that a JSON text is.
-fn read(alloc: Global, text: &str) -> Result<Expr, Fail> {
-    let value = Value::from_str(alloc, text)?;
-    Ok(Expr::read(alloc, &value)?)
+fn read(rt: &impl Abort, alloc: Global, text: &str) -> Expr {
+    let value = Value::from_str(alloc, text).expect(rt, "JSON");
+    Expr::read(alloc, &value).expect(rt, "an expression")
 }
 
 /// What is known of a file.
-fn entry(alloc: Global, path: &str, exists: bool, kind: Kind, size: u64) -> Result<Entry, Refusal> {
-    let path = RelPath::read(alloc, path)?;
+fn entry(rt: &impl Abort, alloc: Global, path: &str, exists: bool, kind: Kind, size: u64) -> Entry {
+    let path = RelPath::read(alloc, path).expect(rt, "a path");
     let meta = Meta {
         kind,
         size,
         mtime_ms: 7,
     };
-    Ok(Entry { path, exists, meta })
+    Entry { path, exists, meta }
 }
 
 /// A text, another so many times, and a third.
 fn repeated(
+    rt: &impl Abort,
     alloc: Global,
     front: &str,
     text: &str,
     times: u16,
     back: &str,
-) -> Result<String, NoMemory> {
-    let mut all = String::from_str(alloc, front)?;
+) -> String {
+    let mut all = String::from_str(alloc, front).expect(rt, "memory");
     for _ in 0..times {
-        all.push_str(text)?;
+        all.push_str(text).expect(rt, "memory");
     }
-    all.push_str(back)?;
-    Ok(all)
+    all.push_str(back).expect(rt, "memory");
+    all
 }

@@ -1,7 +1,6 @@
 //! Listings, observations and views, made from what a table tells.
 use std::alloc::Global;
-use std::test::Fail;
-use wm_disk::Refusal;
+use std::process::Abort;
 use wm_names::{Kind, Meta, RelPath, Subtree};
 use wm_view::{Listing, Pairs, View};
 
@@ -30,62 +29,65 @@ fn file_told(size: Option<u64>) -> Option<Meta> {
     }
 }
 
-pub fn pairs_of(alloc: Global, told: Told) -> Result<Pairs, Fail> {
+pub fn pairs_of(rt: &impl Abort, alloc: Global, told: Told) -> Pairs {
     let mut pairs = Vec::new(alloc);
     for (path, size) in told {
-        pairs.push((RelPath::read(alloc, path)?, file_told(*size)))?;
+        let path = RelPath::read(alloc, path).expect(rt, "a path");
+        pairs.push((path, file_told(*size))).expect(rt, "memory");
     }
-    Ok(Pairs::new(pairs))
+    Pairs::new(pairs)
 }
 
 /// An observation of one path.
-pub fn pair(alloc: Global, path: &str, state: Option<Meta>) -> Result<Pairs, Refusal> {
+pub fn pair(rt: &impl Abort, alloc: Global, path: &str, state: Option<Meta>) -> Pairs {
     let mut pairs = Vec::new(alloc);
-    pairs.push((RelPath::read(alloc, path)?, state))?;
-    Ok(Pairs::new(pairs))
+    let path = RelPath::read(alloc, path).expect(rt, "a path");
+    pairs.push((path, state)).expect(rt, "memory");
+    Pairs::new(pairs)
 }
 
 /// All of the root, or what stands below the path.
-pub fn part_of(alloc: Global, top: Option<&str>) -> Result<Subtree, Fail> {
+pub fn part_of(rt: &impl Abort, alloc: Global, top: Option<&str>) -> Subtree {
     match top {
-        Some(top) => Ok(Subtree::Below(RelPath::read(alloc, top)?)),
-        None => Ok(Subtree::Whole),
+        Some(top) => Subtree::Below(RelPath::read(alloc, top).expect(rt, "a path")),
+        None => Subtree::Whole,
     }
 }
 
 /// What a reading of the root, or of what stands below the path, found.
-pub fn listing_of(alloc: Global, top: Option<&str>, found: Found) -> Result<Listing, Fail> {
-    let mut listing = Listing::new(alloc, part_of(alloc, top)?);
+pub fn listing_of(rt: &impl Abort, alloc: Global, top: Option<&str>, found: Found) -> Listing {
+    let mut listing = Listing::new(alloc, part_of(rt, alloc, top));
     for (path, size) in found {
-        listing.add(RelPath::read(alloc, path)?, file(*size))?;
+        let path = RelPath::read(alloc, path).expect(rt, "a path");
+        listing.add(path, file(*size)).expect(rt, "an entry");
     }
-    Ok(listing)
+    listing
 }
 
 /// A view of root 1 in incarnation 1, whose first listing found this at moment 10.
-pub fn ready_with(alloc: Global, found: Found) -> Result<View, Fail> {
+pub fn ready_with(rt: &impl Abort, alloc: Global, found: Found) -> View {
     let mut view = View::new(alloc, 1, 1);
-    view.recrawl(alloc, 10, 0, &listing_of(alloc, None, found)?)?;
-    Ok(view)
+    view.recrawl(alloc, 10, 0, &listing_of(rt, alloc, None, found))
+        .expect(rt, "a recrawl");
+    view
 }
 
 /// The view takes an observation at this moment.
-pub fn observe_at(alloc: Global, view: &mut View, moment: u64, told: Told) -> Result<(), Fail> {
-    view.observe(alloc, moment, &pairs_of(alloc, told)?)?;
-    Ok(())
+pub fn observe_at(rt: &impl Abort, alloc: Global, view: &mut View, moment: u64, told: Told) {
+    view.observe(alloc, moment, &pairs_of(rt, alloc, told))
+        .expect(rt, "an observation");
 }
 
 /// The view takes these observations.
-pub fn observe(alloc: Global, view: &mut View, observed: Observed) -> Result<(), Fail> {
+pub fn observe(rt: &impl Abort, alloc: Global, view: &mut View, observed: Observed) {
     for (moment, told) in observed {
-        observe_at(alloc, view, *moment, told)?;
+        observe_at(rt, alloc, view, *moment, told);
     }
-    Ok(())
 }
 
 /// A view whose first listing found this, and which then took these observations.
-pub fn observed(alloc: Global, found: Found, observed: Observed) -> Result<View, Fail> {
-    let mut view = ready_with(alloc, found)?;
-    observe(alloc, &mut view, observed)?;
-    Ok(view)
+pub fn observed(rt: &impl Abort, alloc: Global, found: Found, observed: Observed) -> View {
+    let mut view = ready_with(rt, alloc, found);
+    observe(rt, alloc, &mut view, observed);
+    view
 }

@@ -2,7 +2,7 @@
 //! with a reference that keeps every map.
 use crate::making::file;
 use std::alloc::Global;
-use std::test::Fail;
+use std::process::Abort;
 use wm_names::RelPath;
 use wm_view::{Known, View};
 
@@ -48,17 +48,19 @@ fn lists(listed: &[(RelPath, Known)], wanted: &[Shown]) -> bool {
 }
 
 /// Whether this is what exists.
-fn exists_so(alloc: Global, view: &View, wanted: &[Shown]) -> Result<bool, Fail> {
-    Ok(lists(&view.existing(alloc)?, wanted))
+fn exists_so(rt: &impl Abort, alloc: Global, view: &View, wanted: &[Shown]) -> bool {
+    lists(&view.existing(alloc).expect(rt, "memory"), wanted)
 }
 
 /// Whether the view stands at this tick and floor, and shows this as changed after a tick.
 fn stands(
+    rt: &impl Abort,
     alloc: Global,
     view: &View,
     at: (u64, u64),
     since: u64,
     shown: &[Shown],
-) -> Result<bool, Fail> {
-    Ok((view.tick(), view.floor()) == at && lists(&view.changed_after(alloc, since)?, shown))
+) -> bool {
+    let changed = view.changed_after(alloc, since).expect(rt, "memory");
+    (view.tick(), view.floor()) == at && lists(&changed, shown)
 }

@@ -9,7 +9,7 @@ use std::alloc::Global;
 use std::marker::Model;
 use wm_disk::NoMemory;
 
-/// The most bytes that are kept of a record that doesn't end.
+/// The most bytes that may wait for the end of a record.
 const MAX_RECORD: usize = 65_536;
 
 /// How a record ends.
@@ -85,7 +85,7 @@ impl Flow {
         }
     }
 
-    /// Whether so much came without the end of a record that none is looked for.
+    /// Whether more bytes wait than may wait for the end of a record.
     pub fn is_lost(&self) -> bool
         ensures { result ≡ nat_lt 65536 (length self.now) }
     {

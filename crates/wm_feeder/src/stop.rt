@@ -17,7 +17,7 @@ pub enum Stop {
     Refused,
     /// inotifywait ended, as it does where a folder goes while it begins: it is started anew.
     Ended,
-    /// inotifywait couldn't be started.
+    /// inotifywait couldn't be started, or no time could be set for reading what it tells.
     Unwatched,
     /// Ten watches in a row ended before each folder was seen to be watched: inotifywait ended, folders stay
     /// without a watch, or a request failed each time that may be met later.

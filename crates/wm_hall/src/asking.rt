@@ -1,5 +1,5 @@
 //! Questions of a root, as a viewer answers them: the replies of `query`, `since` and `clock`.
-//! Definitions: `answer_to` of wm_since, `history` of wm_share. Tests: serve_tests/src/sessions.rt.
+//! Definitions: `answer_to` of wm_since, `history` of wm_share. Tests: serve_tests/src/halls.rt and sessions.rt.
 ghost use Rattle.std.specs.Prelude.{◌≡◌, ◌⊎◌, ◌++◌, ◌≤◌, true, false, IfOk, IfErr, OnErr, vec_capacity};
 ghost use Rattle.wm_expr.specs.Meanings.{holds};
 ghost use Rattle.wm_view.specs.Histories.{is_ready};

@@ -15,7 +15,7 @@ use crate::progress::Progress;
 use indexmap::IndexMap;
 use serde_json::{Value, json};
 use std::alloc::{AllocError, Global};
-pub use subscriptions::{put_due, put_subscribe, put_unsubscribe};
+pub use subscriptions::{put_due, put_unsubscribe, subscribe_line};
 use wm_clock::{ClockId, put_number};
 use wm_disk::{NoMemory, Refusal};
 use wm_names::RootPath;
@@ -39,17 +39,26 @@ pub fn put_refusal(refusal: Refusal, out: &mut Vec<u8>)
     out.extend_from_slice(b"\",\"version\":\"w1\"}\n").unwrap();
 }
 
-/// Appends a reply and a newline. Where memory runs out the bytes stay as they were.
+/// The line of a reply, with its newline.
 #[tactic(auto, unfolding(crate::specs::Replies::line_text))]
+fn line_of(alloc: Global, value: &Value) -> Result<Vec<u8>, NoMemory>
+    requires { has_float (view value.now) ≡ false }
+    ensures { IfOk result (λ line. line.items ≡ line_text (view value.now)) }
+{
+    let mut line = value.to_vec(alloc)?;
+    line.push(b'\n')?;
+    Ok(line)
+}
+
+/// Appends a reply and a newline. Where memory runs out the bytes stay as they were.
 fn put_line(alloc: Global, value: &Value, out: &mut Vec<u8>) -> Result<(), NoMemory>
     requires { has_float (view value.now) ≡ false }
     ensures ok { OnOk result (out.new.items ≡ out.old.items ++ line_text (view value.now)) }
     ensures err { OnErr result (out.new.items ≡ out.old.items) }
     ensures room { vec_capacity out.old ≤ vec_capacity out.new }
 {
-    let mut text = value.to_vec(alloc)?;
-    text.push(b'\n')?;
-    out.extend_from_slice(&text)?;
+    let line = line_of(alloc, value)?;
+    out.extend_from_slice(&line)?;
     Ok(())
 }
 
@@ -150,14 +159,31 @@ fn command(alloc: Global, command: &Command, reply: Reply) -> Result<Value, Allo
 
 /// The line for a command that met this reply of the registry. A refusal is told by [`put_refusal`]. An
 /// `Err` means that memory ran out.
-#[tactic(auto, unfolding(crate::specs::Replies::line_text))]
 pub fn line_to(alloc: Global, to: &Command, reply: Reply) -> Result<Vec<u8>, NoMemory>
     ensures { IfOk result (λ line. line.items ≡ line_text (command_reply to.now reply)) }
 {
     let value = command(alloc, to, reply)?;
-    let mut line = value.to_vec(alloc)?;
-    line.push(b'\n')?;
-    Ok(line)
+    line_of(alloc, &value)
+}
+
+/// The lines that an accepted command may be answered with, as a change, a replacement and no change, and room for each.
+/// An `Err` means that memory ran out.
+pub fn lines_to(
+    alloc: Global,
+    command: &Command,
+    out: &mut Vec<u8>,
+) -> Result<(Vec<u8>, Vec<u8>, Vec<u8>), NoMemory>
+    ensures changed { IfOk result (λ lines. (lines.0.items ≡ line_text (command_reply command.now Reply.Changed)) × (vec_len out.new + vec_len lines.0 ≤ vec_capacity out.new)) }
+    ensures replaced { IfOk result (λ lines. (lines.1.items ≡ line_text (command_reply command.now Reply.Replaced)) × (vec_len out.new + vec_len lines.1 ≤ vec_capacity out.new)) }
+    ensures unchanged { IfOk result (λ lines. (lines.2.items ≡ line_text (command_reply command.now Reply.Unchanged)) × (vec_len out.new + vec_len lines.2 ≤ vec_capacity out.new)) }
+    ensures items { out.new.items ≡ out.old.items }
+    ensures room { vec_capacity out.old ≤ vec_capacity out.new }
+{
+    let changed = line_to(alloc, command, Reply::Changed)?;
+    let replaced = line_to(alloc, command, Reply::Replaced)?;
+    let unchanged = line_to(alloc, command, Reply::Unchanged)?;
+    out.try_reserve(changed.len().max(replaced.len()).max(unchanged.len()))?;
+    Ok((changed, replaced, unchanged))
 }
 
 fn word_list(alloc: Global, words: &[Word]) -> Result<Vec<Value>, AllocError>

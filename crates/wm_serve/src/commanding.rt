@@ -4,8 +4,8 @@ use crate::place::Place;
 use crate::shared::Shared;
 use std::alloc::Global;
 use std::sync::Wait;
-use wm_disk::{Disk, NoMemory, Refusal};
-use wm_lines::reply::line_to;
+use wm_disk::{Disk, Refusal};
+use wm_lines::reply::lines_to;
 use wm_names::RootPath;
 use wm_registry::{Command, Reply};
 use wm_share::Naming;
@@ -35,20 +35,13 @@ fn prepare(alloc: Global, command: &Command, out: &mut Vec<u8>) -> Result<Prepar
     let Some(root) = root_of(command) else {
         return Err(Refusal::NoMemory);
     };
-    let prepared = Prepared {
+    let (changed, replaced, unchanged) = lines_to(alloc, command, out)?;
+    Ok(Prepared {
         root: root.copy(alloc)?,
-        changed: line_to(alloc, command, Reply::Changed)?,
-        replaced: line_to(alloc, command, Reply::Replaced)?,
-        unchanged: line_to(alloc, command, Reply::Unchanged)?,
-    };
-    make_room(&prepared, out)?;
-    Ok(prepared)
-}
-
-fn make_room(prepared: &Prepared, out: &mut Vec<u8>) -> Result<(), NoMemory> {
-    let longest = prepared.changed.len().max(prepared.replaced.len());
-    out.try_reserve(longest.max(prepared.unchanged.len()))?;
-    Ok(())
+        changed,
+        replaced,
+        unchanged,
+    })
 }
 
 /// Appends the line of a reply, once the hall of the root follows the registry.

@@ -6,8 +6,8 @@ use crate::shared::Shared;
 use std::alloc::Global;
 use std::sync::Wait;
 use wm_clock::{ClockId, ClockSpec};
-use wm_disk::{Disk, NoMemory, Refusal};
-use wm_hall::{RootHall, Viewers};
+use wm_disk::{Disk, Refusal};
+use wm_hall::RootHall;
 use wm_lines::{Expression, Inquiry, reply};
 use wm_names::RootPath;
 use wm_share::Naming;
@@ -33,26 +33,14 @@ fn begin<R: Wait, D: Disk + Drop, J: Naming, K: Wait + Copy + Drop>(
     rt: &R,
     alloc: Global,
     shared: &Shared<D, J, K>,
-    viewers: &mut Viewers<J>,
+    chair: &Chair<J>,
     root: &RootPath,
     since: &Option<ClockSpec>,
 ) -> Result<(ClockId, Option<ClockId>), Refusal> {
+    let mut viewers = chair.viewers.lock(rt);
     let hall = shared.hall(rt, root)?;
-    let clock = clock_of(rt, alloc, viewers, &hall)?;
+    let clock = clock_of(rt, alloc, &mut viewers, &hall)?;
     Ok((clock, start(rt, &hall, since)))
-}
-
-/// The line that tells a subscription, with room for it.
-fn line_of(
-    alloc: Global,
-    clock: ClockId,
-    name: &SubscriptionName,
-    out: &mut Vec<u8>,
-) -> Result<Vec<u8>, NoMemory> {
-    let mut line = Vec::new(alloc);
-    reply::put_subscribe(alloc, clock, name, &mut line)?;
-    out.try_reserve(line.len())?;
-    Ok(line)
 }
 
 /// Puts a subscription among the others, and appends the reply.
@@ -67,7 +55,7 @@ fn put(
     if !all.has_room(&subscribed.root, name) {
         return Err(Refusal::TooMany);
     }
-    let line = line_of(alloc, clock, name, out)?;
+    let line = reply::subscribe_line(alloc, clock, name, out)?;
     all.put(subscribed)?;
     out.extend_from_slice(&line)?;
     Ok(())
@@ -111,18 +99,15 @@ fn subscribe_under_lock<R: Wait, D: Disk + Drop, J: Naming, K: Wait + Copy + Dro
     out: &mut Vec<u8>,
 ) -> Result<(), Refusal> {
     let mut all = chair.subscriptions.lock(rt);
-    let mut viewers = chair.viewers.lock(rt);
-    let begun = begin(rt, alloc, shared, &mut viewers, &root, &inquiry.since);
-    drop(viewers);
-    match begun {
+    let met = match begin(rt, alloc, shared, chair, &root, &inquiry.since) {
         Ok((clock, since)) => {
             let subscribed = subscribed_to(root, name, inquiry, since);
-            put(alloc, &mut all, clock, subscribed, out)?;
-            chair.recount(all.as_slice().len());
-            Ok(())
+            put(alloc, &mut all, clock, subscribed, out)
         }
         Err(refusal) => Err(refusal),
-    }
+    };
+    chair.recount(all.as_slice().len());
+    met
 }
 
 /// Subscribes to a root under a name, in place of a subscription of that root and name, and appends the reply. `NotWatched`,

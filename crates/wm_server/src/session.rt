@@ -50,25 +50,6 @@ fn is_fault(refusal: Refusal) -> bool
     matches!(refusal, Refusal::DeviceFailed | Refusal::NoMemory)
 }
 
-/// The lines that an accepted command may be answered with, as a change, a replacement and no change, and room for each.
-fn lines_to(
-    alloc: Global,
-    command: &Command,
-    out: &mut Vec<u8>,
-) -> Result<(Vec<u8>, Vec<u8>, Vec<u8>), NoMemory>
-    ensures changed { IfOk result (λ lines. (lines.0.items ≡ line_text (command_reply command.now Reply.Changed)) × (vec_len out.new + vec_len lines.0 ≤ vec_capacity out.new)) }
-    ensures replaced { IfOk result (λ lines. (lines.1.items ≡ line_text (command_reply command.now Reply.Replaced)) × (vec_len out.new + vec_len lines.1 ≤ vec_capacity out.new)) }
-    ensures unchanged { IfOk result (λ lines. (lines.2.items ≡ line_text (command_reply command.now Reply.Unchanged)) × (vec_len out.new + vec_len lines.2 ≤ vec_capacity out.new)) }
-    ensures items { out.new.items ≡ out.old.items }
-    ensures room { vec_capacity out.old ≤ vec_capacity out.new }
-{
-    let changed = reply::line_to(alloc, command, Reply::Changed)?;
-    let replaced = reply::line_to(alloc, command, Reply::Replaced)?;
-    let unchanged = reply::line_to(alloc, command, Reply::Unchanged)?;
-    out.try_reserve(changed.len().max(replaced.len()).max(unchanged.len()))?;
-    Ok((changed, replaced, unchanged))
-}
-
 impl<F: Front> Session<F> {
     /// A session that has answered no line yet. It takes no memory.
     pub fn new(alloc: Global, front: F) -> Session<F>
@@ -89,7 +70,7 @@ impl<F: Front> Session<F> {
         ensures later { F.leads_to self.old.front (command ∷ []) self.new.front }
         ensures kept { self.new.subscriptions ≡ self.old.subscriptions }
     {
-        let (changed, replaced, unchanged) = lines_to(alloc, &command, out)?;
+        let (changed, replaced, unchanged) = reply::lines_to(alloc, &command, out)?;
         let line = match self.front.submit(alloc, command) {
             Reply::Changed => &changed,
             Reply::Replaced => &replaced,

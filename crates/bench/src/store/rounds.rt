@@ -105,14 +105,9 @@ impl<D: Disk + Drop> Sides<D> {
 
     /// Closes the store, and starts it again over its disk. The refusals are the store's.
     pub fn start_again(self, alloc: Global) -> Result<Found, Refusal> {
-        let mut store = self.store;
-        store.close()?;
-        let store = opened(alloc, store.into_disk())?;
-        let registry = store.registry();
-        Ok(Found {
-            roots: registry.roots().len(),
-            incarnation: registry.incarnation(),
-        })
+        let Sides { store, by_hand } = self;
+        drop(by_hand);
+        found_on(alloc, closed(store)?)
     }
 
     /// Both disks.
@@ -127,6 +122,22 @@ fn opened<D: Disk + Drop>(alloc: Global, disk: D) -> Result<Store<D>, Refusal> {
         Ok(store) => Ok(store),
         Err((refusal, _)) => Err(refusal),
     }
+}
+
+/// The disk of a store that is closed.
+fn closed<D: Disk + Drop>(mut store: Store<D>) -> Result<D, Refusal> {
+    store.close()?;
+    Ok(store.into_disk())
+}
+
+/// What a start finds on a disk.
+fn found_on<D: Disk + Drop>(alloc: Global, disk: D) -> Result<Found, Refusal> {
+    let store = opened(alloc, disk)?;
+    let registry = store.registry();
+    Ok(Found {
+        roots: registry.roots().len(),
+        incarnation: registry.incarnation(),
+    })
 }
 
 /// Whether all replies are to accepted commands.

@@ -1,12 +1,10 @@
 //! How many calls the disk has, and the refusals that come with none.
 use super::{
-    Call, Kept, RegisterKeeper, UNUSED, USED, USED_TWICE, content_after, formatted, found, meet,
-    open,
+    Call, Kept, UNUSED, USED, USED_TWICE, content_after, formatted, found, meet, open, refused,
 };
 use crate::disks::{Calls, disk_of, overwrite};
 use std::alloc::Global;
 use std::process::Abort;
-use std::test::Fail;
 use wm_disk::{Crashed, MemDisk, Refusal};
 
 /// A call of a keeper, its answer, and the keeper's state and the calls of its disk after it.
@@ -28,27 +26,24 @@ fn answers(alloc: Global, kept: &mut Kept, rows: &[Row]) -> bool {
 
 /// Whether a keeper on this disk has these answers and states, and behind the last row the disk its calls. A
 /// crash then leaves the state, to a keeper that hasn't failed.
-fn goes(alloc: Global, disk: MemDisk, rows: &[Row]) -> Result<bool, Refusal> {
-    let Some((_, _, state, calls)) = rows.last() else {
-        return Ok(false);
-    };
-    let mut kept = open(alloc, disk)?;
+fn goes(rt: &impl Abort, alloc: Global, disk: MemDisk, rows: &[Row]) -> bool {
+    let (_, _, state, calls) = rows.last().expect(rt, "a row");
+    let mut kept = open(rt, alloc, disk);
     let answered = answers(alloc, &mut kept, rows);
     let disk = kept.keeper.into_disk();
     let counted = disk.calls() == *calls;
-    let kept = open(alloc, disk.crash())?;
+    let kept = open(rt, alloc, disk.crash());
     let is_found = *kept.keeper.state() == *state && !kept.keeper.has_failed();
-    Ok(answered && counted && is_found)
+    answered && counted && is_found
 }
 
 /// A keeper of these bytes has to go so up to each of the rows.
-fn assert_goes(rt: &impl Abort, alloc: Global, content: &[u8], rows: &[Row]) -> Result<(), Fail> {
+fn assert_goes(rt: &impl Abort, alloc: Global, content: &[u8], rows: &[Row]) {
     for end in 0..rows.len() {
         let (rows, _) = rows.split_at(end + 1);
-        let goes = goes(alloc, disk_of(alloc, 0, content)?, rows)?;
+        let goes = goes(rt, alloc, disk_of(rt, alloc, 0, content), rows);
         assert!(rt; goes, "{rows:?}");
     }
-    Ok(())
 }
 
 /// No failure.
@@ -69,15 +64,15 @@ const COUNTED: &[Row] = &[
 
 /// Each is counted as the disk counts: writes, syncs, and lengths and readings together.
 #[test]
-fn counts_its_calls(rt: HostRuntime) -> Result<(), Fail> {
+fn counts_its_calls(rt: HostRuntime) {
     let alloc = rt.alloc();
     // 41 writes of zeros, the slot, the header, the slot's gate and the header's
-    assert!(rt; formatted(alloc, 1)?.calls() == (45, 4, 0));
+    assert!(rt; formatted(&rt, alloc, 1).calls() == (45, 4, 0));
     for end in 0..COUNTED.len() {
         let (rows, _) = COUNTED.split_at(end + 1);
-        assert!(rt; goes(alloc, formatted(alloc, 1)?, rows)?, "{rows:?}");
+        let goes = goes(&rt, alloc, formatted(&rt, alloc, 1), rows);
+        assert!(rt; goes, "{rows:?}");
     }
-    Ok(())
 }
 
 /// A file, and what a keeper of it does.
@@ -118,12 +113,11 @@ const SYNCED: &[(&[Call], &[Row])] = &[
 ];
 
 #[test]
-fn syncs_by_one_call(rt: HostRuntime) -> Result<(), Fail> {
+fn syncs_by_one_call(rt: HostRuntime) {
     for (calls, rows) in SYNCED {
-        let content = content_after(rt.alloc(), calls)?;
-        assert_goes(&rt, rt.alloc(), &content, rows)?;
+        let content = content_after(&rt, rt.alloc(), calls);
+        assert_goes(&rt, rt.alloc(), &content, rows);
     }
-    Ok(())
 }
 
 /// How many calls of the disk pass, the call that meets the failure, and the disk's calls then.
@@ -136,10 +130,10 @@ const FAILING: &[(u64, Call, Calls)] = &[
 ];
 
 #[test]
-fn stays_down_after_a_failure(rt: HostRuntime) -> Result<(), Fail> {
+fn stays_down_after_a_failure(rt: HostRuntime) {
     let failed = Err(Refusal::DeviceFailed);
     let down = Err(Refusal::StoreFailed);
-    let content = content_after(rt.alloc(), UNUSED)?;
+    let content = content_after(&rt, rt.alloc(), UNUSED);
     for (passing, call, calls) in FAILING {
         // The crash leaves what was durable.
         let rows = [
@@ -149,9 +143,8 @@ fn stays_down_after_a_failure(rt: HostRuntime) -> Result<(), Fail> {
             (Call::Checkpoint, down, 6, *calls),
             (Call::Sync, down, 6, *calls),
         ];
-        assert_goes(&rt, rt.alloc(), &content, &rows)?;
+        assert_goes(&rt, rt.alloc(), &content, &rows);
     }
-    Ok(())
 }
 
 /// The number of slot A, the answer to a first checkpoint, and the disk's calls up to then, and up to the
@@ -185,51 +178,45 @@ const NUMBERED: &[(&[u8], Result<(), Refusal>, Calls, Calls)] = &[
 
 /// A second checkpoint is refused with no call, and commits go on.
 #[test]
-fn numbers_run_out(rt: HostRuntime) -> Result<(), Fail> {
+fn numbers_run_out(rt: HostRuntime) {
     let exhausted = Err(Refusal::Exhausted);
-    let mut content = content_after(rt.alloc(), &[])?;
+    let mut content = content_after(&rt, rt.alloc(), &[]);
     for (number, answer, calls, more) in NUMBERED {
-        overwrite(&mut content, 4_097, number)?;
+        overwrite(&rt, &mut content, 4_097, number);
         let rows = [
             (Call::Set(2), Ok(()), 2, (3, 4, 2)),
             (Call::Checkpoint, *answer, 2, *calls),
             (Call::Checkpoint, exhausted, 2, *calls),
             (Call::Set(3), Ok(()), 3, *more),
         ];
-        assert_goes(&rt, rt.alloc(), &content, &rows)?;
+        assert_goes(&rt, rt.alloc(), &content, &rows);
     }
-    Ok(())
 }
 
 /// Whether an opening fails where the disk lets so many calls pass, has made these calls then, and a next one
 /// finds the state.
 fn fails_to_open(
+    rt: &impl Abort,
     alloc: Global,
     content: &[u8],
     passing: u64,
     calls: Calls,
-) -> Result<bool, Refusal> {
-    let mut disk = disk_of(alloc, 0, content)?;
+) -> bool {
+    let mut disk = disk_of(rt, alloc, 0, content);
     disk.arm(passing);
-    match RegisterKeeper::open(alloc, disk) {
-        Ok(_) => Ok(false),
-        Err((refusal, disk)) => {
-            let told = refusal == Refusal::DeviceFailed && disk.calls() == calls;
-            let state = found(alloc, disk.stop())?;
-            Ok(told && state == 6)
-        }
-    }
+    let (refusal, disk) = refused(rt, alloc, disk);
+    let told = refusal == Refusal::DeviceFailed && disk.calls() == calls;
+    told && found(rt, alloc, disk.stop()) == 6
 }
 
 /// How many calls pass, and the disk's calls with the write and the sync that made it.
 const OPENINGS: &[(u64, Calls)] = &[(0, (1, 1, 1)), (1, (1, 2, 1)), (2, (1, 2, 2))];
 
 #[test]
-fn tells_a_failing_opening(rt: HostRuntime) -> Result<(), Fail> {
-    let content = content_after(rt.alloc(), UNUSED)?;
+fn tells_a_failing_opening(rt: HostRuntime) {
+    let content = content_after(&rt, rt.alloc(), UNUSED);
     for (passing, calls) in OPENINGS {
-        let fails = fails_to_open(rt.alloc(), &content, *passing, *calls)?;
+        let fails = fails_to_open(&rt, rt.alloc(), &content, *passing, *calls);
         assert!(rt; fails, "after {passing}");
     }
-    Ok(())
 }

@@ -1,40 +1,29 @@
 //! Files that mean no state, and retired ones.
-use super::{RegisterKeeper, TWO_SLOTS, content_after, edited, full_journal, open};
+use super::{TWO_SLOTS, content_after, edited, full_journal, open, refused};
 use crate::disks::{content_of, disk_of, overwrite};
 use std::alloc::Global;
 use std::process::Abort;
-use std::test::Fail;
 use wm_disk::Refusal;
 
 /// Whether an opening is refused so after so many lengths and readings, one sync and no write, and hands the
 /// disk back as it was.
-fn refuses(alloc: Global, content: &[u8], wanted: Refusal, reads: u64) -> Result<bool, Refusal> {
-    match RegisterKeeper::open(alloc, disk_of(alloc, 0, content)?) {
-        Ok(_) => Ok(false),
-        Err((refusal, disk)) => {
-            let told = refusal == wanted && disk.calls() == (1, 2, reads);
-            let after = content_of(alloc, disk)?;
-            Ok(told && after.as_slice() == content)
-        }
-    }
+fn refuses(rt: &impl Abort, alloc: Global, content: &[u8], wanted: Refusal, reads: u64) -> bool {
+    let (refusal, disk) = refused(rt, alloc, disk_of(rt, alloc, 0, content));
+    let told = refusal == wanted && disk.calls() == (1, 2, reads);
+    let after = content_of(rt, alloc, disk);
+    told && after.as_slice() == content
 }
 
 /// A change of a good file: places with their new bytes.
 type Edited = (&'static str, &'static [(usize, &'static [u8])]);
 
 /// Each of the changes has to make a file that is refused so.
-fn assert_refused(
-    rt: &impl Abort,
-    alloc: Global,
-    changes: &[Edited],
-    wanted: Refusal,
-) -> Result<(), Fail> {
-    let content = content_after(alloc, TWO_SLOTS)?;
+fn assert_refused(rt: &impl Abort, alloc: Global, changes: &[Edited], wanted: Refusal) {
+    let content = content_after(rt, alloc, TWO_SLOTS);
     for (about, edits) in changes {
-        let content = edited(alloc, &content, edits)?;
-        assert!(rt; refuses(alloc, &content, wanted, 2)?, "{about}");
+        let content = edited(rt, alloc, &content, edits);
+        assert!(rt; refuses(rt, alloc, &content, wanted, 2), "{about}");
     }
-    Ok(())
 }
 
 /// What makes a good file damaged: places with their new bytes.
@@ -86,8 +75,8 @@ const DAMAGED: &[Edited] = &[
 ];
 
 #[test]
-fn refuses_damaged_files(rt: HostRuntime) -> Result<(), Fail> {
-    assert_refused(&rt, rt.alloc(), DAMAGED, Refusal::Damaged)
+fn refuses_damaged_files(rt: HostRuntime) {
+    assert_refused(&rt, rt.alloc(), DAMAGED, Refusal::Damaged);
 }
 
 /// What makes a good file retired.
@@ -105,8 +94,8 @@ const RETIRED: &[Edited] = &[
 ];
 
 #[test]
-fn refuses_retired_files(rt: HostRuntime) -> Result<(), Fail> {
-    assert_refused(&rt, rt.alloc(), RETIRED, Refusal::Retired)
+fn refuses_retired_files(rt: HostRuntime) {
+    assert_refused(&rt, rt.alloc(), RETIRED, Refusal::Retired);
 }
 
 /// Lengths of a file cut short, and whether it has a retired gate. A short file isn't retired, whatever that
@@ -122,33 +111,32 @@ const SHORT: &[(usize, bool)] = &[
 ];
 
 #[test]
-fn refuses_short_files(rt: HostRuntime) -> Result<(), Fail> {
+fn refuses_short_files(rt: HostRuntime) {
     let alloc = rt.alloc();
     for (len, has_open_gate) in SHORT {
-        let mut content = content_after(alloc, TWO_SLOTS)?;
+        let mut content = content_after(&rt, alloc, TWO_SLOTS);
         if *has_open_gate {
-            overwrite(&mut content, 12, b"\xa5")?;
+            overwrite(&rt, &mut content, 12, b"\xa5");
         }
         content.truncate(*len);
-        let refused = refuses(alloc, &content, Refusal::Damaged, 1)?;
+        let refused = refuses(&rt, alloc, &content, Refusal::Damaged, 1);
         assert!(rt; refused, "{len}, retired: {has_open_gate}");
     }
-    Ok(())
 }
 
 /// The state and the room of a keeper of these bytes.
-fn state_and_room(alloc: Global, content: &[u8]) -> Result<(u64, u64), Refusal> {
-    let kept = open(alloc, disk_of(alloc, 0, content)?)?;
-    Ok((*kept.keeper.state(), kept.keeper.room()))
+fn state_and_room(rt: &impl Abort, alloc: Global, content: &[u8]) -> (u64, u64) {
+    let kept = open(rt, alloc, disk_of(rt, alloc, 0, content));
+    (*kept.keeper.state(), kept.keeper.room())
 }
 
 #[test]
-fn refuses_a_journal_with_no_closed_gate(rt: HostRuntime) -> Result<(), Fail> {
+fn refuses_a_journal_with_no_closed_gate(rt: HostRuntime) {
     let alloc = rt.alloc();
-    let mut content = content_after(alloc, TWO_SLOTS)?;
-    overwrite(&mut content, 2_363_392, &full_journal(alloc)?)?;
-    assert!(rt; state_and_room(alloc, &content)? == (5, 0));
-    overwrite(&mut content, 2_625_535, b"\xa5")?;
-    assert!(rt; refuses(alloc, &content, Refusal::Damaged, 2)?);
-    Ok(())
+    let mut content = content_after(&rt, alloc, TWO_SLOTS);
+    let journal = full_journal(&rt, alloc);
+    overwrite(&rt, &mut content, 2_363_392, &journal);
+    assert!(rt; state_and_room(&rt, alloc, &content) == (5, 0));
+    overwrite(&rt, &mut content, 2_625_535, b"\xa5");
+    assert!(rt; refuses(&rt, alloc, &content, Refusal::Damaged, 2));
 }

@@ -1,12 +1,11 @@
 //! The bytes of files, and what they mean.
 use super::{
     Call, Kept, RegisterKeeper, TWO_SLOTS, content_after, edited, formatted, found, meet_all, open,
-    set,
 };
 use crate::disks::{assert_stand, content_of, disk_of, stands};
 use std::alloc::Global;
-use std::test::Fail;
-use wm_disk::{Crashed, Disk, Refusal};
+use std::process::Abort;
+use wm_disk::{Crashed, Disk};
 
 /// Bytes at their places.
 type Parts = &'static [(usize, &'static [u8])];
@@ -21,22 +20,22 @@ const LAID_OUT: Parts = &[
 ];
 
 /// The bytes of a disk after a format, which was longer than a file, and whose bytes weren't zeros.
-fn laid_out(alloc: Global) -> Result<Vec<u8>, Refusal> {
-    let filled = vec![in alloc; 0xffu8; 2_625_540]?;
-    let mut disk = disk_of(alloc, 0, &filled)?;
-    RegisterKeeper::format(alloc, &mut disk, &0x0011_2233_4455_6677)?;
-    content_of(alloc, disk.crash())
+fn laid_out(rt: &impl Abort, alloc: Global) -> Vec<u8> {
+    let filled = vec![in alloc; 0xffu8; 2_625_540].expect(rt, "memory");
+    let mut disk = disk_of(rt, alloc, 0, &filled);
+    let formatted = RegisterKeeper::format(alloc, &mut disk, &0x0011_2233_4455_6677);
+    formatted.expect(rt, "a file");
+    content_of(rt, alloc, disk.crash())
 }
 
 #[test]
-fn lays_files_out(rt: HostRuntime) -> Result<(), Fail> {
-    let content = laid_out(rt.alloc())?;
+fn lays_files_out(rt: HostRuntime) {
+    let content = laid_out(&rt, rt.alloc());
     assert!(rt; content.len() == 2_625_540);
     assert_stand(&rt, &content, LAID_OUT);
     // the bytes of the header, the slot and what is behind the file
     let count = content.iter().filter(|byte| **byte != 0).count();
     assert!(rt; count == 9 + 10 + 4, "{count}");
-    Ok(())
 }
 
 /// The journal of slot A, slot B and its journal.
@@ -53,47 +52,48 @@ const WRITTEN: Parts = &[
 ];
 
 #[test]
-fn writes_commands_and_states(rt: HostRuntime) -> Result<(), Fail> {
-    let content = content_after(rt.alloc(), TWO_SLOTS)?;
+fn writes_commands_and_states(rt: HostRuntime) {
+    let content = content_after(&rt, rt.alloc(), TWO_SLOTS);
     assert!(rt; content.len() == 2_625_536);
     assert_stand(&rt, &content, WRITTEN);
-    Ok(())
 }
 
 /// The keeper of what a crash leaves.
-fn reopened(alloc: Global, kept: Kept) -> Result<Kept, Refusal> {
-    open(alloc, kept.keeper.into_disk().crash())
+fn reopened(rt: &impl Abort, alloc: Global, kept: Kept) -> Kept {
+    open(rt, alloc, kept.keeper.into_disk().crash())
 }
+
+/// What a keeper does at first.
+const BEGUN: &[Call] = &[Call::Set(2), Call::SetThree(3, 4, 5)];
+
+/// What it does behind its first checkpoint.
+const GONE_ON: &[Call] = &[Call::Set(6), Call::Checkpoint, Call::Set(7)];
 
 /// A keeper that was opened, committed two groups, was opened again, checkpointed, was opened again, and then
 /// committed, checkpointed, committed and was opened again: after so many of these seven.
-fn kept_at(alloc: Global, stage: u32) -> Result<Kept, Refusal> {
-    let mut kept = open(alloc, formatted(alloc, 1)?)?;
+fn kept_at(rt: &impl Abort, alloc: Global, stage: u32) -> Kept {
+    let mut kept = open(rt, alloc, formatted(rt, alloc, 1));
     if stage == 0 {
-        return Ok(kept);
+        return kept;
     }
-    meet_all(alloc, &mut kept, &[Call::Set(2), Call::SetThree(3, 4, 5)])?;
+    meet_all(rt, alloc, &mut kept, BEGUN);
     if stage == 1 {
-        return Ok(kept);
+        return kept;
     }
-    let mut kept = reopened(alloc, kept)?;
+    let mut kept = reopened(rt, alloc, kept);
     if stage == 2 {
-        return Ok(kept);
+        return kept;
     }
-    kept.keeper.checkpoint(alloc)?;
+    kept.keeper.checkpoint(alloc).expect(rt, "a checkpoint");
     if stage == 3 {
-        return Ok(kept);
+        return kept;
     }
-    let mut kept = reopened(alloc, kept)?;
+    let mut kept = reopened(rt, alloc, kept);
     if stage == 4 {
-        return Ok(kept);
+        return kept;
     }
-    meet_all(
-        alloc,
-        &mut kept,
-        &[Call::Set(6), Call::Checkpoint, Call::Set(7)],
-    )?;
-    reopened(alloc, kept)
+    meet_all(rt, alloc, &mut kept, GONE_ON);
+    reopened(rt, alloc, kept)
 }
 
 /// Whether the two slots have these numbers; 0 where one was never written.
@@ -118,33 +118,33 @@ const STAGES: &[Stage] = &[
 ];
 
 /// Whether the keeper at a stage has this state and room, and the file these numbers.
-fn keeps(alloc: Global, (stage, state, room, numbers, _): Stage) -> Result<bool, Refusal> {
-    let kept = kept_at(alloc, stage)?;
+fn keeps(rt: &impl Abort, alloc: Global, (stage, state, room, numbers, _): Stage) -> bool {
+    let kept = kept_at(rt, alloc, stage);
     let told = *kept.keeper.state() == state && kept.keeper.room() == room;
-    let content = content_of(alloc, kept.keeper.into_disk())?;
-    Ok(told && has_numbers(&content, numbers))
+    let content = content_of(rt, alloc, kept.keeper.into_disk());
+    told && has_numbers(&content, numbers)
 }
 
 /// Whether the keeper at a stage knows its number and slot: its next checkpoint goes into the other one, under
 /// the next number.
-fn goes_on(alloc: Global, (stage, state, _, _, numbers): Stage) -> Result<bool, Refusal> {
-    let mut kept = kept_at(alloc, stage)?;
-    kept.keeper.checkpoint(alloc)?;
-    let content = content_of(alloc, kept.keeper.into_disk().crash())?;
-    let found = found(alloc, disk_of(alloc, 0, &content)?)?;
-    Ok(has_numbers(&content, numbers) && found == state)
+fn goes_on(rt: &impl Abort, alloc: Global, (stage, state, _, _, numbers): Stage) -> bool {
+    let mut kept = kept_at(rt, alloc, stage);
+    kept.keeper.checkpoint(alloc).expect(rt, "a checkpoint");
+    let content = content_of(rt, alloc, kept.keeper.into_disk().crash());
+    let found = found(rt, alloc, disk_of(rt, alloc, 0, &content));
+    has_numbers(&content, numbers) && found == state
 }
 
 /// What was acknowledged outlasts a crash.
 #[test]
-fn opens_what_it_keeps(rt: HostRuntime) -> Result<(), Fail> {
+fn opens_what_it_keeps(rt: HostRuntime) {
+    let alloc = rt.alloc();
     for row in STAGES {
         assert!(rt;
-            keeps(rt.alloc(), *row)? && goes_on(rt.alloc(), *row)?,
+            keeps(&rt, alloc, *row) && goes_on(&rt, alloc, *row),
             "{row:?}"
         );
     }
-    Ok(())
 }
 
 /// Changes of a good file that leave it good: places with their new bytes, and the state that it means then.
@@ -177,39 +177,36 @@ const GOOD: &[(&str, &[(usize, &[u8])], u64)] = &[
 ];
 
 /// The state that is found in the content with other bytes at these places.
-fn found_with(alloc: Global, content: &[u8], edits: &[(usize, &[u8])]) -> Result<u64, Refusal> {
-    let content = edited(alloc, content, edits)?;
-    found(alloc, disk_of(alloc, 0, &content)?)
+fn found_with(rt: &impl Abort, alloc: Global, content: &[u8], edits: &[(usize, &[u8])]) -> u64 {
+    let content = edited(rt, alloc, content, edits);
+    found(rt, alloc, disk_of(rt, alloc, 0, &content))
 }
 
 #[test]
-fn reads_only_what_counts(rt: HostRuntime) -> Result<(), Fail> {
-    let content = content_after(rt.alloc(), TWO_SLOTS)?;
+fn reads_only_what_counts(rt: HostRuntime) {
+    let content = content_after(&rt, rt.alloc(), TWO_SLOTS);
     for (about, edits, state) in GOOD {
-        let found = found_with(rt.alloc(), &content, edits)?;
+        let found = found_with(&rt, rt.alloc(), &content, edits);
         assert!(rt; found == *state, "{about}");
     }
-    Ok(())
 }
 
 /// Whether a file with bytes behind it means its state, and keeps these bytes when it is written again.
-fn keeps_more(alloc: Global, content: &[u8]) -> Result<bool, Refusal> {
-    let mut kept = open(alloc, disk_of(alloc, 0, content)?)?;
+fn keeps_more(rt: &impl Abort, alloc: Global, content: &[u8]) -> bool {
+    let mut kept = open(rt, alloc, disk_of(rt, alloc, 0, content));
     let began = *kept.keeper.state() == 4;
-    set(alloc, &mut kept, 5)?;
-    kept.keeper.checkpoint(alloc)?;
+    meet_all(rt, alloc, &mut kept, &[Call::Set(5), Call::Checkpoint]);
     let mut disk = kept.keeper.into_disk();
-    let is_long = disk.len()? == 2_625_541;
-    let kept = open(alloc, disk)?;
+    let is_long = disk.len().expect(rt, "a length") == 2_625_541;
+    let kept = open(rt, alloc, disk);
     let went_on = *kept.keeper.state() == 5;
-    let content = content_of(alloc, kept.keeper.into_disk())?;
-    Ok(began && is_long && went_on && content.ends_with(b"\xa5more"))
+    let content = content_of(rt, alloc, kept.keeper.into_disk());
+    began && is_long && went_on && content.ends_with(b"\xa5more")
 }
 
 #[test]
-fn ignores_bytes_behind_the_file(rt: HostRuntime) -> Result<(), Fail> {
-    let mut content = content_after(rt.alloc(), TWO_SLOTS)?;
-    content.extend_from_slice(b"\xa5more")?;
-    assert!(rt; keeps_more(rt.alloc(), &content)?);
-    Ok(())
+fn ignores_bytes_behind_the_file(rt: HostRuntime) {
+    let mut content = content_after(&rt, rt.alloc(), TWO_SLOTS);
+    content.extend_from_slice(b"\xa5more").expect(&rt, "memory");
+    assert!(rt; keeps_more(&rt, rt.alloc(), &content));
 }

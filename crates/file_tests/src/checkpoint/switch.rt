@@ -5,7 +5,7 @@ ghost use Rattle.file_tests.specs.Registers.{alive_register, changes_register, i
 
 use crate::disks::{content_of, disk_of, overwrite};
 use std::alloc::Global;
-use std::test::Fail;
+use std::process::Abort;
 use wm_checkpoint::{Keeper, Machine};
 use wm_disk::{MemDisk, NoMemory, Refusal};
 use wm_wire::Wire;
@@ -44,15 +44,21 @@ impl Machine for Switch {
     ghost small = { λ s f. omega arith };
 }
 
-/// The state that is found where the first file's journal begins with these bytes, or why none is.
-fn found(alloc: Global, journal: &[u8]) -> Result<Result<u64, Refusal>, Refusal> {
+/// A disk with a new file, whose first journal begins with these bytes.
+fn with_journal(rt: &impl Abort, alloc: Global, journal: &[u8]) -> MemDisk {
     let mut disk = MemDisk::new(alloc, 0);
-    Keeper::<MemDisk, Switch>::format(alloc, &mut disk, &0)?;
-    let mut content = content_of(alloc, disk)?;
-    overwrite(&mut content, 1_052_672, journal)?;
-    match Keeper::<MemDisk, Switch>::open(alloc, disk_of(alloc, 0, &content)?) {
-        Ok(keeper) => Ok(Ok(*keeper.state())),
-        Err((refusal, _)) => Ok(Err(refusal)),
+    Keeper::<MemDisk, Switch>::format(alloc, &mut disk, &0).expect(rt, "a file");
+    let mut content = content_of(rt, alloc, disk);
+    overwrite(rt, &mut content, 1_052_672, journal);
+    disk_of(rt, alloc, 0, &content)
+}
+
+/// The state that is found where the first file's journal begins with these bytes, or why none is.
+fn found(rt: &impl Abort, alloc: Global, journal: &[u8]) -> Result<u64, Refusal> {
+    let disk = with_journal(rt, alloc, journal);
+    match Keeper::<MemDisk, Switch>::open(alloc, disk) {
+        Ok(keeper) => Ok(*keeper.state()),
+        Err((refusal, _)) => Err(refusal),
     }
 }
 
@@ -69,9 +75,9 @@ const JOURNALS: &[(&[u8], Result<u64, Refusal>)] = &[
 ];
 
 #[test]
-fn refuses_what_is_no_command(rt: HostRuntime) -> Result<(), Fail> {
+fn refuses_what_is_no_command(rt: HostRuntime) {
     for (journal, wanted) in JOURNALS {
-        assert!(rt; found(rt.alloc(), journal)? == *wanted, "{journal:?}");
+        let found = found(&rt, rt.alloc(), journal);
+        assert!(rt; found == *wanted, "{journal:?}");
     }
-    Ok(())
 }

@@ -2,35 +2,41 @@
 
 use crate::store::opened;
 use std::alloc::Global;
+use std::process::Abort;
 use std::sync::Wait;
 use wm_disk::{MemDisk, Refusal};
 use wm_groupcommit::{Desk, Receipt};
 use wm_names::RootPath;
 use wm_registry::{Command, Reply};
+use wm_store::Store;
 
 /// A desk on a disk in memory.
 pub(crate) type Kept = Desk<MemDisk>;
 
 /// A desk over a store on a new file.
-pub(crate) fn desk(alloc: Global) -> Option<Kept> {
-    Desk::new(alloc, opened(alloc).ok()?).ok()
+pub(crate) fn desk(rt: &impl Abort, alloc: Global) -> Kept {
+    desk_over(rt, alloc, opened(rt, alloc))
+}
+
+/// A desk over this store.
+pub(crate) fn desk_over(rt: &impl Abort, alloc: Global, store: Store<MemDisk>) -> Kept {
+    Desk::new(alloc, store).ok().expect(rt, "a desk")
 }
 
 /// How many roots the desk's store watches at the end.
 pub(crate) fn roots_of(desk: Kept) -> usize {
-    desk.into_store().registry().roots().len()
+    let store = desk.into_store();
+    store.registry().roots().len()
 }
 
 /// Watches the path.
-pub(crate) fn watch(alloc: Global, path: &str) -> Option<Command> {
-    let path = RootPath::read(alloc, path).ok()?;
-    Some(Command::Watch(path))
+pub(crate) fn watch(rt: &impl Abort, alloc: Global, path: &str) -> Command {
+    Command::Watch(RootPath::read(alloc, path).expect(rt, "a path"))
 }
 
 /// Ends the watch of the path.
-pub(crate) fn unwatch(alloc: Global, path: &str) -> Option<Command> {
-    let path = RootPath::read(alloc, path).ok()?;
-    Some(Command::WatchDel(path))
+pub(crate) fn unwatch(rt: &impl Abort, alloc: Global, path: &str) -> Command {
+    Command::WatchDel(RootPath::read(alloc, path).expect(rt, "a path"))
 }
 
 /// Whether the command watches the path.
@@ -42,29 +48,27 @@ pub(crate) fn is_watch(command: &Command, path: &str) -> bool {
 }
 
 /// Submits a command from a new seat.
-pub(crate) fn submit_one<R: Wait>(
+pub(crate) fn submit_one<R: Wait + Abort>(
     rt: &R,
     desk: &Kept,
-    command: Option<Command>,
-) -> Option<Result<(Reply, Receipt), Refusal>> {
-    let mut seat = desk.seat(rt).ok()?;
-    Some(desk.submit(rt, &mut seat, command?))
+    command: Command,
+) -> Result<(Reply, Receipt), Refusal> {
+    let mut seat = desk.seat(rt).expect(rt, "a seat");
+    desk.submit(rt, &mut seat, command)
 }
 
 /// What a command from a new seat is refused.
-pub(crate) fn refusal_of<R: Wait>(
+pub(crate) fn refusal_of<R: Wait + Abort>(
     rt: &R,
     desk: &Kept,
-    command: Option<Command>,
+    command: Command,
 ) -> Option<Refusal> {
-    submit_one(rt, desk, command)?.err()
+    submit_one(rt, desk, command).err()
 }
 
 /// Flushes until so many commands were answered, asleep while there are none, and tells how many were.
-pub(crate) fn flush_for<R: Wait>(rt: &R, desk: &Kept, wanted: usize) -> usize {
-    let Ok(mut flusher) = desk.flusher(rt) else {
-        return 0;
-    };
+pub(crate) fn flush_for<R: Wait + Abort>(rt: &R, desk: &Kept, wanted: usize) -> usize {
+    let mut flusher = desk.flusher(rt).expect(rt, "a flusher");
     let mut total: usize = 0;
     for _ in rt.forever() {
         if total >= wanted {

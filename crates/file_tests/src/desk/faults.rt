@@ -1,33 +1,32 @@
 //! A device that fails under a desk.
-use crate::desk::desks::{Kept, flush_for, refusal_of, roots_of, watch};
+use crate::desk::desks::{Kept, desk_over, flush_for, refusal_of, roots_of, watch};
 use crate::store::opened;
 use std::alloc::Global;
+use std::process::Abort;
 use std::sync::Wait;
-use std::test::*;
 use std::thread::join;
 use wm_disk::Refusal;
-use wm_groupcommit::Desk;
 
 /// A desk over a new file, on a disk that fails at the first write of the second group.
-fn faulty(alloc: Global) -> Option<Kept> {
-    let mut store = opened(alloc).ok()?;
+fn faulty(rt: &impl Abort, alloc: Global) -> Kept {
+    let mut store = opened(rt, alloc);
     store.arm(4);
-    Desk::new(alloc, store).ok()
+    desk_over(rt, alloc, store)
 }
 
 /// Three seats watch a path each, one after the other.
-fn three<R: Wait>(rt: &R, alloc: Global, desk: &Kept) -> [Option<Refusal>; 3] {
+fn three<R: Wait + Abort>(rt: &R, alloc: Global, desk: &Kept) -> [Option<Refusal>; 3] {
     [
-        refusal_of(rt, desk, watch(alloc, "/1")),
-        refusal_of(rt, desk, watch(alloc, "/2")),
-        refusal_of(rt, desk, watch(alloc, "/3")),
+        refusal_of(rt, desk, watch(rt, alloc, "/1")),
+        refusal_of(rt, desk, watch(rt, alloc, "/2")),
+        refusal_of(rt, desk, watch(rt, alloc, "/3")),
     ]
 }
 
 #[test]
-fn a_device_fails(rt: HostRuntime) -> Result<(), Fail> {
+fn a_device_fails(rt: HostRuntime) {
     let alloc = rt.alloc();
-    let desk = faulty(alloc).ok_or("no desk")?;
+    let desk = faulty(&rt, alloc);
     let shared = &desk;
     let (total, [first, second, third]) = join(
         &rt,
@@ -39,5 +38,4 @@ fn a_device_fails(rt: HostRuntime) -> Result<(), Fail> {
     assert!(rt; first.is_none());
     assert!(rt; second == Some(Refusal::DeviceFailed));
     assert!(rt; third == Some(Refusal::StoreFailed));
-    Ok(())
 }

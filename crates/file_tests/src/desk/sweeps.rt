@@ -1,12 +1,12 @@
 //! Four threads at a desk whose device fails from some call on: what was answered is found behind each crash and each stop,
 //! and what was refused as no longer asked of the device isn't.
-use crate::desk::desks::{Kept, flush_for, refusal_of, watch};
-use std::alloc::{AllocError, Global};
+use crate::desk::desks::{Kept, desk_over, flush_for, refusal_of, watch};
+use crate::store::open;
+use std::alloc::Global;
+use std::process::Abort;
 use std::sync::Wait;
-use std::test::*;
 use std::thread::{Threads, join};
 use wm_disk::{Crashed, Disk, MemDisk, Refusal};
-use wm_groupcommit::Desk;
 use wm_store::{Store, format};
 
 /// What each thread watches.
@@ -23,27 +23,27 @@ const START_CALLS: u64 = 7;
 
 /// The choices of what a crash leaves: what was durable, what a read gives, two bytes in each written place, and
 /// single bits. Of these a test takes a quarter, each fourth one, since all take half a minute.
-fn choices(alloc: Global, quarter: u32) -> Result<Vec<u64>, AllocError> {
+fn choices(rt: &impl Abort, alloc: Global, quarter: u32) -> Vec<u64> {
     let mut choices = Vec::new(alloc);
-    choices.push(u64::from(quarter))?;
+    choices.push(u64::from(quarter)).expect(rt, "memory");
     for bit in 2..64u32 {
         if bit % 4 == quarter {
-            choices.push(1 << bit)?;
+            choices.push(1 << bit).expect(rt, "memory");
         }
     }
-    Ok(choices)
+    choices
 }
 
 /// A desk over a store on a new file, on a disk that lets so many calls pass.
-fn faulty(alloc: Global, choice: u64, passing: u64) -> Option<Kept> {
+fn faulty(rt: &impl Abort, alloc: Global, choice: u64, passing: u64) -> Kept {
     let mut disk = MemDisk::new(alloc, choice);
-    format(alloc, &mut disk).ok()?;
-    let mut store = Store::open(alloc, disk).ok()?;
+    format(alloc, &mut disk).expect(rt, "a file");
+    let mut store = open(rt, alloc, disk);
     store.arm(passing);
-    Desk::new(alloc, store).ok()
+    desk_over(rt, alloc, store)
 }
 
-fn pair<R: Threads + Wait + Sync>(
+fn pair<R: Threads + Wait + Abort + Sync>(
     rt: &R,
     alloc: Global,
     desk: &Kept,
@@ -52,13 +52,13 @@ fn pair<R: Threads + Wait + Sync>(
     let (first, second) = paths;
     let (a, b) = join(
         rt,
-        move || refusal_of(rt, desk, watch(alloc, first)),
-        move || refusal_of(rt, desk, watch(alloc, second)),
+        move || refusal_of(rt, desk, watch(rt, alloc, first)),
+        move || refusal_of(rt, desk, watch(rt, alloc, second)),
     );
     [a, b]
 }
 
-fn four<R: Threads + Wait + Sync>(rt: &R, alloc: Global, desk: &Kept) -> Refusals {
+fn four<R: Threads + Wait + Abort + Sync>(rt: &R, alloc: Global, desk: &Kept) -> Refusals {
     let ([a, b], [c, d]) = join(
         rt,
         move || pair(rt, alloc, desk, ("/a", "/b")),
@@ -78,10 +78,13 @@ fn may_be(refused: Option<Refusal>, is_found: bool) -> bool {
 }
 
 /// Whether a start on this disk finds what may be found.
-fn finds(alloc: Global, disk: MemDisk, refusals: &Refusals) -> bool {
-    let Ok(store) = Store::open(alloc, disk) else {
-        return false;
-    };
+fn finds(rt: &impl Abort, alloc: Global, disk: MemDisk, refusals: &Refusals) -> bool {
+    let store = open(rt, alloc, disk);
+    holds(&store, refusals)
+}
+
+/// Whether the store watches what may be found.
+fn holds(store: &Store<MemDisk>, refusals: &Refusals) -> bool {
     let roots = store.registry().roots();
     refusals.iter().zip(&PATHS).all(|(refused, path)| {
         may_be(
@@ -110,13 +113,13 @@ fn started(alloc: Global, mut disk: MemDisk, passing: u64) -> MemDisk {
 
 /// Four threads on a disk that lets so many calls pass: whether a start behind the end finds what may be found, and whether
 /// any thread was refused.
-fn cut<R: Threads + Wait + Sync>(
+fn cut<R: Threads + Wait + Abort + Sync>(
     rt: &R,
     alloc: Global,
     (choice, end): (u64, End),
     passing: u64,
 ) -> Option<bool> {
-    let desk = faulty(alloc, choice, passing)?;
+    let desk = faulty(rt, alloc, choice, passing);
     let shared = &desk;
     let (count, refusals) = join(rt, || flush_for(rt, shared, 4), || four(rt, alloc, shared));
     let disk = desk.into_store().into_disk();
@@ -124,14 +127,14 @@ fn cut<R: Threads + Wait + Sync>(
         End::Crash => disk.crash(),
         End::Stop(calls) => started(alloc, disk.stop(), calls).crash(),
     };
-    if count != 4 || !finds(alloc, disk, &refusals) {
+    if count != 4 || !finds(rt, alloc, disk, &refusals) {
         return None;
     }
     Some(refusals.iter().any(|refused| refused.is_some()))
 }
 
 /// Whether each device call in turn may be the first that fails. Behind the last of them nothing is refused.
-fn stands<R: Threads + Wait + Sync>(rt: &R, alloc: Global, choice: u64, end: End) -> bool {
+fn stands<R: Threads + Wait + Abort + Sync>(rt: &R, alloc: Global, choice: u64, end: End) -> bool {
     for passing in 0..MOST_CALLS + 1 {
         let Some(is_cut) = cut(rt, alloc, (choice, end), passing) else {
             return false;
@@ -143,44 +146,35 @@ fn stands<R: Threads + Wait + Sync>(rt: &R, alloc: Global, choice: u64, end: End
     true
 }
 
-#[test]
-fn answered_commands_are_found_first_quarter(rt: HostRuntime) -> Result<(), Fail> {
-    let alloc = rt.alloc();
-    for choice in &choices(alloc, 0)? {
-        assert!(rt; stands(&rt, alloc, *choice, End::Crash), "{choice}");
+/// They have to be found under a quarter of the choices.
+fn assert_found<R: Threads + Wait + Abort + Sync>(rt: &R, alloc: Global, quarter: u32) {
+    for choice in &choices(rt, alloc, quarter) {
+        assert!(rt; stands(rt, alloc, *choice, End::Crash), "{choice}");
     }
-    Ok(())
 }
 
 #[test]
-fn answered_commands_are_found_second_quarter(rt: HostRuntime) -> Result<(), Fail> {
-    let alloc = rt.alloc();
-    for choice in &choices(alloc, 1)? {
-        assert!(rt; stands(&rt, alloc, *choice, End::Crash), "{choice}");
-    }
-    Ok(())
+fn answered_commands_are_found_first_quarter(rt: HostRuntime) {
+    assert_found(&rt, rt.alloc(), 0);
 }
 
 #[test]
-fn answered_commands_are_found_third_quarter(rt: HostRuntime) -> Result<(), Fail> {
-    let alloc = rt.alloc();
-    for choice in &choices(alloc, 2)? {
-        assert!(rt; stands(&rt, alloc, *choice, End::Crash), "{choice}");
-    }
-    Ok(())
+fn answered_commands_are_found_second_quarter(rt: HostRuntime) {
+    assert_found(&rt, rt.alloc(), 1);
 }
 
 #[test]
-fn answered_commands_are_found_fourth_quarter(rt: HostRuntime) -> Result<(), Fail> {
-    let alloc = rt.alloc();
-    for choice in &choices(alloc, 3)? {
-        assert!(rt; stands(&rt, alloc, *choice, End::Crash), "{choice}");
-    }
-    Ok(())
+fn answered_commands_are_found_third_quarter(rt: HostRuntime) {
+    assert_found(&rt, rt.alloc(), 2);
 }
 
 #[test]
-fn answered_commands_are_found_behind_a_stop(rt: HostRuntime) -> Result<(), Fail> {
+fn answered_commands_are_found_fourth_quarter(rt: HostRuntime) {
+    assert_found(&rt, rt.alloc(), 3);
+}
+
+#[test]
+fn answered_commands_are_found_behind_a_stop(rt: HostRuntime) {
     let alloc = rt.alloc();
     for choice in 0..4u64 {
         for calls in 0..START_CALLS + 1 {
@@ -190,5 +184,4 @@ fn answered_commands_are_found_behind_a_stop(rt: HostRuntime) -> Result<(), Fail
             );
         }
     }
-    Ok(())
 }

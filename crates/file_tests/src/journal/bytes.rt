@@ -1,12 +1,11 @@
 //! The bytes of a journal.
-ghost use Rattle.std.specs.Prelude.{IfOk};
 ghost use Rattle.wm_journal.specs.Regions.{InSamePlace, IsAt, LiesOn};
 
-use super::{append, content, disk_of, joined, region_of, see_whole, texts};
+use super::{append, disk_of, joined, region_of, see_whole, texts};
+use crate::disks::read_whole;
 use std::alloc::Global;
 use std::process::Abort;
-use std::test::Fail;
-use wm_disk::{MemDisk, NoMemory, Refusal};
+use wm_disk::MemDisk;
 use wm_journal::{Region, read_records};
 use wm_wire::{Text, Wire};
 
@@ -52,46 +51,49 @@ const READ: &[(&[u8], Option<(&str, usize)>)] = &[
 ];
 
 /// Whether this is what is read of the bytes.
-fn reads(alloc: Global, bytes: &[u8], want: Option<(&str, usize)>) -> Result<bool, NoMemory> {
-    match read_records::<Text<8>>(alloc, bytes)? {
-        None => Ok(want.is_none()),
+fn reads(rt: &impl Abort, alloc: Global, bytes: &[u8], want: Option<(&str, usize)>) -> bool {
+    match read_records::<Text<8>>(alloc, bytes).expect(rt, "memory") {
+        None => want.is_none(),
         Some((found, end)) => {
-            let found = joined(alloc, &found)?;
-            Ok(Some((found.as_str(), end)) == want)
+            let found = joined(rt, alloc, &found);
+            Some((found.as_str(), end)) == want
         }
     }
 }
 
 #[test]
-fn reads_what_stands_there(rt: HostRuntime) -> Result<(), Fail> {
+fn reads_what_stands_there(rt: HostRuntime) {
     for (bytes, want) in READ {
-        assert!(rt; reads(rt.alloc(), bytes, *want)?, "{bytes:?}");
+        assert!(rt; reads(&rt, rt.alloc(), bytes, *want), "{bytes:?}");
     }
-    Ok(())
 }
 
 /// An area that reads `FF` in all its bytes.
-fn filled(alloc: Global, len: u16) -> Result<Region<MemDisk>, Refusal>
-    ensures lies { IfOk result (λ region. LiesOn region) }
-    ensures place { IfOk result (λ region. IsAt region 5 len) }
+fn filled(rt: &impl Abort, alloc: Global, len: u16) -> Region<MemDisk>
+    ensures lies { LiesOn result }
+    ensures place { IsAt result 5 len }
 {
-    let area = vec![in alloc; 0xffu8; len as usize]?;
-    let disk = disk_of(alloc, 0, &[b"front", &area, b"behind"])?;
-    region_of(alloc, disk, 5, len)
+    let area = vec![in alloc; 0xffu8; len as usize].expect(rt, "memory");
+    let disk = disk_of(rt, alloc, 0, &[b"front", &area, b"behind"]);
+    region_of(rt, alloc, disk, 5, len)
+}
+
+/// Whether these are the bytes of the area, with those around it that it was made with.
+fn is_area(bytes: &[u8], area: &[u8]) -> bool {
+    let Some(rest) = bytes.strip_prefix(b"front") else {
+        return false;
+    };
+    let Some(found) = rest.strip_suffix(b"behind") else {
+        return false;
+    };
+    found == area
 }
 
 /// Whether the disk reads as these bytes in the area, and outside it as it was made.
-fn reads_as(alloc: Global, region: &mut Region<MemDisk>, area: &[u8]) -> Result<bool, Refusal>
+fn reads_as(rt: &impl Abort, alloc: Global, region: &mut Region<MemDisk>, area: &[u8]) -> bool
     ensures place { InSamePlace region.old region.new }
 {
-    let bytes = content(alloc, &mut region.disk)?;
-    let Some(rest) = bytes.strip_prefix(b"front") else {
-        return Ok(false);
-    };
-    let Some(found) = rest.strip_suffix(b"behind") else {
-        return Ok(false);
-    };
-    Ok(found == area)
+    is_area(&read_whole(rt, alloc, &mut region.disk), area)
 }
 
 /// A group, and the area's bytes once it is appended, and once its gates are open.
@@ -99,31 +101,32 @@ type Step<'a, W> = (&'a [W], &'a [u8], &'a [u8]);
 
 /// Whether the bytes of a step are those that its group leaves.
 fn lays<W: Wire>(
+    rt: &impl Abort,
     alloc: Global,
     region: &mut Region<MemDisk>,
     len: u16,
     step: &Step<W>,
-) -> Result<bool, Refusal>
+) -> bool
     requires { IsAt region.old 5 len }
     ensures { IsAt region.new 5 len }
 {
     let (group, closed, opened) = *step;
-    see_whole(region, 5, len)?;
-    append(region, alloc, group)?;
-    let is_closed = reads_as(alloc, region, closed)?;
-    see_whole(region, 5, len)?;
-    region.open_gates::<W>()?;
-    let is_open = reads_as(alloc, region, opened)?;
-    Ok(is_closed && is_open)
+    see_whole(rt, region, 5, len);
+    append(region, alloc, group).expect(rt, "a group");
+    let is_closed = reads_as(rt, alloc, region, closed);
+    see_whole(rt, region, 5, len);
+    region.open_gates::<W>().expect(rt, "open gates");
+    let is_open = reads_as(rt, alloc, region, opened);
+    is_closed && is_open
 }
 
 /// Whether a scan finds no record.
-fn is_empty<W: Wire + Drop>(alloc: Global, region: &mut Region<MemDisk>) -> Result<bool, Refusal>
+fn is_empty<W: Wire + Drop>(rt: &impl Abort, alloc: Global, region: &mut Region<MemDisk>) -> bool
     requires { LiesOn region.old }
     ensures place { InSamePlace region.old region.new }
 {
-    let found = region.scan::<W>(alloc)?;
-    Ok(found.is_empty())
+    let found = region.scan::<W>(alloc).expect(rt, "a scan");
+    found.is_empty()
 }
 
 /// Appends the groups to an area that has no record.
@@ -133,26 +136,20 @@ fn try_steps<W: Wire + Drop>(
     region: &mut Region<MemDisk>,
     len: u16,
     steps: &[Step<W>],
-) -> Result<(), Refusal>
+)
     requires lies { LiesOn region.old }
     requires place { IsAt region.old 5 len }
 {
-    assert!(rt; is_empty::<W>(alloc, region)?);
+    assert!(rt; is_empty::<W>(rt, alloc, region));
     for step in steps {
-        assert!(rt; lays(alloc, region, len, step)?, "{:?}", step.1);
+        assert!(rt; lays(rt, alloc, region, len, step), "{:?}", step.1);
     }
-    Ok(())
 }
 
 /// Appends the groups to a new area.
-fn try_anew<W: Wire + Drop>(
-    rt: &impl Abort,
-    alloc: Global,
-    len: u16,
-    steps: &[Step<W>],
-) -> Result<(), Refusal> {
-    let mut region = filled(alloc, len)?;
-    try_steps(rt, alloc, &mut region, len, steps)
+fn try_anew<W: Wire + Drop>(rt: &impl Abort, alloc: Global, len: u16, steps: &[Step<W>]) {
+    let mut region = filled(rt, alloc, len);
+    try_steps(rt, alloc, &mut region, len, steps);
 }
 
 /// The same records as one group.
@@ -201,12 +198,12 @@ const NUMBERS: &[Step<u32>] = &[
 ];
 
 #[test]
-fn lays_a_group_out(rt: HostRuntime) -> Result<(), Fail> {
+fn lays_a_group_out(rt: HostRuntime) {
     let alloc = rt.alloc();
-    try_anew(&rt, alloc, 9, ONE_GROUP)?;
-    try_anew(&rt, alloc, 9, THREE_GROUPS)?;
-    try_anew(&rt, alloc, 16, NUMBERS)?;
-    let group = texts(alloc, &["\u{e5}", ""])?;
+    try_anew(&rt, alloc, 9, ONE_GROUP);
+    try_anew(&rt, alloc, 9, THREE_GROUPS);
+    try_anew(&rt, alloc, 16, NUMBERS);
+    let group = texts(&rt, alloc, &["\u{e5}", ""]);
     try_anew(
         &rt,
         alloc,
@@ -216,6 +213,5 @@ fn lays_a_group_out(rt: HostRuntime) -> Result<(), Fail> {
             b"\xff\0\0\0\x02\xc3\xa5\0\0\0\0\0\0",
             b"\xa5\0\0\0\x02\xc3\xa5\xa5\0\0\0\0\0",
         )],
-    )?;
-    Ok(())
+    );
 }

@@ -1,11 +1,10 @@
 //! What a crash or a stop leaves, after each number of calls.
-ghost use Rattle.std.specs.Prelude.{IfOk};
 ghost use Rattle.wm_journal.specs.Regions.{InSamePlace, IsAt, LiesOn};
 
-use super::{append, content, disk_of, joined, region_of, see_whole, texts};
+use super::{append, disk_of, joined, region_of, see_whole, texts};
+use crate::disks::read_whole;
 use std::alloc::Global;
 use std::process::Abort;
-use std::test::Fail;
 use wm_disk::{Crashed, Disk, MemDisk, Refusal};
 use wm_journal::Region;
 use wm_wire::Text;
@@ -97,29 +96,30 @@ fn open(region: &mut Region<MemDisk>) -> Result<(), Refusal>
 }
 
 /// One group, whole.
-fn add(region: &mut Region<MemDisk>, alloc: Global, values: &[&str]) -> Result<(), Refusal>
+fn add(rt: &impl Abort, region: &mut Region<MemDisk>, alloc: Global, values: &[&str])
     requires { LiesOn region.old }
     ensures place { InSamePlace region.old region.new }
 {
-    append(region, alloc, &texts(alloc, values)?)?;
-    open(region)
+    let group = texts(rt, alloc, values);
+    append(region, alloc, &group).expect(rt, "a group");
+    open(region).expect(rt, "open gates");
 }
 
 /// What the two calls answer for a group.
 type Answers = (Result<(), Refusal>, Option<Result<(), Refusal>>);
 
 /// What they answer where the disk lets so many calls pass.
-fn answers(region: &mut Region<MemDisk>, alloc: Global, run: Run) -> Result<Answers, Refusal>
+fn answers(rt: &impl Abort, region: &mut Region<MemDisk>, alloc: Global, run: Run) -> Answers
     requires { LiesOn region.old }
 {
-    let group = texts(alloc, GROUP)?;
+    let group = texts(rt, alloc, GROUP);
     region.disk.arm(run.calls);
     let laid = append(region, alloc, &group);
     if laid.is_err() || !run.opens {
-        return Ok((laid, None));
+        return (laid, None);
     }
     let opened = open(region);
-    Ok((laid, Some(opened)))
+    (laid, Some(opened))
 }
 
 /// What they have to answer: appending takes two calls, and opening the gates four.
@@ -136,66 +136,69 @@ fn wanted(run: Run) -> Answers {
 }
 
 /// Whether the disk has what it had at first outside the area.
-fn is_whole(alloc: Global, disk: &mut MemDisk) -> Result<bool, Refusal> {
-    let bytes = content(alloc, disk)?;
-    Ok(bytes.len() == 49 && bytes.starts_with(FRONT) && bytes.ends_with(BEHIND))
+fn is_whole(rt: &impl Abort, alloc: Global, disk: &mut MemDisk) -> bool {
+    let bytes = read_whole(rt, alloc, disk);
+    bytes.len() == 49 && bytes.starts_with(FRONT) && bytes.ends_with(BEHIND)
+}
+
+/// Whether a scan finds these texts.
+fn finds(rt: &impl Abort, alloc: Global, region: &mut Region<MemDisk>, want: &str) -> bool
+    requires { LiesOn region.old }
+    ensures lies { LiesOn region.new }
+    ensures place { InSamePlace region.old region.new }
+{
+    let found = region.scan::<Text<8>>(alloc).expect(rt, "a scan");
+    joined(rt, alloc, &found).as_str() == want
 }
 
 /// The journal on the disk, scanned after a sync. Tells whether these texts were found in it, and the bytes
 /// outside it are as before.
-fn found(alloc: Global, mut disk: MemDisk, want: &str) -> Result<(Region<MemDisk>, bool), Refusal>
-    ensures lies { IfOk result (λ found. LiesOn found.0) }
-    ensures place { IfOk result (λ found. IsAt found.0 5 38) }
+fn found(rt: &impl Abort, alloc: Global, mut disk: MemDisk, want: &str) -> (Region<MemDisk>, bool)
+    ensures lies { LiesOn result.0 }
+    ensures place { IsAt result.0 5 38 }
 {
-    let whole = is_whole(alloc, &mut disk)?;
-    disk.sync()?;
-    let mut region = region_of(alloc, disk, OFFSET, LEN)?;
-    let found = region.scan::<Text<8>>(alloc)?;
-    let found = joined(alloc, &found)?;
-    Ok((region, whole && found.as_str() == want))
+    let whole = is_whole(rt, alloc, &mut disk);
+    disk.sync().expect(rt, "a sync");
+    let mut region = region_of(rt, alloc, disk, OFFSET, LEN);
+    let is_found = finds(rt, alloc, &mut region, want);
+    (region, whole && is_found)
 }
 
 /// Whether the calls in a run are answered as they have to be.
-fn is_answered(alloc: Global, region: &mut Region<MemDisk>, run: Run) -> Result<bool, Refusal>
+fn is_answered(rt: &impl Abort, alloc: Global, region: &mut Region<MemDisk>, run: Run) -> bool
     requires lies { LiesOn region.old }
     requires place { IsAt region.old 5 38 }
 {
-    add(region, alloc, FIRST)?;
-    see_whole(region, OFFSET, LEN)?;
-    Ok(answers(region, alloc, run)? == wanted(run))
+    add(rt, region, alloc, FIRST);
+    see_whole(rt, region, OFFSET, LEN);
+    answers(rt, region, alloc, run) == wanted(run)
 }
 
 /// What a run leaves, and whether the calls in it were answered as they have to be.
-fn cut(alloc: Global, fill: &[u8], run: Run) -> Result<(MemDisk, bool), Refusal> {
-    let disk = disk_of(alloc, run.choice, &[FRONT, fill, BEHIND])?;
-    let (mut region, is_empty) = found(alloc, disk, "")?;
-    let answered = is_answered(alloc, &mut region, run)?;
+fn cut(rt: &impl Abort, alloc: Global, fill: &[u8], run: Run) -> (MemDisk, bool) {
+    let disk = disk_of(rt, alloc, run.choice, &[FRONT, fill, BEHIND]);
+    let (mut region, is_empty) = found(rt, alloc, disk, "");
+    let answered = is_answered(rt, alloc, &mut region, run);
     let disk = if run.stops {
         region.disk.stop()
     } else {
         region.disk.crash()
     };
-    Ok((disk, is_empty && answered))
+    (disk, is_empty && answered)
 }
 
 /// Whether a run leaves a prefix of the group, which still stands where it is written behind.
-fn holds(alloc: Global, fill: &[u8], run: Run) -> Result<bool, Refusal> {
-    let (begun, gone_on) = *FOUND.get(run.left).ok_or(Refusal::BadArguments)?;
-    let (disk, answered) = cut(alloc, fill, run)?;
-    let (mut region, is_begun) = found(alloc, disk, begun)?;
-    add(&mut region, alloc, LAST)?;
-    let (_, goes_on) = found(alloc, region.disk.crash(), gone_on)?;
-    Ok(answered && is_begun && goes_on)
+fn holds(rt: &impl Abort, alloc: Global, fill: &[u8], run: Run) -> bool {
+    let (begun, gone_on) = *FOUND.get(run.left).expect(rt, "a row");
+    let (disk, answered) = cut(rt, alloc, fill, run);
+    let (mut region, is_begun) = found(rt, alloc, disk, begun);
+    add(rt, &mut region, alloc, LAST);
+    let (_, goes_on) = found(rt, alloc, region.disk.crash(), gone_on);
+    answered && is_begun && goes_on
 }
 
 /// After each number of calls, where a crash leaves so many of three written gates open.
-fn try_choice(
-    rt: &impl Abort,
-    alloc: Global,
-    fill: &[u8],
-    choice: u64,
-    kept: usize,
-) -> Result<(), Refusal> {
+fn try_choice(rt: &impl Abort, alloc: Global, fill: &[u8], choice: u64, kept: usize) {
     for (calls, opens, written, durable) in CUTS {
         for stops in [false, true] {
             let left = kept.min(*written).max(*durable);
@@ -206,22 +209,20 @@ fn try_choice(
                 stops,
                 left: if stops { *written } else { left },
             };
-            assert!(rt; holds(alloc, fill, run)?, "{run:?} over {fill:?}");
+            assert!(rt; holds(rt, alloc, fill, run), "{run:?} over {fill:?}");
         }
     }
-    Ok(())
 }
 
 #[test]
-fn holds_a_prefix_after_each_crash(rt: HostRuntime) -> Result<(), Fail> {
+fn holds_a_prefix_after_each_crash(rt: HostRuntime) {
     for fill in FILLS {
         for (choice, kept) in CHOICES {
-            try_choice(&rt, rt.alloc(), fill, *choice, *kept)?;
+            try_choice(&rt, rt.alloc(), fill, *choice, *kept);
         }
         for bit in 2..64u32 {
             let kept = if bit == 11 { 1 } else { 0 };
-            try_choice(&rt, rt.alloc(), fill, 1 << bit, kept)?;
+            try_choice(&rt, rt.alloc(), fill, 1 << bit, kept);
         }
     }
-    Ok(())
 }

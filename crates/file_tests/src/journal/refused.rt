@@ -1,11 +1,9 @@
 //! What is refused, and that the region goes on after it.
-ghost use Rattle.std.specs.Prelude.{IfOk};
 ghost use Rattle.wm_journal.specs.Regions.{InSamePlace, IsAt, LiesOn};
 
 use super::{append, disk_of, region_of, see_whole};
 use std::alloc::Global;
 use std::process::Abort;
-use std::test::Fail;
 use wm_disk::{Crashed, Disk, MemDisk, Refusal};
 use wm_journal::Region;
 
@@ -20,67 +18,65 @@ const DAMAGED: &[&[u8]] = &[
 ];
 
 /// Whether a scan of this area is refused.
-fn refuses(alloc: Global, area: &[u8]) -> Result<bool, Refusal> {
-    let Ok(len) = u16::try_from(area.len()) else {
-        return Ok(false);
-    };
-    let disk = disk_of(alloc, 0, &[b"front", area, b"\0behind"])?;
-    let mut region = region_of(alloc, disk, 5, len)?;
-    let refused = region.scan::<bool>(alloc).err();
-    Ok(refused == Some(Refusal::Damaged))
+fn refuses(rt: &impl Abort, alloc: Global, area: &[u8]) -> bool {
+    let len = u16::try_from(area.len()).expect(rt, "a short area");
+    let disk = disk_of(rt, alloc, 0, &[b"front", area, b"\0behind"]);
+    let mut region = region_of(rt, alloc, disk, 5, len);
+    region.scan::<bool>(alloc).err() == Some(Refusal::Damaged)
 }
 
 #[test]
-fn refuses_damaged_bytes(rt: HostRuntime) -> Result<(), Fail> {
+fn refuses_damaged_bytes(rt: HostRuntime) {
     for area in DAMAGED {
-        assert!(rt; refuses(rt.alloc(), area)?, "{area:?}");
+        assert!(rt; refuses(&rt, rt.alloc(), area), "{area:?}");
     }
-    Ok(())
 }
 
-/// Whether the area's one record is found with this byte in its place, or refused.
+/// Whether these records are found with this byte in the place of the area's one record, or the scan is refused so.
 fn rescans(
+    rt: &impl Abort,
     alloc: Global,
     region: &mut Region<MemDisk>,
     byte: u8,
-    want: Result<bool, Refusal>,
-) -> Result<bool, Refusal>
+    want: Result<&[bool], Refusal>,
+) -> bool
     requires { IsAt region.old 5 7 }
     ensures { IsAt region.new 5 7 }
 {
-    see_whole(region, 5, 7)?;
-    region.disk.write_at(6, &[byte])?;
-    see_whole(region, 5, 7)?;
-    let is_found = match (region.scan::<bool>(alloc), want) {
-        (Ok(found), Ok(record)) => found.as_slice() == [record].as_slice(),
-        (found, want) => found.err() == want.err(),
+    see_whole(rt, region, 5, 7);
+    region.disk.write_at(6, &[byte]).expect(rt, "a write");
+    see_whole(rt, region, 5, 7);
+    let is_found = match &region.scan::<bool>(alloc) {
+        Ok(records) => want == Ok(records.as_slice()),
+        Err(refusal) => want == Err(*refusal),
     };
-    Ok(is_found && region.room() == 4)
+    is_found && region.room() == 4
 }
 
 /// Scans an area with one record, and again with other bytes in its place.
-fn scan_again(rt: &impl Abort, alloc: Global, region: &mut Region<MemDisk>) -> Result<(), Refusal>
+fn scan_again(rt: &impl Abort, alloc: Global, region: &mut Region<MemDisk>)
     requires lies { LiesOn region.old }
     requires place { IsAt region.old 5 7 }
 {
-    let found = region.scan::<bool>(alloc)?;
+    let found = region.scan::<bool>(alloc).expect(rt, "a scan");
     assert!(rt; found.as_slice() == [true].as_slice());
     assert!(rt;
-        rescans(alloc, region, 2, Err(Refusal::Damaged))?,
+        rescans(rt, alloc, region, 2, Err(Refusal::Damaged)),
         "no truth value"
     );
-    assert!(rt; rescans(alloc, region, 0, Ok(false))?, "a truth value");
-    Ok(())
+    assert!(rt;
+        rescans(rt, alloc, region, 0, Ok(&[false])),
+        "a truth value"
+    );
 }
 
 /// The same region is scanned again after a refusal.
 #[test]
-fn scans_again_after_damage(rt: HostRuntime) -> Result<(), Fail> {
+fn scans_again_after_damage(rt: HostRuntime) {
     let alloc = rt.alloc();
-    let disk = disk_of(alloc, 0, &[b"front\xa5\x01\0\0\0\0\0behind"])?;
-    let mut region = region_of(alloc, disk, 5, 7)?;
-    scan_again(&rt, alloc, &mut region)?;
-    Ok(())
+    let disk = disk_of(&rt, alloc, 0, &[b"front\xa5\x01\0\0\0\0\0behind"]);
+    let mut region = region_of(&rt, alloc, disk, 5, 7);
+    scan_again(&rt, alloc, &mut region);
 }
 
 /// The first refusal of a scan, a group of two and the opening of its gates, and the call that gave it.
@@ -115,48 +111,47 @@ const FAILURES: &[Failure] = &[
 ];
 
 /// A journal with one record, scanned.
-fn with_one_record(alloc: Global) -> Result<Region<MemDisk>, Refusal>
-    ensures lies { IfOk result (λ region. LiesOn region) }
-    ensures place { IfOk result (λ region. IsAt region 5 9) }
+fn with_one_record(rt: &impl Abort, alloc: Global) -> Region<MemDisk>
+    ensures lies { LiesOn result }
+    ensures place { IsAt result 5 9 }
 {
-    let disk = disk_of(alloc, 0, &[b"front\xa5\x01", &[0u8; 7], b"behind"])?;
-    let mut region = region_of(alloc, disk, 5, 9)?;
-    region.scan::<bool>(alloc)?;
-    Ok(region)
+    let disk = disk_of(rt, alloc, 0, &[b"front\xa5\x01", &[0u8; 7], b"behind"]);
+    let mut region = region_of(rt, alloc, disk, 5, 9);
+    region.scan::<bool>(alloc).expect(rt, "a scan");
+    region
 }
 
 /// Whether a scan finds these records.
-fn finds(alloc: Global, region: &mut Region<MemDisk>, records: &[bool]) -> Result<bool, Refusal>
+fn finds(rt: &impl Abort, alloc: Global, region: &mut Region<MemDisk>, records: &[bool]) -> bool
     requires { IsAt region.old 5 9 }
     ensures { IsAt region.new 5 9 }
 {
-    see_whole(region, 5, 9)?;
-    let found = region.scan::<bool>(alloc)?;
-    Ok(found.as_slice() == records)
+    see_whole(rt, region, 5, 9);
+    let found = region.scan::<bool>(alloc).expect(rt, "a scan");
+    found.as_slice() == records
 }
 
 /// Opens the gates that are still to be opened.
-fn open(region: &mut Region<MemDisk>) -> Result<(), Refusal>
+fn open(rt: &impl Abort, region: &mut Region<MemDisk>)
     requires { IsAt region.old 5 9 }
     ensures { IsAt region.new 5 9 }
 {
-    see_whole(region, 5, 9)?;
-    region.open_gates::<bool>()?;
-    Ok(())
+    see_whole(rt, region, 5, 9);
+    region.open_gates::<bool>().expect(rt, "open gates");
 }
 
 /// Whether the records are found with one more behind them, `false`, once that is put there.
-fn goes_on(alloc: Global, region: &mut Region<MemDisk>, records: &[bool]) -> Result<bool, Refusal>
+fn goes_on(rt: &impl Abort, alloc: Global, region: &mut Region<MemDisk>, records: &[bool]) -> bool
     requires { IsAt region.old 5 9 }
 {
-    see_whole(region, 5, 9)?;
-    append(region, alloc, &[false])?;
-    open(region)?;
-    see_whole(region, 5, 9)?;
-    let found = region.scan::<bool>(alloc)?;
+    see_whole(rt, region, 5, 9);
+    append(region, alloc, &[false]).expect(rt, "a group");
+    open(rt, region);
+    see_whole(rt, region, 5, 9);
+    let found = region.scan::<bool>(alloc).expect(rt, "a scan");
     match found.split_last() {
-        Some((last, front)) => Ok(front == records && !*last),
-        None => Ok(false),
+        Some((last, front)) => front == records && !*last,
+        None => false,
     }
 }
 
@@ -174,32 +169,31 @@ fn fails(alloc: Global, region: &mut Region<MemDisk>, calls: u64, call: Option<&
 }
 
 /// Whether a region fails so, and after it finds the records and goes on.
-fn recovers(alloc: Global, region: &mut Region<MemDisk>, failure: Failure) -> Result<bool, Refusal>
+fn recovers(rt: &impl Abort, alloc: Global, region: &mut Region<MemDisk>, failure: Failure) -> bool
     requires lies { LiesOn region.old }
     requires place { IsAt region.old 5 9 }
 {
     let (calls, call, found, room) = failure;
     let failed = fails(alloc, region, calls, call);
     region.disk.arm(u64::MAX);
-    region.disk.sync()?;
-    let is_found = finds(alloc, region, found)? && region.room() == room;
+    region.disk.sync().expect(rt, "a sync");
+    let is_found = finds(rt, alloc, region, found) && region.room() == room;
     // No gate of the group is opened any more.
-    open(region)?;
-    let stays = finds(alloc, region, found)?;
-    let goes_on = goes_on(alloc, region, found)?;
-    Ok(failed && is_found && stays && goes_on)
+    open(rt, region);
+    let stays = finds(rt, alloc, region, found);
+    let goes_on = goes_on(rt, alloc, region, found);
+    failed && is_found && stays && goes_on
 }
 
 /// Whether a journal with one record does so.
-fn one_recovers(alloc: Global, failure: Failure) -> Result<bool, Refusal> {
-    let mut region = with_one_record(alloc)?;
-    recovers(alloc, &mut region, failure)
+fn one_recovers(rt: &impl Abort, alloc: Global, failure: Failure) -> bool {
+    let mut region = with_one_record(rt, alloc);
+    recovers(rt, alloc, &mut region, failure)
 }
 
 #[test]
-fn goes_on_after_a_failure(rt: HostRuntime) -> Result<(), Fail> {
+fn goes_on_after_a_failure(rt: HostRuntime) {
     for row in FAILURES {
-        assert!(rt; one_recovers(rt.alloc(), *row)?, "after {}", row.0);
+        assert!(rt; one_recovers(&rt, rt.alloc(), *row), "after {}", row.0);
     }
-    Ok(())
 }

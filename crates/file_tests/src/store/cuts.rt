@@ -4,13 +4,13 @@ use super::{
 };
 use crate::disks::content_of;
 use std::alloc::Global;
-use std::test::Fail;
+use std::process::Abort;
 use wm_disk::{Crashed, MemDisk, Refusal};
 
 /// Whether each call of the store is answered that it is down.
-fn is_down(alloc: Global, store: &mut Kept) -> bool {
+fn is_down(rt: &impl Abort, alloc: Global, store: &mut Kept) -> bool {
     let down = Err(Refusal::StoreFailed);
-    let refused = watch(alloc, store, &["/d"]) == Err(Refusal::StoreFailed);
+    let refused = watch(rt, alloc, store, &["/d"]) == Err(Refusal::StoreFailed);
     refused && store.checkpoint(alloc) == down && store.close() == down
 }
 
@@ -20,29 +20,29 @@ const BATCH: &[&str] = &["/a", "/b", "/c"];
 const FOUND: &[&[&str]] = &[&[], &["/a"], &["/a", "/b"], &["/a", "/b", "/c"]];
 
 /// Whether the batch fails where the disk lets so many calls pass.
-fn fails(alloc: Global, store: &mut Kept, passing: u64) -> bool {
+fn fails(rt: &impl Abort, alloc: Global, store: &mut Kept, passing: u64) -> bool {
     store.arm(passing);
-    watch(alloc, store, BATCH) == Err(Refusal::DeviceFailed)
+    watch(rt, alloc, store, BATCH) == Err(Refusal::DeviceFailed)
 }
 
 /// Whether the batch fails so, has no effect on the registry, and leaves the store down.
-fn goes_down(alloc: Global, store: &mut Kept, passing: u64) -> bool {
-    let failed = fails(alloc, store, passing);
-    failed && store.registry().roots().is_empty() && is_down(alloc, store)
+fn goes_down(rt: &impl Abort, alloc: Global, store: &mut Kept, passing: u64) -> bool {
+    let failed = fails(rt, alloc, store, passing);
+    failed && store.registry().roots().is_empty() && is_down(rt, alloc, store)
 }
 
 /// Whether a next store on this disk has these roots.
-fn is_found(alloc: Global, disk: MemDisk, roots: &[&str]) -> Result<bool, Refusal> {
-    let store = open(alloc, disk)?;
-    Ok(watches(&store, roots))
+fn is_found(rt: &impl Abort, alloc: Global, disk: MemDisk, roots: &[&str]) -> bool {
+    let store = open(rt, alloc, disk);
+    watches(&store, roots)
 }
 
 /// Whether the store goes down so, and leaves these roots on the disk.
-fn leaves(alloc: Global, passing: u64, roots: &[&str]) -> Result<bool, Refusal> {
-    let mut store = opened(alloc)?;
-    let is_down = goes_down(alloc, &mut store, passing);
-    let is_found = is_found(alloc, store.into_disk().stop(), roots)?;
-    Ok(is_down && is_found)
+fn leaves(rt: &impl Abort, alloc: Global, passing: u64, roots: &[&str]) -> bool {
+    let mut store = opened(rt, alloc);
+    let is_down = goes_down(rt, alloc, &mut store, passing);
+    let is_found = is_found(rt, alloc, store.into_disk().stop(), roots);
+    is_down && is_found
 }
 
 /// How many device calls of the batch pass, and the roots that are then found.
@@ -57,11 +57,11 @@ const STOPS: &[(u64, &[&str])] = &[
 
 /// A write and a sync, a write for each of the three gates, and a sync.
 #[test]
-fn finds_a_prefix_of_a_cut_batch(rt: HostRuntime) -> Result<(), Fail> {
+fn finds_a_prefix_of_a_cut_batch(rt: HostRuntime) {
     for (passing, found) in STOPS {
-        assert!(rt; leaves(rt.alloc(), *passing, found)?, "after {passing}");
+        let leaves = leaves(&rt, rt.alloc(), *passing, found);
+        assert!(rt; leaves, "after {passing}");
     }
-    Ok(())
 }
 
 /// What the crashes of [`MemDisk::new`] leave: its choices 0 to 3, and every other bit.
@@ -81,15 +81,16 @@ fn has_prefix(store: &Kept, most: usize) -> bool {
 
 /// Whether a crash in the batch leaves at most so many of its commands, and a prefix of it.
 fn begins(
+    rt: &impl Abort,
     alloc: Global,
     content: &[u8],
     (passing, choice): Cut,
     most: usize,
-) -> Result<bool, Refusal> {
-    let mut store = open_bytes(alloc, choice, content)?;
-    let failed = fails(alloc, &mut store, passing);
-    let store = open(alloc, store.into_disk().crash())?;
-    Ok(failed && has_prefix(&store, most))
+) -> bool {
+    let mut store = open_bytes(rt, alloc, choice, content);
+    let failed = fails(rt, alloc, &mut store, passing);
+    let store = open(rt, alloc, store.into_disk().crash());
+    failed && has_prefix(&store, most)
 }
 
 /// How many device calls pass, and how many commands are left at most. The gates are written one after the
@@ -97,16 +98,15 @@ fn begins(
 const CRASHES: &[(u64, usize)] = &[(0, 0), (1, 0), (2, 0), (3, 1), (4, 2), (5, 3)];
 
 #[test]
-fn finds_a_prefix_after_a_crash(rt: HostRuntime) -> Result<(), Fail> {
+fn finds_a_prefix_after_a_crash(rt: HostRuntime) {
     let alloc = rt.alloc();
-    let content = content_of(alloc, formatted(alloc)?)?;
+    let content = content_of(&rt, alloc, formatted(&rt, alloc));
     for (passing, most) in CRASHES {
         for choice in CHOICES {
             let cut = (*passing, *choice);
-            assert!(rt; begins(alloc, &content, cut, *most)?, "{cut:?}");
+            assert!(rt; begins(&rt, alloc, &content, cut, *most), "{cut:?}");
         }
     }
-    Ok(())
 }
 
 /// Whether a checkpoint into a slot with an open gate is answered as it has to be and keeps the registry: four writes, three
@@ -118,69 +118,65 @@ fn stays(alloc: Global, store: &mut Kept, passing: u64) -> bool {
 }
 
 /// Whether such a checkpoint keeps the registry, also in a next store on what a crash leaves.
-fn keeps(alloc: Global, content: &[u8], (passing, choice): Cut) -> Result<bool, Refusal> {
-    let mut store = open_bytes(alloc, choice, content)?;
+fn keeps(rt: &impl Abort, alloc: Global, content: &[u8], (passing, choice): Cut) -> bool {
+    let mut store = open_bytes(rt, alloc, choice, content);
     let stays = stays(alloc, &mut store, passing);
-    let store = open(alloc, store.into_disk().crash())?;
-    Ok(stays && watches(&store, &["/r"]) && store.registry().incarnation() == 3)
+    let store = open(rt, alloc, store.into_disk().crash());
+    stays && watches(&store, &["/r"]) && store.registry().incarnation() == 3
 }
 
 /// Before, within and after each of the device calls.
 #[test]
-fn keeps_its_registry_through_a_cut_checkpoint(rt: HostRuntime) -> Result<(), Fail> {
-    let content = checkpointed(rt.alloc())?;
+fn keeps_its_registry_through_a_cut_checkpoint(rt: HostRuntime) {
+    let content = checkpointed(&rt, rt.alloc());
     for passing in 0..9u64 {
         for choice in CHOICES {
             let cut = (passing, *choice);
-            assert!(rt; keeps(rt.alloc(), &content, cut)?, "{cut:?}");
+            assert!(rt; keeps(&rt, rt.alloc(), &content, cut), "{cut:?}");
         }
     }
-    Ok(())
 }
 
 /// Whether the batch is answered with three commands accepted, and the roots are the batch's.
-fn is_answered(alloc: Global, store: &mut Kept) -> bool {
+fn is_answered(rt: &impl Abort, alloc: Global, store: &mut Kept) -> bool {
     store.arm(6);
-    watch(alloc, store, BATCH) == Ok(3) && watches(store, BATCH)
+    watch(rt, alloc, store, BATCH) == Ok(3) && watches(store, BATCH)
 }
 
 #[test]
-fn keeps_an_answered_batch(rt: HostRuntime) -> Result<(), Fail> {
+fn keeps_an_answered_batch(rt: HostRuntime) {
     let alloc = rt.alloc();
-    let mut store = opened(alloc)?;
-    let is_answered = is_answered(alloc, &mut store);
-    let is_found = is_found(alloc, store.into_disk().crash(), BATCH)?;
+    let mut store = opened(&rt, alloc);
+    let is_answered = is_answered(&rt, alloc, &mut store);
+    let is_found = is_found(&rt, alloc, store.into_disk().crash(), BATCH);
     assert!(rt; is_answered && is_found);
-    Ok(())
 }
 
 /// Whether the store can be closed, is down then, and keeps its registry.
-fn closes(alloc: Global, store: &mut Kept) -> bool {
-    store.close() == Ok(()) && is_down(alloc, store) && watches(store, &["/r"])
+fn closes(rt: &impl Abort, alloc: Global, store: &mut Kept) -> bool {
+    store.close() == Ok(()) && is_down(rt, alloc, store) && watches(store, &["/r"])
 }
 
 #[test]
-fn is_down_once_closed(rt: HostRuntime) -> Result<(), Fail> {
+fn is_down_once_closed(rt: HostRuntime) {
     let alloc = rt.alloc();
-    let mut store = watching_one(alloc)?;
-    let is_closed = closes(alloc, &mut store);
+    let mut store = watching_one(&rt, alloc);
+    let is_closed = closes(&rt, alloc, &mut store);
     let disk = store.into_disk();
     let calls = disk.calls();
-    let is_found = is_found(alloc, disk.crash(), &["/r"])?;
+    let is_found = is_found(&rt, alloc, disk.crash(), &["/r"]);
     assert!(rt; is_closed && is_found);
     assert!(rt; calls == (49, 10, 2));
-    Ok(())
 }
 
 /// Whether a failing last sync is told, and leaves the store down.
-fn fails_to_close(alloc: Global, store: &mut Kept) -> bool {
+fn fails_to_close(rt: &impl Abort, alloc: Global, store: &mut Kept) -> bool {
     store.arm(0);
-    store.close() == Err(Refusal::DeviceFailed) && is_down(alloc, store)
+    store.close() == Err(Refusal::DeviceFailed) && is_down(rt, alloc, store)
 }
 
 #[test]
-fn is_down_where_the_last_sync_fails(rt: HostRuntime) -> Result<(), Fail> {
-    let mut store = watching_one(rt.alloc())?;
-    assert!(rt; fails_to_close(rt.alloc(), &mut store));
-    Ok(())
+fn is_down_where_the_last_sync_fails(rt: HostRuntime) {
+    let mut store = watching_one(&rt, rt.alloc());
+    assert!(rt; fails_to_close(&rt, rt.alloc(), &mut store));
 }

@@ -3,7 +3,7 @@
 use super::{START_CALLS, checkpointed, watching};
 use crate::disks::disk_of;
 use std::alloc::Global;
-use std::test::*;
+use std::process::Abort;
 use wm_disk::{MemDisk, OneFault, Refusal};
 use wm_registry::MAX_BATCH;
 use wm_store::Store;
@@ -12,30 +12,28 @@ use wm_store::Store;
 type Faulty = Store<OneFault<MemDisk>>;
 
 /// A store on such a disk: the call that fails comes so many calls after the start.
-fn faulty(alloc: Global, content: &[u8], calls: u64) -> Result<Faulty, Refusal> {
-    let disk = OneFault::new(
-        disk_of(alloc, 0, content)?,
-        START_CALLS.saturating_add(calls),
-    );
-    match Store::open(alloc, disk) {
-        Ok(store) => Ok(store),
-        Err((refusal, _)) => Err(refusal),
-    }
+fn faulty(rt: &impl Abort, alloc: Global, content: &[u8], calls: u64) -> Faulty {
+    let disk = disk_of(rt, alloc, 0, content);
+    let faulty = OneFault::new(disk, START_CALLS.saturating_add(calls));
+    let opened = Store::open(alloc, faulty).map_err(|(refusal, _)| refusal);
+    opened.expect(rt, "a start")
+}
+
+/// What the watch of a path is refused.
+fn refusal(rt: &impl Abort, alloc: Global, store: &mut Faulty, path: &str) -> Option<Refusal> {
+    let batch = watching(rt, alloc, &[path]);
+    assert!(rt; batch.len() <= MAX_BATCH);
+    store.commit_batch(alloc, batch).err()
 }
 
 /// What a batch, a checkpoint, another batch and the closing are refused.
-fn refusals(alloc: Global, store: &mut Faulty) -> Result<[Option<Refusal>; 4], Refusal> {
-    let first = watching(alloc, &["/a"])?;
-    let second = watching(alloc, &["/b"])?;
-    if first.len() > MAX_BATCH || second.len() > MAX_BATCH {
-        return Err(Refusal::TooMany);
-    }
-    Ok([
-        store.commit_batch(alloc, first).err(),
+fn refusals(rt: &impl Abort, alloc: Global, store: &mut Faulty) -> [Option<Refusal>; 4] {
+    [
+        refusal(rt, alloc, store, "/a"),
         store.checkpoint(alloc).err(),
-        store.commit_batch(alloc, second).err(),
+        refusal(rt, alloc, store, "/b"),
         store.close().err(),
-    ])
+    ]
 }
 
 /// What they are refused where the call fails that comes so many calls after the start: a batch of one command makes
@@ -53,18 +51,17 @@ fn wanted(calls: u64) -> [Option<Refusal>; 4] {
 }
 
 /// Whether the calls are refused so where the one fails that comes so many calls after the start.
-fn refuses(alloc: Global, content: &[u8], calls: u64) -> Result<bool, Refusal> {
-    let mut store = faulty(alloc, content, calls)?;
-    let refused = refusals(alloc, &mut store)?;
-    Ok(refused == wanted(calls))
+fn refuses(rt: &impl Abort, alloc: Global, content: &[u8], calls: u64) -> bool {
+    let mut store = faulty(rt, alloc, content, calls);
+    refusals(rt, alloc, &mut store) == wanted(calls)
 }
 
 /// The device would do every call behind the one that failed, and isn't asked for any.
 #[test]
-fn a_device_fails_once(rt: HostRuntime) -> Result<(), Fail> {
-    let content = checkpointed(rt.alloc())?;
+fn a_device_fails_once(rt: HostRuntime) {
+    let content = checkpointed(&rt, rt.alloc());
     for calls in 0..18u64 {
-        assert!(rt; refuses(rt.alloc(), &content, calls)?, "after {calls}");
+        let refuses = refuses(&rt, rt.alloc(), &content, calls);
+        assert!(rt; refuses, "after {calls}");
     }
-    Ok(())
 }

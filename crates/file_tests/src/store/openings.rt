@@ -2,9 +2,8 @@
 use super::calls::{fill, many};
 use super::{JOURNAL_A, Kept, SLOT_B, edited, formatted, meet, open, open_bytes, watch};
 use crate::disks::{content_of, disk_of, overwrite};
-use std::alloc::{AllocError, Global};
+use std::alloc::Global;
 use std::process::Abort;
-use std::test::Fail;
 use wm_disk::{Crashed, MemDisk, Refusal};
 use wm_registry::Reply;
 use wm_store::Store;
@@ -22,32 +21,36 @@ const NUMBER: usize = 4_097;
 const INCARNATION: usize = 4_109;
 
 /// A journal with as many `Begin` as it takes, and its closed gate.
-fn full_journal(alloc: Global) -> Result<Vec<u8>, AllocError> {
+fn full_journal(rt: &impl Abort, alloc: Global) -> Vec<u8> {
     let mut journal = Vec::new(alloc);
     for _ in 0..131_071 {
-        journal.extend_from_slice(b"\xa5\x00")?;
+        journal.extend_from_slice(b"\xa5\x00").expect(rt, "memory");
     }
-    journal.push(0)?;
-    Ok(journal)
+    journal.push(0).expect(rt, "memory");
+    journal
+}
+
+/// The refusal of an opening on this disk, and the disk that it hands back.
+fn refused(rt: &impl Abort, alloc: Global, disk: MemDisk) -> (Refusal, MemDisk) {
+    Store::open(alloc, disk).err().expect(rt, "a refusal")
 }
 
 /// Whether an opening on these bytes is refused so, and hands the disk back as it was.
-fn refuses(alloc: Global, content: &[u8], wanted: Refusal) -> Result<bool, Refusal> {
-    let disk = disk_of(alloc, 0, content)?;
-    let Some((refusal, disk)) = Store::open(alloc, disk).err() else {
-        return Ok(false);
-    };
-    let after = content_of(alloc, disk)?;
-    Ok(refusal == wanted && after.as_slice() == content)
+fn refuses(rt: &impl Abort, alloc: Global, content: &[u8], wanted: Refusal) -> bool {
+    let disk = disk_of(rt, alloc, 0, content);
+    let (refusal, disk) = refused(rt, alloc, disk);
+    let after = content_of(rt, alloc, disk);
+    refusal == wanted && after.as_slice() == content
 }
 
 /// Whether the opening of such a file is refused so, and hands the disk back as it was.
 fn hands_back(
+    rt: &impl Abort,
     alloc: Global,
     (at, bytes, wanted): (usize, &[u8], Refusal),
-) -> Result<bool, Refusal> {
-    let content = edited(alloc, at, bytes)?;
-    refuses(alloc, &content, wanted)
+) -> bool {
+    let content = edited(rt, alloc, at, bytes);
+    refuses(rt, alloc, &content, wanted)
 }
 
 /// The header, the retired gate, both slots closed, both open with number 1, the incarnation, and journals: of no command, of a
@@ -76,34 +79,32 @@ const REFUSED: &[(usize, &[u8], Refusal)] = &[
 ];
 
 #[test]
-fn hands_a_disk_back(rt: HostRuntime) -> Result<(), Fail> {
+fn hands_a_disk_back(rt: HostRuntime) {
     for row in REFUSED {
         assert!(rt;
-            hands_back(rt.alloc(), *row)?,
+            hands_back(&rt, rt.alloc(), *row),
             "{:?} at {}: {:?}",
             row.1,
             row.0,
             row.2
         );
     }
-    Ok(())
 }
 
-/// The incarnation that an opening on this disk begins.
+/// The incarnation that an opening on this disk begins, or what it is refused.
 fn begun(alloc: Global, disk: MemDisk) -> Result<u64, Refusal> {
-    let store = open(alloc, disk)?;
-    Ok(store.registry().incarnation())
+    match Store::open(alloc, disk) {
+        Ok(store) => Ok(store.registry().incarnation()),
+        Err((refusal, _)) => Err(refusal),
+    }
 }
 
 /// Whether an opening fails where the disk lets so many calls pass, and a next one begins this incarnation.
-fn fails(alloc: Global, passing: u64, incarnation: u64) -> Result<bool, Refusal> {
-    let mut disk = formatted(alloc)?;
+fn fails(rt: &impl Abort, alloc: Global, passing: u64, incarnation: u64) -> bool {
+    let mut disk = formatted(rt, alloc);
     disk.arm(passing);
-    let Some((refusal, disk)) = Store::open(alloc, disk).err() else {
-        return Ok(false);
-    };
-    let begun = begun(alloc, disk.stop())?;
-    Ok(refusal == Refusal::DeviceFailed && begun == incarnation)
+    let (refusal, disk) = refused(rt, alloc, disk);
+    refusal == Refusal::DeviceFailed && begun(alloc, disk.stop()) == Ok(incarnation)
 }
 
 /// How many device calls of the opening pass, and the incarnation that a next one begins.
@@ -111,34 +112,33 @@ const FAILING: &[(u64, u64)] = &[(0, 1), (1, 1), (2, 1), (3, 1), (4, 1), (5, 1),
 
 /// A sync and two looks, and then a write, a sync, a gate and a sync for the `Begin`.
 #[test]
-fn tells_a_failing_opening(rt: HostRuntime) -> Result<(), Fail> {
+fn tells_a_failing_opening(rt: HostRuntime) {
     for (passing, incarnation) in FAILING {
-        let fails = fails(rt.alloc(), *passing, *incarnation)?;
+        let fails = fails(&rt, rt.alloc(), *passing, *incarnation);
         assert!(rt; fails, "after {passing}");
     }
-    Ok(())
 }
 
-/// The incarnation that an opening on these bytes begins.
-fn begun_from(alloc: Global, content: &[u8]) -> Result<u64, Refusal> {
-    begun(alloc, disk_of(alloc, 0, content)?)
+/// The incarnation that an opening on these bytes begins, or what it is refused.
+fn begun_from(rt: &impl Abort, alloc: Global, content: &[u8]) -> Result<u64, Refusal> {
+    begun(alloc, disk_of(rt, alloc, 0, content))
 }
 
 #[test]
-fn begins_where_the_journal_is_full(rt: HostRuntime) -> Result<(), Fail> {
+fn begins_where_the_journal_is_full(rt: HostRuntime) {
     let alloc = rt.alloc();
-    let mut content = edited(alloc, JOURNAL_A, &full_journal(alloc)?)?;
-    assert!(rt; begun_from(alloc, &content) == Ok(131_072));
+    let journal = full_journal(&rt, alloc);
+    let mut content = edited(&rt, alloc, JOURNAL_A, &journal);
+    assert!(rt; begun_from(&rt, alloc, &content) == Ok(131_072));
     // the `Begin` needs a checkpoint
-    overwrite(&mut content, NUMBER, LAST)?;
-    assert!(rt; begun_from(alloc, &content) == Err(Refusal::Exhausted));
-    Ok(())
+    overwrite(&rt, &mut content, NUMBER, LAST);
+    assert!(rt; begun_from(&rt, alloc, &content) == Err(Refusal::Exhausted));
 }
 
 /// A store whose slot has the last number.
-fn spent(alloc: Global) -> Result<Kept, Refusal> {
-    let content = edited(alloc, NUMBER, LAST)?;
-    open_bytes(alloc, 0, &content)
+fn spent(rt: &impl Abort, alloc: Global) -> Kept {
+    let content = edited(rt, alloc, NUMBER, LAST);
+    open_bytes(rt, alloc, 0, &content)
 }
 
 /// The reply to each of a batch's commands: the journal takes 62 of them.
@@ -151,28 +151,27 @@ fn wanted(place: usize) -> Reply {
 }
 
 /// Meets the fourth batch.
-fn meet_fourth(rt: &impl Abort, alloc: Global, store: &mut Kept) -> Result<(), Refusal> {
-    let replies = meet(alloc, store, many(alloc, b'd', 64, 1_024)?)?;
+fn meet_fourth(rt: &impl Abort, alloc: Global, store: &mut Kept) {
+    let batch = many(rt, alloc, b'd', 64, 1_024);
+    let replies = meet(rt, alloc, store, batch).expect(rt, "replies");
     for (place, reply) in replies.iter().enumerate() {
         assert!(rt; *reply == wanted(place), "at {place}");
     }
-    Ok(())
 }
 
 /// Fills the journal of a store that can make no checkpoint.
-fn spend(rt: &impl Abort, alloc: Global, store: &mut Kept) -> Result<(), Refusal> {
+fn spend(rt: &impl Abort, alloc: Global, store: &mut Kept) {
     assert!(rt; store.checkpoint(alloc) == Err(Refusal::Exhausted));
-    assert!(rt; watch(alloc, store, &["/r"]) == Ok(1));
-    fill(alloc, store)?;
-    meet_fourth(rt, alloc, store)
+    assert!(rt; watch(rt, alloc, store, &["/r"]) == Ok(1));
+    fill(rt, alloc, store);
+    meet_fourth(rt, alloc, store);
 }
 
 #[test]
-fn takes_what_needs_no_further_slot(rt: HostRuntime) -> Result<(), Fail> {
+fn takes_what_needs_no_further_slot(rt: HostRuntime) {
     let alloc = rt.alloc();
-    let mut store = spent(alloc)?;
-    let spent = spend(&rt, alloc, &mut store);
-    let store = open(alloc, store.into_disk().crash())?;
-    assert!(rt; spent.is_ok() && store.registry().roots().len() == 255);
-    Ok(())
+    let mut store = spent(&rt, alloc);
+    spend(&rt, alloc, &mut store);
+    let store = open(&rt, alloc, store.into_disk().crash());
+    assert!(rt; store.registry().roots().len() == 255);
 }

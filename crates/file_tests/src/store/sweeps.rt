@@ -3,9 +3,8 @@
 //! start leaves nothing that a first cut doesn't.
 use super::{Kept, START_CALLS, checkpointed, open, watch, watches};
 use crate::disks::disk_of;
-use std::alloc::{AllocError, Global};
+use std::alloc::Global;
 use std::process::Abort;
-use std::test::*;
 use wm_disk::{Crashed, MemDisk, Refusal};
 use wm_store::Store;
 
@@ -54,23 +53,23 @@ const BEFORE: Found = Found {
 
 /// The choices of what a crash leaves: what was durable, what a read gives, two bytes in each written place, and
 /// single bits. Of these a test takes a quarter, each fourth one, since all take some minutes.
-fn choices(alloc: Global, quarter: u32) -> Result<Vec<u64>, AllocError> {
+fn choices(rt: &impl Abort, alloc: Global, quarter: u32) -> Vec<u64> {
     let mut choices = Vec::new(alloc);
-    choices.push(u64::from(quarter))?;
+    choices.push(u64::from(quarter)).expect(rt, "memory");
     for bit in 2..64u32 {
         if bit % 4 == quarter {
-            choices.push(1 << bit)?;
+            choices.push(1 << bit).expect(rt, "memory");
         }
     }
-    Ok(choices)
+    choices
 }
 
 /// A start where the disk lets so many calls pass: its `Begin` is found where it isn't cut, and perhaps where it is.
-fn start(alloc: Global, mut disk: MemDisk, found: Found, passing: u64) -> Result<Left, Refusal> {
+fn start(rt: &impl Abort, alloc: Global, mut disk: MemDisk, found: Found, passing: u64) -> Left {
     disk.arm(passing);
     let last = found.last.saturating_add(1);
     match Store::open(alloc, disk) {
-        Ok(store) => Ok(Left {
+        Ok(store) => Left {
             disk: store.into_disk(),
             found: Found {
                 first: found.first.saturating_add(1),
@@ -78,32 +77,32 @@ fn start(alloc: Global, mut disk: MemDisk, found: Found, passing: u64) -> Result
                 ..found
             },
             is_cut: false,
-        }),
-        Err((Refusal::DeviceFailed, disk)) => Ok(Left {
-            disk,
-            found: Found { last, ..found },
-            is_cut: true,
-        }),
-        Err((refusal, _)) => Err(refusal),
+        },
+        Err((refusal, disk)) => {
+            assert!(rt; refusal == Refusal::DeviceFailed);
+            Left {
+                disk,
+                found: Found { last, ..found },
+                is_cut: true,
+            }
+        }
     }
 }
 
 /// Whether the batch is cut where the disk lets so many calls pass. All of it is accepted where it isn't.
-fn is_batch_cut(alloc: Global, store: &mut Kept, passing: u64) -> Result<bool, Refusal> {
+fn is_batch_cut(rt: &impl Abort, alloc: Global, store: &mut Kept, passing: u64) -> bool {
     store.arm(passing);
-    match watch(alloc, store, BATCH) {
-        Err(Refusal::DeviceFailed) => Ok(true),
-        Ok(accepted) if accepted == BATCH.len() => Ok(false),
-        _ => Err(Refusal::BadCommand),
-    }
+    let answer = watch(rt, alloc, store, BATCH);
+    assert!(rt; answer == Ok(BATCH.len()) || answer == Err(Refusal::DeviceFailed));
+    answer.is_err()
 }
 
 /// A batch where the disk lets so many calls pass: all of it is found where it was answered, and perhaps a prefix where
 /// it is cut.
-fn batch(alloc: Global, disk: MemDisk, passing: u64) -> Result<Left, Refusal> {
-    let mut store = open(alloc, disk)?;
-    let is_cut = is_batch_cut(alloc, &mut store, passing)?;
-    Ok(Left {
+fn batch(rt: &impl Abort, alloc: Global, disk: MemDisk, passing: u64) -> Left {
+    let mut store = open(rt, alloc, disk);
+    let is_cut = is_batch_cut(rt, alloc, &mut store, passing);
+    Left {
         disk: store.into_disk(),
         found: Found {
             least: if is_cut { 0 } else { BATCH.len() },
@@ -112,24 +111,22 @@ fn batch(alloc: Global, disk: MemDisk, passing: u64) -> Result<Left, Refusal> {
             last: 3,
         },
         is_cut,
-    })
-}
-
-/// Whether a checkpoint is cut where the disk lets so many calls pass.
-fn is_checkpoint_cut(alloc: Global, store: &mut Kept, passing: u64) -> Result<bool, Refusal> {
-    store.arm(passing);
-    match store.checkpoint(alloc) {
-        Ok(()) => Ok(false),
-        Err(Refusal::DeviceFailed) => Ok(true),
-        Err(refusal) => Err(refusal),
     }
 }
 
+/// Whether a checkpoint is cut where the disk lets so many calls pass.
+fn is_checkpoint_cut(rt: &impl Abort, alloc: Global, store: &mut Kept, passing: u64) -> bool {
+    store.arm(passing);
+    let answer = store.checkpoint(alloc);
+    assert!(rt; answer == Ok(()) || answer == Err(Refusal::DeviceFailed));
+    answer.is_err()
+}
+
 /// A checkpoint where the disk lets so many calls pass, which changes nothing that is found.
-fn checkpoint(alloc: Global, disk: MemDisk, passing: u64) -> Result<Left, Refusal> {
-    let mut store = open(alloc, disk)?;
-    let is_cut = is_checkpoint_cut(alloc, &mut store, passing)?;
-    Ok(Left {
+fn checkpoint(rt: &impl Abort, alloc: Global, disk: MemDisk, passing: u64) -> Left {
+    let mut store = open(rt, alloc, disk);
+    let is_cut = is_checkpoint_cut(rt, alloc, &mut store, passing);
+    Left {
         disk: store.into_disk(),
         found: Found {
             first: 3,
@@ -137,21 +134,22 @@ fn checkpoint(alloc: Global, disk: MemDisk, passing: u64) -> Result<Left, Refusa
             ..BEFORE
         },
         is_cut,
-    })
+    }
 }
 
 /// The work on such a file, where the disk lets so many calls pass and crashes by this choice.
 fn cut(
+    rt: &impl Abort,
     alloc: Global,
     (content, work): (&[u8], Work),
     choice: u64,
     passing: u64,
-) -> Result<Left, Refusal> {
-    let disk = disk_of(alloc, choice, content)?;
+) -> Left {
+    let disk = disk_of(rt, alloc, choice, content);
     match work {
-        Work::Start => start(alloc, disk, BEFORE, passing),
-        Work::Batch => batch(alloc, disk, passing),
-        Work::Checkpoint => checkpoint(alloc, disk, passing),
+        Work::Start => start(rt, alloc, disk, BEFORE, passing),
+        Work::Batch => batch(rt, alloc, disk, passing),
+        Work::Checkpoint => checkpoint(rt, alloc, disk, passing),
     }
 }
 
@@ -170,9 +168,9 @@ fn has(store: &Kept, found: Found) -> bool {
 }
 
 /// Whether a crash of this disk leaves what may be found.
-fn is_found(alloc: Global, left: Left) -> Result<bool, Refusal> {
-    let store = open(alloc, left.disk.crash())?;
-    Ok(has(&store, left.found))
+fn is_found(rt: &impl Abort, alloc: Global, left: Left) -> bool {
+    let store = open(rt, alloc, left.disk.crash());
+    has(&store, left.found)
 }
 
 /// More device calls than any work here makes.
@@ -180,123 +178,123 @@ const MANY_CALLS: u64 = 20;
 
 /// Cuts the work at each of its calls, each time with a crash under the choice, and tells how many calls it makes. None
 /// where something else is found, or it is always cut.
-fn crashed(alloc: Global, on: (&[u8], Work), choice: u64) -> Result<Option<u64>, Refusal> {
+fn crashed(rt: &impl Abort, alloc: Global, on: (&[u8], Work), choice: u64) -> Option<u64> {
     for passing in 0..MANY_CALLS {
-        let left = cut(alloc, on, choice, passing)?;
+        let left = cut(rt, alloc, on, choice, passing);
         let is_cut = left.is_cut;
-        if !is_found(alloc, left)? {
-            return Ok(None);
+        if !is_found(rt, alloc, left) {
+            return None;
         }
         if !is_cut {
-            return Ok(Some(passing));
+            return Some(passing);
         }
     }
-    Ok(None)
+    None
 }
 
 /// The same of a start behind the work, which is cut behind so many calls, by a stop.
 fn stopped(
+    rt: &impl Abort,
     alloc: Global,
     on: (&[u8], Work),
     choice: u64,
     passing: u64,
-) -> Result<Option<u64>, Refusal> {
+) -> Option<u64> {
     for next in 0..MANY_CALLS {
-        let left = cut(alloc, on, choice, passing)?;
-        let left = start(alloc, left.disk.stop(), left.found, next)?;
+        let left = cut(rt, alloc, on, choice, passing);
+        let left = start(rt, alloc, left.disk.stop(), left.found, next);
         let is_cut = left.is_cut;
-        if !is_found(alloc, left)? {
-            return Ok(None);
+        if !is_found(rt, alloc, left) {
+            return None;
         }
         if !is_cut {
-            return Ok(Some(next));
+            return Some(next);
         }
     }
-    Ok(None)
+    None
 }
 
-/// Sweeps over the work, which makes so many calls, under a quarter of the choices.
-fn assert_sweeps(
-    rt: &impl Abort,
-    alloc: Global,
-    work: Work,
-    calls: u64,
-    quarter: u32,
-) -> Result<(), Fail> {
-    let content = checkpointed(alloc)?;
-    let on = (content.as_slice(), work);
-    for choice in &choices(alloc, quarter)? {
-        assert!(rt; crashed(alloc, on, *choice)? == Some(calls), "{choice}");
+/// Cuts the work, which makes so many calls, in each of these ways.
+fn assert_found(rt: &impl Abort, alloc: Global, on: (&[u8], Work), calls: u64, choices: &[u64]) {
+    for choice in choices {
+        let crashed = crashed(rt, alloc, on, *choice);
+        assert!(rt; crashed == Some(calls), "{choice}");
         for passing in 0..calls.saturating_add(1) {
-            let stopped = stopped(alloc, on, *choice, passing)?;
+            let stopped = stopped(rt, alloc, on, *choice, passing);
             assert!(rt; stopped == Some(START_CALLS), "{choice} {passing}");
         }
     }
-    Ok(())
+}
+
+/// Sweeps over the work, which makes so many calls, under a quarter of the choices.
+fn assert_sweeps(rt: &impl Abort, alloc: Global, work: Work, calls: u64, quarter: u32) {
+    let content = checkpointed(rt, alloc);
+    let choices = choices(rt, alloc, quarter);
+    assert_found(rt, alloc, (&content, work), calls, &choices);
 }
 
 #[test]
-fn a_start_is_cut_at_each_call_first_quarter(rt: HostRuntime) -> Result<(), Fail> {
-    assert_sweeps(&rt, rt.alloc(), Work::Start, START_CALLS, 0)
+fn a_start_is_cut_at_each_call_first_quarter(rt: HostRuntime) {
+    assert_sweeps(&rt, rt.alloc(), Work::Start, START_CALLS, 0);
 }
 
 #[test]
-fn a_start_is_cut_at_each_call_second_quarter(rt: HostRuntime) -> Result<(), Fail> {
-    assert_sweeps(&rt, rt.alloc(), Work::Start, START_CALLS, 1)
+fn a_start_is_cut_at_each_call_second_quarter(rt: HostRuntime) {
+    assert_sweeps(&rt, rt.alloc(), Work::Start, START_CALLS, 1);
 }
 
 #[test]
-fn a_start_is_cut_at_each_call_third_quarter(rt: HostRuntime) -> Result<(), Fail> {
-    assert_sweeps(&rt, rt.alloc(), Work::Start, START_CALLS, 2)
+fn a_start_is_cut_at_each_call_third_quarter(rt: HostRuntime) {
+    assert_sweeps(&rt, rt.alloc(), Work::Start, START_CALLS, 2);
 }
 
 #[test]
-fn a_start_is_cut_at_each_call_fourth_quarter(rt: HostRuntime) -> Result<(), Fail> {
-    assert_sweeps(&rt, rt.alloc(), Work::Start, START_CALLS, 3)
+fn a_start_is_cut_at_each_call_fourth_quarter(rt: HostRuntime) {
+    assert_sweeps(&rt, rt.alloc(), Work::Start, START_CALLS, 3);
 }
 
 /// A batch makes a write and a sync, three gates and a sync.
 const BATCH_CALLS: u64 = 6;
 
 #[test]
-fn a_batch_is_cut_at_each_call_first_quarter(rt: HostRuntime) -> Result<(), Fail> {
-    assert_sweeps(&rt, rt.alloc(), Work::Batch, BATCH_CALLS, 0)
+fn a_batch_is_cut_at_each_call_first_quarter(rt: HostRuntime) {
+    assert_sweeps(&rt, rt.alloc(), Work::Batch, BATCH_CALLS, 0);
 }
 
 #[test]
-fn a_batch_is_cut_at_each_call_second_quarter(rt: HostRuntime) -> Result<(), Fail> {
-    assert_sweeps(&rt, rt.alloc(), Work::Batch, BATCH_CALLS, 1)
+fn a_batch_is_cut_at_each_call_second_quarter(rt: HostRuntime) {
+    assert_sweeps(&rt, rt.alloc(), Work::Batch, BATCH_CALLS, 1);
 }
 
 #[test]
-fn a_batch_is_cut_at_each_call_third_quarter(rt: HostRuntime) -> Result<(), Fail> {
-    assert_sweeps(&rt, rt.alloc(), Work::Batch, BATCH_CALLS, 2)
+fn a_batch_is_cut_at_each_call_third_quarter(rt: HostRuntime) {
+    assert_sweeps(&rt, rt.alloc(), Work::Batch, BATCH_CALLS, 2);
 }
 
 #[test]
-fn a_batch_is_cut_at_each_call_fourth_quarter(rt: HostRuntime) -> Result<(), Fail> {
-    assert_sweeps(&rt, rt.alloc(), Work::Batch, BATCH_CALLS, 3)
+fn a_batch_is_cut_at_each_call_fourth_quarter(rt: HostRuntime) {
+    assert_sweeps(&rt, rt.alloc(), Work::Batch, BATCH_CALLS, 3);
 }
 
 /// A checkpoint makes four writes and three syncs, and asks the length.
 const CHECKPOINT_CALLS: u64 = 8;
 
 #[test]
-fn a_checkpoint_is_cut_at_each_call_first_quarter(rt: HostRuntime) -> Result<(), Fail> {
-    assert_sweeps(&rt, rt.alloc(), Work::Checkpoint, CHECKPOINT_CALLS, 0)
+fn a_checkpoint_is_cut_at_each_call_first_quarter(rt: HostRuntime) {
+    assert_sweeps(&rt, rt.alloc(), Work::Checkpoint, CHECKPOINT_CALLS, 0);
 }
 
 #[test]
-fn a_checkpoint_is_cut_at_each_call_second_quarter(rt: HostRuntime) -> Result<(), Fail> {
-    assert_sweeps(&rt, rt.alloc(), Work::Checkpoint, CHECKPOINT_CALLS, 1)
+fn a_checkpoint_is_cut_at_each_call_second_quarter(rt: HostRuntime) {
+    assert_sweeps(&rt, rt.alloc(), Work::Checkpoint, CHECKPOINT_CALLS, 1);
 }
 
 #[test]
-fn a_checkpoint_is_cut_at_each_call_third_quarter(rt: HostRuntime) -> Result<(), Fail> {
-    assert_sweeps(&rt, rt.alloc(), Work::Checkpoint, CHECKPOINT_CALLS, 2)
+fn a_checkpoint_is_cut_at_each_call_third_quarter(rt: HostRuntime) {
+    assert_sweeps(&rt, rt.alloc(), Work::Checkpoint, CHECKPOINT_CALLS, 2);
 }
 
 #[test]
-fn a_checkpoint_is_cut_at_each_call_fourth_quarter(rt: HostRuntime) -> Result<(), Fail> {
-    assert_sweeps(&rt, rt.alloc(), Work::Checkpoint, CHECKPOINT_CALLS, 3)
+fn a_checkpoint_is_cut_at_each_call_fourth_quarter(rt: HostRuntime) {
+    assert_sweeps(&rt, rt.alloc(), Work::Checkpoint, CHECKPOINT_CALLS, 3);
 }

@@ -1,6 +1,6 @@
 //! Clocks and their texts.
 use std::alloc::Global;
-use std::test::Fail;
+use std::process::Abort;
 use wm_clock::{ClockId, MAX_CLOCK_TEXT, MAX_DIGITS, put_number};
 use wm_disk::MAX_COUNTER;
 
@@ -18,29 +18,28 @@ const TEXTS: &[(u64, u64, u64, &str)] = &[
 ];
 
 // Whether the clock's text is this, made and put.
-fn has_text(alloc: Global, clock: ClockId, want: &str) -> Result<bool, Fail> {
-    let mut out = Vec::with_capacity(alloc, MAX_CLOCK_TEXT)?;
+fn has_text(rt: &impl Abort, alloc: Global, clock: ClockId, want: &str) -> bool {
+    let mut out = Vec::with_capacity(alloc, MAX_CLOCK_TEXT).expect(rt, "memory");
     clock.put(&mut out);
-    Ok(clock.text(alloc)?.as_str() == want && out.as_slice() == want.as_bytes())
+    clock.text(alloc).expect(rt, "memory").as_str() == want && out.as_slice() == want.as_bytes()
 }
 
 #[test]
-fn has_a_text(rt: HostRuntime) -> Result<(), Fail> {
+fn has_a_text(rt: HostRuntime) {
     for (incarnation, root, tick, want) in TEXTS {
         let clock = ClockId {
             incarnation: *incarnation,
             root: *root,
             tick: *tick,
         };
-        assert!(rt; has_text(rt.alloc(), clock, want)?, "{want}");
+        assert!(rt; has_text(&rt, rt.alloc(), clock, want), "{want}");
     }
-    Ok(())
 }
 
 #[test]
-fn puts_the_longest_text_behind_others(rt: HostRuntime) -> Result<(), Fail> {
-    let mut out = Vec::with_capacity(rt.alloc(), MAX_CLOCK_TEXT + 1)?;
-    out.push(b'[')?;
+fn puts_the_longest_text_behind_others(rt: HostRuntime) {
+    let mut out = Vec::with_capacity(rt.alloc(), MAX_CLOCK_TEXT + 1).expect(&rt, "memory");
+    out.push(b'[').expect(&rt, "memory");
     let clock = ClockId {
         incarnation: u64::MAX,
         root: u64::MAX,
@@ -49,14 +48,12 @@ fn puts_the_longest_text_behind_others(rt: HostRuntime) -> Result<(), Fail> {
     clock.put(&mut out);
     let want = b"[c:18446744073709551615:18446744073709551615:18446744073709551615";
     assert!(rt; out.as_slice() == want.as_slice());
-    Ok(())
 }
 
 #[test]
-fn puts_the_longest_number_behind_others(rt: HostRuntime) -> Result<(), Fail> {
-    let mut out = Vec::with_capacity(rt.alloc(), MAX_DIGITS + 1)?;
-    out.push(b'[')?;
+fn puts_the_longest_number_behind_others(rt: HostRuntime) {
+    let mut out = Vec::with_capacity(rt.alloc(), MAX_DIGITS + 1).expect(&rt, "memory");
+    out.push(b'[').expect(&rt, "memory");
     put_number(u64::MAX, &mut out);
     assert!(rt; out.as_slice() == b"[18446744073709551615".as_slice());
-    Ok(())
 }

@@ -1,7 +1,7 @@
 //! Texts that a question may begin from: clocks, and cursors by their names.
 use std::alloc::Global;
+use std::process::Abort;
 use std::string::String;
-use std::test::Fail;
 use wm_clock::{ClockId, ClockSpec};
 use wm_disk::Refusal;
 
@@ -45,30 +45,33 @@ const NO_CLOCKS: &[&str] = &[
 ];
 
 // A clock's text, `another`, or a cursor's name behind a `@`.
-fn shown(alloc: Global, spec: &ClockSpec) -> Result<String, Fail> {
+fn shown(rt: &impl Abort, alloc: Global, spec: &ClockSpec) -> String {
     let mut text = String::new(alloc);
     match spec {
-        ClockSpec::Clock(clock) => text.push_str(clock.text(alloc)?.as_str())?,
-        ClockSpec::Another => text.push_str("another")?,
+        ClockSpec::Clock(clock) => {
+            let clock = clock.text(alloc).expect(rt, "memory");
+            text.push_str(clock.as_str()).expect(rt, "memory");
+        }
+        ClockSpec::Another => text.push_str("another").expect(rt, "memory"),
         ClockSpec::Cursor(name) => {
-            text.push('@')?;
-            text.push_str(name.as_str())?;
+            text.push('@').expect(rt, "memory");
+            text.push_str(name.as_str()).expect(rt, "memory");
         }
     }
-    Ok(text)
+    text
 }
 
 // Whether the text is read as what is shown so.
-fn is_read(alloc: Global, text: &str, want: &str) -> Result<bool, Fail> {
-    let spec = ClockSpec::read(alloc, text)?;
-    Ok(shown(alloc, &spec)?.as_str() == want)
+fn is_read(rt: &impl Abort, alloc: Global, text: &str, want: &str) -> bool {
+    let spec = ClockSpec::read(alloc, text).expect(rt, "a clock");
+    shown(rt, alloc, &spec).as_str() == want
 }
 
 // Whether the name behind `n:` is read as a cursor's.
-fn names_a_cursor(alloc: Global, name: &str) -> Result<bool, Fail> {
-    let text = format!(in alloc; "n:{name}")?;
-    let want = format!(in alloc; "@{name}")?;
-    is_read(alloc, &text, &want)
+fn names_a_cursor(rt: &impl Abort, alloc: Global, name: &str) -> bool {
+    let text = format!(in alloc; "n:{name}").expect(rt, "memory");
+    let want = format!(in alloc; "@{name}").expect(rt, "memory");
+    is_read(rt, alloc, &text, &want)
 }
 
 // Whether the text is refused as no clock.
@@ -80,44 +83,40 @@ fn is_refused(alloc: Global, text: &str) -> bool {
 }
 
 #[test]
-fn reads_clocks(rt: HostRuntime) -> Result<(), Fail> {
+fn reads_clocks(rt: HostRuntime) {
     for text in CLOCKS {
-        assert!(rt; is_read(rt.alloc(), text, text)?, "{text:?}");
+        assert!(rt; is_read(&rt, rt.alloc(), text, text), "{text:?}");
     }
     for text in OF_ANOTHER {
-        assert!(rt; is_read(rt.alloc(), text, "another")?, "{text:?}");
+        assert!(rt; is_read(&rt, rt.alloc(), text, "another"), "{text:?}");
     }
-    Ok(())
 }
 
 #[test]
-fn reads_the_parts_of_a_clock(rt: HostRuntime) -> Result<(), Fail> {
+fn reads_the_parts_of_a_clock(rt: HostRuntime) {
     let want = ClockId {
         incarnation: 7,
         root: 2,
         tick: 105,
     };
-    match ClockSpec::read(rt.alloc(), "c:7:2:105")? {
+    match ClockSpec::read(rt.alloc(), "c:7:2:105").expect(&rt, "a clock") {
         ClockSpec::Clock(clock) => assert!(rt; clock == want),
         _ => assert!(rt; false, "no clock"),
     }
-    Ok(())
 }
 
 #[test]
-fn reads_cursors(rt: HostRuntime) -> Result<(), Fail> {
+fn reads_cursors(rt: HostRuntime) {
     for name in CURSORS {
-        assert!(rt; names_a_cursor(rt.alloc(), name)?, "{name:?}");
+        assert!(rt; names_a_cursor(&rt, rt.alloc(), name), "{name:?}");
     }
-    Ok(())
 }
 
 #[test]
-fn refuses_other_texts(rt: HostRuntime) -> Result<(), Fail> {
+fn refuses_other_texts(rt: HostRuntime) {
     for text in NO_CLOCKS {
         assert!(rt; is_refused(rt.alloc(), text), "{text:?}");
     }
-    let too_long = format!(in rt.alloc(); "n:{LONGEST}!")?;
+    let too_long = format!(in rt.alloc(); "n:{LONGEST}!").expect(&rt, "memory");
     assert!(rt; is_refused(rt.alloc(), &too_long));
-    Ok(())
 }

@@ -1,9 +1,9 @@
 //! The names of cursors.
 use std::alloc::Global;
+use std::process::Abort;
 use std::string::String;
-use std::test::Fail;
 use wm_clock::CursorName;
-use wm_disk::{NoMemory, Refusal};
+use wm_disk::Refusal;
 
 // So many bytes, and whether they are a name.
 const LENGTHS: &[(usize, bool)] = &[(0, false), (1, true), (64, true), (65, false)];
@@ -17,49 +17,47 @@ const COMPARED: &[(&str, &str, bool)] = &[
 ];
 
 // A name of so many bytes.
-fn long(alloc: Global, len: usize) -> Result<String, NoMemory> {
+fn long(rt: &impl Abort, alloc: Global, len: usize) -> String {
     let mut text = String::new(alloc);
     for _ in 0..len {
-        text.push('n')?;
+        text.push('n').expect(rt, "memory");
     }
-    Ok(text)
+    text
 }
 
 // Whether the text is read as a name that shows it, as does a copy, where that is wanted, and is
 // refused as no clock where it isn't.
-fn is_read(alloc: Global, text: &str, want: bool) -> Result<bool, Fail> {
+fn is_read(rt: &impl Abort, alloc: Global, text: &str, want: bool) -> bool {
     match CursorName::read(alloc, text) {
         Ok(name) => {
-            let copy = name.copy(alloc)?;
-            Ok(want && name.as_str() == text && copy.as_str() == text)
+            let copy = name.copy(alloc).expect(rt, "memory");
+            want && name.as_str() == text && copy.as_str() == text
         }
-        Err(refusal) => Ok(!want && refusal == Refusal::BadClock),
+        Err(refusal) => !want && refusal == Refusal::BadClock,
     }
 }
 
 // Whether the names are equal, from either side, where that is wanted.
-fn compares(alloc: Global, first: &str, second: &str, want: bool) -> Result<bool, Refusal> {
-    let name = CursorName::read(alloc, first)?;
-    let other = CursorName::read(alloc, second)?;
-    Ok((name == other) == want && (other == name) == want)
+fn compares(rt: &impl Abort, alloc: Global, first: &str, second: &str, want: bool) -> bool {
+    let name = CursorName::read(alloc, first).expect(rt, "a name");
+    let other = CursorName::read(alloc, second).expect(rt, "a name");
+    (name == other) == want && (other == name) == want
 }
 
 #[test]
-fn reads_names(rt: HostRuntime) -> Result<(), Fail> {
+fn reads_names(rt: HostRuntime) {
     for (len, want) in LENGTHS {
-        let text = long(rt.alloc(), *len)?;
-        assert!(rt; is_read(rt.alloc(), &text, *want)?, "{len} bytes");
+        let text = long(&rt, rt.alloc(), *len);
+        assert!(rt; is_read(&rt, rt.alloc(), &text, *want), "{len} bytes");
     }
-    Ok(())
 }
 
 #[test]
-fn compares_names(rt: HostRuntime) -> Result<(), Fail> {
+fn compares_names(rt: HostRuntime) {
     for (first, second, want) in COMPARED {
         assert!(rt;
-            compares(rt.alloc(), first, second, *want)?,
+            compares(&rt, rt.alloc(), first, second, *want),
             "{first} and {second}"
         );
     }
-    Ok(())
 }

@@ -1,5 +1,4 @@
 //! A disk of which one call fails.
-use std::test::Fail;
 use wm_disk::{Disk, MemDisk, OneFault};
 
 // After how many calls one fails, which of five pass, and how many writes, syncs and others came
@@ -25,7 +24,7 @@ fn passing(disk: &mut OneFault<MemDisk>) -> [bool; 5] {
 }
 
 #[test]
-fn one_call_fails(rt: HostRuntime) -> Result<(), Fail> {
+fn one_call_fails(rt: HostRuntime) {
     for (calls, want, came) in ROWS {
         let mut disk = OneFault::new(MemDisk::new(rt.alloc(), 0), *calls);
         let passed = passing(&mut disk);
@@ -34,5 +33,4 @@ fn one_call_fails(rt: HostRuntime) -> Result<(), Fail> {
             "after {calls}"
         );
     }
-    Ok(())
 }

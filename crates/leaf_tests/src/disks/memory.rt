@@ -1,8 +1,8 @@
 //! A disk in memory: what it gives back, its planned failures, what a crash leaves, and its counts.
 
 use std::alloc::Global;
-use std::test::Fail;
-use wm_disk::{Crashed, DeviceFailed, Disk, MemDisk, Refusal};
+use std::process::Abort;
+use wm_disk::{Crashed, Disk, MemDisk};
 
 // Where a write begins, what it writes, and what the disk holds then.
 const WRITES: &[(u64, &str, &str)] = &[
@@ -35,54 +35,56 @@ const CHOICES: &[(u64, &[u8])] = &[
 ];
 
 // Whether the trait's reads give these bytes.
-fn holds<D: Disk>(disk: &mut D, alloc: Global, want: &[u8]) -> Result<bool, Refusal> {
-    let len = disk.len()?;
-    let mut bytes = vec![in alloc; 0u8; len as usize]?;
-    disk.read_at(0, &mut bytes)?;
-    Ok(bytes.as_slice() == want)
+fn holds<D: Disk>(rt: &impl Abort, disk: &mut D, alloc: Global, want: &[u8]) -> bool {
+    let len = disk.len().expect(rt, "a length");
+    let mut bytes = vec![in alloc; 0u8; len as usize].expect(rt, "memory");
+    disk.read_at(0, &mut bytes).expect(rt, "a read");
+    bytes.as_slice() == want
 }
 
 // Writes where the disk reaches so far.
-fn put<D: Disk>(disk: &mut D, at: u64, bytes: &[u8]) -> Result<(), DeviceFailed> {
-    if disk.len()? < at {
-        return Err(DeviceFailed);
-    }
-    disk.write_at(at, bytes)
+fn put<D: Disk>(rt: &impl Abort, disk: &mut D, at: u64, bytes: &[u8]) {
+    let len = disk.len().expect(rt, "a length");
+    assert!(rt; at <= len, "{at} is beyond {len}");
+    disk.write_at(at, bytes).expect(rt, "a write");
 }
 
 // Whether the bytes are there once they were written and synced.
 fn keeps(
+    rt: &impl Abort,
     alloc: Global,
     disk: &mut MemDisk,
     at: u64,
     bytes: &str,
     want: &str,
-) -> Result<bool, Refusal> {
-    put(disk, at, bytes.as_bytes())?;
-    disk.sync()?;
-    holds(disk, alloc, want.as_bytes())
+) -> bool {
+    put(rt, disk, at, bytes.as_bytes());
+    disk.sync().expect(rt, "a sync");
+    holds(rt, disk, alloc, want.as_bytes())
 }
 
 #[test]
-fn gives_back_what_was_written(rt: HostRuntime) -> Result<(), Fail> {
+fn gives_back_what_was_written(rt: HostRuntime) {
     let mut disk = MemDisk::new(rt.alloc(), 0);
-    assert!(rt; disk.len()? == 0);
+    assert!(rt; disk.len().expect(&rt, "a length") == 0);
     for (at, bytes, want) in WRITES {
-        assert!(rt; keeps(rt.alloc(), &mut disk, *at, bytes, want)?, "{want}");
+        assert!(rt;
+            keeps(&rt, rt.alloc(), &mut disk, *at, bytes, want),
+            "{want}"
+        );
     }
     let mut part = [0u8; 3];
-    assert!(rt; disk.len()? == 8);
-    disk.read_at(2, &mut part)?;
+    assert!(rt; disk.len().expect(&rt, "a length") == 8);
+    disk.read_at(2, &mut part).expect(&rt, "a read");
     assert!(rt; &part == b"YZe" && disk.failures() == 0);
-    Ok(())
 }
 
 // A disk that holds a durable `abcd`.
-fn of_four(alloc: Global, choice: u64) -> Result<MemDisk, DeviceFailed> {
+fn of_four(rt: &impl Abort, alloc: Global, choice: u64) -> MemDisk {
     let mut disk = MemDisk::new(alloc, choice);
-    put(&mut disk, 0, b"abcd")?;
-    disk.sync()?;
-    Ok(disk)
+    put(rt, &mut disk, 0, b"abcd");
+    disk.sync().expect(rt, "a sync");
+    disk
 }
 
 // Which of five calls pass.
@@ -104,73 +106,69 @@ fn passes(disk: &mut MemDisk, calls: u64, want: [bool; 5]) -> bool {
 }
 
 #[test]
-fn fails_as_it_was_armed(rt: HostRuntime) -> Result<(), Fail> {
+fn fails_as_it_was_armed(rt: HostRuntime) {
     for (calls, passed, read, left) in ARMED {
         let mut disk = MemDisk::new(rt.alloc(), 0);
-        put(&mut disk, 0, b"abcd")?;
+        put(&rt, &mut disk, 0, b"abcd");
         assert!(rt; passes(&mut disk, *calls, *passed), "after {calls}");
         let mut disk = disk.stop();
-        let is_read = holds(&mut disk, rt.alloc(), read.as_bytes())?;
+        let is_read = holds(&rt, &mut disk, rt.alloc(), read.as_bytes());
         let mut disk = disk.crash();
-        let is_left = holds(&mut disk, rt.alloc(), left.as_bytes())?;
+        let is_left = holds(&rt, &mut disk, rt.alloc(), left.as_bytes());
         assert!(rt; is_read && is_left, "after {calls}");
     }
-    Ok(())
 }
 
 // Whether a crash leaves these bytes, which a second leaves as they are, though the device was to fail.
-fn leaves(mut disk: MemDisk, alloc: Global, want: &[u8]) -> Result<bool, Refusal> {
+fn leaves(rt: &impl Abort, mut disk: MemDisk, alloc: Global, want: &[u8]) -> bool {
     disk.arm(0);
     let mut disk = disk.crash();
-    let first = holds(&mut disk, alloc, want)?;
+    let first = holds(rt, &mut disk, alloc, want);
     let mut disk = disk.crash();
-    Ok(first && holds(&mut disk, alloc, want)?)
+    first && holds(rt, &mut disk, alloc, want)
 }
 
 #[test]
-fn leaves_what_the_choice_says(rt: HostRuntime) -> Result<(), Fail> {
+fn leaves_what_the_choice_says(rt: HostRuntime) {
     for (choice, want) in CHOICES {
-        let mut disk = of_four(rt.alloc(), *choice)?;
-        put(&mut disk, 1, b"XY")?;
-        put(&mut disk, 3, b"ZWV")?;
+        let mut disk = of_four(&rt, rt.alloc(), *choice);
+        put(&rt, &mut disk, 1, b"XY");
+        put(&rt, &mut disk, 3, b"ZWV");
         let mut disk = disk.stop();
-        let is_read = holds(&mut disk, rt.alloc(), b"aXYZWV")?;
+        let is_read = holds(&rt, &mut disk, rt.alloc(), b"aXYZWV");
         assert!(rt;
-            is_read && leaves(disk, rt.alloc(), want)?,
+            is_read && leaves(&rt, disk, rt.alloc(), want),
             "choice {choice}"
         );
     }
-    Ok(())
 }
 
 #[test]
-fn takes_the_bit_of_the_place_modulo_64(rt: HostRuntime) -> Result<(), Fail> {
+fn takes_the_bit_of_the_place_modulo_64(rt: HostRuntime) {
     let mut disk = MemDisk::new(rt.alloc(), 0x8000_0000_0000_0005);
-    put(&mut disk, 0, &[1u8; 130])?;
-    disk.sync()?;
-    put(&mut disk, 0, &[2u8; 130])?;
+    put(&rt, &mut disk, 0, &[1u8; 130]);
+    disk.sync().expect(&rt, "a sync");
+    put(&rt, &mut disk, 0, &[2u8; 130]);
     let mut want = [1u8; 130];
     for place in [0usize, 2, 63, 64, 66, 127, 128] {
         if let Some(byte) = want.get_mut(place) {
             *byte = 2;
         }
     }
-    assert!(rt; holds(&mut disk.crash(), rt.alloc(), &want)?);
-    Ok(())
+    assert!(rt; holds(&rt, &mut disk.crash(), rt.alloc(), &want));
 }
 
 #[test]
-fn counts_its_calls(rt: HostRuntime) -> Result<(), Fail> {
+fn counts_its_calls(rt: HostRuntime) {
     let mut disk = MemDisk::new(rt.alloc(), 1);
     assert!(rt; disk.calls() == (0, 0, 0));
-    put(&mut disk, 0, b"abcd")?;
-    put(&mut disk, 1, b"Z")?;
-    disk.sync()?;
+    put(&rt, &mut disk, 0, b"abcd");
+    put(&rt, &mut disk, 1, b"Z");
+    disk.sync().expect(&rt, "a sync");
     // three lengths and a reading beside the writes and the sync
-    assert!(rt; holds(&mut disk, rt.alloc(), b"aZcd")? && disk.calls() == (2, 1, 4));
+    assert!(rt; holds(&rt, &mut disk, rt.alloc(), b"aZcd") && disk.calls() == (2, 1, 4));
     // A call that fails is counted, and neither a crash nor a stop is a call.
     disk.arm(0);
     let failed = disk.write_at(0, b"X").is_err() && disk.sync().is_err();
     assert!(rt; failed && disk.stop().crash().calls() == (3, 2, 4));
-    Ok(())
 }

@@ -1,6 +1,6 @@
 //! The number, the name and the text of each refusal.
 use std::alloc::{AllocError, Global};
-use std::test::Fail;
+use std::process::Abort;
 use wm_disk::{DeviceFailed, NoMemory, Refusal};
 
 // Each refusal with its number, its name and its text.
@@ -34,27 +34,27 @@ const ROWS: &[(Refusal, u8, &str, &str)] = &[
 
 // Whether the refusal has this number, name and text, and is shown as the text.
 fn shows(
+    rt: &impl Abort,
     alloc: Global,
     refusal: Refusal,
     number: u8,
     name: &str,
     text: &str,
-) -> Result<bool, Fail> {
-    let shown = format!(in alloc; "{refusal}")?;
+) -> bool {
+    let shown = format!(in alloc; "{refusal}").expect(rt, "memory");
     let told = refusal.number() == number && refusal.name() == name;
-    Ok(told && refusal.text() == text && shown.as_str() == text)
+    told && refusal.text() == text && shown.as_str() == text
 }
 
 #[test]
-fn shows_each_refusal(rt: HostRuntime) -> Result<(), Fail> {
+fn shows_each_refusal(rt: HostRuntime) {
     for (refusal, number, name, text) in ROWS {
         assert!(rt;
-            shows(rt.alloc(), *refusal, *number, name, text)?,
+            shows(&rt, rt.alloc(), *refusal, *number, name, text),
             "{number}"
         );
     }
     assert!(rt; Refusal::from(DeviceFailed) == Refusal::DeviceFailed);
     assert!(rt; Refusal::from(NoMemory) == Refusal::NoMemory);
     assert!(rt; Refusal::from(AllocError) == Refusal::NoMemory);
-    Ok(())
 }

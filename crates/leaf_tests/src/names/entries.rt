@@ -1,5 +1,4 @@
 //! Metadata compared part by part, and the letters of kinds.
-use std::test::Fail;
 use wm_names::{Kind, Meta};
 
 const META: Meta = Meta {
@@ -50,17 +49,16 @@ fn are_same(first: &Meta, second: &Meta) -> (bool, bool) {
 }
 
 #[test]
-fn is_the_same_where_each_part_is(rt: HostRuntime) -> Result<(), Fail> {
+fn is_the_same_where_each_part_is(rt: HostRuntime) {
     assert!(rt; META.same(&META));
     for other in OTHERS {
         assert!(rt; other.same(other), "{other:?}");
         assert!(rt; are_same(&META, other) == (false, false), "{other:?}");
     }
-    Ok(())
 }
 
 #[test]
-fn each_kind_has_one_letter(rt: HostRuntime) -> Result<(), Fail> {
+fn each_kind_has_one_letter(rt: HostRuntime) {
     for (letter, kind) in LETTERS {
         assert_eq!(rt; kind.letter(), *letter);
         assert_eq!(rt; Kind::from_letter(letter), Some(*kind));
@@ -68,15 +66,13 @@ fn each_kind_has_one_letter(rt: HostRuntime) -> Result<(), Fail> {
     for other in ["", "F", "ff", "x"] {
         assert!(rt; Kind::from_letter(other).is_none(), "{other}");
     }
-    Ok(())
 }
 
 #[test]
-fn each_kind_is_the_same_as_itself_alone(rt: HostRuntime) -> Result<(), Fail> {
+fn each_kind_is_the_same_as_itself_alone(rt: HostRuntime) {
     for (i, (_, first)) in LETTERS.iter().enumerate() {
         for (k, (_, second)) in LETTERS.iter().enumerate() {
             assert!(rt; first.same(*second) == (i == k), "{first:?} {second:?}");
         }
     }
-    Ok(())
 }

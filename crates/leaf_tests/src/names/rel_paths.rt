@@ -2,7 +2,7 @@
 use super::long;
 use std::alloc::Global;
 use std::cmp::Ordering;
-use std::test::Fail;
+use std::process::Abort;
 use wm_disk::Refusal;
 use wm_names::RelPath;
 
@@ -49,10 +49,10 @@ const ORDERED: &[(&str, &str, Ordering)] = &[
 ];
 
 // Whether the text is read as a path that shows it, as does a copy.
-fn is_read(alloc: Global, text: &str) -> Result<bool, Refusal> {
-    let path = RelPath::read(alloc, text)?;
-    let copy = path.copy()?;
-    Ok(path.as_str() == text && copy.as_str() == text)
+fn is_read(rt: &impl Abort, alloc: Global, text: &str) -> bool {
+    let path = RelPath::read(alloc, text).expect(rt, "a path");
+    let copy = path.copy().expect(rt, "memory");
+    path.as_str() == text && copy.as_str() == text
 }
 
 // Whether the text is refused as no path.
@@ -63,70 +63,65 @@ fn is_refused(alloc: Global, text: &str) -> bool {
     }
 }
 
-fn is_below(alloc: Global, path: &str, top: &str) -> Result<bool, Refusal> {
-    let path = RelPath::read(alloc, path)?;
-    let top = RelPath::read(alloc, top)?;
-    Ok(path.under(&top))
+fn is_below(rt: &impl Abort, alloc: Global, path: &str, top: &str) -> bool {
+    let path = RelPath::read(alloc, path).expect(rt, "a path");
+    let top = RelPath::read(alloc, top).expect(rt, "a path");
+    path.under(&top)
 }
 
-fn has_basename(alloc: Global, path: &str, want: &str) -> Result<bool, Refusal> {
-    let path = RelPath::read(alloc, path)?;
-    Ok(path.basename() == want)
+fn has_basename(rt: &impl Abort, alloc: Global, path: &str, want: &str) -> bool {
+    let path = RelPath::read(alloc, path).expect(rt, "a path");
+    path.basename() == want
 }
 
 // Whether the paths stand in this order, and are the same only where they are equal.
-fn compares(alloc: Global, first: &str, second: &str, want: Ordering) -> Result<bool, Refusal> {
-    let path = RelPath::read(alloc, first)?;
-    let other = RelPath::read(alloc, second)?;
-    Ok(path.compare(&other) == want && path.same(&other) == (want == Ordering::Equal))
+fn compares(rt: &impl Abort, alloc: Global, first: &str, second: &str, want: Ordering) -> bool {
+    let path = RelPath::read(alloc, first).expect(rt, "a path");
+    let other = RelPath::read(alloc, second).expect(rt, "a path");
+    path.compare(&other) == want && path.same(&other) == (want == Ordering::Equal)
 }
 
 #[test]
-fn reads_paths(rt: HostRuntime) -> Result<(), Fail> {
+fn reads_paths(rt: HostRuntime) {
     for text in PATHS {
-        assert!(rt; is_read(rt.alloc(), text)?, "{text}");
+        assert!(rt; is_read(&rt, rt.alloc(), text), "{text}");
     }
-    let longest = long(rt.alloc(), "", 1024)?;
-    assert!(rt; is_read(rt.alloc(), &longest)?);
-    Ok(())
+    let longest = long(&rt, rt.alloc(), "", 1024);
+    assert!(rt; is_read(&rt, rt.alloc(), &longest));
 }
 
 #[test]
-fn refuses_other_texts(rt: HostRuntime) -> Result<(), Fail> {
+fn refuses_other_texts(rt: HostRuntime) {
     for text in NO_PATHS {
         assert!(rt; is_refused(rt.alloc(), text), "{text:?}");
     }
-    let too_long = long(rt.alloc(), "", 1025)?;
+    let too_long = long(&rt, rt.alloc(), "", 1025);
     assert!(rt; is_refused(rt.alloc(), &too_long));
-    Ok(())
 }
 
 #[test]
-fn stands_below(rt: HostRuntime) -> Result<(), Fail> {
+fn stands_below(rt: HostRuntime) {
     for (path, top, want) in BELOW {
         assert!(rt;
-            is_below(rt.alloc(), path, top)? == *want,
+            is_below(&rt, rt.alloc(), path, top) == *want,
             "{path} under {top}"
         );
     }
-    Ok(())
 }
 
 #[test]
-fn has_a_basename(rt: HostRuntime) -> Result<(), Fail> {
+fn has_a_basename(rt: HostRuntime) {
     for (path, want) in BASENAMES {
-        assert!(rt; has_basename(rt.alloc(), path, want)?, "{path}");
+        assert!(rt; has_basename(&rt, rt.alloc(), path, want), "{path}");
     }
-    Ok(())
 }
 
 #[test]
-fn stands_in_the_order_of_bytes(rt: HostRuntime) -> Result<(), Fail> {
+fn stands_in_the_order_of_bytes(rt: HostRuntime) {
     for (first, second, want) in ORDERED {
         assert!(rt;
-            compares(rt.alloc(), first, second, *want)?,
+            compares(&rt, rt.alloc(), first, second, *want),
             "{first} and {second}"
         );
     }
-    Ok(())
 }

@@ -1,7 +1,7 @@
 //! Paths of roots.
 use super::long;
 use std::alloc::Global;
-use std::test::Fail;
+use std::process::Abort;
 use wm_disk::Refusal;
 use wm_names::RootPath;
 
@@ -33,10 +33,10 @@ const COMPARED: &[(&str, &str, bool)] = &[
 ];
 
 // Whether the text is read as a path that shows it, as does a copy.
-fn is_read(alloc: Global, text: &str) -> Result<bool, Refusal> {
-    let path = RootPath::read(alloc, text)?;
-    let copy = path.copy(alloc)?;
-    Ok(path.as_str() == text && copy.as_str() == text)
+fn is_read(rt: &impl Abort, alloc: Global, text: &str) -> bool {
+    let path = RootPath::read(alloc, text).expect(rt, "a root path");
+    let copy = path.copy(alloc).expect(rt, "memory");
+    path.as_str() == text && copy.as_str() == text
 }
 
 // Whether the text is refused as no path.
@@ -48,41 +48,38 @@ fn is_refused(alloc: Global, text: &str) -> bool {
 }
 
 // Whether the paths are equal, from either side, where that is wanted.
-fn compares(alloc: Global, first: &str, second: &str, want: bool) -> Result<bool, Refusal> {
-    let path = RootPath::read(alloc, first)?;
-    let other = RootPath::read(alloc, second)?;
-    Ok((path == other) == want && (other == path) == want)
+fn compares(rt: &impl Abort, alloc: Global, first: &str, second: &str, want: bool) -> bool {
+    let path = RootPath::read(alloc, first).expect(rt, "a root path");
+    let other = RootPath::read(alloc, second).expect(rt, "a root path");
+    (path == other) == want && (other == path) == want
 }
 
 #[test]
-fn reads_paths(rt: HostRuntime) -> Result<(), Fail> {
+fn reads_paths(rt: HostRuntime) {
     for text in PATHS {
-        assert!(rt; is_read(rt.alloc(), text)?, "{text}");
+        assert!(rt; is_read(&rt, rt.alloc(), text), "{text}");
     }
     for len in LENGTHS {
-        let text = long(rt.alloc(), "/", *len)?;
-        assert!(rt; is_read(rt.alloc(), &text)?, "{len} bytes");
+        let text = long(&rt, rt.alloc(), "/", *len);
+        assert!(rt; is_read(&rt, rt.alloc(), &text), "{len} bytes");
     }
-    Ok(())
 }
 
 #[test]
-fn refuses_other_texts(rt: HostRuntime) -> Result<(), Fail> {
+fn refuses_other_texts(rt: HostRuntime) {
     for text in NO_PATHS {
         assert!(rt; is_refused(rt.alloc(), text), "{text:?}");
     }
-    let too_long = long(rt.alloc(), "/", 1025)?;
+    let too_long = long(&rt, rt.alloc(), "/", 1025);
     assert!(rt; is_refused(rt.alloc(), &too_long));
-    Ok(())
 }
 
 #[test]
-fn compares_paths(rt: HostRuntime) -> Result<(), Fail> {
+fn compares_paths(rt: HostRuntime) {
     for (first, second, want) in COMPARED {
         assert!(rt;
-            compares(rt.alloc(), first, second, *want)?,
+            compares(&rt, rt.alloc(), first, second, *want),
             "{first} and {second}"
         );
     }
-    Ok(())
 }

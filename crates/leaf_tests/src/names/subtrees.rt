@@ -1,7 +1,7 @@
 //! What stands in a part of a root.
 use super::long;
 use std::alloc::Global;
-use std::test::Fail;
+use std::process::Abort;
 use wm_disk::Refusal;
 use wm_names::{RelPath, Subtree};
 
@@ -15,20 +15,20 @@ const ROWS: &[(&str, bool)] = &[
 ];
 
 // Whether the whole root covers the path, and what stands below `x` does where that is wanted.
-fn covers(alloc: Global, path: &str, want: bool) -> Result<bool, Fail> {
-    let path = RelPath::read(alloc, path)?;
-    let below = Subtree::Below(RelPath::read(alloc, "x")?);
-    Ok(Subtree::Whole.covers(&path) && below.covers(&path) == want)
+fn covers(rt: &impl Abort, alloc: Global, path: &str, want: bool) -> bool {
+    let path = RelPath::read(alloc, path).expect(rt, "a path");
+    let below = Subtree::Below(RelPath::read(alloc, "x").expect(rt, "a path"));
+    Subtree::Whole.covers(&path) && below.covers(&path) == want
 }
 
 #[test]
-fn covers_what_stands_below(rt: HostRuntime) -> Result<(), Fail> {
+fn covers_what_stands_below(rt: HostRuntime) {
     for (path, want) in ROWS {
-        assert!(rt; covers(rt.alloc(), path, *want)?, "{path}");
+        assert!(rt; covers(&rt, rt.alloc(), path, *want), "{path}");
     }
     assert!(rt; Subtree::Whole.is_whole());
-    assert!(rt; !Subtree::Below(RelPath::read(rt.alloc(), "x")?).is_whole());
-    Ok(())
+    let top = RelPath::read(rt.alloc(), "x").expect(&rt, "a path");
+    assert!(rt; !Subtree::Below(top).is_whole());
 }
 
 // A folder, the empty text for the root, and a name in it; the name's path, where it is one.
@@ -60,45 +60,46 @@ const LONG: &[(usize, usize, bool)] = &[
     (1, 1025, false),
 ];
 
-fn folder(alloc: Global, path: &str) -> Result<Subtree, Refusal> {
+fn folder(rt: &impl Abort, alloc: Global, path: &str) -> Subtree {
     if path.is_empty() {
-        return Ok(Subtree::Whole);
+        return Subtree::Whole;
     }
-    let path = RelPath::read(alloc, path)?;
-    Ok(Subtree::Below(path))
+    let path = RelPath::read(alloc, path).expect(rt, "a path");
+    Subtree::Below(path)
 }
 
 // Whether the name's path in the folder is that, or where none is given the name is refused.
-fn is_joined(alloc: Global, top: &str, name: &str, want: Option<&str>) -> Result<bool, Refusal> {
-    let folder = folder(alloc, top)?;
+fn is_joined(rt: &impl Abort, alloc: Global, top: &str, name: &str, want: Option<&str>) -> bool {
+    let folder = folder(rt, alloc, top);
     match (folder.join(alloc, name), want) {
-        (Ok(path), Some(want)) => Ok(path.as_str() == want),
-        (Err(Refusal::BadPath), None) => Ok(true),
-        (Err(Refusal::NoMemory), _) => Err(Refusal::NoMemory),
-        _ => Ok(false),
+        (Ok(path), Some(want)) => path.as_str() == want,
+        (Err(Refusal::BadPath), None) => true,
+        _ => false,
     }
 }
 
-fn is_joined_long(alloc: Global, top: usize, name: usize, fits: bool) -> Result<bool, Refusal> {
-    let top = long(alloc, "", top)?;
-    let name = long(alloc, "", name)?;
-    let mut path = String::from_str(alloc, &top)?;
-    path.push('/')?;
-    path.push_str(&name)?;
+fn is_joined_long(rt: &impl Abort, alloc: Global, top: usize, name: usize, fits: bool) -> bool {
+    let top = long(rt, alloc, "", top);
+    let name = long(rt, alloc, "", name);
+    let mut path = String::from_str(alloc, &top).expect(rt, "memory");
+    path.push('/').expect(rt, "memory");
+    path.push_str(&name).expect(rt, "memory");
     let want = if fits { Some(path.as_str()) } else { None };
-    is_joined(alloc, &top, &name, want)
+    is_joined(rt, alloc, &top, &name, want)
 }
 
 #[test]
-fn a_name_is_joined_to_its_folder(rt: HostRuntime) -> Result<(), Fail> {
+fn a_name_is_joined_to_its_folder(rt: HostRuntime) {
     for (top, name, want) in JOINED {
-        assert!(rt; is_joined(rt.alloc(), top, name, *want)?, "{top} {name}");
+        assert!(rt;
+            is_joined(&rt, rt.alloc(), top, name, *want),
+            "{top} {name}"
+        );
     }
     for (top, name, fits) in LONG {
         assert!(rt;
-            is_joined_long(rt.alloc(), *top, *name, *fits)?,
+            is_joined_long(&rt, rt.alloc(), *top, *name, *fits),
             "{top} and {name} bytes"
         );
     }
-    Ok(())
 }

@@ -1,7 +1,6 @@
 //! The order of texts by their bytes.
 use super::long;
 use std::cmp::Ordering;
-use std::test::Fail;
 use wm_names::compare_texts;
 
 // Two texts, and how the first stands to the second.
@@ -19,7 +18,7 @@ const ROWS: &[(&[u8], &[u8], Ordering)] = &[
 ];
 
 #[test]
-fn texts_stand_in_the_order_of_their_bytes(rt: HostRuntime) -> Result<(), Fail> {
+fn texts_stand_in_the_order_of_their_bytes(rt: HostRuntime) {
     for (one, other, want) in ROWS {
         assert!(rt; compare_texts(one, other) == *want, "{one:?} and {other:?}");
         assert!(rt;
@@ -27,25 +26,23 @@ fn texts_stand_in_the_order_of_their_bytes(rt: HostRuntime) -> Result<(), Fail> 
             "{other:?} and {one:?}"
         );
     }
-    Ok(())
 }
 
 // Texts of 50 letters, of which the second has a greater one at a place, or ends there.
 #[test]
-fn each_place_tells_the_order(rt: HostRuntime) -> Result<(), Fail> {
-    let one = long(rt.alloc(), "", 50)?;
+fn each_place_tells_the_order(rt: HostRuntime) {
+    let one = long(&rt, rt.alloc(), "", 50);
     for at in 0..50 {
-        let mut front = long(rt.alloc(), "", at)?;
+        let mut front = long(&rt, rt.alloc(), "", at);
         assert!(rt;
             compare_texts(one.as_bytes(), front.as_bytes()) == Ordering::Greater,
             "{at}"
         );
-        front.push('b')?;
-        let other = long(rt.alloc(), &front, 50)?;
+        front.push('b').expect(&rt, "memory");
+        let other = long(&rt, rt.alloc(), &front, 50);
         assert!(rt;
             compare_texts(one.as_bytes(), other.as_bytes()) == Ordering::Less,
             "{at}"
         );
     }
-    Ok(())
 }

@@ -1,7 +1,7 @@
 //! Lists with a bound on their length, whose values are pushed, removed and replaced.
 use super::{again, is_none};
 use std::alloc::Global;
-use std::test::Fail;
+use std::process::Abort;
 use wm_wire::{List, NotPushed, Text, Wire};
 
 const SPELLED: &[(&[u32], &[u8])] = &[
@@ -57,153 +57,167 @@ const FIRST_TEXTS: &[(&str, &[u8])] = &[
 ];
 
 // A list of these numbers, of which there are no more than it may hold.
-fn numbers(alloc: Global, values: &[u32]) -> Result<List<u32, 3>, NotPushed> {
+fn numbers(rt: &impl Abort, alloc: Global, values: &[u32]) -> List<u32, 3> {
     let mut list = List::new(alloc);
     for value in values {
-        list.push(*value)?;
+        list.push(*value).expect(rt, "room");
     }
-    Ok(list)
+    list
 }
 
 // A list of two texts of up to three bytes.
-fn texts(alloc: Global, first: &str, second: &str) -> Result<List<Text<3>, 2>, Fail> {
+fn texts(rt: &impl Abort, alloc: Global, first: &str, second: &str) -> List<Text<3>, 2> {
     let mut list = List::<Text<3>, 2>::new(alloc);
     if first.len() <= 3 && second.len() <= 3 {
-        list.push(Text::new(alloc, first)?)?;
-        list.push(Text::new(alloc, second)?)?;
+        let first = Text::new(alloc, first).expect(rt, "memory");
+        let second = Text::new(alloc, second).expect(rt, "memory");
+        list.push(first).expect(rt, "room");
+        list.push(second).expect(rt, "room");
     }
-    Ok(list)
+    list
 }
 
 // Whether the list is spelled so, and what is taken back shows and gives these numbers.
 fn is_spelled(
+    rt: &impl Abort,
     alloc: Global,
     list: &List<u32, 3>,
     values: &[u32],
     want: &[u8],
-) -> Result<bool, Fail> {
+) -> bool {
     let shown = list.as_slice() == values && list.len() == values.len();
-    match again(alloc, list, want)? {
+    match again(rt, alloc, list, want) {
         Some(back) => {
-            Ok(shown && back.as_slice() == values && back.into_vec().as_slice() == values)
+            let shows = back.as_slice() == values;
+            shown && shows && back.into_vec().as_slice() == values
         }
-        None => Ok(false),
+        None => false,
     }
 }
 
 // Whether the value at the index is removed and told, and the others are left in order.
 fn removes(
+    rt: &impl Abort,
     alloc: Global,
     values: &[u32],
     index: usize,
     left: &[u32],
     bytes: &[u8],
-) -> Result<Option<u32>, Fail> {
-    let mut list = numbers(alloc, values)?;
+) -> Option<u32> {
+    let mut list = numbers(rt, alloc, values);
     if index >= list.len() {
-        return Ok(None);
+        return None;
     }
     let value = list.remove(index);
-    if !is_spelled(alloc, &list, left, bytes)? {
-        return Ok(None);
+    if !is_spelled(rt, alloc, &list, left, bytes) {
+        return None;
     }
-    Ok(Some(value))
+    Some(value)
 }
 
 // Whether 258 is put at the index of 7, 5, 9.
-fn replaces(alloc: Global, index: usize, want: &[u32], bytes: &[u8]) -> Result<bool, Fail> {
-    let mut list = numbers(alloc, &[7, 5, 9])?;
+fn replaces(rt: &impl Abort, alloc: Global, index: usize, want: &[u32], bytes: &[u8]) -> bool {
+    let mut list = numbers(rt, alloc, &[7, 5, 9]);
     if index >= list.len() || list.set(index, 258).is_err() {
-        return Ok(false);
+        return false;
     }
-    is_spelled(alloc, &list, want, bytes)
+    is_spelled(rt, alloc, &list, want, bytes)
 }
 
 // Whether the text is put in the place of the first of two, which leaves these bytes.
 fn puts_first(
+    rt: &impl Abort,
     alloc: Global,
     list: &mut List<Text<3>, 2>,
     value: &str,
     bytes: &[u8],
-) -> Result<bool, Fail> {
+) -> bool {
     if value.len() > 3 || list.len() != 2 {
-        return Ok(false);
+        return false;
     }
-    let text = Text::new(alloc, value)?;
+    let text = Text::new(alloc, value).expect(rt, "memory");
     let is_set = list.set(0, text).is_ok();
-    Ok(is_set && again(alloc, list, bytes)?.is_some())
+    is_set && again(rt, alloc, list, bytes).is_some()
 }
 
 #[test]
-fn spells_lists(rt: HostRuntime) -> Result<(), Fail> {
+fn spells_lists(rt: HostRuntime) {
     for (values, want) in SPELLED {
-        let list = numbers(rt.alloc(), values)?;
-        assert!(rt; is_spelled(rt.alloc(), &list, values, want)?, "{values:?}");
+        let list = numbers(&rt, rt.alloc(), values);
+        assert!(rt;
+            is_spelled(&rt, rt.alloc(), &list, values, want),
+            "{values:?}"
+        );
     }
-    Ok(())
 }
 
 #[test]
-fn spells_items_of_several_lengths(rt: HostRuntime) -> Result<(), Fail> {
-    let list = texts(rt.alloc(), "", "/r")?;
+fn spells_items_of_several_lengths(rt: HostRuntime) {
+    let list = texts(&rt, rt.alloc(), "", "/r");
     let want = b"\0\0\0\x02\0\0\0\0\0\0\0\x02\x2f\x72";
-    let back = again(rt.alloc(), &list, want)?.ok_or("other bytes")?;
+    let back = again(&rt, rt.alloc(), &list, want).expect(&rt, "the same bytes");
     match back.as_slice() {
         [a, b] => assert!(rt; a.as_str() == "" && b.as_str() == "/r"),
         _ => assert!(rt; false, "another number of texts"),
     }
-    Ok(())
 }
 
 #[test]
-fn refuses_one_too_many(rt: HostRuntime) -> Result<(), Fail> {
-    let mut list = numbers(rt.alloc(), &[1, 2, 3])?;
+fn refuses_one_too_many(rt: HostRuntime) {
+    let mut list = numbers(&rt, rt.alloc(), &[1, 2, 3]);
     assert!(rt; list.push(4) == Err(NotPushed::Full));
     assert!(rt; list.as_slice() == [1, 2, 3].as_slice() && list.size() == 16);
     let mut nothing = List::<bool, 0>::new(rt.alloc());
     assert!(rt; nothing.push(true) == Err(NotPushed::Full));
     assert!(rt; nothing.as_slice().is_empty());
-    Ok(())
 }
 
 #[test]
-fn takes_no_other_bytes(rt: HostRuntime) -> Result<(), Fail> {
+fn takes_no_other_bytes(rt: HostRuntime) {
     for bytes in NO_LISTS {
-        assert!(rt; is_none::<List<u32, 3>>(rt.alloc(), bytes)?, "{bytes:?}");
+        assert!(rt;
+            is_none::<List<u32, 3>>(&rt, rt.alloc(), bytes),
+            "{bytes:?}"
+        );
     }
     // a second item that is no spelling
-    assert!(rt; is_none::<List<bool, 3>>(rt.alloc(), b"\0\0\0\x03\x01\x02\0")?);
-    assert!(rt; is_none::<List<bool, 0>>(rt.alloc(), b"\0\0\0\x01\x01")?);
-    Ok(())
+    assert!(rt; is_none::<List<bool, 3>>(&rt, rt.alloc(), b"\0\0\0\x03\x01\x02\0"));
+    assert!(rt; is_none::<List<bool, 0>>(&rt, rt.alloc(), b"\0\0\0\x01\x01"));
 }
 
 #[test]
-fn removes_values(rt: HostRuntime) -> Result<(), Fail> {
+fn removes_values(rt: HostRuntime) {
     for (values, index, want, left, bytes) in REMOVED {
-        let removed = removes(rt.alloc(), values, *index, left, bytes)?;
+        let removed = removes(&rt, rt.alloc(), values, *index, left, bytes);
         assert!(rt; removed == Some(*want), "at {index} of {values:?}");
     }
-    Ok(())
 }
 
 #[test]
-fn puts_values_in_the_place_of_others(rt: HostRuntime) -> Result<(), Fail> {
+fn puts_values_in_the_place_of_others(rt: HostRuntime) {
     for (index, want, bytes) in REPLACED {
-        assert!(rt; replaces(rt.alloc(), *index, want, bytes)?, "at {index}");
+        assert!(rt;
+            replaces(&rt, rt.alloc(), *index, want, bytes),
+            "at {index}"
+        );
     }
-    Ok(())
 }
 
 #[test]
-fn keeps_the_length_of_items_of_several_lengths(rt: HostRuntime) -> Result<(), Fail> {
-    let mut list = texts(rt.alloc(), "ab", "/r")?;
+fn keeps_the_length_of_items_of_several_lengths(rt: HostRuntime) {
+    let mut list = texts(&rt, rt.alloc(), "ab", "/r");
     for (value, bytes) in FIRST_TEXTS {
-        assert!(rt; puts_first(rt.alloc(), &mut list, value, bytes)?, "{value}");
+        assert!(rt;
+            puts_first(&rt, rt.alloc(), &mut list, value, bytes),
+            "{value}"
+        );
     }
     assert!(rt; list.len() == 2, "another length");
     let text = list.remove(0);
     assert!(rt; text.as_str() == "abc");
     let want = b"\0\0\0\x01\0\0\0\x02\x2f\x72";
-    assert!(rt; again(rt.alloc(), &list, want)?.is_some(), "other bytes");
-    Ok(())
+    assert!(rt;
+        again(&rt, rt.alloc(), &list, want).is_some(),
+        "other bytes"
+    );
 }

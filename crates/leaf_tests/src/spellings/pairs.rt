@@ -1,7 +1,7 @@
 //! Two values behind one another.
 use super::{again, is_none};
 use std::alloc::Global;
-use std::test::Fail;
+use std::process::Abort;
 use wm_wire::{Pair, Text};
 
 const SPELLED: &[(u32, bool, &[u8])] = &[
@@ -20,14 +20,14 @@ const NO_PAIRS: &[&[u8]] = &[
 ];
 
 // Whether the pair is spelled so, and what is taken back shows and gives its parts.
-fn is_spelled(alloc: Global, first: u32, second: bool, want: &[u8]) -> Result<bool, Fail> {
-    let pair = Pair::new(first, second).ok().ok_or("too long")?;
-    match again(alloc, &pair, want)? {
+fn is_spelled(rt: &impl Abort, alloc: Global, first: u32, second: bool, want: &[u8]) -> bool {
+    let pair = Pair::new(first, second).ok().expect(rt, "a pair");
+    match again(rt, alloc, &pair, want) {
         Some(back) => {
             let shown = *back.first() == first && *back.second() == second;
-            Ok(shown && back.into_parts() == (first, second))
+            shown && back.into_parts() == (first, second)
         }
-        None => Ok(false),
+        None => false,
     }
 }
 
@@ -39,31 +39,31 @@ fn is_of(pair: Pair<Text<3>, Text<1>>, first: &str, second: &str) -> bool {
 }
 
 #[test]
-fn spells_pairs(rt: HostRuntime) -> Result<(), Fail> {
+fn spells_pairs(rt: HostRuntime) {
     for (first, second, want) in SPELLED {
-        assert!(rt; is_spelled(rt.alloc(), *first, *second, want)?, "{first}");
+        assert!(rt;
+            is_spelled(&rt, rt.alloc(), *first, *second, want),
+            "{first}"
+        );
     }
-    Ok(())
 }
 
 #[test]
-fn spells_parts_of_several_lengths(rt: HostRuntime) -> Result<(), Fail> {
-    let first = Text::<3>::new(rt.alloc(), "/r")?;
-    let second = Text::<1>::new(rt.alloc(), "a")?;
-    let pair = Pair::new(first, second).ok().ok_or("too long")?;
+fn spells_parts_of_several_lengths(rt: HostRuntime) {
+    let first = Text::<3>::new(rt.alloc(), "/r").expect(&rt, "memory");
+    let second = Text::<1>::new(rt.alloc(), "a").expect(&rt, "memory");
+    let pair = Pair::new(first, second).ok().expect(&rt, "a pair");
     let want = b"\0\0\0\x02\x2f\x72\0\0\0\x01\x61";
-    let back = again(rt.alloc(), &pair, want)?.ok_or("other bytes")?;
+    let back = again(&rt, rt.alloc(), &pair, want).expect(&rt, "the same bytes");
     assert!(rt; is_of(back, "/r", "a"));
-    Ok(())
 }
 
 #[test]
-fn takes_no_other_bytes(rt: HostRuntime) -> Result<(), Fail> {
+fn takes_no_other_bytes(rt: HostRuntime) {
     for bytes in NO_PAIRS {
         assert!(rt;
-            is_none::<Pair<bool, Text<3>>>(rt.alloc(), bytes)?,
+            is_none::<Pair<bool, Text<3>>>(&rt, rt.alloc(), bytes),
             "{bytes:?}"
         );
     }
-    Ok(())
 }

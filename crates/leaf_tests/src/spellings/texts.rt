@@ -1,6 +1,6 @@
 //! Texts put and taken by themselves, copied and compared.
 use std::alloc::Global;
-use std::test::Fail;
+use std::process::Abort;
 use wm_wire::{Text, put_text, take_text};
 
 const COMPARED: &[(&str, &str, bool)] = &[
@@ -13,35 +13,33 @@ const COMPARED: &[(&str, &str, bool)] = &[
 ];
 
 // Whether the texts are equal, from either side, where that is wanted, and a copy of the first is it.
-fn compares(alloc: Global, first: &str, second: &str, want: bool) -> Result<bool, Fail> {
+fn compares(rt: &impl Abort, alloc: Global, first: &str, second: &str, want: bool) -> bool {
     if first.len() > 3 || second.len() > 3 {
-        return Ok(false);
+        return false;
     }
-    let text = Text::<3>::new(alloc, first)?;
-    let other = Text::<3>::new(alloc, second)?;
-    let again = text.copy(alloc)?;
+    let text = Text::<3>::new(alloc, first).expect(rt, "memory");
+    let other = Text::<3>::new(alloc, second).expect(rt, "memory");
+    let again = text.copy(alloc).expect(rt, "memory");
     let copied = again.as_str() == first && again == text;
-    Ok(copied && (text == other) == want && (other == text) == want)
+    copied && (text == other) == want && (other == text) == want
 }
 
 #[test]
-fn copies_and_compares_texts(rt: HostRuntime) -> Result<(), Fail> {
+fn copies_and_compares_texts(rt: HostRuntime) {
     for (first, second, want) in COMPARED {
         assert!(rt;
-            compares(rt.alloc(), first, second, *want)?,
+            compares(&rt, rt.alloc(), first, second, *want),
             "{first} and {second}"
         );
     }
-    Ok(())
 }
 
 #[test]
-fn spells_a_text(rt: HostRuntime) -> Result<(), Fail> {
-    let mut out = vec![in rt.alloc(); 7u8]?;
-    put_text("/r", &mut out)?;
+fn spells_a_text(rt: HostRuntime) {
+    let mut out = vec![in rt.alloc(); 7u8].expect(&rt, "memory");
+    put_text("/r", &mut out).expect(&rt, "memory");
     assert!(rt; out.as_slice() == b"\x07\0\0\0\x02\x2f\x72".as_slice());
     assert!(rt; take_text(b"\0\0\0\x02\x2f\x72\xff", 2) == Some(("/r", 6)));
     assert!(rt; take_text(b"\0\0\0\x02\x2f\x72\xff", 1).is_none());
     assert!(rt; take_text(b"\0\0\0\0", 0) == Some(("", 4)));
-    Ok(())
 }

@@ -1,7 +1,7 @@
 //! Numbers, truth values and texts.
 use super::{again, is_none};
 use std::alloc::Global;
-use std::test::Fail;
+use std::process::Abort;
 use wm_wire::Text;
 
 const WORDS: &[(u32, &[u8])] = &[
@@ -45,67 +45,63 @@ const NO_TEXTS: &[&[u8]] = &[
 ];
 
 // Whether the text is spelled so, and shown as it is, before and after.
-fn text_is_spelled(alloc: Global, value: &str, want: &[u8]) -> Result<bool, Fail> {
+fn text_is_spelled(rt: &impl Abort, alloc: Global, value: &str, want: &[u8]) -> bool {
     if value.len() > 3 {
-        return Ok(false);
+        return false;
     }
-    let text = Text::<3>::new(alloc, value)?;
+    let text = Text::<3>::new(alloc, value).expect(rt, "memory");
     let shown = text.as_str() == value;
-    match again(alloc, &text, want)? {
-        Some(back) => Ok(shown && back.as_str() == value),
-        None => Ok(false),
+    match again(rt, alloc, &text, want) {
+        Some(back) => shown && back.as_str() == value,
+        None => false,
     }
 }
 
 #[test]
-fn spells_numbers(rt: HostRuntime) -> Result<(), Fail> {
+fn spells_numbers(rt: HostRuntime) {
     for (value, want) in WORDS {
         assert!(rt;
-            again(rt.alloc(), value, want)? == Some(*value),
+            again(&rt, rt.alloc(), value, want) == Some(*value),
             "at {value}"
         );
     }
     for (value, want) in LONG_WORDS {
         assert!(rt;
-            again(rt.alloc(), value, want)? == Some(*value),
+            again(&rt, rt.alloc(), value, want) == Some(*value),
             "at {value}"
         );
     }
-    Ok(())
 }
 
 #[test]
-fn spells_truths_and_texts(rt: HostRuntime) -> Result<(), Fail> {
+fn spells_truths_and_texts(rt: HostRuntime) {
     for (value, want) in TRUTHS {
         assert!(rt;
-            again(rt.alloc(), value, want)? == Some(*value),
+            again(&rt, rt.alloc(), value, want) == Some(*value),
             "at {value}"
         );
     }
     for (value, want) in TEXTS {
-        assert!(rt; text_is_spelled(rt.alloc(), value, want)?, "at {value}");
+        assert!(rt; text_is_spelled(&rt, rt.alloc(), value, want), "at {value}");
     }
-    Ok(())
 }
 
 #[test]
-fn takes_no_other_numbers(rt: HostRuntime) -> Result<(), Fail> {
+fn takes_no_other_numbers(rt: HostRuntime) {
     for bytes in NO_WORDS {
-        assert!(rt; is_none::<u32>(rt.alloc(), bytes)?, "{bytes:?}");
+        assert!(rt; is_none::<u32>(&rt, rt.alloc(), bytes), "{bytes:?}");
     }
     for bytes in NO_LONG_WORDS {
-        assert!(rt; is_none::<u64>(rt.alloc(), bytes)?, "{bytes:?}");
+        assert!(rt; is_none::<u64>(&rt, rt.alloc(), bytes), "{bytes:?}");
     }
-    Ok(())
 }
 
 #[test]
-fn takes_no_other_truths_and_texts(rt: HostRuntime) -> Result<(), Fail> {
+fn takes_no_other_truths_and_texts(rt: HostRuntime) {
     for bytes in NO_TRUTHS {
-        assert!(rt; is_none::<bool>(rt.alloc(), bytes)?, "{bytes:?}");
+        assert!(rt; is_none::<bool>(&rt, rt.alloc(), bytes), "{bytes:?}");
     }
     for bytes in NO_TEXTS {
-        assert!(rt; is_none::<Text<3>>(rt.alloc(), bytes)?, "{bytes:?}");
+        assert!(rt; is_none::<Text<3>>(&rt, rt.alloc(), bytes), "{bytes:?}");
     }
-    Ok(())
 }

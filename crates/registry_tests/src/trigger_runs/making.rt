@@ -1,6 +1,6 @@
 //! Triggers, views and runs, made from what a table tells.
 use std::alloc::Global;
-use std::test::Fail;
+use std::process::Abort;
 use wm_clock::ClockId;
 use wm_names::{Entry, Kind, Meta, RelPath, RootPath, Subtree};
 use wm_registry::{Stdin, Trigger};
@@ -20,77 +20,78 @@ fn meta(size: u64) -> Meta {
 }
 
 /// A view of root 1 in this incarnation, whose first listing found nothing.
-pub fn empty_view(alloc: Global, incarnation: u64) -> Result<View, Fail> {
+pub fn empty_view(rt: &impl Abort, alloc: Global, incarnation: u64) -> View {
     let mut view = View::new(alloc, incarnation, 1);
     let listing = Listing::new(alloc, Subtree::Whole);
-    view.recrawl(alloc, 0, 0, &listing)?;
-    Ok(view)
+    view.recrawl(alloc, 0, 0, &listing).expect(rt, "memory");
+    view
 }
 
-fn observe_one(alloc: Global, view: &mut View, seen: &Seen) -> Result<(), Fail> {
+fn observe_one(rt: &impl Abort, alloc: Global, view: &mut View, seen: &Seen) {
     let mut pairs = Vec::new(alloc);
     let state = match seen.1 {
         Some(size) => Some(meta(size)),
         None => None,
     };
-    pairs.push((RelPath::read(alloc, seen.0)?, state))?;
-    view.observe(alloc, 0, &Pairs::new(pairs))?;
-    Ok(())
+    let path = RelPath::read(alloc, seen.0).expect(rt, "a path");
+    pairs.push((path, state)).expect(rt, "memory");
+    let pairs = Pairs::new(pairs);
+    view.observe(alloc, 0, &pairs).expect(rt, "memory");
 }
 
 /// The view takes these observations, one after another.
-pub fn observe(alloc: Global, view: &mut View, seen: &[Seen]) -> Result<(), Fail> {
+pub fn observe(rt: &impl Abort, alloc: Global, view: &mut View, seen: &[Seen]) {
     for one in seen {
-        observe_one(alloc, view, one)?;
+        observe_one(rt, alloc, view, one);
     }
-    Ok(())
 }
 
 /// A trigger with these words, which appends the files or doesn't.
 pub fn trigger(
+    rt: &impl Abort,
     alloc: Global,
     words: &[&str],
     append_files: bool,
     stdin: Stdin,
-) -> Result<Trigger, Fail> {
-    Ok(Trigger::new(alloc, "t", words, None, append_files, stdin)?)
+) -> Trigger {
+    Trigger::new(alloc, "t", words, None, append_files, stdin).expect(rt, "a trigger")
 }
 
 /// A trigger of the program `true`, with this text of an expression.
-pub fn trigger_for(alloc: Global, expression: Option<&str>) -> Result<Trigger, Fail> {
-    Ok(Trigger::new(alloc, "t", &["true"], expression, false, Stdin::DevNull)?)
+pub fn trigger_for(rt: &impl Abort, alloc: Global, expression: Option<&str>) -> Trigger {
+    Trigger::new(alloc, "t", &["true"], expression, false, Stdin::DevNull).expect(rt, "a trigger")
 }
 
 /// The runs of such a trigger, of which none was started yet.
-pub fn runs_for(alloc: Global, expression: Option<&str>) -> Result<TriggerRun, Fail> {
-    let trigger = trigger_for(alloc, expression)?;
-    Ok(TriggerRun::new(alloc, &trigger)?)
+pub fn runs_for(rt: &impl Abort, alloc: Global, expression: Option<&str>) -> TriggerRun {
+    let trigger = trigger_for(rt, alloc, expression);
+    TriggerRun::new(alloc, &trigger).expect(rt, "a trigger")
 }
 
-pub fn root(alloc: Global, path: &str) -> Result<RootPath, Fail> {
-    Ok(RootPath::read(alloc, path)?)
+pub fn root(rt: &impl Abort, alloc: Global, path: &str) -> RootPath {
+    RootPath::read(alloc, path).expect(rt, "a path")
 }
 
-fn listed(alloc: Global, path: &str) -> Result<Listed, Fail> {
-    Ok(Listed {
+fn listed(rt: &impl Abort, alloc: Global, path: &str) -> Listed {
+    Listed {
         entry: Entry {
-            path: RelPath::read(alloc, path)?,
+            path: RelPath::read(alloc, path).expect(rt, "a path"),
             exists: true,
             meta: meta(1),
         },
         is_new: true,
         last: 2,
         created: 2,
-    })
+    }
 }
 
 /// An answer at tick 2 of root 1 in incarnation 1, which lists these files.
-pub fn answer_with(alloc: Global, paths: &[&str]) -> Result<Answer, Fail> {
+pub fn answer_with(rt: &impl Abort, alloc: Global, paths: &[&str]) -> Answer {
     let mut files = Vec::new(alloc);
     for path in paths {
-        files.push(listed(alloc, path)?)?;
+        files.push(listed(rt, alloc, path)).expect(rt, "memory");
     }
-    Ok(Answer {
+    Answer {
         clock: ClockId {
             incarnation: 1,
             root: 1,
@@ -98,21 +99,18 @@ pub fn answer_with(alloc: Global, paths: &[&str]) -> Result<Answer, Fail> {
         },
         fresh: false,
         files: ListedFiles::new(files),
-    })
-}
-
-/// The run with the files of the answer.
-pub fn run_of(runs: &TriggerRun, answer: Answer) -> Result<Run, Fail> {
-    match runs.run_of(answer) {
-        Some(run) => Ok(run),
-        None => Err(Fail::new("a run lists a file")),
     }
 }
 
+/// The run with the files of the answer.
+pub fn run_of(rt: &impl Abort, runs: &TriggerRun, answer: Answer) -> Run {
+    runs.run_of(answer).expect(rt, "a run")
+}
+
 /// The run with these files.
-pub fn run_with(alloc: Global, paths: &[&str]) -> Result<Run, Fail> {
-    let runs = runs_for(alloc, None)?;
-    run_of(&runs, answer_with(alloc, paths)?)
+pub fn run_with(rt: &impl Abort, alloc: Global, paths: &[&str]) -> Run {
+    let runs = runs_for(rt, alloc, None);
+    run_of(rt, &runs, answer_with(rt, alloc, paths))
 }
 
 /// Whether the run has these files.

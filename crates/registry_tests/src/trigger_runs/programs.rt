@@ -1,8 +1,7 @@
 //! Programs that are really started, in the folder of the tests.
 use crate::trigger_runs::making::{root, run_with, trigger};
 use std::alloc::Global;
-use std::process::Processes;
-use std::test::Fail;
+use std::process::{Abort, Processes};
 use std::{env, fs};
 use wm_disk::Refusal;
 use wm_names::RootPath;
@@ -32,47 +31,61 @@ fn started<R: Processes>(
 
 /// Runs the program in a folder for these files: how often the start failed, and its refusal.
 fn ran<R: Processes>(
+    host: &impl Abort,
     alloc: Global,
     processes: &R,
     folder: &str,
     program: &Program<'_>,
     files: &[&str],
-) -> Result<(u64, Option<Refusal>), Fail> {
-    let trigger = trigger(alloc, program.words, program.append_files, program.stdin)?;
-    let root = root(alloc, folder)?;
-    let run = run_with(alloc, files)?;
-    Ok(started(alloc, processes, &root, &trigger, &run))
+) -> (u64, Option<Refusal>) {
+    let trigger = trigger(
+        host,
+        alloc,
+        program.words,
+        program.append_files,
+        program.stdin,
+    );
+    let root = root(host, alloc, folder);
+    let run = run_with(host, alloc, files);
+    started(alloc, processes, &root, &trigger, &run)
 }
 
 /// The folder of the tests.
-fn here(rt: &HostRuntime) -> Result<String, Fail> {
-    let folder = env::current_dir(rt)?;
-    Ok(String::from_str(rt.alloc(), folder.as_str())?)
+fn here(rt: &HostRuntime, host: &impl Abort) -> String {
+    let folder = env::current_dir(rt).expect(host, "a folder");
+    String::from_str(rt.alloc(), folder.as_str()).expect(host, "memory")
 }
 
 /// Runs the program in the folder of the tests.
 fn ran_here(
     rt: &HostRuntime,
+    host: &impl Abort,
     program: &Program<'_>,
     files: &[&str],
-) -> Result<(u64, Option<Refusal>), Fail> {
-    let folder = here(rt)?;
-    ran(rt.alloc(), rt, &folder, program, files)
+) -> (u64, Option<Refusal>) {
+    let folder = here(rt, host);
+    ran(host, rt.alloc(), rt, &folder, program, files)
 }
 
 /// Whether the file has this text.
-fn has_text(rt: &HostRuntime, path: &str, wanted: &str) -> Result<bool, Fail> {
-    let text = fs::read_to_string(rt, path)?;
-    Ok(text.as_str() == wanted)
+fn has_text(rt: &HostRuntime, host: &impl Abort, path: &str, wanted: &str) -> bool {
+    let text = fs::read_to_string(rt, path).expect(host, "a file");
+    text.as_str() == wanted
 }
 
 /// Whether the program, for `d/b.c` and `a.c`, leaves this text in the file.
-fn leaves(rt: &HostRuntime, program: &Program<'_>, path: &str, wanted: &str) -> Result<bool, Fail> {
+fn leaves(
+    rt: &HostRuntime,
+    host: &impl Abort,
+    program: &Program<'_>,
+    path: &str,
+    wanted: &str,
+) -> bool {
     let _ = fs::remove_file(rt, path);
-    let (failures, refused) = ran_here(rt, program, &["d/b.c", "a.c"])?;
-    let written = has_text(rt, path, wanted)?;
-    fs::remove_file(rt, path)?;
-    Ok(failures == 0 && refused.is_none() && written)
+    let (failures, refused) = ran_here(rt, host, program, &["d/b.c", "a.c"]);
+    let written = has_text(rt, host, path, wanted);
+    fs::remove_file(rt, path).expect(host, "a file");
+    failures == 0 && refused.is_none() && written
 }
 
 /// A script with two words behind it, whether the files are appended, what it reads, the file that
@@ -132,35 +145,34 @@ const ROWS: &[Row] = &[
     ),
 ];
 
-fn leaves_row(rt: &HostRuntime, row: &Row) -> Result<bool, Fail> {
+fn leaves_row(rt: &HostRuntime, host: &impl Abort, row: &Row) -> bool {
     let program = Program {
         words: &["sh", "-c", row.0, "script", "x"],
         append_files: row.1,
         stdin: row.2,
     };
-    leaves(rt, &program, row.3, row.4)
+    leaves(rt, host, &program, row.3, row.4)
 }
 
 #[test]
-fn programs_get_their_words_and_input(rt: HostRuntime) -> Result<(), Fail> {
+fn programs_get_their_words_and_input(rt: HostRuntime) {
     // a file that is open here isn't open there
-    let _open = fs::File::open(&rt, "/dev/null")?;
+    let _open = fs::File::open(&rt, "/dev/null").expect(&rt, "a file");
     for row in ROWS {
-        assert!(rt; leaves_row(&rt, row)?, "{}", row.3);
+        assert!(rt; leaves_row(&rt, &rt, row), "{}", row.3);
     }
-    Ok(())
 }
 
 /// Where this program writes its output and its errors.
-fn own_streams(rt: &HostRuntime) -> Result<String, Fail> {
-    let output = fs::read_link(rt, "/proc/self/fd/1")?;
-    let errors = fs::read_link(rt, "/proc/self/fd/2")?;
-    Ok(format!(in rt.alloc(); "{}\n{}\n", output.as_str(), errors.as_str())?)
+fn own_streams(rt: &HostRuntime, host: &impl Abort) -> String {
+    let output = fs::read_link(rt, "/proc/self/fd/1").expect(host, "a file");
+    let errors = fs::read_link(rt, "/proc/self/fd/2").expect(host, "a file");
+    format!(in rt.alloc(); "{}\n{}\n", output.as_str(), errors.as_str()).expect(host, "memory")
 }
 
 #[test]
-fn programs_write_where_this_one_writes(rt: HostRuntime) -> Result<(), Fail> {
-    let wanted = own_streams(&rt)?;
+fn programs_write_where_this_one_writes(rt: HostRuntime) {
+    let wanted = own_streams(&rt, &rt);
     let program = Program {
         words: &[
             "sh",
@@ -170,37 +182,36 @@ fn programs_write_where_this_one_writes(rt: HostRuntime) -> Result<(), Fail> {
         append_files: false,
         stdin: Stdin::DevNull,
     };
-    assert!(rt; leaves(&rt, &program, "trigger_streams", wanted.as_str())?);
-    Ok(())
+    assert!(rt; leaves(&rt, &rt, &program, "trigger_streams", wanted.as_str()));
 }
 
 /// Whether the file has this line.
-fn has_line(rt: &HostRuntime, path: &str, line: &str) -> Result<bool, Fail> {
-    let text = fs::read_to_string(rt, path)?;
-    Ok(text.as_str().strip_suffix("\n") == Some(line))
+fn has_line(rt: &HostRuntime, host: &impl Abort, path: &str, line: &str) -> bool {
+    let text = fs::read_to_string(rt, path).expect(host, "a file");
+    text.as_str().strip_suffix("\n") == Some(line)
 }
 
 /// Whether a program of the root `trigger_root` writes that it runs in this folder.
-fn runs_in(rt: &HostRuntime, folder: &str) -> Result<bool, Fail> {
+fn runs_in(rt: &HostRuntime, host: &impl Abort, folder: &str) -> bool {
     let program = Program {
         words: &["sh", "-c", "pwd > here"],
         append_files: false,
         stdin: Stdin::DevNull,
     };
-    let (failures, refused) = ran(rt.alloc(), rt, folder, &program, &["a.c"])?;
-    let told = has_line(rt, "trigger_root/here", folder)?;
-    fs::remove_file(rt, "trigger_root/here")?;
-    Ok(failures == 0 && refused.is_none() && told)
+    let (failures, refused) = ran(host, rt.alloc(), rt, folder, &program, &["a.c"]);
+    let told = has_line(rt, host, "trigger_root/here", folder);
+    fs::remove_file(rt, "trigger_root/here").expect(host, "a file");
+    failures == 0 && refused.is_none() && told
 }
 
 #[test]
-fn programs_run_in_the_root(rt: HostRuntime) -> Result<(), Fail> {
+fn programs_run_in_the_root(rt: HostRuntime) {
     const FOLDER: &str = "trigger_root";
     let _ = fs::create_dir(&rt, FOLDER);
-    let folder = format!(in rt.alloc(); "{}/{FOLDER}", here(&rt)?)?;
-    assert!(rt; runs_in(&rt, &folder)?);
-    fs::remove_dir(&rt, FOLDER)?;
-    Ok(())
+    let mut folder = here(&rt, &rt);
+    write!(folder, "/{FOLDER}").expect(&rt, "memory");
+    assert!(rt; runs_in(&rt, &rt, &folder));
+    fs::remove_dir(&rt, FOLDER).expect(&rt, "a folder");
 }
 
 /// Words of a program that can't be started, and its folder.
@@ -217,26 +228,25 @@ const BAD: &[Bad] = &[
     (&["/tmp"], "/tmp"),
 ];
 
-fn is_refused(rt: &HostRuntime, bad: &Bad, stdin: Stdin) -> Result<bool, Fail> {
+fn is_refused(rt: &HostRuntime, host: &impl Abort, bad: &Bad, stdin: Stdin) -> bool {
     let program = Program {
         words: bad.0,
         append_files: false,
         stdin,
     };
-    let ended = ran(rt.alloc(), rt, bad.1, &program, &["a.c"])?;
-    Ok(ended.0 == 1 && ended.1 == Some(Refusal::DeviceFailed))
+    let ended = ran(host, rt.alloc(), rt, bad.1, &program, &["a.c"]);
+    ended.0 == 1 && ended.1 == Some(Refusal::DeviceFailed)
 }
 
 #[test]
-fn starts_that_fail_are_counted(rt: HostRuntime) -> Result<(), Fail> {
+fn starts_that_fail_are_counted(rt: HostRuntime) {
     for (i, bad) in BAD.iter().enumerate() {
-        assert!(rt; is_refused(&rt, bad, Stdin::DevNull)?, "row {i}");
+        assert!(rt; is_refused(&rt, &rt, bad, Stdin::DevNull), "row {i}");
         assert!(rt;
-            is_refused(&rt, bad, Stdin::NamePerLine)?,
+            is_refused(&rt, &rt, bad, Stdin::NamePerLine),
             "row {i} with input"
         );
     }
-    Ok(())
 }
 
 /// How a program ends that was started: by itself, with a fault, by a signal, and without having
@@ -250,73 +260,77 @@ const ENDS: &[&[&str]] = &[
 ];
 
 /// So many paths of six digits.
-fn numbered(alloc: Global, count: u32) -> Result<Vec<String>, Fail> {
+fn numbered(rt: &impl Abort, alloc: Global, count: u32) -> Vec<String> {
     let mut paths = Vec::new(alloc);
     for i in 0..count {
-        paths.push(format!(in alloc; "{i:06}")?)?;
+        let path = format!(in alloc; "{i:06}").expect(rt, "memory");
+        paths.push(path).expect(rt, "memory");
     }
-    Ok(paths)
+    paths
 }
 
 /// How the program ends in the folder of the tests, for many files.
 fn ran_for(
     rt: &HostRuntime,
+    host: &impl Abort,
     program: &Program<'_>,
     paths: &[String],
-) -> Result<(u64, Option<Refusal>), Fail> {
-    let paths: Vec<&str> = paths.iter().map(|path| path.as_str()).collect(rt.alloc())?;
-    ran_here(rt, program, &paths)
+) -> (u64, Option<Refusal>) {
+    let paths: Vec<&str> = paths
+        .iter()
+        .map(|path| path.as_str())
+        .collect(rt.alloc())
+        .expect(host, "memory");
+    ran_here(rt, host, program, &paths)
 }
 
 #[test]
-fn a_program_may_end_as_it_likes(rt: HostRuntime) -> Result<(), Fail> {
-    let paths = numbered(rt.alloc(), 65536)?;
+fn a_program_may_end_as_it_likes(rt: HostRuntime) {
+    let paths = numbered(&rt, rt.alloc(), 65536);
     for (i, words) in ENDS.iter().enumerate() {
         let program = Program {
             words: *words,
             append_files: false,
             stdin: Stdin::NamePerLine,
         };
-        let (failures, refused) = ran_for(&rt, &program, &paths)?;
+        let (failures, refused) = ran_for(&rt, &rt, &program, &paths);
         assert!(rt; failures == 0 && refused.is_none(), "row {i}");
     }
-    Ok(())
 }
 
 /// Whether the file has the lines of 65,536 paths of six digits.
-fn has_numbers(rt: &HostRuntime, path: &str) -> Result<bool, Fail> {
-    let text = fs::read_to_string(rt, path)?;
+fn has_numbers(rt: &HostRuntime, host: &impl Abort, path: &str) -> bool {
+    let text = fs::read_to_string(rt, path).expect(host, "a file");
     let text = text.as_str();
     let ends = text.starts_with("000000\n000001\n") && text.ends_with("\n065534\n065535\n");
     // lines of seven bytes
-    Ok(text.len() == 458_752 && ends)
+    text.len() == 458_752 && ends
 }
 
 #[test]
-fn reads_more_than_a_pipe_holds(rt: HostRuntime) -> Result<(), Fail> {
+fn reads_more_than_a_pipe_holds(rt: HostRuntime) {
     let program = Program {
         words: &["sh", "-c", "cat > trigger_many"],
         append_files: false,
         stdin: Stdin::NamePerLine,
     };
-    let (failures, refused) = ran_for(&rt, &program, &numbered(rt.alloc(), 65536)?)?;
+    let (failures, refused) = ran_for(&rt, &rt, &program, &numbered(&rt, rt.alloc(), 65536));
     assert!(rt; failures == 0 && refused.is_none());
-    assert!(rt; has_numbers(&rt, "trigger_many")?);
-    fs::remove_file(&rt, "trigger_many")?;
-    Ok(())
+    assert!(rt; has_numbers(&rt, &rt, "trigger_many"));
+    fs::remove_file(&rt, "trigger_many").expect(&rt, "a file");
 }
 
 /// The path, so many times.
-fn repeated(alloc: Global, path: &str, count: u32) -> Result<Vec<&str>, Fail> {
+fn repeated<'a>(rt: &impl Abort, alloc: Global, path: &'a str, count: u32) -> Vec<&'a str> {
     let mut paths = Vec::new(alloc);
     for _ in 0..count {
-        paths.push(path)?;
+        paths.push(path).expect(rt, "memory");
     }
-    Ok(paths)
+    paths
 }
 
 #[test]
-fn words_beyond_the_limit_of_the_system_are_refused(rt: HostRuntime) -> Result<(), Fail> {
+fn words_beyond_the_limit_of_the_system_are_refused(rt: HostRuntime) {
     let alloc = rt.alloc();
     let program = Program {
         words: &["true"],
@@ -325,9 +339,8 @@ fn words_beyond_the_limit_of_the_system_are_refused(rt: HostRuntime) -> Result<(
     };
     // 8,192 paths of 1,000 bytes: Linux takes 6 MiB of words at most, whatever its limits are set
     // to
-    let long = format!(in alloc; "{:01000}", 0)?;
-    let paths = repeated(alloc, &long, 8192)?;
-    let (failures, refused) = ran_here(&rt, &program, &paths)?;
+    let long = format!(in alloc; "{:01000}", 0).expect(&rt, "memory");
+    let paths = repeated(&rt, alloc, &long, 8192);
+    let (failures, refused) = ran_here(&rt, &rt, &program, &paths);
     assert!(rt; failures == 1 && refused == Some(Refusal::DeviceFailed));
-    Ok(())
 }

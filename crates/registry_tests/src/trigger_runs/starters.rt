@@ -4,21 +4,21 @@ use std::alloc::Global;
 use std::io;
 use std::io::ErrorKind;
 use std::process::{Abort, Command};
-use std::test::Fail;
 use wm_disk::Refusal;
 use wm_triggers::{Launcher, MemStarter, ProgramStarter, StartedRun, Starter};
 
 /// Has the starter run a trigger of this root for this file.
 fn run<S: Starter>(
+    rt: &impl Abort,
     alloc: Global,
     starter: &mut S,
     path: &str,
     file: &str,
-) -> Result<Option<Refusal>, Fail> {
-    let root = root(alloc, path)?;
-    let trigger = trigger_for(alloc, None)?;
-    let run = run_with(alloc, &[file])?;
-    Ok(starter.run(alloc, &root, &trigger, &run).err())
+) -> Option<Refusal> {
+    let root = root(rt, alloc, path);
+    let trigger = trigger_for(rt, alloc, None);
+    let run = run_with(rt, alloc, &[file]);
+    starter.run(alloc, &root, &trigger, &run).err()
 }
 
 fn is_of(started: &StartedRun, path: &str, file: &str) -> bool {
@@ -28,25 +28,24 @@ fn is_of(started: &StartedRun, path: &str, file: &str) -> bool {
 }
 
 /// Asserts that the starter keeps its first run and its last one, and that those between them fail.
-fn fail_twice(rt: &impl Abort, alloc: Global, starter: &mut MemStarter) -> Result<(), Fail> {
-    assert!(rt; run(alloc, starter, "/r", "a.c")?.is_none());
+fn fail_twice(rt: &impl Abort, alloc: Global, starter: &mut MemStarter) {
+    assert!(rt; run(rt, alloc, starter, "/r", "a.c").is_none());
     starter.fail(2);
     for _ in 0..2 {
-        let refused = run(alloc, starter, "/r", "b.c")?;
+        let refused = run(rt, alloc, starter, "/r", "b.c");
         assert!(rt; refused == Some(Refusal::DeviceFailed));
     }
-    assert!(rt; run(alloc, starter, "/s", "c.c")?.is_none());
+    assert!(rt; run(rt, alloc, starter, "/s", "c.c").is_none());
     assert!(rt; starter.failures() == 2);
     let runs = starter.runs();
     assert!(rt; runs.len() == 2);
     assert!(rt; is_of(&runs[0], "/r", "a.c") && is_of(&runs[1], "/s", "c.c"));
-    Ok(())
 }
 
 #[test]
-fn keeps_what_it_was_handed(rt: HostRuntime) -> Result<(), Fail> {
+fn keeps_what_it_was_handed(rt: HostRuntime) {
     let mut starter = MemStarter::new(rt.alloc());
-    fail_twice(&rt, rt.alloc(), &mut starter)
+    fail_twice(&rt, rt.alloc(), &mut starter);
 }
 
 /// A launcher that starts nothing, for want of memory: the system's, or this process's.
@@ -72,19 +71,22 @@ impl Launcher for Full {
 
 /// How a starter over a full launcher refuses a run, how many failures it counts then, and whether its
 /// launcher is full by the system.
-fn refused_by_full(alloc: Global, is_system: bool) -> Result<(Option<Refusal>, u64, bool), Fail> {
+fn refused_by_full(
+    rt: &impl Abort,
+    alloc: Global,
+    is_system: bool,
+) -> (Option<Refusal>, u64, bool) {
     let mut starter = ProgramStarter::new(Full { is_system });
-    let refused = run(alloc, &mut starter, "/r", "a.c")?;
-    Ok((refused, starter.failures(), starter.launcher().is_system))
+    let refused = run(rt, alloc, &mut starter, "/r", "a.c");
+    (refused, starter.failures(), starter.launcher().is_system)
 }
 
 #[test]
-fn counts_failures_of_the_system_alone(rt: HostRuntime) -> Result<(), Fail> {
-    let (refused, failures, is_system) = refused_by_full(rt.alloc(), false)?;
+fn counts_failures_of_the_system_alone(rt: HostRuntime) {
+    let (refused, failures, is_system) = refused_by_full(&rt, rt.alloc(), false);
     assert!(rt; refused == Some(Refusal::NoMemory));
     assert!(rt; failures == 0 && !is_system);
-    let (refused, failures, is_system) = refused_by_full(rt.alloc(), true)?;
+    let (refused, failures, is_system) = refused_by_full(&rt, rt.alloc(), true);
     assert!(rt; refused == Some(Refusal::DeviceFailed));
     assert!(rt; failures == 1 && is_system);
-    Ok(())
 }

@@ -1,17 +1,17 @@
 //! What records ask for together.
-use std::alloc::{AllocError, Global};
+use std::alloc::Global;
 use std::collections::BTreeSet;
-use std::test::Fail;
+use std::process::Abort;
 use wm_feed::{Batch, Told};
 use wm_names::RelPath;
 
-fn texts(alloc: Global, paths: &BTreeSet<RelPath>) -> Result<String, AllocError> {
+fn texts(rt: &impl Abort, alloc: Global, paths: &BTreeSet<RelPath>) -> String {
     let mut text = String::new(alloc);
     for path in paths {
-        text.push_str(path.as_str())?;
-        text.push(' ')?;
+        text.push_str(path.as_str()).expect(rt, "memory");
+        text.push(' ').expect(rt, "memory");
     }
-    Ok(text)
+    text
 }
 
 fn entry<'a>(folder: &'a str, name: &'a str, is_folder: bool) -> Told<'a> {
@@ -23,39 +23,46 @@ fn entry<'a>(folder: &'a str, name: &'a str, is_folder: bool) -> Told<'a> {
 }
 
 #[test]
-fn has_each_path_once(rt: HostRuntime) -> Result<(), Fail> {
+fn has_each_path_once(rt: HostRuntime) {
     let alloc = rt.alloc();
     let mut batch = Batch::new(alloc);
-    batch.add(alloc, entry("d", "b", false))?;
-    batch.add(alloc, entry("", "a", false))?;
-    batch.add(alloc, entry("d", "b", false))?;
-    batch.add(alloc, entry("d", "n", true))?;
-    batch.add(alloc, Told::Folder { folder: "e" })?;
-    batch.add(alloc, Told::Nothing)?;
-    assert!(rt; texts(alloc, batch.paths())?.as_str() == "a d d/b d/n e ");
-    assert!(rt; texts(alloc, batch.folders())?.as_str() == "d/n ");
+    batch
+        .add(alloc, entry("d", "b", false))
+        .expect(&rt, "memory");
+    batch
+        .add(alloc, entry("", "a", false))
+        .expect(&rt, "memory");
+    batch
+        .add(alloc, entry("d", "b", false))
+        .expect(&rt, "memory");
+    batch
+        .add(alloc, entry("d", "n", true))
+        .expect(&rt, "memory");
+    batch
+        .add(alloc, Told::Folder { folder: "e" })
+        .expect(&rt, "memory");
+    batch.add(alloc, Told::Nothing).expect(&rt, "memory");
+    assert!(rt; texts(&rt, alloc, batch.paths()).as_str() == "a d d/b d/n e ");
+    assert!(rt; texts(&rt, alloc, batch.folders()).as_str() == "d/n ");
     assert!(rt; !batch.is_whole());
-    Ok(())
 }
 
 #[test]
-fn asks_for_the_whole_by_a_doubt(rt: HostRuntime) -> Result<(), Fail> {
+fn asks_for_the_whole_by_a_doubt(rt: HostRuntime) {
     let mut batch = Batch::new(rt.alloc());
-    batch.add(rt.alloc(), Told::Doubt)?;
+    batch.add(rt.alloc(), Told::Doubt).expect(&rt, "memory");
     assert!(rt; batch.is_whole() && batch.paths().is_empty());
-    Ok(())
 }
 
 #[test]
-fn leaves_out_what_is_too_long(rt: HostRuntime) -> Result<(), Fail> {
+fn leaves_out_what_is_too_long(rt: HostRuntime) {
     let alloc = rt.alloc();
-    let long = vec![in alloc; b'x'; 1_025]?;
-    let Ok(long) = str::from_utf8(&long) else {
-        return Ok(());
-    };
+    let long = vec![in alloc; b'x'; 1_025].expect(&rt, "memory");
+    let long = str::from_utf8(&long).expect(&rt, "a text");
     let mut batch = Batch::new(alloc);
-    batch.add(alloc, entry("d", long, true))?;
-    assert!(rt; texts(alloc, batch.paths())?.as_str() == "d ");
+    batch
+        .add(alloc, entry("d", long, true))
+        .expect(&rt, "memory");
+    assert!(rt; texts(&rt, alloc, batch.paths()).as_str() == "d ");
     assert!(rt; batch.folders().is_empty() && !batch.is_whole());
-    Ok(())
 }

@@ -1,6 +1,5 @@
 //! What records mean.
 use std::alloc::{AllocError, Global};
-use std::test::Fail;
 use wm_feed::{Told, read_record};
 
 /// Records of the root `/r/oot`, and what they tell.
@@ -56,10 +55,9 @@ fn shown(alloc: Global, told: Told<'_>) -> Result<String, AllocError> {
 }
 
 #[test]
-fn records_of_the_table(rt: HostRuntime) -> Result<(), Fail> {
+fn records_of_the_table(rt: HostRuntime) {
     for (record, wanted) in RECORDS {
-        let told = shown(rt.alloc(), read_record("/r/oot", record))?;
+        let told = shown(rt.alloc(), read_record("/r/oot", record)).expect(&rt, "memory");
         assert!(rt; told.as_str() == *wanted, "{record:?}: {told}");
     }
-    Ok(())
 }

@@ -1,6 +1,5 @@
 //! What the command-line words ask of `wmfeed`.
 use std::alloc::{AllocError, Global};
-use std::test::Fail;
 use wm_client::FeedWords;
 
 /// Lists of words, and what they ask for.
@@ -23,11 +22,11 @@ fn asked(alloc: Global, words: &FeedWords) -> Result<String, AllocError> {
 }
 
 #[test]
-fn words_of_the_table(rt: HostRuntime) -> Result<(), Fail> {
+fn words_of_the_table(rt: HostRuntime) {
     let alloc = rt.alloc();
     for (words, wanted) in ASKED {
-        let told = asked(alloc, &FeedWords::read(alloc, words)?)?;
+        let read = FeedWords::read(alloc, words).expect(&rt, "words");
+        let told = asked(alloc, &read).expect(&rt, "memory");
         assert!(rt; told.as_str() == *wanted, "{words:?}: {told}");
     }
-    Ok(())
 }

@@ -2,18 +2,22 @@
 use std::alloc::Global;
 use std::io::{BufRead, BufReader, Write};
 use std::os::unix::net::{UnixListener, UnixStream};
-use std::test::Fail;
-use std::{fs, io, thread};
+use std::process::Abort;
+use std::{fs, thread};
 use wm_client::wmctl;
 
 /// Answers the one request of a session with these lines, and ends the session.
-fn answer(alloc: Global, listener: &UnixListener, lines: &str) -> io::Result<()> {
-    let (stream, _) = listener.accept()?;
-    let mut reader = BufReader::new(alloc, &stream)?;
+fn answer(host: &impl Abort, alloc: Global, listener: &UnixListener, lines: &str) {
+    let (stream, _) = listener.accept().expect(host, "a session");
+    let mut reader = BufReader::new(alloc, &stream).expect(host, "memory");
     let mut request = Vec::new(alloc);
-    reader.read_until(b'\n', &mut request)?;
-    (&stream).write_all(&request)?;
-    (&stream).write_all(lines.as_bytes())
+    reader
+        .read_until(b'\n', &mut request)
+        .expect(host, "a request");
+    (&stream).write_all(&request).expect(host, "a reader");
+    (&stream)
+        .write_all(lines.as_bytes())
+        .expect(host, "a reader");
 }
 
 /// What comes behind the request, which is sent back; the words after the socket; the status, and what is printed and told.
@@ -37,28 +41,26 @@ const ENDS: &[(&str, &[&str], u8, &str, &str)] = &[
 ];
 
 #[test]
-fn ends_of_the_table(rt: HostRuntime) -> Result<(), Fail> {
+fn ends_of_the_table(rt: HostRuntime) {
     const PATH: &str = "wm_client_socket";
     let alloc = rt.alloc();
     let _ = fs::remove_file(&rt, PATH);
-    let listener = UnixListener::bind(&rt, PATH)?;
+    let listener = UnixListener::bind(&rt, PATH).expect(&rt, "a listener");
     for (lines, words, status, printed, told) in ENDS {
-        let mut all = vec![in alloc; PATH]?;
-        all.extend_from_slice(words)?;
+        let mut all = vec![in alloc; PATH].expect(&rt, "memory");
+        all.extend_from_slice(words).expect(&rt, "memory");
         let mut output = Vec::new(alloc);
         let mut faults = Vec::new(alloc);
-        let (served, ended) = thread::join(
+        let (_, ended) = thread::join(
             &rt,
-            || answer(alloc, &listener, lines),
+            || answer(&rt, alloc, &listener, lines),
             || wmctl(alloc, &rt, &all, &mut output, &mut faults),
         );
-        served?;
         assert!(rt; ended == *status, "{words:?}: {ended}");
         assert!(rt; output.as_slice() == printed.as_bytes(), "{words:?}");
         assert!(rt; faults.as_slice() == told.as_bytes(), "{words:?}");
     }
-    fs::remove_file(&rt, PATH)?;
-    Ok(())
+    fs::remove_file(&rt, PATH).expect(&rt, "a socket");
 }
 
 /// Words that ask for no talk; the status, and how what is printed and told begins.
@@ -69,7 +71,7 @@ const SHOWN: &[(&[&str], u8, &str, &str)] = &[
 ];
 
 #[test]
-fn shows_help_where_it_prints_and_faults_where_it_tells_them(rt: HostRuntime) -> Result<(), Fail> {
+fn shows_help_where_it_prints_and_faults_where_it_tells_them(rt: HostRuntime) {
     for (words, status, printed, told) in SHOWN {
         let mut output = Vec::new(rt.alloc());
         let mut faults = Vec::new(rt.alloc());
@@ -84,11 +86,10 @@ fn shows_help_where_it_prints_and_faults_where_it_tells_them(rt: HostRuntime) ->
             "{words:?}"
         );
     }
-    Ok(())
 }
 
 #[test]
-fn tells_that_nobody_serves_a_socket(rt: HostRuntime) -> Result<(), Fail> {
+fn tells_that_nobody_serves_a_socket(rt: HostRuntime) {
     let mut output = Vec::new(rt.alloc());
     let mut faults = Vec::new(rt.alloc());
     let words = ["wm_client_nowhere", "[]"];
@@ -98,5 +99,4 @@ fn tells_that_nobody_serves_a_socket(rt: HostRuntime) -> Result<(), Fail> {
         faults.as_slice()
             == b"wmctl: the socket failed, or ended before a whole line had come\n".as_slice()
     );
-    Ok(())
 }

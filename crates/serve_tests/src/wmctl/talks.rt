@@ -1,5 +1,4 @@
 //! Talks over bytes in memory.
-use std::test::Fail;
 use wm_client::{TalkEnd, talk};
 
 /// How many lines are to follow, what comes, how the talk ends, and what is printed.
@@ -24,7 +23,7 @@ const TALKS: &[(u32, &str, TalkEnd, &str)] = &[
 ];
 
 #[test]
-fn talks_of_the_table(rt: HostRuntime) -> Result<(), Fail> {
+fn talks_of_the_table(rt: HostRuntime) {
     let alloc = rt.alloc();
     for (follow, input, wanted, wanted_text) in TALKS {
         let mut sent = Vec::new(alloc);
@@ -37,21 +36,21 @@ fn talks_of_the_table(rt: HostRuntime) -> Result<(), Fail> {
             &mut sent,
             &mut replies,
             &mut printed,
-        )?;
+        )
+        .expect(&rt, "memory");
         assert!(rt; end == *wanted, "{input}: {end:?}");
         assert!(rt; sent.as_slice() == b"[\"x\"]\n".as_slice(), "{input}");
         assert!(rt; printed.as_slice() == wanted_text.as_bytes(), "{input}");
     }
-    Ok(())
 }
 
 #[test]
-fn tells_a_printer_without_room(rt: HostRuntime) -> Result<(), Fail> {
-    let mut sent = Vec::new(rt.alloc());
+fn tells_a_printer_without_room(rt: HostRuntime) {
+    let alloc = rt.alloc();
+    let mut sent = Vec::new(alloc);
     let mut replies = b"reply\n".as_slice();
     let mut room = [0u8; 2];
     let mut printer = room.as_mut_slice();
-    let end = talk(rt.alloc(), "[]", 0, &mut sent, &mut replies, &mut printer)?;
+    let end = talk(alloc, "[]", 0, &mut sent, &mut replies, &mut printer).expect(&rt, "memory");
     assert!(rt; end == TalkEnd::Unprinted);
-    Ok(())
 }

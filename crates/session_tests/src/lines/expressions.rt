@@ -1,7 +1,6 @@
 //! Questions with expressions: what each chooses, and which are none.
 use crate::ends::{Row, assert_answers, texts};
-use std::alloc::AllocError;
-use std::test::Fail;
+use std::process::Abort;
 
 /// A root with files of each kind, and one that is gone.
 pub(super) const FILES: &[Row<'static>] = &[
@@ -125,50 +124,52 @@ const NONE: &[&str] = &[
 const QUESTION: &str = "[\"query\",\"/r\",{\"expression\":";
 
 /// A text between two others.
-fn put_between(front: &str, text: &str, back: &str, out: &mut String) -> Result<(), AllocError> {
-    out.push_str(front)?;
-    out.push_str(text)?;
-    out.push_str(back)
+fn put_between(rt: &impl Abort, front: &str, text: &str, back: &str, out: &mut String) {
+    out.push_str(front).expect(rt, "memory");
+    out.push_str(text).expect(rt, "memory");
+    out.push_str(back).expect(rt, "memory");
 }
 
 /// A question for each expression, and the files that it chooses.
-fn put_chosen(input: &mut String, output: &mut String) -> Result<(), AllocError> {
+fn put_chosen(rt: &impl Abort, input: &mut String, output: &mut String) {
     for (expression, files) in CHOSEN {
         put_between(
+            rt,
             QUESTION,
             expression,
             ",\"fields\":[\"name\"],\"since\":\"c:1:1:1\"}]\n",
             input,
-        )?;
+        );
         put_between(
+            rt,
             "{\"clock\":\"c:1:1:3\",\"files\":[",
             files,
             "],\"is_fresh_instance\":false,\"version\":\"w1\"}\n",
             output,
-        )?;
+        );
     }
-    Ok(())
 }
 
 #[test]
-fn chooses_files(rt: HostRuntime) -> Result<(), Fail> {
-    let (mut input, mut output) = texts(rt.alloc(), &[FILES])?;
-    put_chosen(&mut input, &mut output)?;
-    assert_answers(&rt, rt.alloc(), &input, &output, "expressions")
+fn chooses_files(rt: HostRuntime) {
+    let (mut input, mut output) = texts(&rt, rt.alloc(), &[FILES]);
+    put_chosen(&rt, &mut input, &mut output);
+    assert_answers(&rt, rt.alloc(), &input, &output, "expressions");
 }
 
 /// A question for each value, and its refusal.
-fn put_refused(input: &mut String, output: &mut String) -> Result<(), AllocError> {
+fn put_refused(rt: &impl Abort, input: &mut String, output: &mut String) {
     for value in NONE {
-        put_between(QUESTION, value, "}]\n", input)?;
-        output.push_str("{\"error\":\"8 BadExpression\",\"version\":\"w1\"}\n")?;
+        put_between(rt, QUESTION, value, "}]\n", input);
+        output
+            .push_str("{\"error\":\"8 BadExpression\",\"version\":\"w1\"}\n")
+            .expect(rt, "memory");
     }
-    Ok(())
 }
 
 #[test]
-fn refuses_what_is_no_expression(rt: HostRuntime) -> Result<(), Fail> {
-    let (mut input, mut output) = texts(rt.alloc(), &[FILES])?;
-    put_refused(&mut input, &mut output)?;
-    assert_answers(&rt, rt.alloc(), &input, &output, "no expressions")
+fn refuses_what_is_no_expression(rt: HostRuntime) {
+    let (mut input, mut output) = texts(&rt, rt.alloc(), &[FILES]);
+    put_refused(&rt, &mut input, &mut output);
+    assert_answers(&rt, rt.alloc(), &input, &output, "no expressions");
 }

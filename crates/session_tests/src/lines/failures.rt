@@ -5,52 +5,45 @@ use std::alloc::Global;
 use std::io;
 use std::io::{BufReader, ErrorKind, Read, Write};
 use std::process::Abort;
-use std::test::Fail;
 use wm_disk::{Crashed, MemDisk, OneFault};
 use wm_server::lines::lines_on;
 use wm_server::{Input, Output};
 
 /// Starts over a file, which must be refused and left as it was.
-fn assert_refused(
-    rt: &impl Abort,
-    alloc: Global,
-    content: &[u8],
-    refusal: &str,
-) -> Result<(), Fail> {
+fn assert_refused(rt: &impl Abort, alloc: Global, content: &[u8], refusal: &str) {
     let mut reader = b"[\"version\"]\n".as_slice();
-    let end = end_of(alloc, disk_of(alloc, content)?, &mut reader)?;
-    let faults = format!(in alloc; "watchmand: {refusal}\n")?;
+    let end = end_of(rt, alloc, disk_of(rt, alloc, content), &mut reader);
+    let faults = format!(in alloc; "watchmand: {refusal}\n").expect(rt, "memory");
     assert_ends(rt, &end, (1, "", &faults, b""), refusal);
     assert!(rt;
         end.content.as_slice() == content,
         "a refused file was changed"
     );
-    Ok(())
 }
 
 /// A new file with another byte at a place.
-fn changed_at(alloc: Global, place: usize) -> Result<Vec<u8>, Fail> {
-    let mut content = content_of(alloc, new_file(alloc)?)?;
+fn changed_at(rt: &impl Abort, alloc: Global, place: usize) -> Vec<u8> {
+    let mut content = content_of(rt, alloc, new_file(rt, alloc));
     if let Some(byte) = content.get_mut(place) {
         *byte = 0xa5;
     }
-    Ok(content)
+    content
 }
 
 /// Plain files of commands, and files that were never formatted.
 const OTHERS: &[&[u8]] = &[b"", b"\x00", b"\x00\x01\x00\x00\x00\x02/r"];
 
 #[test]
-fn refuses_other_files(rt: HostRuntime) -> Result<(), Fail> {
+fn refuses_other_files(rt: HostRuntime) {
     let alloc = rt.alloc();
     for content in OTHERS {
-        assert_refused(&rt, alloc, content, "14 Damaged")?;
+        assert_refused(&rt, alloc, content, "14 Damaged");
     }
-    let blank = vec![in alloc; 0u8; 2_625_536]?;
-    assert_refused(&rt, alloc, &blank, "14 Damaged")?;
+    let blank = vec![in alloc; 0u8; 2_625_536].expect(&rt, "memory");
+    assert_refused(&rt, alloc, &blank, "14 Damaged");
     // a header of another kind, and that of a retired file
-    assert_refused(&rt, alloc, &changed_at(alloc, 1)?, "14 Damaged")?;
-    assert_refused(&rt, alloc, &changed_at(alloc, 12)?, "20 Retired")
+    assert_refused(&rt, alloc, &changed_at(&rt, alloc, 1), "14 Damaged");
+    assert_refused(&rt, alloc, &changed_at(&rt, alloc, 12), "20 Retired");
 }
 
 const DEVICE_FAILED: &str = "watchmand: 13 DeviceFailed\n";
@@ -90,10 +83,9 @@ const OUTCOMES: &[(&str, &str, bool, &[&str])] = &[
 ];
 
 /// The roots that a start over a content finds, as it lists them.
-fn roots_found(alloc: Global, content: &[u8]) -> Result<String, Fail> {
+fn roots_found(rt: &impl Abort, alloc: Global, content: &[u8]) -> String {
     let mut reader = b"[\"watch-list\"]\n".as_slice();
-    let end = end_of(alloc, disk_of(alloc, content)?, &mut reader)?;
-    Ok(end.output)
+    end_of(rt, alloc, disk_of(rt, alloc, content), &mut reader).output
 }
 
 fn holds_one_of(found: &str, lists: &[&str]) -> bool {
@@ -124,31 +116,31 @@ enum Failing {
 }
 
 /// How the session ends on a device that fails after so many calls.
-fn end_after(alloc: Global, failing: Failing, calls: u64) -> Result<End, Fail> {
-    let mut disk = new_file(alloc)?;
+fn end_after(rt: &impl Abort, alloc: Global, failing: Failing, calls: u64) -> End {
+    let mut disk = new_file(rt, alloc);
     match failing {
         Failing::FromThere => {
             disk.arm(calls);
-            end_of(alloc, disk, &mut LINES.as_bytes())
+            end_of(rt, alloc, disk, &mut LINES.as_bytes())
         }
         Failing::Once => {
             let disk = OneFault::new(disk, calls);
-            end_of_one_fault(alloc, disk, &mut LINES.as_bytes())
+            end_of_one_fault(rt, alloc, disk, &mut LINES.as_bytes())
         }
     }
 }
 
 /// The outcome of that session, whose file is then opened again.
-fn outcome_after(alloc: Global, failing: Failing, calls: u64) -> Result<Option<usize>, Fail> {
-    let end = end_after(alloc, failing, calls)?;
-    let found = roots_found(alloc, &end.content)?;
-    Ok(place_of(&end, &found))
+fn outcome_after(rt: &impl Abort, alloc: Global, failing: Failing, calls: u64) -> Option<usize> {
+    let end = end_after(rt, alloc, failing, calls);
+    let found = roots_found(rt, alloc, &end.content);
+    place_of(&end, &found)
 }
 
-fn assert_outcomes(rt: &impl Abort, alloc: Global, failing: Failing) -> Result<(), Fail> {
+fn assert_outcomes(rt: &impl Abort, alloc: Global, failing: Failing) {
     let mut reached = 0;
     for calls in 0..200 {
-        let Some(place) = outcome_after(alloc, failing, calls)? else {
+        let Some(place) = outcome_after(rt, alloc, failing, calls) else {
             panic!(rt; "after {calls} calls the session ends otherwise");
         };
         // The failing call comes later than before, and so does what it meets.
@@ -159,18 +151,17 @@ fn assert_outcomes(rt: &impl Abort, alloc: Global, failing: Failing) -> Result<(
         reached = place;
     }
     assert!(rt; reached == 4);
-    Ok(())
 }
 
 #[test]
-fn tells_a_failing_device(rt: HostRuntime) -> Result<(), Fail> {
-    assert_outcomes(&rt, rt.alloc(), Failing::FromThere)
+fn tells_a_failing_device(rt: HostRuntime) {
+    assert_outcomes(&rt, rt.alloc(), Failing::FromThere);
 }
 
 /// After the one failure the device would take every write: none is made that changes what the file means.
 #[test]
-fn tells_a_device_that_failed_once(rt: HostRuntime) -> Result<(), Fail> {
-    assert_outcomes(&rt, rt.alloc(), Failing::Once)
+fn tells_a_device_that_failed_once(rt: HostRuntime) {
+    assert_outcomes(&rt, rt.alloc(), Failing::Once);
 }
 
 /// A reader and writer whose calls fail in this way.
@@ -203,29 +194,29 @@ impl Write for Broken {
 const WATCHES_A: &[u8] = b"\xa5\x00\xa5\x01\x00\x00\x00\x02/a\x00";
 
 #[test]
-fn tells_a_broken_reader(rt: HostRuntime) -> Result<(), Fail> {
+fn tells_a_broken_reader(rt: HostRuntime) {
     let alloc = rt.alloc();
     let input = b"[\"watch\",\"/a\"]\n[\"watch\",\"/b\"".as_slice();
-    let mut reader = BufReader::new(alloc, input.chain(failing_by(ErrorKind::Other)))?;
-    let end = end_of(alloc, new_file(alloc)?, &mut reader)?;
+    let input = input.chain(failing_by(ErrorKind::Other));
+    let mut reader = BufReader::new(alloc, input).expect(&rt, "memory");
+    let end = end_of(&rt, alloc, new_file(&rt, alloc), &mut reader);
     let output = "{\"version\":\"w1\",\"watch\":\"/a\"}\n";
     let wanted = (1, output, DEVICE_FAILED, WATCHES_A);
     assert_ends(&rt, &end, wanted, "a broken reader");
-    Ok(())
 }
 
 /// The first command is accepted, and then its reply can't be written. Whether this is told so, and what was
 /// accepted stands.
-fn ends_with(alloc: Global, kind: ErrorKind, told: &str) -> Result<bool, Fail> {
-    let disk = new_file(alloc)?;
+fn ends_with(rt: &impl Abort, alloc: Global, kind: ErrorKind, told: &str) -> bool {
+    let disk = new_file(rt, alloc);
     let mut faults = Vec::new(alloc);
     let mut reader = Input::new(LINES.as_bytes());
     let mut writer = Output::new(failing_by(kind));
     let mut telling = Output::new(&mut faults);
     let (status, disk) = lines_on(alloc, disk, &mut reader, &mut writer, &mut telling);
     let is_told = status == 1 && faults.as_slice() == told.as_bytes();
-    let content = content_of(alloc, disk)?;
-    Ok(is_told && journal(&content, WATCHES_A.len()) == WATCHES_A)
+    let content = content_of(rt, alloc, disk);
+    is_told && journal(&content, WATCHES_A.len()) == WATCHES_A
 }
 
 /// The status of a session over a disk where nothing can be told.
@@ -237,12 +228,11 @@ fn status_untold(alloc: Global, disk: MemDisk) -> u8 {
 }
 
 #[test]
-fn tells_broken_writers(rt: HostRuntime) -> Result<(), Fail> {
+fn tells_broken_writers(rt: HostRuntime) {
     let alloc = rt.alloc();
-    assert!(rt; ends_with(alloc, ErrorKind::Other, DEVICE_FAILED)?);
+    assert!(rt; ends_with(&rt, alloc, ErrorKind::Other, DEVICE_FAILED));
     // nobody reads the replies any more
-    assert!(rt; ends_with(alloc, ErrorKind::BrokenPipe, "")?);
-    let damaged = disk_of(alloc, b"\x05")?;
+    assert!(rt; ends_with(&rt, alloc, ErrorKind::BrokenPipe, ""));
+    let damaged = disk_of(&rt, alloc, b"\x05");
     assert!(rt; status_untold(alloc, damaged) == 1);
-    Ok(())
 }

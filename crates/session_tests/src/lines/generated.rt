@@ -1,11 +1,12 @@
 //! Generated sessions, whose replies are those of the plain definition.
 use super::plain::{Map, PATHS, Plain};
 use crate::ends::{assert_answers, put_row};
-use std::alloc::{AllocError, Global};
+use std::alloc::Global;
 use std::process::Abort;
-use std::test::Fail;
 
 const NOT_READY: &str = r#"{"error":"6 NotReady","version":"w1"}"#;
+
+const BAD_CLOCK: &str = r#"{"error":"7 BadClock","version":"w1"}"#;
 
 /// The places of all paths.
 const ALL: [usize; 6] = [0, 1, 2, 3, 4, 5];
@@ -27,7 +28,7 @@ struct Generated {
 }
 
 impl Generated {
-    fn new(alloc: Global, seed: u64) -> Result<Generated, AllocError> {
+    fn new(rt: &impl Abort, alloc: Global, seed: u64) -> Generated {
         let mut session = Generated {
             input: String::new(alloc),
             output: String::new(alloc),
@@ -36,8 +37,8 @@ impl Generated {
             moment: 1,
             random: seed,
         };
-        session.row(r#"["watch","/r"]"#, r#"{"version":"w1","watch":"/r"}"#)?;
-        Ok(session)
+        session.row(rt, r#"["watch","/r"]"#, r#"{"version":"w1","watch":"/r"}"#);
+        session
     }
 
     /// A pseudo-random number below the bound: the next of a linear congruence.
@@ -49,40 +50,41 @@ impl Generated {
         (self.random >> 33) as usize % bound.max(1)
     }
 
-    fn row(&mut self, line: &str, reply: &str) -> Result<(), AllocError> {
-        put_row(line, reply, &mut self.input, &mut self.output)?;
+    fn row(&mut self, rt: &impl Abort, line: &str, reply: &str) {
+        put_row(rt, line, reply, &mut self.input, &mut self.output);
         self.moment = self.moment.saturating_add(1);
-        Ok(())
     }
 
     /// The reply with the root's clock.
-    fn clock(&self, alloc: Global) -> Result<String, AllocError> {
+    fn clock(&self, rt: &impl Abort, alloc: Global) -> String {
         format!(in alloc;
             "{{\"clock\":\"c:1:1:{}\",\"version\":\"w1\"}}",
             self.root.tick()
         )
+        .expect(rt, "memory")
     }
 
-    fn observe(&mut self, alloc: Global) -> Result<(), AllocError> {
+    fn observe(&mut self, rt: &impl Abort, alloc: Global) {
         let mut map = self.root.map_at(self.root.tick());
-        let mut line = String::from_str(alloc, r#"["observe","/r",["#)?;
+        let mut line = String::from_str(alloc, r#"["observe","/r",["#).expect(rt, "memory");
         for place in 0..self.below(3).saturating_add(1) {
             let path = self.below(PATHS.len());
             let state = self.state();
-            put_pair(&mut line, place, path, state)?;
+            put_pair(rt, &mut line, place, path, state);
             set(&mut map, path, state);
         }
-        line.push_str("]]")?;
+        line.push_str("]]").expect(rt, "memory");
         if self.root.tick() == 0 {
-            return self.row(&line, NOT_READY);
+            self.row(rt, &line, NOT_READY);
+            return;
         }
-        self.root.publish(self.moment, map)?;
-        let reply = self.clock(alloc)?;
-        self.row(&line, &reply)
+        self.root.publish(rt, self.moment, map);
+        let reply = self.clock(rt, alloc);
+        self.row(rt, &line, &reply);
     }
 
     /// A listing of the whole root, or of what stands below `d`.
-    fn listing(&mut self, alloc: Global) -> Result<(), AllocError> {
+    fn listing(&mut self, rt: &impl Abort, alloc: Global) {
         let tick = self.root.tick();
         // the first listing is a whole one
         let is_part = self.below(2) == 0 && tick > 0;
@@ -92,7 +94,8 @@ impl Generated {
             self.below(tick.saturating_add(2))
         };
         let top = if is_part { "d" } else { "" };
-        let mut line = format!(in alloc; "[\"listing\",\"/r\",{begun_at},\"{top}\",[")?;
+        let line = format!(in alloc; "[\"listing\",\"/r\",{begun_at},\"{top}\",[");
+        let mut line = line.expect(rt, "memory");
         let mut found: Map = [None; 6];
         let mut count = 0;
         for path in 0..PATHS.len() {
@@ -101,30 +104,31 @@ impl Generated {
             }
             let state = self.state();
             if state.is_some() {
-                put_pair(&mut line, count, path, state)?;
+                put_pair(rt, &mut line, count, path, state);
                 count = 1;
             }
             set(&mut found, path, state);
         }
-        line.push_str("]]")?;
-        let reply = self.listed(alloc, is_part, begun_at, &found)?;
-        self.row(&line, &reply)
+        line.push_str("]]").expect(rt, "memory");
+        let reply = self.listed(rt, alloc, is_part, begun_at, &found);
+        self.row(rt, &line, &reply);
     }
 
     /// What a listing is answered.
     fn listed(
         &mut self,
+        rt: &impl Abort,
         alloc: Global,
         is_part: bool,
         begun_at: usize,
         found: &Map,
-    ) -> Result<String, AllocError> {
+    ) -> String {
         let tick = self.root.tick();
         if tick == 0 && (is_part || begun_at > 0) {
-            return String::from_str(alloc, NOT_READY);
+            return String::from_str(alloc, NOT_READY).expect(rt, "memory");
         }
         if begun_at < self.root.floor() || tick < begun_at {
-            return String::from_str(alloc, r#"{"error":"7 BadClock","version":"w1"}"#);
+            return String::from_str(alloc, BAD_CLOCK).expect(rt, "memory");
         }
         let mut map = self.root.map_at(tick);
         for (path, state) in found.iter().enumerate() {
@@ -133,60 +137,67 @@ impl Generated {
                 set(&mut map, path, *state);
             }
         }
-        self.root.publish(self.moment, map)?;
-        self.clock(alloc)
+        self.root.publish(rt, self.moment, map);
+        self.clock(rt, alloc)
     }
 
-    fn age_out(&mut self, alloc: Global) -> Result<(), AllocError> {
+    fn age_out(&mut self, rt: &impl Abort, alloc: Global) {
         let age = self.below(12) as u64;
-        let line = format!(in alloc; "[\"age-out\",\"/r\",{age}]")?;
+        let line = format!(in alloc; "[\"age-out\",\"/r\",{age}]").expect(rt, "memory");
         if self.root.tick() == 0 {
-            return self.row(&line, NOT_READY);
+            self.row(rt, &line, NOT_READY);
+            return;
         }
         self.root.age_out(self.moment, age);
-        let reply = format!(in alloc; "{{\"floor\":{},\"version\":\"w1\"}}", self.root.floor())?;
-        self.row(&line, &reply)
+        let reply = format!(in alloc;
+            "{{\"floor\":{},\"version\":\"w1\"}}",
+            self.root.floor()
+        ).expect(rt, "memory");
+        self.row(rt, &line, &reply);
     }
 
     /// A question since a clock, of all files or of those below `d`.
-    fn since(&mut self, alloc: Global) -> Result<(), AllocError> {
+    fn since(&mut self, rt: &impl Abort, alloc: Global) {
         let now = self.root.tick();
         let tick = self.below(now.saturating_add(3));
         let is_part = self.below(2) == 0;
         let line = if is_part {
             format!(in alloc;
                 "[\"query\",\"/r\",{{\"expression\":[\"match\",\"d/*\",\"wholename\"],\"since\":\"c:1:1:{tick}\"}}]"
-            )?
+            )
         } else {
-            format!(in alloc; "[\"since\",\"/r\",\"c:1:1:{tick}\"]")?
+            format!(in alloc; "[\"since\",\"/r\",\"c:1:1:{tick}\"]")
         };
+        let line = line.expect(rt, "memory");
         if self.root.tick() == 0 {
-            return self.row(&line, NOT_READY);
+            self.row(rt, &line, NOT_READY);
+            return;
         }
         let chosen: &[usize] = if is_part { &BELOW } else { &ALL };
-        let reply = self.root.reply(alloc, tick, chosen)?;
-        self.row(&line, &reply)
+        let reply = self.root.reply(rt, alloc, tick, chosen);
+        self.row(rt, &line, &reply);
     }
 
     /// A question by the one cursor.
-    fn since_cursor(&mut self, alloc: Global) -> Result<(), AllocError> {
+    fn since_cursor(&mut self, rt: &impl Abort, alloc: Global) {
         let line = r#"["since","/r","n:x"]"#;
         if self.root.tick() == 0 {
-            return self.row(line, NOT_READY);
+            self.row(rt, line, NOT_READY);
+            return;
         }
-        let reply = self.root.reply(alloc, self.cursor, &ALL)?;
+        let reply = self.root.reply(rt, alloc, self.cursor, &ALL);
         self.cursor = self.root.tick();
-        self.row(line, &reply)
+        self.row(rt, line, &reply);
     }
 
     /// A line of any kind, and its reply.
-    fn grow(&mut self, alloc: Global) -> Result<(), AllocError> {
+    fn grow(&mut self, rt: &impl Abort, alloc: Global) {
         match self.below(8) {
-            0 | 1 | 2 => self.observe(alloc),
-            3 | 4 => self.listing(alloc),
-            5 => self.age_out(alloc),
-            6 => self.since_cursor(alloc),
-            _ => self.since(alloc),
+            0 | 1 | 2 => self.observe(rt, alloc),
+            3 | 4 => self.listing(rt, alloc),
+            5 => self.age_out(rt, alloc),
+            6 => self.since_cursor(rt, alloc),
+            _ => self.since(rt, alloc),
         }
     }
 
@@ -206,44 +217,37 @@ fn set(map: &mut Map, path: usize, state: Option<u64>) {
     }
 }
 
-fn put_pair(
-    line: &mut String,
-    place: usize,
-    path: usize,
-    state: Option<u64>,
-) -> Result<(), AllocError> {
+fn put_pair(rt: &impl Abort, line: &mut String, place: usize, path: usize, state: Option<u64>) {
     let comma = if place == 0 { "" } else { "," };
     let name = PATHS.get(path).copied().unwrap_or("");
-    match state {
+    let written = match state {
         Some(size) => write!(
             line,
             "{comma}[\"{name}\",{{\"mtime_ms\":0,\"size\":{size},\"type\":\"f\"}}]"
-        )?,
-        None => write!(line, "{comma}[\"{name}\",null]")?,
-    }
-    Ok(())
+        ),
+        None => write!(line, "{comma}[\"{name}\",null]"),
+    };
+    written.expect(rt, "memory");
 }
 
 /// The session takes so many lines more.
-fn grow_by(alloc: Global, session: &mut Generated, lines: u32) -> Result<(), AllocError> {
+fn grow_by(rt: &impl Abort, alloc: Global, session: &mut Generated, lines: u32) {
     for _ in 0..lines {
-        session.grow(alloc)?;
+        session.grow(rt, alloc);
     }
-    Ok(())
 }
 
 /// Asserts that a session of this seed is answered as it says.
-fn assert_seed(rt: &impl Abort, alloc: Global, seed: u64) -> Result<(), Fail> {
-    let mut session = Generated::new(alloc, seed)?;
-    grow_by(alloc, &mut session, 40)?;
+fn assert_seed(rt: &impl Abort, alloc: Global, seed: u64) {
+    let mut session = Generated::new(rt, alloc, seed);
+    grow_by(rt, alloc, &mut session, 40);
     let input = session.input.as_str();
-    assert_answers(rt, alloc, input, session.output.as_str(), input)
+    assert_answers(rt, alloc, input, session.output.as_str(), input);
 }
 
 #[test]
-fn answers_as_the_plain_definition(rt: HostRuntime) -> Result<(), Fail> {
+fn answers_as_the_plain_definition(rt: HostRuntime) {
     for seed in 0..100u64 {
-        assert_seed(&rt, rt.alloc(), seed)?;
+        assert_seed(&rt, rt.alloc(), seed);
     }
-    Ok(())
 }

@@ -3,9 +3,8 @@
 use super::expressions::FILES;
 use crate::disks::new_file;
 use crate::ends::{Row, assert_serves, texts};
-use std::alloc::{AllocError, Global};
+use std::alloc::Global;
 use std::process::Abort;
-use std::test::Fail;
 
 /// Bytes that stand once for each number from the first to before the last, with the number in place of
 /// a `#`.
@@ -333,66 +332,66 @@ const TRIGGERS: &[Limit<'static>] = &[
     ),
 ];
 
-fn put(alloc: Global, bytes: &[u8], number: u32, out: &mut Vec<u8>) -> Result<(), AllocError> {
+fn put(rt: &impl Abort, alloc: Global, bytes: &[u8], number: u32, out: &mut Vec<u8>) {
     for byte in bytes {
         if *byte == b'#' {
-            out.extend_from_slice(format!(in alloc; "{number}")?.as_bytes())?;
+            let digits = format!(in alloc; "{number}").expect(rt, "memory");
+            out.extend_from_slice(digits.as_bytes())
+                .expect(rt, "memory");
         } else {
-            out.push(*byte)?;
+            out.push(*byte).expect(rt, "memory");
         }
     }
-    Ok(())
 }
 
 /// A text, and the parts behind it.
-fn written(alloc: Global, front: &str, parts: &[Part<'_>]) -> Result<Vec<u8>, AllocError> {
-    let mut all = Vec::from_slice(alloc, front.as_bytes())?;
+fn written(rt: &impl Abort, alloc: Global, front: &str, parts: &[Part<'_>]) -> Vec<u8> {
+    let mut all = Vec::from_slice(alloc, front.as_bytes()).expect(rt, "memory");
     for (bytes, first, end) in parts {
         for number in *first..*end {
-            put(alloc, bytes, number, &mut all)?;
+            put(rt, alloc, bytes, number, &mut all);
         }
     }
-    Ok(all)
+    all
 }
 
-fn assert_limit(rt: &impl Abort, alloc: Global, limit: &Limit<'_>) -> Result<(), Fail> {
+fn assert_limit(rt: &impl Abort, alloc: Global, limit: &Limit<'_>) {
     let (about, rows, lines, replies, used) = *limit;
-    let (input, output) = texts(alloc, &[rows])?;
-    let input = written(alloc, &input, lines)?;
-    let output = String::from_utf8(written(alloc, &output, replies)?)?;
-    let used = written(alloc, "", used)?;
+    let (input, output) = texts(rt, alloc, &[rows]);
+    let input = written(rt, alloc, &input, lines);
+    let output = String::from_utf8(written(rt, alloc, &output, replies)).expect(rt, "a text");
+    let used = written(rt, alloc, "", used);
     let wanted = (0, output.as_str(), "", used.as_slice());
-    assert_serves(rt, alloc, new_file(alloc)?, &input, wanted, about)
+    assert_serves(rt, alloc, new_file(rt, alloc), &input, wanted, about);
 }
 
-fn assert_limits(rt: &impl Abort, alloc: Global, limits: &[Limit<'_>]) -> Result<(), Fail> {
+fn assert_limits(rt: &impl Abort, alloc: Global, limits: &[Limit<'_>]) {
     for limit in limits {
-        assert_limit(rt, alloc, limit)?;
+        assert_limit(rt, alloc, limit);
     }
-    Ok(())
 }
 
 #[test]
-fn keeps_the_limits_of_lines(rt: HostRuntime) -> Result<(), Fail> {
-    assert_limits(&rt, rt.alloc(), LINES)
+fn keeps_the_limits_of_lines(rt: HostRuntime) {
+    assert_limits(&rt, rt.alloc(), LINES);
 }
 
 #[test]
-fn keeps_the_limits_of_roots(rt: HostRuntime) -> Result<(), Fail> {
-    assert_limits(&rt, rt.alloc(), ROOTS)
+fn keeps_the_limits_of_roots(rt: HostRuntime) {
+    assert_limits(&rt, rt.alloc(), ROOTS);
 }
 
 #[test]
-fn keeps_the_limits_of_views(rt: HostRuntime) -> Result<(), Fail> {
-    assert_limits(&rt, rt.alloc(), VIEWS)
+fn keeps_the_limits_of_views(rt: HostRuntime) {
+    assert_limits(&rt, rt.alloc(), VIEWS);
 }
 
 #[test]
-fn keeps_the_limits_of_expressions(rt: HostRuntime) -> Result<(), Fail> {
-    assert_limits(&rt, rt.alloc(), EXPRESSIONS)
+fn keeps_the_limits_of_expressions(rt: HostRuntime) {
+    assert_limits(&rt, rt.alloc(), EXPRESSIONS);
 }
 
 #[test]
-fn keeps_the_limits_of_triggers(rt: HostRuntime) -> Result<(), Fail> {
-    assert_limits(&rt, rt.alloc(), TRIGGERS)
+fn keeps_the_limits_of_triggers(rt: HostRuntime) {
+    assert_limits(&rt, rt.alloc(), TRIGGERS);
 }

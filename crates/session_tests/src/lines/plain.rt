@@ -1,5 +1,6 @@
 //! A root by its plain definition: whole maps, one a tick, from which each answer is computed anew.
-use std::alloc::{AllocError, Global};
+use std::alloc::Global;
+use std::process::Abort;
 
 /// The paths that may be there, in the order of their bytes.
 pub(super) const PATHS: [&str; 6] = ["a", "b", "d", "d/x", "d/y", "e"];
@@ -82,12 +83,11 @@ impl Plain {
     }
 
     /// A map at a moment: a tick more where it is another one, or the first.
-    pub(super) fn publish(&mut self, moment: u64, map: Map) -> Result<(), AllocError> {
+    pub(super) fn publish(&mut self, rt: &impl Abort, moment: u64, map: Map) {
         if self.maps.is_empty() || map != self.map_at(self.tick()) {
-            self.maps.push(map)?;
-            self.moments.push(moment)?;
+            self.maps.push(map).expect(rt, "memory");
+            self.moments.push(moment).expect(rt, "memory");
         }
-        Ok(())
     }
 
     /// Forgets the deleted paths whose last change is so long ago.
@@ -111,10 +111,11 @@ impl Plain {
     /// The reply to a question since this tick, of the paths at the chosen places.
     pub(super) fn reply(
         &self,
+        rt: &impl Abort,
         alloc: Global,
         since: usize,
         chosen: &[usize],
-    ) -> Result<String, AllocError> {
+    ) -> String {
         let is_fresh = self.is_fresh(since);
         let mut files = String::new(alloc);
         for tick in (1..self.tick().saturating_add(1)).rev() {
@@ -128,13 +129,14 @@ impl Plain {
                     write!(
                         files,
                         "{comma}{{\"exists\":{exists},\"name\":\"{name}\",\"new\":{is_new},\"size\":{size}}}"
-                    )?;
+                    )
+                    .expect(rt, "memory");
                 }
             }
         }
         let tick = self.tick();
         format!(in alloc;
             "{{\"clock\":\"c:1:1:{tick}\",\"files\":[{files}],\"is_fresh_instance\":{is_fresh},\"version\":\"w1\"}}"
-        )
+        ).expect(rt, "memory")
     }
 }

@@ -1,6 +1,5 @@
 //! Questions with fields, cursors and flags, with their lines and replies written out.
 use crate::ends::{ACCEPTED, Row, Told, assert_sessions};
-use std::test::Fail;
 
 /// A root with two files, which came one after another.
 pub(super) const TWO_FILES: &[Row<'static>] = &[
@@ -181,6 +180,6 @@ const SESSIONS: &[Told<'static>] = &[
 ];
 
 #[test]
-fn answers_queries(rt: HostRuntime) -> Result<(), Fail> {
-    assert_sessions(&rt, rt.alloc(), SESSIONS)
+fn answers_queries(rt: HostRuntime) {
+    assert_sessions(&rt, rt.alloc(), SESSIONS);
 }

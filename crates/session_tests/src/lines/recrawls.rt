@@ -1,8 +1,7 @@
 //! Sessions with recrawls and age-outs, with their lines and replies written out.
 use super::queries::TWO_FILES;
 use crate::ends::{ACCEPTED, Row, Told, assert_answers, assert_sessions, put_row};
-use std::alloc::AllocError;
-use std::test::Fail;
+use std::process::Abort;
 
 /// A file that a whole recrawl doesn't list is deleted; one that changed since the reading began stays.
 const UNLISTED: &[Row<'static>] = &[
@@ -170,8 +169,8 @@ const SESSIONS: &[Told<'static>] = &[
 ];
 
 #[test]
-fn answers_recrawls_and_age_outs(rt: HostRuntime) -> Result<(), Fail> {
-    assert_sessions(&rt, rt.alloc(), SESSIONS)
+fn answers_recrawls_and_age_outs(rt: HostRuntime) {
+    assert_sessions(&rt, rt.alloc(), SESSIONS);
 }
 
 /// Lines at their moments: two deletions, at the ticks 5 and 9, of which an age-out forgets the first.
@@ -255,23 +254,22 @@ const MOMENTS: &[(u64, &str, &str)] = &[
 ];
 
 /// The rows at their moments, with lines between them that only let time pass.
-fn put_timed(input: &mut String, output: &mut String) -> Result<(), AllocError> {
+fn put_timed(rt: &impl Abort, input: &mut String, output: &mut String) {
     let mut moment = 1;
     for (at, line, reply) in MOMENTS {
         for _ in moment..*at {
-            put_row(r#"["version"]"#, r#"{"version":"w1"}"#, input, output)?;
+            put_row(rt, r#"["version"]"#, r#"{"version":"w1"}"#, input, output);
         }
-        put_row(line, reply, input, output)?;
+        put_row(rt, line, reply, input, output);
         moment = at.saturating_add(1);
     }
-    Ok(())
 }
 
 #[test]
-fn forgets_what_is_old_enough(rt: HostRuntime) -> Result<(), Fail> {
+fn forgets_what_is_old_enough(rt: HostRuntime) {
     let alloc = rt.alloc();
     let mut input = String::new(alloc);
     let mut output = String::new(alloc);
-    put_timed(&mut input, &mut output)?;
-    assert_answers(&rt, alloc, &input, &output, "moments")
+    put_timed(&rt, &mut input, &mut output);
+    assert_answers(&rt, alloc, &input, &output, "moments");
 }

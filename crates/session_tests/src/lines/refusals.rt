@@ -1,9 +1,8 @@
 //! Lines that are refused, and the lines before and after them.
 use crate::disks::new_file;
 use crate::ends::{BEGUN, assert_serves};
-use std::alloc::{AllocError, Global};
+use std::alloc::Global;
 use std::process::Abort;
-use std::test::Fail;
 
 /// Lines, and how each is refused.
 const REFUSALS: &[(&[u8], &str)] = &[
@@ -69,28 +68,23 @@ const REFUSED: &[(&str, &str)] = &[
 type Around<'a> = (&'a str, &'a str, &'a str, &'a str, &'a [u8]);
 
 /// Bytes between two texts.
-fn between(alloc: Global, front: &str, bytes: &[u8], back: &str) -> Result<Vec<u8>, AllocError> {
-    let mut all = Vec::from_slice(alloc, front.as_bytes())?;
-    all.extend_from_slice(bytes)?;
-    all.extend_from_slice(back.as_bytes())?;
-    Ok(all)
+fn between(rt: &impl Abort, alloc: Global, front: &str, bytes: &[u8], back: &str) -> Vec<u8> {
+    let mut all = Vec::from_slice(alloc, front.as_bytes()).expect(rt, "memory");
+    all.extend_from_slice(bytes).expect(rt, "memory");
+    all.extend_from_slice(back.as_bytes()).expect(rt, "memory");
+    all
 }
 
-fn assert_refused(
-    rt: &impl Abort,
-    alloc: Global,
-    around: Around<'_>,
-    line: &[u8],
-    refusal: &str,
-) -> Result<(), Fail> {
+fn assert_refused(rt: &impl Abort, alloc: Global, around: Around<'_>, line: &[u8], refusal: &str) {
     let (front, front_replies, back, back_replies, used) = around;
-    let input = between(alloc, front, line, back)?;
+    let input = between(rt, alloc, front, line, back);
     let output = format!(in alloc;
         "{front_replies}{{\"error\":\"{refusal}\",\"version\":\"w1\"}}\n{back_replies}"
-    )?;
-    let about = String::from_utf8_lossy(alloc, line)?;
+    ).expect(rt, "memory");
+    let about = String::from_utf8_lossy(alloc, line).expect(rt, "memory");
     let wanted = (0, output.as_str(), "", used);
-    assert_serves(rt, alloc, new_file(alloc)?, &input, wanted, &about)
+    let disk = new_file(rt, alloc);
+    assert_serves(rt, alloc, disk, &input, wanted, &about);
 }
 
 /// A line that is answered comes after the refused one.
@@ -103,11 +97,10 @@ const BEFORE_ANOTHER: Around<'static> = (
 );
 
 #[test]
-fn goes_on_after_refusals(rt: HostRuntime) -> Result<(), Fail> {
+fn goes_on_after_refusals(rt: HostRuntime) {
     for (line, refusal) in REFUSALS {
-        assert_refused(&rt, rt.alloc(), BEFORE_ANOTHER, line, refusal)?;
+        assert_refused(&rt, rt.alloc(), BEFORE_ANOTHER, line, refusal);
     }
-    Ok(())
 }
 
 /// The root is watched, and isn't ready.
@@ -120,9 +113,8 @@ const AFTER_A_WATCH: Around<'static> = (
 );
 
 #[test]
-fn refuses_in_order(rt: HostRuntime) -> Result<(), Fail> {
+fn refuses_in_order(rt: HostRuntime) {
     for (line, refusal) in REFUSED {
-        assert_refused(&rt, rt.alloc(), AFTER_A_WATCH, line.as_bytes(), refusal)?;
+        assert_refused(&rt, rt.alloc(), AFTER_A_WATCH, line.as_bytes(), refusal);
     }
-    Ok(())
 }

@@ -1,7 +1,6 @@
 //! Sessions with subscriptions, with their lines and all that is told written out.
 use super::queries::TWO_FILES;
 use crate::ends::{ACCEPTED, Row, Told, assert_sessions};
-use std::test::Fail;
 
 /// A subscription is told what changed since its clock, after each reply and until its name is ended.
 const SUBSCRIBED: &[Row<'static>] = &[
@@ -219,8 +218,8 @@ const ONE: &[Told<'static>] = &[
 ];
 
 #[test]
-fn tells_a_subscription(rt: HostRuntime) -> Result<(), Fail> {
-    assert_sessions(&rt, rt.alloc(), ONE)
+fn tells_a_subscription(rt: HostRuntime) {
+    assert_sessions(&rt, rt.alloc(), ONE);
 }
 
 const SEVERAL: &[Told<'static>] = &[
@@ -239,8 +238,8 @@ const SEVERAL: &[Told<'static>] = &[
 ];
 
 #[test]
-fn tells_several_subscriptions(rt: HostRuntime) -> Result<(), Fail> {
-    assert_sessions(&rt, rt.alloc(), SEVERAL)
+fn tells_several_subscriptions(rt: HostRuntime) {
+    assert_sessions(&rt, rt.alloc(), SEVERAL);
 }
 
 const ENDED: &[Told<'static>] = &[
@@ -265,6 +264,6 @@ const ENDED: &[Told<'static>] = &[
 ];
 
 #[test]
-fn ends_subscriptions(rt: HostRuntime) -> Result<(), Fail> {
-    assert_sessions(&rt, rt.alloc(), ENDED)
+fn ends_subscriptions(rt: HostRuntime) {
+    assert_sessions(&rt, rt.alloc(), ENDED);
 }

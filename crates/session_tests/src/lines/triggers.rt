@@ -2,7 +2,7 @@
 use crate::disks::new_file;
 use crate::ends::{ACCEPTED, Row, Told, assert_serves, assert_sessions};
 use std::alloc::Global;
-use std::test::Fail;
+use std::process::Abort;
 use wm_disk::MemDisk;
 use wm_names::RootPath;
 use wm_registry::{Command, MAX_BATCH, Stdin, Trigger};
@@ -159,37 +159,39 @@ const SESSIONS: &[Told<'static>] = &[
 ];
 
 #[test]
-fn answers_triggers_and_watches(rt: HostRuntime) -> Result<(), Fail> {
-    assert_sessions(&rt, rt.alloc(), SESSIONS)
+fn answers_triggers_and_watches(rt: HostRuntime) {
+    assert_sessions(&rt, rt.alloc(), SESSIONS);
 }
 
 /// A watch, and a trigger that keeps this text of an expression.
-fn commands_keeping(alloc: Global, text: &str) -> Result<Vec<Command>, Fail> {
-    let root = RootPath::read(alloc, "/r")?;
-    let trigger = Trigger::new(alloc, "t", &["true"], Some(text), false, Stdin::DevNull)?;
+fn commands_keeping(rt: &impl Abort, alloc: Global, text: &str) -> Vec<Command> {
+    let root = RootPath::read(alloc, "/r").expect(rt, "a path");
+    let watched = root.copy(alloc).expect(rt, "a path");
+    let trigger = Trigger::new(alloc, "t", &["true"], Some(text), false, Stdin::DevNull);
+    let trigger = trigger.expect(rt, "a trigger");
     let mut batch = Vec::new(alloc);
-    batch.push(Command::Watch(root.copy(alloc)?))?;
-    batch.push(Command::Trigger(root, trigger))?;
-    Ok(batch)
+    batch.push(Command::Watch(watched)).expect(rt, "memory");
+    batch
+        .push(Command::Trigger(root, trigger))
+        .expect(rt, "memory");
+    batch
 }
 
 /// A store over a new file, to which these commands were told.
-pub(super) fn store_with(alloc: Global, batch: Vec<Command>) -> Result<Store<MemDisk>, Fail> {
-    if batch.len() > MAX_BATCH {
-        return Err("too many commands".into());
-    }
-    let Ok(mut store) = Store::open(alloc, new_file(alloc)?) else {
-        return Err("the file can't be opened".into());
+pub(super) fn store_with(rt: &impl Abort, alloc: Global, batch: Vec<Command>) -> Store<MemDisk> {
+    assert!(rt; batch.len() <= MAX_BATCH, "too many commands");
+    let Ok(mut store) = Store::open(alloc, new_file(rt, alloc)) else {
+        panic!(rt; "the file can't be opened");
     };
-    store.commit_batch(alloc, batch)?;
-    Ok(store)
+    store.commit_batch(alloc, batch).expect(rt, "a commit");
+    store
 }
 
 /// A file in which these commands were accepted.
-fn file_of(alloc: Global, batch: Vec<Command>) -> Result<MemDisk, Fail> {
-    let mut store = store_with(alloc, batch)?;
-    store.close()?;
-    Ok(store.into_disk())
+fn file_of(rt: &impl Abort, alloc: Global, batch: Vec<Command>) -> MemDisk {
+    let mut store = store_with(rt, alloc, batch);
+    store.close().expect(rt, "a close");
+    store.into_disk()
 }
 
 /// Texts that a trigger keeps, and how a start with each ends: its status, its replies and what it tells
@@ -205,12 +207,11 @@ const KEPT: &[(&str, u8, &str, &str)] = &[
 
 /// A start refuses texts that are no expressions, and takes up those that are.
 #[test]
-fn refuses_kept_texts_that_are_no_expressions(rt: HostRuntime) -> Result<(), Fail> {
+fn refuses_kept_texts_that_are_no_expressions(rt: HostRuntime) {
     let alloc = rt.alloc();
     for (text, status, output, faults) in KEPT {
-        let disk = file_of(alloc, commands_keeping(alloc, text)?)?;
+        let disk = file_of(&rt, alloc, commands_keeping(&rt, alloc, text));
         let wanted = (*status, *output, *faults, ACCEPTED);
-        assert_serves(&rt, alloc, disk, b"[\"version\"]\n", wanted, text)?;
+        assert_serves(&rt, alloc, disk, b"[\"version\"]\n", wanted, text);
     }
-    Ok(())
 }

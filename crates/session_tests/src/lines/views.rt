@@ -2,7 +2,7 @@
 use super::triggers::store_with;
 use crate::ends::{Row, Told, WATCHES_R, assert_rows, assert_sessions};
 use std::alloc::Global;
-use std::test::Fail;
+use std::process::Abort;
 use wm_disk::{Crashed, MemDisk};
 use wm_names::RootPath;
 use wm_registry::Command;
@@ -152,15 +152,16 @@ const SESSIONS: &[Told<'static>] = &[
 ];
 
 #[test]
-fn answers_what_is_seen(rt: HostRuntime) -> Result<(), Fail> {
-    assert_sessions(&rt, rt.alloc(), SESSIONS)
+fn answers_what_is_seen(rt: HostRuntime) {
+    assert_sessions(&rt, rt.alloc(), SESSIONS);
 }
 
 /// The file that a killed process leaves, which had watched a root and wasn't closed.
-fn file_left(alloc: Global) -> Result<MemDisk, Fail> {
-    let batch = vec![in alloc; Command::Watch(RootPath::read(alloc, "/r")?)]?;
-    let store = store_with(alloc, batch)?;
-    Ok(store.into_disk().stop())
+fn file_left(rt: &impl Abort, alloc: Global) -> MemDisk {
+    let root = RootPath::read(alloc, "/r").expect(rt, "a path");
+    let batch = vec![in alloc; Command::Watch(root)].expect(rt, "memory");
+    let store = store_with(rt, alloc, batch);
+    store.into_disk().stop()
 }
 
 /// A start on the file of a process that was killed is another incarnation: each older clock is fresh.
@@ -176,8 +177,8 @@ const AFTER_A_KILL: &[Row<'static>] = &[
 ];
 
 #[test]
-fn starts_again_after_a_kill(rt: HostRuntime) -> Result<(), Fail> {
-    let disk = file_left(rt.alloc())?;
+fn starts_again_after_a_kill(rt: HostRuntime) {
+    let disk = file_left(&rt, rt.alloc());
     let used = b"\xa5\x00\xa5\x01\x00\x00\x00\x02/r\xa5\x00\x00";
     assert_rows(
         &rt,
@@ -186,5 +187,5 @@ fn starts_again_after_a_kill(rt: HostRuntime) -> Result<(), Fail> {
         &[AFTER_A_KILL],
         used,
         "a killed process",
-    )
+    );
 }

@@ -5,7 +5,6 @@ use crate::ends::{BEGUN, WATCHES_R, assert_ends, end_of};
 use std::alloc::Global;
 use std::io::{BufRead, BufReader};
 use std::process::Abort;
-use std::test::Fail;
 use wm_disk::MemDisk;
 use wm_server::run::{LineNumbers, run};
 use wm_server::{Input, LocalFront, Output, Session};
@@ -61,88 +60,81 @@ fn assert_served<R: BufRead>(
     alloc: Global,
     sessions: &Sessions<'_>,
     reader: &mut R,
-) -> Result<(), Fail> {
+) {
     let (earlier, input, output, used) = *sessions;
-    let end = end_of(alloc, file_after(alloc, earlier)?, reader)?;
+    let end = end_of(rt, alloc, file_after(rt, alloc, earlier), reader);
     assert_ends(rt, &end, (0, output, "", used), input);
-    Ok(())
 }
 
 /// The reader may hand out its bytes in pieces.
-fn assert_served_in_pieces(
-    rt: &impl Abort,
-    alloc: Global,
-    sessions: &Sessions<'_>,
-    size: usize,
-) -> Result<(), Fail> {
-    let mut pieces = BufReader::with_capacity(alloc, size, sessions.1.as_bytes())?;
-    assert_served(rt, alloc, sessions, &mut pieces)
+fn assert_served_in_pieces(rt: &impl Abort, alloc: Global, sessions: &Sessions<'_>, size: usize) {
+    let input = sessions.1.as_bytes();
+    let mut pieces = BufReader::with_capacity(alloc, size, input).expect(rt, "memory");
+    assert_served(rt, alloc, sessions, &mut pieces);
 }
 
 #[test]
-fn serves_sessions(rt: HostRuntime) -> Result<(), Fail> {
+fn serves_sessions(rt: HostRuntime) {
     for sessions in SESSIONS {
-        assert_served(&rt, rt.alloc(), sessions, &mut sessions.1.as_bytes())?;
-        assert_served_in_pieces(&rt, rt.alloc(), sessions, 1)?;
-        assert_served_in_pieces(&rt, rt.alloc(), sessions, 3)?;
+        assert_served(&rt, rt.alloc(), sessions, &mut sessions.1.as_bytes());
+        assert_served_in_pieces(&rt, rt.alloc(), sessions, 1);
+        assert_served_in_pieces(&rt, rt.alloc(), sessions, 3);
     }
-    Ok(())
 }
 
 type MemSession = Session<LocalFront<MemDisk>>;
 
-fn answers_a_line(alloc: Global, session: &mut MemSession) -> Result<bool, Fail> {
+fn answers_a_line(rt: &impl Abort, alloc: Global, session: &mut MemSession) -> bool {
     let mut output = Vec::new(alloc);
-    session.line(alloc, 1, b"[\"watch\",\"/r\"]\n", &mut output)?;
+    session
+        .line(alloc, 1, b"[\"watch\",\"/r\"]\n", &mut output)
+        .expect(rt, "memory");
     let wanted = b"{\"version\":\"w1\",\"watch\":\"/r\"}\n".as_slice();
-    Ok(output.as_slice() == wanted)
+    output.as_slice() == wanted
 }
 
-fn answers_a_reader(alloc: Global, session: &mut MemSession) -> Result<bool, Fail> {
+fn answers_a_reader(rt: &impl Abort, alloc: Global, session: &mut MemSession) -> bool {
     let mut output = Vec::new(alloc);
     let mut reader = Input::new(b"[\"watch-list\"]\n[\"watch-list\"]x\n".as_slice());
     let mut moments = LineNumbers::new();
     let mut writer = Output::new(&mut output);
-    let faults = run(alloc, session, &mut moments, &mut reader, &mut writer)?;
+    let faults = run(alloc, session, &mut moments, &mut reader, &mut writer).expect(rt, "a run");
     let wanted =
         b"{\"roots\":[\"/r\"],\"version\":\"w1\"}\n{\"error\":\"1 BadLine\",\"version\":\"w1\"}\n";
-    Ok(faults == 0 && output.as_slice() == wanted.as_slice())
+    faults == 0 && output.as_slice() == wanted.as_slice()
 }
 
 /// A session over a new file.
-fn begun(alloc: Global) -> Result<MemSession, Fail> {
-    match LocalFront::open(alloc, new_file(alloc)?) {
-        Ok(front) => Ok(Session::new(alloc, front)),
-        Err(_) => Err("the file can't be opened".into()),
-    }
+fn begun(rt: &impl Abort, alloc: Global) -> MemSession {
+    let Ok(front) = LocalFront::open(alloc, new_file(rt, alloc)) else {
+        panic!(rt; "the file can't be opened");
+    };
+    Session::new(alloc, front)
 }
 
 /// The disk of the session, whose end was well.
-fn closed(session: MemSession) -> Result<MemDisk, Fail> {
-    match session.front.close() {
-        (Ok(()), disk) => Ok(disk),
-        (Err(refusal), _) => Err(refusal.into()),
-    }
+fn closed(rt: &impl Abort, session: MemSession) -> MemDisk {
+    let (closing, disk) = session.front.close();
+    closing.expect(rt, "a close");
+    disk
 }
 
 /// Whether the disk's journal begins with a start and a watch of `/r`.
-fn watches_r(alloc: Global, disk: MemDisk) -> Result<bool, Fail> {
-    let content = content_of(alloc, disk)?;
-    Ok(journal(&content, WATCHES_R.len()) == WATCHES_R)
+fn watches_r(rt: &impl Abort, alloc: Global, disk: MemDisk) -> bool {
+    let content = content_of(rt, alloc, disk);
+    journal(&content, WATCHES_R.len()) == WATCHES_R
 }
 
 /// Asserts that the session, which has answered no line yet, answers one, and then a reader's lines.
-fn answer_both(rt: &impl Abort, alloc: Global, session: &mut MemSession) -> Result<(), Fail> {
-    assert!(rt; answers_a_line(alloc, session)?);
-    assert!(rt; answers_a_reader(alloc, session)?);
-    Ok(())
+fn answer_both(rt: &impl Abort, alloc: Global, session: &mut MemSession) {
+    assert!(rt; answers_a_line(rt, alloc, session));
+    assert!(rt; answers_a_reader(rt, alloc, session));
 }
 
 #[test]
-fn answers_by_its_parts(rt: HostRuntime) -> Result<(), Fail> {
+fn answers_by_its_parts(rt: HostRuntime) {
     let alloc = rt.alloc();
-    let mut session = begun(alloc)?;
-    answer_both(&rt, alloc, &mut session)?;
-    assert!(rt; watches_r(alloc, closed(session)?)?);
-    Ok(())
+    let mut session = begun(&rt, alloc);
+    answer_both(&rt, alloc, &mut session);
+    assert!(rt; watches_r(&rt, alloc, closed(&rt, session)));
 }

@@ -4,7 +4,7 @@ use crate::disks::journal;
 use std::alloc::Global;
 use std::fs;
 use std::fs::{File, Files};
-use std::test::Fail;
+use std::process::Abort;
 use wm_server::program::watchmand;
 use wm_server::system::Host;
 use wm_server::{Input, Output};
@@ -46,11 +46,12 @@ const CALLS: &[Call<'static>] = &[
 
 /// Calls the program, and gives its status, replies and faults.
 fn called(
+    rt: &impl Abort,
     alloc: Global,
     files: &impl Files<File = File>,
     words: &[&str],
     input: &str,
-) -> Result<(u8, String, String), Fail> {
+) -> (u8, String, String) {
     let mut output = Vec::new(alloc);
     let mut faults = Vec::new(alloc);
     let mut reader = Input::new(input.as_bytes());
@@ -65,62 +66,69 @@ fn called(
         &mut writer,
         &mut told,
     );
-    Ok((
+    (
         status,
-        String::from_utf8(output)?,
-        String::from_utf8(faults)?,
-    ))
+        String::from_utf8(output).expect(rt, "a text"),
+        String::from_utf8(faults).expect(rt, "a text"),
+    )
 }
 
-fn answers(alloc: Global, files: &impl Files<File = File>, call: &Call<'_>) -> Result<bool, Fail> {
+fn answers(
+    rt: &impl Abort,
+    alloc: Global,
+    files: &impl Files<File = File>,
+    call: &Call<'_>,
+) -> bool {
     let (words, input, status, output, faults) = *call;
-    let told = called(alloc, files, words, input)?;
-    Ok(told.0 == status && told.1.as_str() == output && told.2.as_str() == faults)
+    let told = called(rt, alloc, files, words, input);
+    told.0 == status && told.1.as_str() == output && told.2.as_str() == faults
 }
 
 /// A start and a watch, and another start.
 const USED: &[u8] = b"\xa5\x00\xa5\x01\x00\x00\x00\x02/r\xa5\x00\x00";
 
 #[test]
-fn calls_the_program(rt: HostRuntime) -> Result<(), Fail> {
+fn calls_the_program(rt: HostRuntime) {
     let _ = fs::remove_file(&rt, PATH);
     for call in CALLS {
-        assert!(rt; answers(rt.alloc(), &rt, call)?, "{:?} {}", call.0, call.1);
+        assert!(rt;
+            answers(&rt, rt.alloc(), &rt, call),
+            "{:?} {}",
+            call.0,
+            call.1
+        );
     }
-    let content = fs::read(&rt, PATH)?;
-    fs::remove_file(&rt, PATH)?;
+    let content = fs::read(&rt, PATH).expect(&rt, "a file");
+    fs::remove_file(&rt, PATH).expect(&rt, "a removal");
     assert!(rt; journal(&content, USED.len()) == USED);
-    Ok(())
 }
 
 /// A `format` that fails leaves nothing that it made, and all that was there before.
 #[test]
-fn takes_away_what_it_made(rt: HostRuntime) -> Result<(), Fail> {
+fn takes_away_what_it_made(rt: HostRuntime) {
     const MADE: &str = "wm_server_program_unformatted";
     let _ = fs::remove_file(&rt, MADE);
     let call = (["format", MADE].as_slice(), "", 1, "", DEVICE_FAILED);
-    assert!(rt; answers(rt.alloc(), &ReadOnly(&rt), &call)?);
+    assert!(rt; answers(&rt, rt.alloc(), &ReadOnly(&rt), &call));
     assert!(rt; fs::metadata(&rt, MADE).is_err());
-    fs::write(&rt, MADE, b"abc".as_slice())?;
-    assert!(rt; answers(rt.alloc(), &ReadOnly(&rt), &call)?);
-    assert!(rt; fs::read_to_string(&rt, MADE)?.as_str() == "abc");
-    fs::remove_file(&rt, MADE)?;
-    Ok(())
+    fs::write(&rt, MADE, b"abc".as_slice()).expect(&rt, "a write");
+    assert!(rt; answers(&rt, rt.alloc(), &ReadOnly(&rt), &call));
+    let text = fs::read_to_string(&rt, MADE).expect(&rt, "a text");
+    assert!(rt; text.as_str() == "abc");
+    fs::remove_file(&rt, MADE).expect(&rt, "a removal");
 }
 
 const USAGE: &str = "Usage: watchmand <COMMAND>";
 
 /// Help goes to the writer with the replies, and is no fault.
 #[test]
-fn shows_help(rt: HostRuntime) -> Result<(), Fail> {
-    let (status, output, faults) = called(rt.alloc(), &rt, &["--help"], "")?;
+fn shows_help(rt: HostRuntime) {
+    let (status, output, faults) = called(&rt, rt.alloc(), &rt, &["--help"], "");
     assert!(rt; output.contains(USAGE) && faults.is_empty() && status == 0);
-    Ok(())
 }
 
 #[test]
-fn tells_a_fault_of_the_words(rt: HostRuntime) -> Result<(), Fail> {
-    let (status, output, faults) = called(rt.alloc(), &rt, &[], "")?;
+fn tells_a_fault_of_the_words(rt: HostRuntime) {
+    let (status, output, faults) = called(&rt, rt.alloc(), &rt, &[], "");
     assert!(rt; output.is_empty() && faults.contains(USAGE) && status == 2);
-    Ok(())
 }

@@ -5,7 +5,7 @@ ghost use Rattle.wm_disk.specs.Contents.{Rose};
 use super::read_only::ReadOnly;
 use std::fs;
 use std::fs::{File, Files};
-use std::test::Fail;
+use std::process::Abort;
 use wm_disk::{DeviceFailed, Disk};
 use wm_server::file::{FileDisk, Unknown};
 
@@ -41,29 +41,28 @@ const WRITES: &[Write<'static>] = &[
     (5, b"!!!", 8, "aXYZe!!!"),
 ];
 
-fn gives_back<R: Files<File = File> + AllocGlobal>(
+fn gives_back<R: Files<File = File> + AllocGlobal + Abort>(
     rt: &R,
     path: &str,
     disk: &mut FileDisk<Unknown>,
     write: &Write<'_>,
-) -> Result<bool, Fail> {
+) -> bool {
     let (at, bytes, len, text) = *write;
     let mut back = [0; 3];
-    let found = write_back(disk, at, bytes, &mut back)?;
-    let whole = fs::read_to_string(rt, path)?;
-    Ok(found == len && back == *bytes && whole.as_str() == text)
+    let found = write_back(disk, at, bytes, &mut back).expect(rt, "a length");
+    let whole = fs::read_to_string(rt, path).expect(rt, "a text");
+    found == len && back == *bytes && whole.as_str() == text
 }
 
 #[test]
-fn gives_back_what_was_written(rt: HostRuntime) -> Result<(), Fail> {
+fn gives_back_what_was_written(rt: HostRuntime) {
     const PATH: &str = "wm_server_file_written";
     let _ = fs::remove_file(&rt, PATH);
-    let mut disk = FileDisk::<Unknown>::create(&rt, PATH)?;
+    let mut disk = FileDisk::<Unknown>::create(&rt, PATH).expect(&rt, "a disk");
     for write in WRITES {
-        assert!(rt; gives_back(&rt, PATH, &mut disk, write)?, "at {}", write.0);
+        assert!(rt; gives_back(&rt, PATH, &mut disk, write), "at {}", write.0);
     }
-    fs::remove_file(&rt, PATH)?;
-    Ok(())
+    fs::remove_file(&rt, PATH).expect(&rt, "a removal");
 }
 
 /// The length, where two reads from the front fail; then failures were counted.
@@ -81,17 +80,17 @@ fn fails_twice<D: Disk>(disk: &mut D, back: &mut [u8]) -> Result<u64, DeviceFail
 }
 
 #[test]
-fn tells_a_read_past_the_end(rt: HostRuntime) -> Result<(), Fail> {
+fn tells_a_read_past_the_end(rt: HostRuntime) {
     const PATH: &str = "wm_server_file_short";
     let _ = fs::remove_file(&rt, PATH);
-    let mut disk = FileDisk::<Unknown>::create(&rt, PATH)?;
+    let mut disk = FileDisk::<Unknown>::create(&rt, PATH).expect(&rt, "a disk");
     let mut back = [0; 4];
-    write_back(&mut disk, 0, b"abcd", &mut back)?;
+    write_back(&mut disk, 0, b"abcd", &mut back).expect(&rt, "a length");
     // Another writer cuts the file.
-    fs::write(&rt, PATH, b"ab".as_slice())?;
-    assert!(rt; fails_twice(&mut disk, &mut back)? == 2);
-    fs::remove_file(&rt, PATH)?;
-    Ok(())
+    fs::write(&rt, PATH, b"ab".as_slice()).expect(&rt, "a write");
+    let len = fails_twice(&mut disk, &mut back).expect(&rt, "a length");
+    assert!(rt; len == 2);
+    fs::remove_file(&rt, PATH).expect(&rt, "a removal");
 }
 
 /// Whether a write to the front fails; then a failure was counted.
@@ -105,16 +104,15 @@ fn fails_to_write<D: Disk>(disk: &mut D, bytes: &[u8]) -> bool
 }
 
 #[test]
-fn tells_a_write_that_the_system_refuses(rt: HostRuntime) -> Result<(), Fail> {
+fn tells_a_write_that_the_system_refuses(rt: HostRuntime) {
     const PATH: &str = "wm_server_file_refused";
-    fs::write(&rt, PATH, b"abc".as_slice())?;
+    fs::write(&rt, PATH, b"abc".as_slice()).expect(&rt, "a write");
     // The system gives this handle no right to write.
-    let mut disk = FileDisk::<Unknown>::open(&ReadOnly(&rt), PATH)?;
+    let mut disk = FileDisk::<Unknown>::open(&ReadOnly(&rt), PATH).expect(&rt, "a disk");
     assert!(rt; fails_to_write(&mut disk, b"XYZ"));
-    let text = fs::read_to_string(&rt, PATH)?;
+    let text = fs::read_to_string(&rt, PATH).expect(&rt, "a text");
     assert!(rt; text.as_str() == "abc");
-    fs::remove_file(&rt, PATH)?;
-    Ok(())
+    fs::remove_file(&rt, PATH).expect(&rt, "a removal");
 }
 
 const THERE: &str = "wm_server_file_there";
@@ -140,18 +138,19 @@ fn makes<R: Files<File = File>>(rt: &R, path: &str) -> bool {
 }
 
 #[test]
-fn opens_regular_files_alone(rt: HostRuntime) -> Result<(), Fail> {
+fn opens_regular_files_alone(rt: HostRuntime) {
     let _ = fs::remove_file(&rt, THERE);
     let _ = fs::remove_dir(&rt, FOLDER);
-    fs::write(&rt, THERE, b"abc".as_slice())?;
-    fs::create_dir(&rt, FOLDER)?;
+    fs::write(&rt, THERE, b"abc".as_slice()).expect(&rt, "a write");
+    fs::create_dir(&rt, FOLDER).expect(&rt, "a folder");
     for (path, is_opened, is_made) in PLACES {
         let is_met = opens(&rt, path) == *is_opened && makes(&rt, path) == *is_made;
         assert!(rt; is_met, "at {path}");
     }
     assert!(rt; !opens(&rt, "wm_server_file_missing"));
-    assert!(rt; FileDisk::<Unknown>::open(&rt, THERE)?.len()? == 3);
-    fs::remove_file(&rt, THERE)?;
-    fs::remove_dir(&rt, FOLDER)?;
-    Ok(())
+    let mut disk = FileDisk::<Unknown>::open(&rt, THERE).expect(&rt, "a disk");
+    assert!(rt; disk.len().expect(&rt, "a length") == 3);
+    drop(disk);
+    fs::remove_file(&rt, THERE).expect(&rt, "a removal");
+    fs::remove_dir(&rt, FOLDER).expect(&rt, "a removal");
 }

@@ -3,7 +3,6 @@ use std::alloc::Global;
 use std::fs;
 use std::fs::{File, Files};
 use std::process::Abort;
-use std::test::Fail;
 use wm_server::file::{FileDisk, Unknown};
 use wm_server::program::watchmand;
 use wm_server::system::Host;
@@ -15,10 +14,11 @@ fn opens(files: &impl Files<File = File>, path: &str) -> bool {
 
 /// What `lines` on a path ends with and tells of faults.
 fn served(
+    rt: &impl Abort,
     alloc: Global,
     files: &impl Files<File = File>,
     path: &str,
-) -> Result<(u8, String), Fail> {
+) -> (u8, String) {
     let mut output = Vec::new(alloc);
     let mut faults = Vec::new(alloc);
     let words = ["lines", path];
@@ -34,42 +34,36 @@ fn served(
         &mut writer,
         &mut told,
     );
-    Ok((status, String::from_utf8(faults)?))
+    (status, String::from_utf8(faults).expect(rt, "a text"))
 }
 
 /// Asserts that a file that another has is neither opened nor served, and keeps its text.
-fn assert_owned<R: Files<File = File> + AllocGlobal + Abort>(
-    rt: &R,
-    path: &str,
-    text: &str,
-) -> Result<(), Fail> {
+fn assert_owned<R: Files<File = File> + AllocGlobal + Abort>(rt: &R, path: &str, text: &str) {
     assert!(rt; !opens(rt, path));
-    let (status, faults) = served(rt.alloc(), rt, path)?;
+    let (status, faults) = served(rt, rt.alloc(), rt, path);
     assert!(rt; status == 1 && faults.as_str() == "watchmand: 13 DeviceFailed\n");
-    assert!(rt; fs::read_to_string(rt, path)?.as_str() == text);
-    Ok(())
+    let whole = fs::read_to_string(rt, path).expect(rt, "a text");
+    assert!(rt; whole.as_str() == text);
 }
 
 #[test]
-fn opens_no_file_that_another_has(rt: HostRuntime) -> Result<(), Fail> {
+fn opens_no_file_that_another_has(rt: HostRuntime) {
     const PATH: &str = "wm_server_owner_opened";
-    fs::write(&rt, PATH, b"abc".as_slice())?;
-    let first = FileDisk::<Unknown>::open(&rt, PATH)?;
-    assert_owned(&rt, PATH, "abc")?;
+    fs::write(&rt, PATH, b"abc".as_slice()).expect(&rt, "a write");
+    let first = FileDisk::<Unknown>::open(&rt, PATH).expect(&rt, "a disk");
+    assert_owned(&rt, PATH, "abc");
     drop(first);
     assert!(rt; opens(&rt, PATH));
-    fs::remove_file(&rt, PATH)?;
-    Ok(())
+    fs::remove_file(&rt, PATH).expect(&rt, "a removal");
 }
 
 #[test]
-fn opens_no_file_that_another_makes(rt: HostRuntime) -> Result<(), Fail> {
+fn opens_no_file_that_another_makes(rt: HostRuntime) {
     const PATH: &str = "wm_server_owner_made";
     let _ = fs::remove_file(&rt, PATH);
-    let first = FileDisk::<Unknown>::create(&rt, PATH)?;
+    let first = FileDisk::<Unknown>::create(&rt, PATH).expect(&rt, "a disk");
     assert!(rt; !opens(&rt, PATH));
     drop(first);
     assert!(rt; opens(&rt, PATH));
-    fs::remove_file(&rt, PATH)?;
-    Ok(())
+    fs::remove_file(&rt, PATH).expect(&rt, "a removal");
 }

@@ -1,6 +1,6 @@
 //! What the command-line words ask of `watchmand`.
 use std::alloc::{AllocError, Global};
-use std::test::Fail;
+use std::process::Abort;
 use wm_server::words::Words;
 
 /// Lists of words, and what they ask for.
@@ -45,14 +45,18 @@ fn asked(alloc: Global, words: &Words) -> Result<String, AllocError> {
     }
 }
 
+/// What these words ask for, as the table tells it.
+fn told_of(rt: &impl Abort, alloc: Global, words: &'static [&'static str]) -> String {
+    let words = Words::read(alloc, words).expect(rt, "memory");
+    asked(alloc, &words).expect(rt, "memory")
+}
+
 #[test]
-fn words_of_the_table(rt: HostRuntime) -> Result<(), Fail> {
-    let alloc = rt.alloc();
+fn words_of_the_table(rt: HostRuntime) {
     for (words, wanted) in ASKED {
-        let told = asked(alloc, &Words::read(alloc, words)?)?;
+        let told = told_of(&rt, rt.alloc(), words);
         assert!(rt; told.as_str() == *wanted, "{words:?}: {told}");
     }
-    Ok(())
 }
 
 /// Words for which a text is shown, and what it says.
@@ -84,18 +88,17 @@ const SHOWN: &[(&[&str], &str)] = &[
     (&["lines", "a", "b"], "unexpected argument 'b'"),
 ];
 
-fn text_of(alloc: Global, words: &'static [&'static str]) -> Result<String, Fail> {
-    match Words::read(alloc, words)? {
-        Words::Shown { text, status: _ } => Ok(text),
-        _ => Err("no text is shown".into()),
+fn text_of(rt: &impl Abort, alloc: Global, words: &'static [&'static str]) -> String {
+    match Words::read(alloc, words).expect(rt, "memory") {
+        Words::Shown { text, status: _ } => text,
+        _ => panic!(rt; "no text is shown"),
     }
 }
 
 #[test]
-fn shows_help_and_faults(rt: HostRuntime) -> Result<(), Fail> {
+fn shows_help_and_faults(rt: HostRuntime) {
     for (words, part) in SHOWN {
-        let text = text_of(rt.alloc(), words)?;
+        let text = text_of(&rt, rt.alloc(), words);
         assert!(rt; text.contains(*part), "{words:?}: {part}");
     }
-    Ok(())
 }

@@ -1,127 +1,122 @@
 //! The worked rows: a batch that fails at its second sync, and then a stop or a crash.
-use super::{driven, found, is_shown, root, show, shown_after, watch, watch_all};
+use super::{driven, found, is_shown, put, root, show, shown_after, watch, watch_all};
 use std::alloc::Global;
-use std::test::Fail;
+use std::process::Abort;
 use wm_disk::MemDisk;
 use wm_expr::Expr;
 use wm_registry::Reply;
 use wm_world::{Event, World};
 
 /// A client of `/r` that has one file.
-fn put_first(alloc: Global, events: &mut Vec<Event>) -> Result<(), Fail> {
-    events.push(Event::Open)?;
-    events.push(watch(alloc, "/r")?)?;
-    events.push(found(alloc, 1, 0, &["a.c"])?)?;
-    events.push(Event::Client(root(alloc)?, Expr::True))?;
-    events.push(Event::Ask(0))?;
-    events.push(Event::Receive(0))?;
-    Ok(())
+fn put_first(rt: &impl Abort, alloc: Global, events: &mut Vec<Event>) {
+    put(rt, Event::Open, events);
+    put(rt, watch(rt, alloc, "/r"), events);
+    put(rt, found(rt, alloc, 1, 0, &["a.c"]), events);
+    put(rt, Event::Client(root(rt, alloc), Expr::True), events);
+    put(rt, Event::Ask(0), events);
+    put(rt, Event::Receive(0), events);
 }
 
 /// Whether the client's file is held, and the one command was answered.
-fn is_received(alloc: Global, world: &World<MemDisk>) -> Result<bool, Fail> {
+fn is_received(rt: &impl Abort, alloc: Global, world: &World<MemDisk>) -> bool {
     let is_answered = matches!(world.replies(), [Reply::Changed]);
-    Ok(is_shown(alloc, world, "1 /r; a.c at c:1:1:1")? && is_answered)
+    is_shown(rt, alloc, world, "1 /r; a.c at c:1:1:1") && is_answered
 }
 
 #[test]
-fn holds_what_was_received(rt: HostRuntime) -> Result<(), Fail> {
+fn holds_what_was_received(rt: HostRuntime) {
     let alloc = rt.alloc();
     let mut events = Vec::new(alloc);
-    put_first(alloc, &mut events)?;
-    let world = driven(alloc, MemDisk::new(alloc, 0), events)?;
-    assert!(rt; is_received(alloc, &world)?);
-    Ok(())
+    put_first(&rt, alloc, &mut events);
+    let world = driven(alloc, MemDisk::new(alloc, 0), events).expect(&rt, "a world");
+    assert!(rt; is_received(&rt, alloc, &world));
 }
 
 /// A batch that fails at its second sync, a crash or a stop, and a start.
-fn put_restart(alloc: Global, is_crash: bool, events: &mut Vec<Event>) -> Result<(), Fail> {
-    events.push(Event::Arm(3))?;
-    events.push(watch(alloc, "/s")?)?;
-    events.push(if is_crash { Event::Crash } else { Event::Stop })?;
-    events.push(Event::Open)?;
-    events.push(found(alloc, 2, 0, &["b.c"])?)?;
-    events.push(Event::Ask(0))?;
-    events.push(Event::Receive(0))?;
-    Ok(())
+fn put_restart(rt: &impl Abort, alloc: Global, is_crash: bool, events: &mut Vec<Event>) {
+    let end = if is_crash { Event::Crash } else { Event::Stop };
+    put(rt, Event::Arm(3), events);
+    put(rt, watch(rt, alloc, "/s"), events);
+    put(rt, end, events);
+    put(rt, Event::Open, events);
+    put(rt, found(rt, alloc, 2, 0, &["b.c"]), events);
+    put(rt, Event::Ask(0), events);
+    put(rt, Event::Receive(0), events);
 }
 
 /// What a restart finds of a batch that failed at its second sync.
-fn restarted(alloc: Global, is_crash: bool) -> Result<String, Fail> {
+fn restarted(rt: &impl Abort, alloc: Global, is_crash: bool) -> String {
     let mut events = Vec::new(alloc);
-    put_first(alloc, &mut events)?;
-    put_restart(alloc, is_crash, &mut events)?;
-    shown_after(alloc, 0, events)
+    put_first(rt, alloc, &mut events);
+    put_restart(rt, alloc, is_crash, &mut events);
+    shown_after(rt, alloc, 0, events)
 }
 
 #[test]
-fn finds_a_cut_batch_after_a_stop(rt: HostRuntime) -> Result<(), Fail> {
-    let text = restarted(rt.alloc(), false)?;
+fn finds_a_cut_batch_after_a_stop(rt: HostRuntime) {
+    let text = restarted(&rt, rt.alloc(), false);
     assert!(rt; text.as_str() == "2 /r /s; b.c at c:2:1:1");
-    Ok(())
 }
 
 #[test]
-fn finds_a_prefix_after_a_crash(rt: HostRuntime) -> Result<(), Fail> {
-    let text = restarted(rt.alloc(), true)?;
+fn finds_a_prefix_after_a_crash(rt: HostRuntime) {
+    let text = restarted(&rt, rt.alloc(), true);
     assert!(rt; text.as_str() == "2 /r; b.c at c:2:1:1");
-    Ok(())
 }
 
 /// Plans of failures, and what ends them: one call fails, or none.
-fn put_planned(alloc: Global, place: usize, events: &mut Vec<Event>) -> Result<(), Fail> {
+fn put_planned(rt: &impl Abort, alloc: Global, place: usize, events: &mut Vec<Event>) {
     if place > 1 {
-        events.push(Event::Open)?;
+        put(rt, Event::Open, events);
     }
-    events.push(Event::Arm(if place == 5 { 9 } else { 0 }))?;
-    events.push(match place {
+    let passing = if place == 5 { 9 } else { 0 };
+    put(rt, Event::Arm(passing), events);
+    let failing = match place {
         0 | 1 => Event::Open,
         2 => Event::Crash,
         3 => Event::Stop,
-        _ => watch(alloc, "/r")?,
-    })?;
+        _ => watch(rt, alloc, "/r"),
+    };
+    put(rt, failing, events);
     if place == 1 {
-        events.push(Event::Crash)?;
+        put(rt, Event::Crash, events);
     }
     if place > 0 && place < 4 {
-        events.push(Event::Open)?;
+        put(rt, Event::Open, events);
     }
-    Ok(())
 }
 
 /// What the world shows after each plan.
 const PLANNED: &[&str] = &["", "1", "2", "2", "", "1 /r"];
 
 #[test]
-fn plans_failures(rt: HostRuntime) -> Result<(), Fail> {
+fn plans_failures(rt: HostRuntime) {
     let alloc = rt.alloc();
     for (place, wanted) in PLANNED.iter().enumerate() {
         let mut events = Vec::new(alloc);
-        put_planned(alloc, place, &mut events)?;
-        let text = shown_after(alloc, 0, events)?;
+        put_planned(&rt, alloc, place, &mut events);
+        let text = shown_after(&rt, alloc, 0, events);
         assert!(rt; text.as_str() == *wanted, "{place}: {text}");
     }
-    Ok(())
 }
 
 /// After the first start, a batch of three on a device that lets so many calls pass, a stop, and a start.
-fn put_cut_batch(alloc: Global, passing: u64, events: &mut Vec<Event>) -> Result<(), Fail> {
-    events.push(Event::Open)?;
-    events.push(Event::Arm(passing))?;
-    events.push(watch_all(alloc, &["/a", "/b", "/c"])?)?;
-    events.push(Event::Stop)?;
-    events.push(Event::Open)?;
-    Ok(())
+fn put_cut_batch(rt: &impl Abort, alloc: Global, passing: u64, events: &mut Vec<Event>) {
+    put(rt, Event::Open, events);
+    put(rt, Event::Arm(passing), events);
+    put(rt, watch_all(rt, alloc, &["/a", "/b", "/c"]), events);
+    put(rt, Event::Stop, events);
+    put(rt, Event::Open, events);
 }
 
 /// What the start finds, and how many commands were answered.
-fn after_cut_batch(alloc: Global, passing: u64) -> Result<(String, usize), Fail> {
+fn after_cut_batch(rt: &impl Abort, alloc: Global, passing: u64) -> (String, usize) {
     let mut events = Vec::new(alloc);
-    put_cut_batch(alloc, passing, &mut events)?;
+    put_cut_batch(rt, alloc, passing, &mut events);
     let mut text = String::new(alloc);
-    let world = driven(alloc, MemDisk::new(alloc, 0), events)?;
-    show(alloc, &world, &mut text)?;
-    Ok((text, world.replies().len()))
+    let world = driven(alloc, MemDisk::new(alloc, 0), events).expect(rt, "a world");
+    show(rt, alloc, &world, &mut text);
+    (text, world.replies().len())
 }
 
 /// What the start finds, and how many commands were answered, by the number of calls: a write and a sync, a gate for each
@@ -137,11 +132,10 @@ const CUT: &[(&str, usize)] = &[
 ];
 
 #[test]
-fn finds_what_the_gates_let_in(rt: HostRuntime) -> Result<(), Fail> {
+fn finds_what_the_gates_let_in(rt: HostRuntime) {
     for (passing, (wanted, answered)) in CUT.iter().enumerate() {
-        let (text, replies) = after_cut_batch(rt.alloc(), passing as u64)?;
+        let (text, replies) = after_cut_batch(&rt, rt.alloc(), passing as u64);
         assert!(rt; text.as_str() == *wanted, "{passing}: {text}");
         assert!(rt; replies == *answered, "{passing}");
     }
-    Ok(())
 }

@@ -1,28 +1,28 @@
 //! Every prefix of a list of events of every kind, under choices of what a crash leaves.
-use super::{found, root, seen, shown_after, watch};
-use std::alloc::{AllocError, Global};
-use std::test::Fail;
+use super::{found, put, root, seen, shown_after, watch};
+use std::alloc::Global;
+use std::process::Abort;
 use wm_expr::Expr;
 use wm_world::Event;
 
 /// The event at a place, from 0 on: one of every kind.
-fn event_at(alloc: Global, place: usize) -> Result<Event, Fail> {
-    Ok(match place {
+fn event_at(rt: &impl Abort, alloc: Global, place: usize) -> Event {
+    match place {
         0 | 14 | 16 => Event::Open,
-        1 => watch(alloc, "/r")?,
-        2 => found(alloc, 1, 0, &["a.c"])?,
-        3 => Event::Client(root(alloc)?, Expr::True),
+        1 => watch(rt, alloc, "/r"),
+        2 => found(rt, alloc, 1, 0, &["a.c"]),
+        3 => Event::Client(root(rt, alloc), Expr::True),
         4 | 8 => Event::Ask(0),
         5 => Event::Receive(0),
-        6 => seen(alloc, 2, "b.c", Some(2))?,
-        7 => Event::AgeOut(root(alloc)?, 5, 0),
+        6 => seen(rt, alloc, 2, "b.c", Some(2)),
+        7 => Event::AgeOut(root(rt, alloc), 5, 0),
         9 => Event::Lose(0),
         10 => Event::Checkpoint,
         11 => Event::Arm(3),
-        12 => watch(alloc, "/s")?,
+        12 => watch(rt, alloc, "/s"),
         13 => Event::Crash,
         _ => Event::Stop,
-    })
+    }
 }
 
 /// What a world shows after so many events. Behind the incarnation of the last two starts stand the
@@ -62,40 +62,38 @@ const FOUND: &[(u64, &str)] = &[
 ];
 
 /// So many events of the sweep.
-fn put_events(alloc: Global, count: usize, events: &mut Vec<Event>) -> Result<(), Fail> {
+fn put_events(rt: &impl Abort, alloc: Global, count: usize, events: &mut Vec<Event>) {
     for place in 0..count {
-        events.push(event_at(alloc, place)?)?;
+        put(rt, event_at(rt, alloc, place), events);
     }
-    Ok(())
 }
 
 /// The world after so many events of the sweep.
-fn swept(alloc: Global, choice: u64, count: usize) -> Result<String, Fail> {
+fn swept(rt: &impl Abort, alloc: Global, choice: u64, count: usize) -> String {
     let mut events = Vec::new(alloc);
-    put_events(alloc, count, &mut events)?;
-    shown_after(alloc, choice, events)
+    put_events(rt, alloc, count, &mut events);
+    shown_after(rt, alloc, choice, events)
 }
 
 /// What a world shows where a restart finds these watches.
-fn wanted(alloc: Global, after: (&str, &str), watches: &str) -> Result<String, AllocError> {
+fn wanted(rt: &impl Abort, alloc: Global, after: (&str, &str), watches: &str) -> String {
     let (first, last) = after;
-    let mut text = String::from_str(alloc, first)?;
+    let mut text = String::from_str(alloc, first).expect(rt, "memory");
     if !last.is_empty() {
-        text.push_str(watches)?;
-        text.push_str(last)?;
+        text.push_str(watches).expect(rt, "memory");
+        text.push_str(last).expect(rt, "memory");
     }
-    Ok(text)
+    text
 }
 
 #[test]
-fn stands_after_each_event(rt: HostRuntime) -> Result<(), Fail> {
+fn stands_after_each_event(rt: HostRuntime) {
     let alloc = rt.alloc();
     for (choice, watches) in FOUND {
         for (count, after) in AFTER.iter().enumerate() {
-            let text = swept(alloc, *choice, count)?;
-            let is_wanted = text == wanted(alloc, *after, watches)?;
+            let text = swept(&rt, alloc, *choice, count);
+            let is_wanted = text == wanted(&rt, alloc, *after, watches);
             assert!(rt; is_wanted, "{choice}: {count}: {text}");
         }
     }
-    Ok(())
 }

@@ -3,39 +3,44 @@ use super::{clock, clock_at, rendered_by};
 use crate::making::{Observed, observe, observed};
 use std::alloc::Global;
 use std::process::Abort;
-use std::test::Fail;
 use wm_clock::{ClockId, CursorName};
 use wm_since::{Answer, Cursors, Every, MAX_CURSORS, Query, answer};
 use wm_view::View;
 
 /// Moves a cursor where there is room for it, and tells whether there was.
 fn moves_to(
+    rt: &impl Abort,
     alloc: Global,
     cursors: &mut Cursors,
     name: &str,
     clock: ClockId,
-) -> Result<bool, Fail> {
-    let name = CursorName::read(alloc, name)?;
+) -> bool {
+    let name = CursorName::read(alloc, name).expect(rt, "a name");
     let has_room = cursors.has_room(&name);
     if has_room {
         cursors.moved(name, clock);
     }
-    Ok(has_room)
+    has_room
 }
 
 /// The clock at which a cursor stands.
-fn clock_of(alloc: Global, cursors: &Cursors, name: &str) -> Result<Option<ClockId>, Fail> {
-    Ok(cursors.clock(&CursorName::read(alloc, name)?))
+fn clock_of(rt: &impl Abort, alloc: Global, cursors: &Cursors, name: &str) -> Option<ClockId> {
+    cursors.clock(&CursorName::read(alloc, name).expect(rt, "a name"))
 }
 
 /// Whether each of these cursors stands at its tick, and is unknown where it has none.
-fn stand(alloc: Global, cursors: &Cursors, wanted: &[(&str, Option<u64>)]) -> Result<bool, Fail> {
+fn stand(
+    rt: &impl Abort,
+    alloc: Global,
+    cursors: &Cursors,
+    wanted: &[(&str, Option<u64>)],
+) -> bool {
     for (name, tick) in wanted {
-        if clock_of(alloc, cursors, name)? != clock_at(*tick) {
-            return Ok(false);
+        if clock_of(rt, alloc, cursors, name) != clock_at(*tick) {
+            return false;
         }
     }
-    Ok(true)
+    true
 }
 
 /// A cursor and the tick to which it is moved, and whether there is room; how many there are then, and
@@ -49,22 +54,16 @@ type Move = (
 );
 
 /// Whether a cursor is moved as told.
-fn moves_so(alloc: Global, cursors: &mut Cursors, row: &Move) -> Result<bool, Fail> {
+fn moves_so(rt: &impl Abort, alloc: Global, cursors: &mut Cursors, row: &Move) -> bool {
     let (name, tick, has_room, count, wanted) = *row;
-    let is_moved = moves_to(alloc, cursors, name, clock(1, 1, tick))?;
-    Ok(is_moved == has_room && cursors.len() == count && stand(alloc, cursors, wanted)?)
+    let is_moved = moves_to(rt, alloc, cursors, name, clock(1, 1, tick));
+    is_moved == has_room && cursors.len() == count && stand(rt, alloc, cursors, wanted)
 }
 
-fn assert_moves(
-    rt: &impl Abort,
-    alloc: Global,
-    cursors: &mut Cursors,
-    rows: &[Move],
-) -> Result<(), Fail> {
+fn assert_moves(rt: &impl Abort, alloc: Global, cursors: &mut Cursors, rows: &[Move]) {
     for row in rows {
-        assert!(rt; moves_so(alloc, cursors, row)?, "{} {}", row.0, row.1);
+        assert!(rt; moves_so(rt, alloc, cursors, row), "{} {}", row.0, row.1);
     }
-    Ok(())
 }
 
 const MOVES: &[Move] = &[
@@ -76,38 +75,38 @@ const MOVES: &[Move] = &[
 ];
 
 #[test]
-fn moves_cursors(rt: HostRuntime) -> Result<(), Fail> {
-    let mut cursors = Cursors::new(rt.alloc())?;
-    assert_moves(&rt, rt.alloc(), &mut cursors, MOVES)
+fn moves_cursors(rt: HostRuntime) {
+    let mut cursors = Cursors::new(rt.alloc()).expect(&rt, "memory");
+    assert_moves(&rt, rt.alloc(), &mut cursors, MOVES);
 }
 
 /// Whether there are no cursors, and there is room for one.
-fn are_new(alloc: Global, cursors: &Cursors) -> Result<bool, Fail> {
-    let name = CursorName::read(alloc, "x")?;
-    Ok(cursors.len() == 0 && cursors.clock(&name).is_none() && cursors.has_room(&name))
+fn are_new(rt: &impl Abort, alloc: Global, cursors: &Cursors) -> bool {
+    let name = CursorName::read(alloc, "x").expect(rt, "a name");
+    cursors.len() == 0 && cursors.clock(&name).is_none() && cursors.has_room(&name)
 }
 
 #[test]
-fn has_no_cursors_at_first(rt: HostRuntime) -> Result<(), Fail> {
-    let cursors = Cursors::new(rt.alloc())?;
-    assert!(rt; are_new(rt.alloc(), &cursors)?);
-    Ok(())
+fn has_no_cursors_at_first(rt: HostRuntime) {
+    let cursors = Cursors::new(rt.alloc()).expect(&rt, "memory");
+    assert!(rt; are_new(&rt, rt.alloc(), &cursors));
 }
 
 /// Whether there is room for a cursor that is named by a number. It is moved to the next tick.
-fn makes(alloc: Global, cursors: &mut Cursors, number: u16) -> Result<bool, Fail> {
-    let name = format!(in alloc; "{number}")?;
-    moves_to(alloc, cursors, &name, clock(1, 1, u64::from(number) + 1))
+fn makes(rt: &impl Abort, alloc: Global, cursors: &mut Cursors, number: u16) -> bool {
+    let name = format!(in alloc; "{number}").expect(rt, "memory");
+    let next = clock(1, 1, u64::from(number) + 1);
+    moves_to(rt, alloc, cursors, &name, next)
 }
 
 /// Makes cursors named by the numbers below 256, and tells the first for which there was no room.
-fn fill(alloc: Global, cursors: &mut Cursors) -> Result<Option<u16>, Fail> {
+fn fill(rt: &impl Abort, alloc: Global, cursors: &mut Cursors) -> Option<u16> {
     for number in 0..256 {
-        if !makes(alloc, cursors, number)? {
-            return Ok(Some(number));
+        if !makes(rt, alloc, cursors, number) {
+            return Some(number);
         }
     }
-    Ok(None)
+    None
 }
 
 /// What is done when there is room for no other cursor.
@@ -143,34 +142,35 @@ const CROWDED: &[Move] = &[
 ];
 
 #[test]
-fn has_no_room_for_one_more(rt: HostRuntime) -> Result<(), Fail> {
-    let mut cursors = Cursors::new(rt.alloc())?;
-    assert_eq!(rt; fill(rt.alloc(), &mut cursors)?, None);
-    assert_moves(&rt, rt.alloc(), &mut cursors, CROWDED)
+fn has_no_room_for_one_more(rt: HostRuntime) {
+    let mut cursors = Cursors::new(rt.alloc()).expect(&rt, "memory");
+    assert_eq!(rt; fill(&rt, rt.alloc(), &mut cursors), None);
+    assert_moves(&rt, rt.alloc(), &mut cursors, CROWDED);
 }
 
 /// What is answered about every file since a clock.
-fn answer_since(alloc: Global, view: &View, since: Option<ClockId>) -> Result<Answer, Fail> {
+fn answer_since(rt: &impl Abort, alloc: Global, view: &View, since: Option<ClockId>) -> Answer {
     let query = Query {
         since,
         test: Every,
         empty_on_fresh: false,
     };
-    Ok(answer(alloc, view, &query)?)
+    answer(alloc, view, &query).expect(rt, "an answer")
 }
 
 /// Whether a question by a cursor is answered so: whether it is fresh, and the names. The cursor moves.
 fn is_answered(
+    rt: &impl Abort,
     alloc: Global,
     view: &View,
     cursors: &mut Cursors,
     row: &Asked,
-) -> Result<bool, Fail> {
+) -> bool {
     let (cursor, _, fresh, names) = *row;
-    let answer = answer_since(alloc, view, clock_of(alloc, cursors, cursor)?)?;
-    let is_moved = moves_to(alloc, cursors, cursor, answer.clock)?;
-    let told = rendered_by(alloc, &answer, &["name"])?;
-    Ok(is_moved && answer.fresh == fresh && told.as_str() == names)
+    let answer = answer_since(rt, alloc, view, clock_of(rt, alloc, cursors, cursor));
+    let is_moved = moves_to(rt, alloc, cursors, cursor, answer.clock);
+    let told = rendered_by(rt, alloc, &answer, &["name"]);
+    is_moved && answer.fresh == fresh && told.as_str() == names
 }
 
 /// A cursor, and what is seen before it is asked; whether the answer is fresh, and its names.
@@ -186,24 +186,18 @@ const ASKED: &[Asked] = &[
     ("y", &[(10, &[("a.c", Some(6))])], false, "[]"),
 ];
 
-fn assert_answers(
-    rt: &impl Abort,
-    alloc: Global,
-    view: &mut View,
-    cursors: &mut Cursors,
-) -> Result<(), Fail> {
+fn assert_answers(rt: &impl Abort, alloc: Global, view: &mut View, cursors: &mut Cursors) {
     for (i, row) in ASKED.iter().enumerate() {
-        observe(alloc, view, row.1)?;
-        assert!(rt; is_answered(alloc, view, cursors, row)?, "row {i}");
+        observe(rt, alloc, view, row.1);
+        assert!(rt; is_answered(rt, alloc, view, cursors, row), "row {i}");
     }
-    Ok(())
 }
 
 const TWO: Observed = &[(10, &[("a.c", Some(3))]), (10, &[("b.c", Some(4))])];
 
 #[test]
-fn a_cursor_is_fresh_once(rt: HostRuntime) -> Result<(), Fail> {
-    let mut view = observed(rt.alloc(), &[], TWO)?;
-    let mut cursors = Cursors::new(rt.alloc())?;
-    assert_answers(&rt, rt.alloc(), &mut view, &mut cursors)
+fn a_cursor_is_fresh_once(rt: HostRuntime) {
+    let mut view = observed(&rt, rt.alloc(), &[], TWO);
+    let mut cursors = Cursors::new(rt.alloc()).expect(&rt, "memory");
+    assert_answers(&rt, rt.alloc(), &mut view, &mut cursors);
 }

@@ -2,7 +2,7 @@
 use super::{answer_since, ask, clock, names, read, rendered_by};
 use crate::making::{Found, Observed, observed, ready_with};
 use std::alloc::Global;
-use std::test::Fail;
+use std::process::Abort;
 use wm_disk::Refusal;
 use wm_expr::Expr;
 use wm_names::RootPath;
@@ -21,50 +21,58 @@ const COUNTS: &[(&str, usize)] = &[
 ];
 
 /// Whether an answer since tick 2 lists so many files up to tick 3.
-fn lists_so_many(alloc: Global, view: &View, text: &str, count: usize) -> Result<bool, Fail> {
-    let answer = answer_since(alloc, view, Some(2), read(alloc, text)?)?;
+fn lists_so_many(rt: &impl Abort, alloc: Global, view: &View, text: &str, count: usize) -> bool {
+    let answer = answer_since(rt, alloc, view, Some(2), read(rt, alloc, text));
     let is_at_3 = answer.clock == clock(1, 1, 3) && !answer.fresh;
-    Ok(is_at_3 && answer.files.as_slice().len() == count)
+    is_at_3 && answer.files.as_slice().len() == count
 }
 
 #[test]
-fn a_file_that_fails_the_expression_is_left_out(rt: HostRuntime) -> Result<(), Fail> {
-    let view = observed(rt.alloc(), &[], SHRUNK)?;
+fn a_file_that_fails_the_expression_is_left_out(rt: HostRuntime) {
+    let view = observed(&rt, rt.alloc(), &[], SHRUNK);
     for (text, count) in COUNTS {
-        assert!(rt; lists_so_many(rt.alloc(), &view, text, *count)?, "{text}");
+        assert!(rt;
+            lists_so_many(&rt, rt.alloc(), &view, text, *count),
+            "{text}"
+        );
     }
-    Ok(())
 }
 
 /// Whether an expression reads more than the path, and makes no mirror.
-fn makes_no_mirror(alloc: Global, text: &str) -> Result<bool, Fail> {
-    let expr = read(alloc, text)?;
+fn makes_no_mirror(rt: &impl Abort, alloc: Global, text: &str) -> bool {
+    let expr = read(rt, alloc, text);
     let is_path_only = Test::is_path_only(&expr);
-    let refused = Mirror::new(alloc, RootPath::read(alloc, "/r")?, expr).err();
-    Ok(!is_path_only && refused == Some(Refusal::BadExpression))
+    let root = RootPath::read(alloc, "/r").expect(rt, "a root path");
+    let refused = Mirror::new(alloc, root, expr).err();
+    !is_path_only && refused == Some(Refusal::BadExpression)
 }
 
 /// Whether a mirror takes the answer to its question, and lists these files then.
 fn takes(
+    rt: &impl Abort,
     alloc: Global,
     mirror: &mut Mirror<Expr>,
     answer: &Answer,
     files: &str,
-) -> Result<bool, Fail> {
-    mirror.apply(alloc, answer)?;
-    Ok(names(alloc, mirror)?.as_str() == files)
+) -> bool {
+    mirror.apply(alloc, answer).expect(rt, "an answer");
+    names(rt, alloc, mirror).as_str() == files
 }
 
 /// Whether a mirror with no open question asks a view, and lists these files then.
 fn mirrors(
+    rt: &impl Abort,
     alloc: Global,
     mirror: &mut Mirror<Expr>,
     view: &View,
     files: &str,
-) -> Result<bool, Fail> {
-    match ask(alloc, mirror)? {
-        Some(query) => takes(alloc, mirror, &answer(alloc, view, &query)?, files),
-        None => Ok(false),
+) -> bool {
+    match ask(rt, alloc, mirror) {
+        Some(query) => {
+            let answer = answer(alloc, view, &query).expect(rt, "an answer");
+            takes(rt, alloc, mirror, &answer, files)
+        }
+        None => false,
     }
 }
 
@@ -72,17 +80,16 @@ fn mirrors(
 const THREE: Found = &[("a.c", 1), ("b.h", 1), ("x.c", 1)];
 
 /// Whether a mirror by an expression lists these files of such a root.
-fn mirrors_by(alloc: Global, text: &str, files: &str) -> Result<bool, Fail> {
-    let root = RootPath::read(alloc, "/r")?;
-    let mut mirror = Mirror::new(alloc, root, read(alloc, text)?)?;
-    mirrors(alloc, &mut mirror, &ready_with(alloc, THREE)?, files)
+fn mirrors_by(rt: &impl Abort, alloc: Global, text: &str, files: &str) -> bool {
+    let root = RootPath::read(alloc, "/r").expect(rt, "a root path");
+    let mut mirror = Mirror::new(alloc, root, read(rt, alloc, text)).expect(rt, "a mirror");
+    mirrors(rt, alloc, &mut mirror, &ready_with(rt, alloc, THREE), files)
 }
 
 #[test]
-fn a_mirror_takes_expressions_of_paths_alone(rt: HostRuntime) -> Result<(), Fail> {
-    assert!(rt; makes_no_mirror(rt.alloc(), "[\"size\",\"gt\",10]")?);
-    assert!(rt; mirrors_by(rt.alloc(), "[\"suffix\",\"c\"]", "a.c x.c ")?);
-    Ok(())
+fn a_mirror_takes_expressions_of_paths_alone(rt: HostRuntime) {
+    assert!(rt; makes_no_mirror(&rt, rt.alloc(), "[\"size\",\"gt\",10]"));
+    assert!(rt; mirrors_by(&rt, rt.alloc(), "[\"suffix\",\"c\"]", "a.c x.c "));
 }
 
 /// `a.c` is of 3 bytes since tick 2, and `b.c` of 4 since tick 3.
@@ -115,18 +122,17 @@ const QUESTIONS: &[Row] = &[
 ];
 
 /// Whether a question is answered at tick 3, afresh where it starts from no tick, with these files.
-fn is_answered(alloc: Global, view: &View, row: &Row) -> Result<bool, Fail> {
+fn is_answered(rt: &impl Abort, alloc: Global, view: &View, row: &Row) -> bool {
     let (since, text, fields, files) = *row;
-    let answer = answer_since(alloc, view, since, read(alloc, text)?)?;
+    let answer = answer_since(rt, alloc, view, since, read(rt, alloc, text));
     let is_at_3 = answer.clock == clock(1, 1, 3) && answer.fresh == since.is_none();
-    Ok(is_at_3 && rendered_by(alloc, &answer, fields)?.as_str() == files)
+    is_at_3 && rendered_by(rt, alloc, &answer, fields).as_str() == files
 }
 
 #[test]
-fn tells_the_chosen_fields_of_what_passes(rt: HostRuntime) -> Result<(), Fail> {
-    let view = observed(rt.alloc(), &[], GROWN)?;
+fn tells_the_chosen_fields_of_what_passes(rt: HostRuntime) {
+    let view = observed(&rt, rt.alloc(), &[], GROWN);
     for row in QUESTIONS {
-        assert!(rt; is_answered(rt.alloc(), &view, row)?, "{}", row.3);
+        assert!(rt; is_answered(&rt, rt.alloc(), &view, row), "{}", row.3);
     }
-    Ok(())
 }

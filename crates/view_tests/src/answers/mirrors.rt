@@ -3,7 +3,6 @@ use super::{Smaller, ask, clock, clock_at, names};
 use crate::making::file;
 use std::alloc::Global;
 use std::process::Abort;
-use std::test::Fail;
 use wm_disk::Refusal;
 use wm_names::{Entry, RelPath, RootPath};
 use wm_since::{Answer, Every, Listed, ListedFiles, Mirror};
@@ -12,31 +11,32 @@ use wm_since::{Answer, Every, Listed, ListedFiles, Mirror};
 type Told = (u64, bool, &'static [(&'static str, bool)]);
 
 /// A file as an answer made by hand lists it.
-fn listed(alloc: Global, told: Told, name: &str, exists: bool) -> Result<Listed, Fail> {
-    Ok(Listed {
+fn listed(rt: &impl Abort, alloc: Global, told: Told, name: &str, exists: bool) -> Listed {
+    Listed {
         entry: Entry {
-            path: RelPath::read(alloc, name)?,
+            path: RelPath::read(alloc, name).expect(rt, "a path"),
             exists,
             meta: file(1),
         },
         is_new: told.1,
         last: told.0,
         created: told.0,
-    })
+    }
 }
 
 /// An answer made by hand.
-fn made(alloc: Global, told: Told) -> Result<Answer, Fail> {
+fn made(rt: &impl Abort, alloc: Global, told: Told) -> Answer {
     let (tick, fresh, files) = told;
     let mut all = Vec::new(alloc);
     for (name, exists) in files {
-        all.push(listed(alloc, told, name, *exists)?)?;
+        all.push(listed(rt, alloc, told, name, *exists))
+            .expect(rt, "memory");
     }
-    Ok(Answer {
+    Answer {
         clock: clock(1, 1, tick),
         fresh,
         files: ListedFiles::new(all),
-    })
+    }
 }
 
 /// What is done with a mirror.
@@ -50,24 +50,24 @@ enum Turn {
 }
 
 /// Whether a mirror with no open question asks what changed since this tick.
-fn asks(alloc: Global, mirror: &mut Mirror<Every>, tick: Option<u64>) -> Result<bool, Fail> {
-    match ask(alloc, mirror)? {
-        Some(query) => Ok(query.since == clock_at(tick) && !query.empty_on_fresh),
-        None => Ok(false),
+fn asks(rt: &impl Abort, alloc: Global, mirror: &mut Mirror<Every>, tick: Option<u64>) -> bool {
+    match ask(rt, alloc, mirror) {
+        Some(query) => query.since == clock_at(tick) && !query.empty_on_fresh,
+        None => false,
     }
 }
 
 /// Whether a turn goes as told.
-fn takes(alloc: Global, mirror: &mut Mirror<Every>, turn: &Turn) -> Result<bool, Fail> {
+fn takes(rt: &impl Abort, alloc: Global, mirror: &mut Mirror<Every>, turn: &Turn) -> bool {
     match turn {
-        Turn::Asks(tick) => asks(alloc, mirror, *tick),
+        Turn::Asks(tick) => asks(rt, alloc, mirror, *tick),
         Turn::Loses => {
             mirror.lost();
-            Ok(true)
+            true
         }
         Turn::Gets(told, wanted) => {
-            let answer = made(alloc, *told)?;
-            Ok(mirror.apply(alloc, &answer) == *wanted)
+            let answer = made(rt, alloc, *told);
+            mirror.apply(alloc, &answer) == *wanted
         }
     }
 }
@@ -76,10 +76,10 @@ fn takes(alloc: Global, mirror: &mut Mirror<Every>, turn: &Turn) -> Result<bool,
 type Shown = (Option<u64>, bool, &'static str);
 
 /// Whether a mirror shows this.
-fn shows(alloc: Global, mirror: &Mirror<Every>, shown: &Shown) -> Result<bool, Fail> {
+fn shows(rt: &impl Abort, alloc: Global, mirror: &Mirror<Every>, shown: &Shown) -> bool {
     let (tick, open, files) = *shown;
     let is_at = mirror.root().as_str() == "/r" && mirror.clock() == clock_at(tick);
-    Ok(is_at && mirror.open() == open && names(alloc, mirror)?.as_str() == files)
+    is_at && mirror.open() == open && names(rt, alloc, mirror).as_str() == files
 }
 
 // A fresh answer is taken as it is, whatever it tells.
@@ -110,33 +110,32 @@ const TURNS: &[(Turn, Shown)] = &[
 
 /// Whether a turn goes as told, and the mirror shows this after it.
 fn goes_so(
+    rt: &impl Abort,
     alloc: Global,
     mirror: &mut Mirror<Every>,
     turn: &Turn,
     shown: &Shown,
-) -> Result<bool, Fail> {
-    Ok(takes(alloc, mirror, turn)? && shows(alloc, mirror, shown)?)
+) -> bool {
+    takes(rt, alloc, mirror, turn) && shows(rt, alloc, mirror, shown)
 }
 
-fn assert_turns(rt: &impl Abort, alloc: Global, mirror: &mut Mirror<Every>) -> Result<(), Fail> {
+fn assert_turns(rt: &impl Abort, alloc: Global, mirror: &mut Mirror<Every>) {
     for (i, (turn, shown)) in TURNS.iter().enumerate() {
-        assert!(rt; goes_so(alloc, mirror, turn, shown)?, "turn {i}");
+        assert!(rt; goes_so(rt, alloc, mirror, turn, shown), "turn {i}");
     }
-    Ok(())
 }
 
 #[test]
-fn mirrors_answers(rt: HostRuntime) -> Result<(), Fail> {
-    let root = RootPath::read(rt.alloc(), "/r")?;
-    let mut mirror = Mirror::new(rt.alloc(), root, Every)?;
-    assert!(rt; shows(rt.alloc(), &mirror, &NEW)?, "new");
-    assert_turns(&rt, rt.alloc(), &mut mirror)
+fn mirrors_answers(rt: HostRuntime) {
+    let root = RootPath::read(rt.alloc(), "/r").expect(&rt, "a root path");
+    let mut mirror = Mirror::new(rt.alloc(), root, Every).expect(&rt, "a mirror");
+    assert!(rt; shows(&rt, rt.alloc(), &mirror, &NEW), "new");
+    assert_turns(&rt, rt.alloc(), &mut mirror);
 }
 
 #[test]
-fn refuses_tests_of_more_than_the_path(rt: HostRuntime) -> Result<(), Fail> {
-    let root = RootPath::read(rt.alloc(), "/r")?;
+fn refuses_tests_of_more_than_the_path(rt: HostRuntime) {
+    let root = RootPath::read(rt.alloc(), "/r").expect(&rt, "a root path");
     let refused = Mirror::new(rt.alloc(), root, Smaller { size: 5 }).err();
     assert!(rt; refused == Some(Refusal::BadExpression));
-    Ok(())
 }

@@ -2,16 +2,16 @@
 use super::{answer_since, clock, rendered_by};
 use crate::making::{Observed, observed};
 use std::alloc::Global;
-use std::test::Fail;
+use std::process::Abort;
 use wm_disk::Refusal;
 use wm_names::{Entry, Kind, Meta, RelPath};
 use wm_since::{Answer, Every, Field, Fields, Listed, ListedFiles};
 
 /// A file that came into being at tick 9 and changed last at tick 104.
-fn changed(alloc: Global, kind: Kind) -> Result<Listed, Fail> {
-    Ok(Listed {
+fn changed(rt: &impl Abort, alloc: Global, kind: Kind) -> Listed {
+    Listed {
         entry: Entry {
-            path: RelPath::read(alloc, "a/b.c")?,
+            path: RelPath::read(alloc, "a/b.c").expect(rt, "a path"),
             exists: true,
             meta: Meta {
                 kind,
@@ -22,20 +22,20 @@ fn changed(alloc: Global, kind: Kind) -> Result<Listed, Fail> {
         is_new: false,
         last: 104,
         created: 9,
-    })
+    }
 }
 
 /// An answer at tick 105 of root 2 in incarnation 7, with a file of each of these kinds.
-fn told(alloc: Global, kinds: &[Kind]) -> Result<Answer, Fail> {
+fn told(rt: &impl Abort, alloc: Global, kinds: &[Kind]) -> Answer {
     let mut files = Vec::new(alloc);
     for kind in kinds {
-        files.push(changed(alloc, *kind)?)?;
+        files.push(changed(rt, alloc, *kind)).expect(rt, "memory");
     }
-    Ok(Answer {
+    Answer {
         clock: clock(7, 2, 105),
         fresh: false,
         files: ListedFiles::new(files),
-    })
+    }
 }
 
 /// The kinds of the files of an answer, the names of fields, and what is shown of the files.
@@ -84,45 +84,42 @@ const RENDERED: &[Row] = &[
 ];
 
 /// Whether an answer is rendered as told.
-fn renders_so(alloc: Global, row: &Row) -> Result<bool, Fail> {
+fn renders_so(rt: &impl Abort, alloc: Global, row: &Row) -> bool {
     let (kinds, names, wanted) = *row;
-    let answer = told(alloc, kinds)?;
-    Ok(rendered_by(alloc, &answer, names)?.as_str() == wanted)
+    let answer = told(rt, alloc, kinds);
+    rendered_by(rt, alloc, &answer, names).as_str() == wanted
 }
 
 #[test]
-fn renders_fields_of_files(rt: HostRuntime) -> Result<(), Fail> {
+fn renders_fields_of_files(rt: HostRuntime) {
     for (i, row) in RENDERED.iter().enumerate() {
-        assert!(rt; renders_so(rt.alloc(), row)?, "row {i}");
+        assert!(rt; renders_so(&rt, rt.alloc(), row), "row {i}");
     }
-    Ok(())
 }
 
 /// A file is of 3 bytes at tick 2 and of 4 at tick 3.
 const GROWN: Observed = &[(10, &[("a.c", Some(3))]), (10, &[("a.c", Some(4))])];
 
 /// Its clocks since tick 1.
-fn clocks(alloc: Global) -> Result<String, Fail> {
-    let view = observed(alloc, &[], GROWN)?;
-    let answer = answer_since(alloc, &view, Some(1), Every)?;
-    rendered_by(alloc, &answer, &["oclock", "name", "cclock"])
+fn clocks(rt: &impl Abort, alloc: Global) -> String {
+    let view = observed(rt, alloc, &[], GROWN);
+    let answer = answer_since(rt, alloc, &view, Some(1), Every);
+    rendered_by(rt, alloc, &answer, &["oclock", "name", "cclock"])
 }
 
 const CLOCKS: &str = "[{\"cclock\":\"c:1:1:2\",\"name\":\"a.c\",\"oclock\":\"c:1:1:3\"}]";
 
 #[test]
-fn renders_the_clocks_of_a_view(rt: HostRuntime) -> Result<(), Fail> {
-    assert!(rt; clocks(rt.alloc())?.as_str() == CLOCKS);
-    Ok(())
+fn renders_the_clocks_of_a_view(rt: HostRuntime) {
+    assert!(rt; clocks(&rt, rt.alloc()).as_str() == CLOCKS);
 }
 
 const DEFAULT: &[Field] = &[Field::Exists, Field::Name, Field::New, Field::Size];
 
 #[test]
-fn has_default_fields(rt: HostRuntime) -> Result<(), Fail> {
-    let fields = Fields::default_fields(rt.alloc())?;
+fn has_default_fields(rt: HostRuntime) {
+    let fields = Fields::default_fields(rt.alloc()).expect(&rt, "memory");
     assert!(rt; fields.as_slice() == DEFAULT);
-    Ok(())
 }
 
 const REFUSED: &[&[&str]] = &[

@@ -3,18 +3,17 @@ use super::{Smaller, clock, rendered};
 use crate::making::{Observed, observe, observed, ready_with};
 use std::alloc::Global;
 use std::process::Abort;
-use std::test::Fail;
 use wm_disk::Refusal;
 use wm_since::{Answer, Every, Fields, Query, Test, answer};
 use wm_view::{Op, View};
 
 /// An answer as a text: its clock, whether it is fresh, and its files as JSON.
-fn shown(alloc: Global, answer: &Answer) -> Result<String, Fail> {
-    let clock = answer.clock.text(alloc)?;
-    let fields = Fields::default_fields(alloc)?;
-    let files = rendered(alloc, answer, &fields)?;
+fn shown(rt: &impl Abort, alloc: Global, answer: &Answer) -> String {
+    let clock = answer.clock.text(alloc).expect(rt, "memory");
+    let fields = Fields::default_fields(alloc).expect(rt, "memory");
+    let files = rendered(rt, alloc, answer, &fields);
     let fresh = if answer.fresh { " fresh" } else { "" };
-    Ok(format!(in alloc; "{clock}{fresh} {files}")?)
+    format!(in alloc; "{clock}{fresh} {files}").expect(rt, "memory")
 }
 
 /// A clock to ask from, in numbers: its incarnation, its root and its tick.
@@ -35,13 +34,14 @@ fn query<T: Test>(since: Since, test: T, empty_on_fresh: bool) -> Query<T> {
 
 /// Whether a question is answered with this text.
 fn answers<T: Test>(
+    rt: &impl Abort,
     alloc: Global,
     view: &View,
     query: &Query<T>,
     wanted: &str,
-) -> Result<bool, Fail> {
-    let answer = answer(alloc, view, query)?;
-    Ok(shown(alloc, &answer)?.as_str() == wanted)
+) -> bool {
+    let answer = answer(alloc, view, query).expect(rt, "an answer");
+    shown(rt, alloc, &answer).as_str() == wanted
 }
 
 /// What is observed, and what is then told of the changes since a tick.
@@ -71,10 +71,11 @@ const SESSION: &[Told] = &[
 ];
 
 /// Whether this is told after these observations.
-fn tells(alloc: Global, view: &mut View, row: &Told) -> Result<bool, Fail> {
+fn tells(rt: &impl Abort, alloc: Global, view: &mut View, row: &Told) -> bool {
     let (seen, since, wanted) = *row;
-    observe(alloc, view, seen)?;
+    observe(rt, alloc, view, seen);
     answers(
+        rt,
         alloc,
         view,
         &query(Some((1, 1, since)), Every, false),
@@ -83,12 +84,11 @@ fn tells(alloc: Global, view: &mut View, row: &Told) -> Result<bool, Fail> {
 }
 
 #[test]
-fn tells_what_changed(rt: HostRuntime) -> Result<(), Fail> {
-    let mut view = ready_with(rt.alloc(), &[])?;
+fn tells_what_changed(rt: HostRuntime) {
+    let mut view = ready_with(&rt, rt.alloc(), &[]);
     for row in SESSION {
-        assert!(rt; tells(rt.alloc(), &mut view, row)?, "{}", row.2);
+        assert!(rt; tells(&rt, rt.alloc(), &mut view, row), "{}", row.2);
     }
-    Ok(())
 }
 
 /// Such a session, up to tick 7.
@@ -104,12 +104,11 @@ const WORKED: Observed = &[
 /// A clock, whether a fresh answer leaves out the files, and what is told since that clock.
 type Row = (Since, bool, &'static str);
 
-fn assert_tells(rt: &impl Abort, alloc: Global, view: &View, rows: &[Row]) -> Result<(), Fail> {
+fn assert_tells(rt: &impl Abort, alloc: Global, view: &View, rows: &[Row]) {
     for (i, row) in rows.iter().enumerate() {
         let query = query(row.0, Every, row.1);
-        assert!(rt; answers(alloc, view, &query, row.2)?, "row {i}");
+        assert!(rt; answers(rt, alloc, view, &query, row.2), "row {i}");
     }
-    Ok(())
 }
 
 const FRESH: &str =
@@ -129,10 +128,10 @@ const AFTER_ALL: &[Row] = &[
 ];
 
 #[test]
-fn answers_afresh(rt: HostRuntime) -> Result<(), Fail> {
+fn answers_afresh(rt: HostRuntime) {
     let alloc = rt.alloc();
-    let view = observed(alloc, &[], WORKED)?;
-    assert_tells(&rt, alloc, &view, AFTER_ALL)
+    let view = observed(&rt, alloc, &[], WORKED);
+    assert_tells(&rt, alloc, &view, AFTER_ALL);
 }
 
 /// What is told once `t`, which was deleted at tick 6, is forgotten, so that nothing before is known for
@@ -143,11 +142,12 @@ const ONCE_FORGOTTEN: &[Row] = &[
 ];
 
 #[test]
-fn answers_afresh_once_some_is_forgotten(rt: HostRuntime) -> Result<(), Fail> {
+fn answers_afresh_once_some_is_forgotten(rt: HostRuntime) {
     let alloc = rt.alloc();
-    let mut view = observed(alloc, &[], WORKED)?;
-    view.perform(alloc, &Op::AgeOut(30, 20))?;
-    assert_tells(&rt, alloc, &view, ONCE_FORGOTTEN)
+    let mut view = observed(&rt, alloc, &[], WORKED);
+    view.perform(alloc, &Op::AgeOut(30, 20))
+        .expect(&rt, "an operation");
+    assert_tells(&rt, alloc, &view, ONCE_FORGOTTEN);
 }
 
 /// What is told of the files of fewer than 5 bytes.
@@ -155,12 +155,11 @@ const SMALLER: &str =
     "c:1:1:7 [{\"exists\":false,\"name\":\"t\",\"new\":true,\"size\":1},{\"exists\":true,\"name\":\"b.c\",\"new\":true,\"size\":4}]";
 
 #[test]
-fn answers_with_what_passes(rt: HostRuntime) -> Result<(), Fail> {
+fn answers_with_what_passes(rt: HostRuntime) {
     let alloc = rt.alloc();
-    let view = observed(alloc, &[], WORKED)?;
+    let view = observed(&rt, alloc, &[], WORKED);
     let query = query(Some((1, 1, 1)), Smaller { size: 5 }, false);
-    assert!(rt; answers(alloc, &view, &query, SMALLER)?);
-    Ok(())
+    assert!(rt; answers(&rt, alloc, &view, &query, SMALLER));
 }
 
 #[test]

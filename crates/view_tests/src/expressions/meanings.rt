@@ -2,7 +2,6 @@
 use super::{entry, read};
 use std::alloc::Global;
 use std::process::Abort;
-use std::test::Fail;
 use wm_expr::{Expr, every_expression, worked_rows};
 use wm_names::Kind;
 
@@ -16,26 +15,27 @@ const FILES: &[(&str, bool, Kind, u64)] = &[
 ];
 
 /// For each of the files, whether the expression holds of it, as a digit.
-fn digits(alloc: Global, expr: &Expr) -> Result<String, Fail> {
+fn digits(rt: &impl Abort, alloc: Global, expr: &Expr) -> String {
     let mut digits = String::new(alloc);
     for (path, exists, kind, size) in FILES {
-        let entry = entry(alloc, path, *exists, *kind, *size)?;
-        digits.push(if expr.holds(&entry) { '1' } else { '0' })?;
+        let entry = entry(rt, alloc, path, *exists, *kind, *size);
+        digits
+            .push(if expr.holds(&entry) { '1' } else { '0' })
+            .expect(rt, "memory");
     }
-    Ok(digits)
+    digits
 }
 
 /// Whether the copy of an expression holds of just the files whose digit is 1.
-fn holds_so(alloc: Global, text: &str, want: &str) -> Result<bool, Fail> {
-    let copy = read(alloc, text)?.copy(alloc)?;
-    Ok(digits(alloc, &copy)?.as_str() == want)
+fn holds_so(rt: &impl Abort, alloc: Global, text: &str, want: &str) -> bool {
+    let copy = read(rt, alloc, text).copy(alloc).expect(rt, "memory");
+    digits(rt, alloc, &copy).as_str() == want
 }
 
-fn assert_holds(rt: &impl Abort, alloc: Global, rows: &[(&str, &str)]) -> Result<(), Fail> {
+fn assert_holds(rt: &impl Abort, alloc: Global, rows: &[(&str, &str)]) {
     for (text, want) in rows {
-        assert!(rt; holds_so(alloc, text, want)?, "{text}");
+        assert!(rt; holds_so(rt, alloc, text, want), "{text}");
     }
-    Ok(())
 }
 
 const OF_NAMES: &[(&str, &str)] = &[
@@ -58,8 +58,8 @@ const OF_NAMES: &[(&str, &str)] = &[
 ];
 
 #[test]
-fn holds_of_names(rt: HostRuntime) -> Result<(), Fail> {
-    assert_holds(&rt, rt.alloc(), OF_NAMES)
+fn holds_of_names(rt: HostRuntime) {
+    assert_holds(&rt, rt.alloc(), OF_NAMES);
 }
 
 const OF_METADATA: &[(&str, &str)] = &[
@@ -84,8 +84,8 @@ const OF_METADATA: &[(&str, &str)] = &[
 ];
 
 #[test]
-fn holds_of_metadata(rt: HostRuntime) -> Result<(), Fail> {
-    assert_holds(&rt, rt.alloc(), OF_METADATA)
+fn holds_of_metadata(rt: HostRuntime) {
+    assert_holds(&rt, rt.alloc(), OF_METADATA);
 }
 
 const OF_PARTS: &[(&str, &str)] = &[
@@ -105,8 +105,8 @@ const OF_PARTS: &[(&str, &str)] = &[
 ];
 
 #[test]
-fn holds_of_parts(rt: HostRuntime) -> Result<(), Fail> {
-    assert_holds(&rt, rt.alloc(), OF_PARTS)
+fn holds_of_parts(rt: HostRuntime) {
+    assert_holds(&rt, rt.alloc(), OF_PARTS);
 }
 
 /// What exists, of which kind and how many bytes, and whether it is empty.
@@ -121,18 +121,17 @@ const EMPTY: &[(bool, Kind, u64, bool)] = &[
 ];
 
 /// Whether such a file is empty.
-fn is_empty(alloc: Global, exists: bool, kind: Kind, size: u64) -> Result<bool, Fail> {
-    let empty = read(alloc, "\"empty\"")?;
-    Ok(empty.holds(&entry(alloc, "a", exists, kind, size)?))
+fn is_empty(rt: &impl Abort, alloc: Global, exists: bool, kind: Kind, size: u64) -> bool {
+    let empty = read(rt, alloc, "\"empty\"");
+    empty.holds(&entry(rt, alloc, "a", exists, kind, size))
 }
 
 #[test]
-fn tells_what_is_empty(rt: HostRuntime) -> Result<(), Fail> {
+fn tells_what_is_empty(rt: HostRuntime) {
     for (exists, kind, size, want) in EMPTY {
-        let empty = is_empty(rt.alloc(), *exists, *kind, *size)?;
+        let empty = is_empty(&rt, rt.alloc(), *exists, *kind, *size);
         assert!(rt; empty == *want, "{kind:?} of {size}");
     }
-    Ok(())
 }
 
 const PATH_ONLY: &[(&str, bool)] = &[
@@ -154,10 +153,10 @@ const PATH_ONLY: &[(&str, bool)] = &[
 ];
 
 /// Whether an expression, and its copy, read paths alone or don't.
-fn is_path_only_so(alloc: Global, text: &str, want: bool) -> Result<bool, Fail> {
-    let expr = read(alloc, text)?;
-    let copy = expr.copy(alloc)?;
-    Ok(expr.is_path_only() == want && copy.is_path_only() == want)
+fn is_path_only_so(rt: &impl Abort, alloc: Global, text: &str, want: bool) -> bool {
+    let expr = read(rt, alloc, text);
+    let copy = expr.copy(alloc).expect(rt, "memory");
+    expr.is_path_only() == want && copy.is_path_only() == want
 }
 
 /// The laws are functions with no work: that they may be called is all that a run shows.
@@ -167,10 +166,9 @@ fn call_the_laws() {
 }
 
 #[test]
-fn tells_what_reads_paths_alone(rt: HostRuntime) -> Result<(), Fail> {
+fn tells_what_reads_paths_alone(rt: HostRuntime) {
     call_the_laws();
     for (text, want) in PATH_ONLY {
-        assert!(rt; is_path_only_so(rt.alloc(), text, *want)?, "{text}");
+        assert!(rt; is_path_only_so(&rt, rt.alloc(), text, *want), "{text}");
     }
-    Ok(())
 }

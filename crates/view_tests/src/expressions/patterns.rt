@@ -2,26 +2,24 @@
 use super::{entry, read, repeated};
 use std::alloc::Global;
 use std::process::Abort;
-use std::test::Fail;
 use wm_names::Kind;
 
 /// Whether a pattern matches a path, in a scope.
-fn matches(alloc: Global, pattern: &str, scope: &str, path: &str) -> Result<bool, Fail> {
-    let text = format!(in alloc; "[\"match\",\"{pattern}\",\"{scope}\"]")?;
-    let expr = read(alloc, &text)?;
-    let file = entry(alloc, path, true, Kind::File, 1)?;
-    Ok(expr.holds(&file))
+fn matches(rt: &impl Abort, alloc: Global, pattern: &str, scope: &str, path: &str) -> bool {
+    let text = format!(in alloc; "[\"match\",\"{pattern}\",\"{scope}\"]").expect(rt, "memory");
+    let expr = read(rt, alloc, &text);
+    let file = entry(rt, alloc, path, true, Kind::File, 1);
+    expr.holds(&file)
 }
 
 /// A pattern, a path, and whether the one matches the other.
 type Row = (&'static str, &'static str, bool);
 
-fn assert_matches(rt: &impl Abort, alloc: Global, scope: &str, rows: &[Row]) -> Result<(), Fail> {
+fn assert_matches(rt: &impl Abort, alloc: Global, scope: &str, rows: &[Row]) {
     for (pattern, path, want) in rows {
-        let is_matched = matches(alloc, pattern, scope, path)?;
+        let is_matched = matches(rt, alloc, pattern, scope, path);
         assert!(rt; is_matched == *want, "{pattern} on {path}");
     }
-    Ok(())
 }
 
 const BASENAMES: &[Row] = &[
@@ -41,8 +39,8 @@ const BASENAMES: &[Row] = &[
 ];
 
 #[test]
-fn matches_basenames(rt: HostRuntime) -> Result<(), Fail> {
-    assert_matches(&rt, rt.alloc(), "basename", BASENAMES)
+fn matches_basenames(rt: HostRuntime) {
+    assert_matches(&rt, rt.alloc(), "basename", BASENAMES);
 }
 
 const WHOLE_NAMES: &[Row] = &[
@@ -67,28 +65,27 @@ const WHOLE_NAMES: &[Row] = &[
 ];
 
 #[test]
-fn matches_whole_names(rt: HostRuntime) -> Result<(), Fail> {
-    assert_matches(&rt, rt.alloc(), "wholename", WHOLE_NAMES)
+fn matches_whole_names(rt: HostRuntime) {
+    assert_matches(&rt, rt.alloc(), "wholename", WHOLE_NAMES);
 }
 
 /// Whether a pattern of many stars matches a long basename that it almost fits.
-fn matches_long_name(alloc: Global) -> Result<bool, Fail> {
-    let path = repeated(alloc, "", "a", 1024, "")?;
-    let stars = repeated(alloc, "", "*a", 510, "*b")?;
-    matches(alloc, &stars, "basename", &path)
+fn matches_long_name(rt: &impl Abort, alloc: Global) -> bool {
+    let path = repeated(rt, alloc, "", "a", 1024, "");
+    let stars = repeated(rt, alloc, "", "*a", 510, "*b");
+    matches(rt, alloc, &stars, "basename", &path)
 }
 
 /// Whether a pattern of many double stars matches a deep path that it almost fits.
-fn matches_deep_path(alloc: Global) -> Result<bool, Fail> {
-    let path = repeated(alloc, "a", "/a", 511, "")?;
-    let stars = repeated(alloc, "", "**/a/", 200, "b")?;
-    matches(alloc, &stars, "wholename", &path)
+fn matches_deep_path(rt: &impl Abort, alloc: Global) -> bool {
+    let path = repeated(rt, alloc, "a", "/a", 511, "");
+    let stars = repeated(rt, alloc, "", "**/a/", 200, "b");
+    matches(rt, alloc, &stars, "wholename", &path)
 }
 
 // Tried one by one, the runs of these stars would take longer than the world has stood.
 #[test]
-fn answers_hostile_patterns_at_once(rt: HostRuntime) -> Result<(), Fail> {
-    assert!(rt; !matches_long_name(rt.alloc())?);
-    assert!(rt; !matches_deep_path(rt.alloc())?);
-    Ok(())
+fn answers_hostile_patterns_at_once(rt: HostRuntime) {
+    assert!(rt; !matches_long_name(&rt, rt.alloc()));
+    assert!(rt; !matches_deep_path(&rt, rt.alloc()));
 }

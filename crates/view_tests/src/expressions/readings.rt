@@ -3,34 +3,32 @@ use super::repeated;
 use serde_json::Value;
 use std::alloc::Global;
 use std::process::Abort;
-use std::test::Fail;
 use wm_disk::Refusal;
 use wm_expr::{Expr, texts_of};
 
 /// Why a JSON text is no expression; nothing where it is one.
-fn refusal(alloc: Global, text: &str) -> Result<Option<Refusal>, Fail> {
-    let value = Value::from_str(alloc, text)?;
+fn refusal(rt: &impl Abort, alloc: Global, text: &str) -> Option<Refusal> {
+    let value = Value::from_str(alloc, text).expect(rt, "JSON");
     match Expr::read(alloc, &value) {
-        Ok(_) => Ok(None),
-        Err(refusal) => Ok(Some(refusal)),
+        Ok(_) => None,
+        Err(refusal) => Some(refusal),
     }
 }
 
 /// Whether a JSON text is an expression, or is refused as a bad one, as wanted.
-fn is_refused_so(alloc: Global, text: &str, refused: bool) -> Result<bool, Fail> {
+fn is_refused_so(rt: &impl Abort, alloc: Global, text: &str, refused: bool) -> bool {
     let want = if refused {
         Some(Refusal::BadExpression)
     } else {
         None
     };
-    Ok(refusal(alloc, text)? == want)
+    refusal(rt, alloc, text) == want
 }
 
-fn assert_refused(rt: &impl Abort, alloc: Global, texts: &[&str]) -> Result<(), Fail> {
+fn assert_refused(rt: &impl Abort, alloc: Global, texts: &[&str]) {
     for text in texts {
-        assert!(rt; is_refused_so(alloc, text, true)?, "{text}");
+        assert!(rt; is_refused_so(rt, alloc, text, true), "{text}");
     }
-    Ok(())
 }
 
 const NO_LISTS: &[&str] = &[
@@ -56,8 +54,8 @@ const NO_LISTS: &[&str] = &[
 ];
 
 #[test]
-fn refuses_values_that_are_no_lists(rt: HostRuntime) -> Result<(), Fail> {
-    assert_refused(&rt, rt.alloc(), NO_LISTS)
+fn refuses_values_that_are_no_lists(rt: HostRuntime) {
+    assert_refused(&rt, rt.alloc(), NO_LISTS);
 }
 
 const WRONG_PARTS: &[&str] = &[
@@ -86,8 +84,8 @@ const WRONG_PARTS: &[&str] = &[
 ];
 
 #[test]
-fn refuses_wrong_parts(rt: HostRuntime) -> Result<(), Fail> {
-    assert_refused(&rt, rt.alloc(), WRONG_PARTS)
+fn refuses_wrong_parts(rt: HostRuntime) {
+    assert_refused(&rt, rt.alloc(), WRONG_PARTS);
 }
 
 const WRONG_SIZES_AND_PATTERNS: &[&str] = &[
@@ -112,8 +110,8 @@ const WRONG_SIZES_AND_PATTERNS: &[&str] = &[
 ];
 
 #[test]
-fn refuses_wrong_sizes_and_patterns(rt: HostRuntime) -> Result<(), Fail> {
-    assert_refused(&rt, rt.alloc(), WRONG_SIZES_AND_PATTERNS)
+fn refuses_wrong_sizes_and_patterns(rt: HostRuntime) {
+    assert_refused(&rt, rt.alloc(), WRONG_SIZES_AND_PATTERNS);
 }
 
 /// A text with a part so many times in its midst, and whether it is refused: patterns of so many bytes,
@@ -128,37 +126,40 @@ const LENGTHS: &[Length] = &[
 ];
 
 /// Whether such a text is read or refused as told.
-fn is_length_taken_so(alloc: Global, row: &Length) -> Result<bool, Fail> {
+fn is_length_taken_so(rt: &impl Abort, alloc: Global, row: &Length) -> bool {
     let (front, part, times, back, refused) = *row;
-    let text = repeated(alloc, front, part, times, back)?;
-    is_refused_so(alloc, &text, refused)
+    let text = repeated(rt, alloc, front, part, times, back);
+    is_refused_so(rt, alloc, &text, refused)
 }
 
 #[test]
-fn takes_so_long_patterns_and_so_many_terms(rt: HostRuntime) -> Result<(), Fail> {
+fn takes_so_long_patterns_and_so_many_terms(rt: HostRuntime) {
     for row in LENGTHS {
-        assert!(rt; is_length_taken_so(rt.alloc(), row)?, "{} {}", row.0, row.2);
+        assert!(rt;
+            is_length_taken_so(&rt, rt.alloc(), row),
+            "{} {}",
+            row.0,
+            row.2
+        );
     }
-    Ok(())
 }
 
 /// So many terms, each in the one before, and whether they are refused.
 const DEPTHS: &[(u16, bool)] = &[(31, false), (32, true)];
 
 /// Whether a term with so many around it is read or refused as told.
-fn is_depth_taken_so(alloc: Global, levels: u16, refused: bool) -> Result<bool, Fail> {
-    let front = repeated(alloc, "", "[\"not\",", levels, "\"true\"")?;
-    let text = repeated(alloc, &front, "]", levels, "")?;
-    is_refused_so(alloc, &text, refused)
+fn is_depth_taken_so(rt: &impl Abort, alloc: Global, levels: u16, refused: bool) -> bool {
+    let front = repeated(rt, alloc, "", "[\"not\",", levels, "\"true\"");
+    let text = repeated(rt, alloc, &front, "]", levels, "");
+    is_refused_so(rt, alloc, &text, refused)
 }
 
 #[test]
-fn takes_terms_of_bounded_depth(rt: HostRuntime) -> Result<(), Fail> {
+fn takes_terms_of_bounded_depth(rt: HostRuntime) {
     for (levels, refused) in DEPTHS {
-        let is_so = is_depth_taken_so(rt.alloc(), *levels, *refused)?;
+        let is_so = is_depth_taken_so(&rt, rt.alloc(), *levels, *refused);
         assert!(rt; is_so, "{levels} levels");
     }
-    Ok(())
 }
 
 /// Whether these are the same texts in the same order.
@@ -167,16 +168,16 @@ fn are_same(texts: &[&str], want: &[&str]) -> bool {
 }
 
 /// Whether the texts of the JSON array are as wanted; nothing where an item is no text.
-fn are_texts(alloc: Global, array: &str, want: Option<&[&str]>) -> Result<bool, Fail> {
-    let value = Value::from_str(alloc, array)?;
+fn are_texts(rt: &impl Abort, alloc: Global, array: &str, want: Option<&[&str]>) -> bool {
+    let value = Value::from_str(alloc, array).expect(rt, "JSON");
     let Some(items) = value.as_array() else {
-        return Ok(false);
+        return false;
     };
-    Ok(match (texts_of(alloc, items, Refusal::BadField), want) {
+    match (texts_of(alloc, items, Refusal::BadField), want) {
         (Ok(texts), Some(want)) => are_same(&texts, want),
         (Err(Refusal::BadField), None) => true,
         _ => false,
-    })
+    }
 }
 
 const ARRAYS: &[(&str, Option<&[&str]>)] = &[
@@ -187,9 +188,8 @@ const ARRAYS: &[(&str, Option<&[&str]>)] = &[
 ];
 
 #[test]
-fn reads_the_texts_of_an_array(rt: HostRuntime) -> Result<(), Fail> {
+fn reads_the_texts_of_an_array(rt: HostRuntime) {
     for (array, want) in ARRAYS {
-        assert!(rt; are_texts(rt.alloc(), array, *want)?, "{array}");
+        assert!(rt; are_texts(&rt, rt.alloc(), array, *want), "{array}");
     }
-    Ok(())
 }

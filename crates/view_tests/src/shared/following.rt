@@ -6,7 +6,6 @@ use std::alloc::Global;
 use std::marker::Brand;
 use std::process::Abort;
 use std::sync::Wait;
-use std::test::*;
 use wm_share::{Naming, Opened, Viewer};
 use wm_since::Every;
 use wm_subs::{Subscription, SubscriptionName};
@@ -24,38 +23,41 @@ const ROWS: &[(Handed, &str, &str)] = &[
 
 /// What the subscription tells, and `none` where that is nothing.
 fn told<J: Naming>(
+    rt: &impl Abort,
     alloc: Global,
     subscription: &mut Subscription<Every>,
     viewer: &mut Viewer<J>,
-) -> Result<String, Fail> {
-    match subscription.next(alloc, viewer)? {
-        Some(answer) => Ok(shown(alloc, &answer)?),
-        None => Ok(String::from_str(alloc, "none")?),
+) -> String {
+    match subscription.next(alloc, viewer).expect(rt, "an answer") {
+        Some(answer) => shown(rt, alloc, &answer),
+        None => String::from_str(alloc, "none").expect(rt, "memory"),
     }
 }
 
 /// Whether the subscription tells this.
 fn tells<J: Naming>(
+    rt: &impl Abort,
     alloc: Global,
     subscription: &mut Subscription<Every>,
     viewer: &mut Viewer<J>,
     wanted: &str,
-) -> Result<bool, Fail> {
-    Ok(told(alloc, subscription, viewer)?.as_str() == wanted)
+) -> bool {
+    told(rt, alloc, subscription, viewer).as_str() == wanted
 }
 
 /// Whether the row is so, from the state that the rows before left.
-fn holds<J: Naming, R: Wait>(
+fn holds<J: Naming, R: Wait + Abort>(
+    rt: &R,
     alloc: Global,
     keeper: &mut Keeper<'_, J, R>,
     subscription: &mut Subscription<Every>,
     viewer: &mut Viewer<J>,
     row: &(Handed, &str, &str),
-) -> Result<bool, Fail> {
-    hand(alloc, keeper, row.0)?;
-    viewer.learn(&keeper.publish()?);
-    let first = tells(alloc, subscription, viewer, row.1)?;
-    Ok(first && tells(alloc, subscription, viewer, row.2)?)
+) -> bool {
+    hand(rt, alloc, keeper, row.0).expect(rt, "an operation");
+    viewer.learn(&keeper.publish().expect(rt, "a publish"));
+    let first = tells(rt, alloc, subscription, viewer, row.1);
+    first && tells(rt, alloc, subscription, viewer, row.2)
 }
 
 fn assert_follows<J: Naming, R: Wait + Abort>(
@@ -63,23 +65,23 @@ fn assert_follows<J: Naming, R: Wait + Abort>(
     alloc: Global,
     keeper: &mut Keeper<'_, J, R>,
     viewer: &mut Viewer<J>,
-) -> Result<(), Fail> {
-    let mut subscription = Subscription::new(SubscriptionName::read(alloc, "all")?, every());
+) {
+    let name = SubscriptionName::read(alloc, "all").expect(rt, "a name");
+    let mut subscription = Subscription::new(name, every());
     for row in ROWS {
-        assert!(rt; holds(alloc, keeper, &mut subscription, viewer, row)?);
+        assert!(rt; holds(rt, alloc, keeper, &mut subscription, viewer, row));
     }
-    Ok(())
 }
 
-fn followed<J: Naming, R: Wait + Abort>(rt: &R, alloc: Global, opened: Opened) -> Result<(), Fail>
+fn followed<J: Naming, R: Wait + Abort>(rt: &R, alloc: Global, opened: Opened)
     requires { opened.seen.book ≡ J.book }
 {
-    let (mut keeper, mut pool) = share::<J, R>(rt, alloc, opened, 1, 1)?;
-    let mut viewer = pool.take()?;
-    assert_follows(rt, alloc, &mut keeper, &mut viewer)
+    let (mut keeper, mut pool) = share::<J, R>(rt, alloc, opened, 1, 1);
+    let mut viewer = pool.take().expect(rt, "a viewer");
+    assert_follows(rt, alloc, &mut keeper, &mut viewer);
 }
 
 #[test]
-fn follows(rt: HostRuntime) -> Result<(), Fail> {
-    followed::<Brand, _>(&rt, rt.alloc(), Opened::new())
+fn follows(rt: HostRuntime) {
+    followed::<Brand, _>(&rt, rt.alloc(), Opened::new());
 }

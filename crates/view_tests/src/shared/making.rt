@@ -3,6 +3,7 @@ ghost use Rattle.std.specs.Prelude.{◌≡◌};
 
 use crate::making::{file, pair};
 use std::alloc::Global;
+use std::process::Abort;
 use std::sync::Wait;
 use wm_disk::Refusal;
 use wm_names::{Meta, RelPath, Subtree};
@@ -14,17 +15,19 @@ use wm_view::Listing;
 pub type Keeper<'a, J, R> = RootKeeper<J, Shown<J>, &'a R>;
 
 /// The keeper and the viewers of the first share.
-pub fn share<'a, J: Naming, R: Wait>(
+pub fn share<'a, J: Naming, R: Wait + Abort>(
     rt: &'a R,
     alloc: Global,
     opened: Opened,
     incarnation: u64,
     root: u64,
-) -> Result<(Keeper<'a, J, R>, Pool<J>), Refusal>
+) -> (Keeper<'a, J, R>, Pool<J>)
     requires { opened.seen.book ≡ J.book }
 {
     let mut shares: Shares<J> = Shares::new(opened);
-    shares.share(rt, alloc, incarnation, root)
+    shares
+        .share(rt, alloc, incarnation, root)
+        .expect(rt, "a share")
 }
 
 /// What is handed in.
@@ -40,44 +43,48 @@ pub enum Handed {
     Ages(u64, u64),
 }
 
-fn listing(alloc: Global, paths: &[&str]) -> Result<Listing, Refusal> {
+fn listing(rt: &impl Abort, alloc: Global, paths: &[&str]) -> Listing {
     let mut listing = Listing::new(alloc, Subtree::Whole);
     for path in paths {
-        listing.add(RelPath::read(alloc, path)?, file(1))?;
+        let path = RelPath::read(alloc, path).expect(rt, "a path");
+        listing.add(path, file(1)).expect(rt, "an entry");
     }
-    Ok(listing)
+    listing
 }
 
-fn hand_listing<J: Naming, R: Wait>(
+fn hand_listing<J: Naming, R: Wait + Abort>(
+    rt: &R,
     alloc: Global,
     keeper: &mut Keeper<'_, J, R>,
     begun_at: u64,
     paths: &[&str],
 ) -> Result<(), Refusal> {
-    let found = listing(alloc, paths)?;
+    let found = listing(rt, alloc, paths);
     keeper.recrawl(10, begun_at, found)
 }
 
-fn hand_pair<J: Naming, R: Wait>(
+fn hand_pair<J: Naming, R: Wait + Abort>(
+    rt: &R,
     alloc: Global,
     keeper: &mut Keeper<'_, J, R>,
     path: &str,
     state: Option<Meta>,
 ) -> Result<(), Refusal> {
-    let pairs = pair(alloc, path, state)?;
+    let pairs = pair(rt, alloc, path, state);
     keeper.observe(10, pairs)
 }
 
 /// Hands it in.
-pub fn hand<J: Naming, R: Wait>(
+pub fn hand<J: Naming, R: Wait + Abort>(
+    rt: &R,
     alloc: Global,
     keeper: &mut Keeper<'_, J, R>,
     handed: Handed,
 ) -> Result<(), Refusal> {
     match handed {
-        Handed::Lists(begun_at, paths) => hand_listing(alloc, keeper, begun_at, paths),
-        Handed::Is(path, size) => hand_pair(alloc, keeper, path, Some(file(size))),
-        Handed::Gone(path) => hand_pair(alloc, keeper, path, None),
+        Handed::Lists(begun_at, paths) => hand_listing(rt, alloc, keeper, begun_at, paths),
+        Handed::Is(path, size) => hand_pair(rt, alloc, keeper, path, Some(file(size))),
+        Handed::Gone(path) => hand_pair(rt, alloc, keeper, path, None),
         Handed::Ages(time, age) => keeper.age_out(time, age),
     }
 }
@@ -92,35 +99,33 @@ pub fn every() -> Query<Every> {
 }
 
 /// An answer as a text: its clock, whether it is fresh, and its files, a `-` before those that are gone.
-pub fn shown(alloc: Global, answer: &Answer) -> Result<String, Refusal> {
-    let mut text = answer.clock.text(alloc)?;
+pub fn shown(rt: &impl Abort, alloc: Global, answer: &Answer) -> String {
+    let mut text = answer.clock.text(alloc).expect(rt, "memory");
     if answer.fresh {
-        text.push_str(" fresh")?;
+        text.push_str(" fresh").expect(rt, "memory");
     }
     for file in answer.files.as_slice() {
-        text.push_str(if file.entry.exists { " " } else { " -" })?;
-        text.push_str(file.entry.path.as_str())?;
+        text.push_str(if file.entry.exists { " " } else { " -" })
+            .expect(rt, "memory");
+        text.push_str(file.entry.path.as_str()).expect(rt, "memory");
     }
-    Ok(text)
+    text
 }
 
 /// What a viewer answers of every file since no clock, or why it doesn't.
-fn answered<J: Naming>(alloc: Global, viewer: &mut Viewer<J>) -> Result<String, Refusal> {
+fn answered<J: Naming>(rt: &impl Abort, alloc: Global, viewer: &mut Viewer<J>) -> String {
     match viewer.answer(alloc, &every()) {
-        Ok(answer) => shown(alloc, &answer),
-        Err(refusal) => refused(alloc, refusal),
+        Ok(answer) => shown(rt, alloc, &answer),
+        Err(refusal) => String::from_str(alloc, refusal.text()).expect(rt, "memory"),
     }
-}
-
-fn refused(alloc: Global, refusal: Refusal) -> Result<String, Refusal> {
-    Ok(String::from_str(alloc, refusal.text())?)
 }
 
 /// Whether that is what a viewer answers.
 pub fn answers<J: Naming>(
+    rt: &impl Abort,
     alloc: Global,
     viewer: &mut Viewer<J>,
     wanted: &str,
-) -> Result<bool, Refusal> {
-    Ok(answered(alloc, viewer)?.as_str() == wanted)
+) -> bool {
+    answered(rt, alloc, viewer).as_str() == wanted
 }

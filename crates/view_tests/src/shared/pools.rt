@@ -5,19 +5,17 @@ use std::alloc::Global;
 use std::marker::Brand;
 use std::process::Abort;
 use std::sync::Wait;
-use std::test::*;
 use wm_disk::Refusal;
 use wm_share::{MAX_VIEWERS, Naming, Opened, Pool, Shares, Viewer};
 
 /// Takes all the viewers that the pool gives out.
-fn take_all<J: Naming>(pool: &mut Pool<J>, viewers: &mut Vec<Viewer<J>>) -> Result<(), Fail> {
+fn take_all<J: Naming>(rt: &impl Abort, pool: &mut Pool<J>, viewers: &mut Vec<Viewer<J>>) {
     for _ in 0..2 * MAX_VIEWERS {
         match pool.take() {
-            Ok(viewer) => viewers.push(viewer)?,
+            Ok(viewer) => viewers.push(viewer).expect(rt, "memory"),
             Err(_) => break,
         }
     }
-    Ok(())
 }
 
 /// Whether the pool has no viewer to give out.
@@ -36,15 +34,14 @@ fn assert_takes_and_gives<J: Naming>(
     pool: &mut Pool<J>,
     other_pool: &mut Pool<J>,
     viewers: &mut Vec<Viewer<J>>,
-) -> Result<(), Fail> {
-    take_all(pool, viewers)?;
+) {
+    take_all(rt, pool, viewers);
     assert_eq!(rt; viewers.len(), 32);
     assert!(rt; is_empty(pool));
-    pool.give(other_pool.take()?);
+    pool.give(other_pool.take().expect(rt, "a viewer"));
     assert!(rt; is_empty(pool));
-    pool.give(viewers.pop().ok_or("no viewer")?);
+    pool.give(viewers.pop().expect(rt, "a viewer"));
     assert!(rt; has_one(pool));
-    Ok(())
 }
 
 /// Does so beside the pool of another share.
@@ -53,24 +50,20 @@ fn assert_beside_another<J: Naming, R: Wait + Abort>(
     alloc: Global,
     shares: &mut Shares<J>,
     pool: &mut Pool<J>,
-) -> Result<(), Fail> {
-    let (_other_keeper, mut other_pool) = shares.share(rt, alloc, 1, 2)?;
-    assert_takes_and_gives(rt, pool, &mut other_pool, &mut Vec::new(alloc))
+) {
+    let (_other_keeper, mut other_pool) = shares.share(rt, alloc, 1, 2).expect(rt, "a share");
+    assert_takes_and_gives(rt, pool, &mut other_pool, &mut Vec::new(alloc));
 }
 
-fn taken_and_given<J: Naming, R: Wait + Abort>(
-    rt: &R,
-    alloc: Global,
-    opened: Opened,
-) -> Result<(), Fail>
+fn taken_and_given<J: Naming, R: Wait + Abort>(rt: &R, alloc: Global, opened: Opened)
     requires { opened.seen.book ≡ J.book }
 {
     let mut shares: Shares<J> = Shares::new(opened);
-    let (_keeper, mut pool) = shares.share(rt, alloc, 1, 1)?;
-    assert_beside_another(rt, alloc, &mut shares, &mut pool)
+    let (_keeper, mut pool) = shares.share(rt, alloc, 1, 1).expect(rt, "a share");
+    assert_beside_another(rt, alloc, &mut shares, &mut pool);
 }
 
 #[test]
-fn takes_and_gives(rt: HostRuntime) -> Result<(), Fail> {
-    taken_and_given::<Brand, _>(&rt, rt.alloc(), Opened::new())
+fn takes_and_gives(rt: HostRuntime) {
+    taken_and_given::<Brand, _>(&rt, rt.alloc(), Opened::new());
 }

@@ -6,7 +6,6 @@ use std::alloc::Global;
 use std::marker::Brand;
 use std::process::Abort;
 use std::sync::Wait;
-use std::test::*;
 use wm_clock::ClockId;
 use wm_disk::Refusal;
 use wm_share::{Naming, Opened, Pool, ShareId, Shares, Told, Viewer};
@@ -71,25 +70,27 @@ fn is_told<J: Naming>(told: &Told<J>, row: &Row) -> bool {
 }
 
 /// Publishes what waits. Whether this was told, which the viewer learns.
-fn tells<J: Naming, R: Wait>(
+fn tells<J: Naming, R: Wait + Abort>(
+    rt: &R,
     keeper: &mut Keeper<'_, J, R>,
     viewer: &mut Viewer<J>,
     row: &Row,
-) -> Result<bool, Fail> {
-    let told = keeper.publish()?;
+) -> bool {
+    let told = keeper.publish().expect(rt, "a publish");
     viewer.learn(&told);
-    Ok(is_told(&told, row))
+    is_told(&told, row)
 }
 
 /// Whether the row is so, from the state that the rows before left.
-fn holds<J: Naming, R: Wait>(
+fn holds<J: Naming, R: Wait + Abort>(
+    rt: &R,
     alloc: Global,
     keeper: &mut Keeper<'_, J, R>,
     viewer: &mut Viewer<J>,
     row: &Row,
-) -> Result<bool, Fail> {
-    hand(alloc, keeper, row.0)?;
-    Ok(tells(keeper, viewer, row)? && answers(alloc, viewer, row.5)?)
+) -> bool {
+    hand(rt, alloc, keeper, row.0).expect(rt, "an operation");
+    tells(rt, keeper, viewer, row) && answers(rt, alloc, viewer, row.5)
 }
 
 fn assert_publishes<J: Naming, R: Wait + Abort>(
@@ -97,51 +98,48 @@ fn assert_publishes<J: Naming, R: Wait + Abort>(
     alloc: Global,
     keeper: &mut Keeper<'_, J, R>,
     pool: &mut Pool<J>,
-) -> Result<(), Fail> {
-    let mut viewer = pool.take()?;
+) {
+    let mut viewer = pool.take().expect(rt, "a viewer");
     assert!(rt; pool.share() == SHARE && viewer.share() == SHARE);
     for row in ROWS {
-        assert!(rt; holds(alloc, keeper, &mut viewer, row)?);
+        assert!(rt; holds(rt, alloc, keeper, &mut viewer, row));
     }
-    Ok(())
 }
 
-fn published_one_by_one<J: Naming, R: Wait + Abort>(
-    rt: &R,
-    alloc: Global,
-    opened: Opened,
-) -> Result<(), Fail>
+fn published_one_by_one<J: Naming, R: Wait + Abort>(rt: &R, alloc: Global, opened: Opened)
     requires { opened.seen.book ≡ J.book }
 {
-    let (mut keeper, mut pool) = share::<J, R>(rt, alloc, opened, 3, 7)?;
-    assert_publishes(rt, alloc, &mut keeper, &mut pool)
+    let (mut keeper, mut pool) = share::<J, R>(rt, alloc, opened, 3, 7);
+    assert_publishes(rt, alloc, &mut keeper, &mut pool);
 }
 
 #[test]
-fn publishes_one_by_one(rt: HostRuntime) -> Result<(), Fail> {
-    published_one_by_one::<Brand, _>(&rt, rt.alloc(), Opened::new())
+fn publishes_one_by_one(rt: HostRuntime) {
+    published_one_by_one::<Brand, _>(&rt, rt.alloc(), Opened::new());
 }
 
 /// Hands in two operations and publishes them. Whether a viewer saw nothing of them while they waited, and then both.
-fn are_seen_at_once<J: Naming, R: Wait>(
+fn are_seen_at_once<J: Naming, R: Wait + Abort>(
+    rt: &R,
     alloc: Global,
     keeper: &mut Keeper<'_, J, R>,
     viewer: &mut Viewer<J>,
-) -> Result<bool, Fail> {
-    hand(alloc, keeper, Handed::Lists(0, &["b"]))?;
-    hand(alloc, keeper, Handed::Is("a", 5))?;
-    let saw_nothing = answers(alloc, viewer, "6 NotReady")?;
-    let told_two = keeper.publish()?.number() == 2;
-    Ok(saw_nothing && told_two && answers(alloc, viewer, "c:3:7:2 fresh a b")?)
+) -> bool {
+    hand(rt, alloc, keeper, Handed::Lists(0, &["b"])).expect(rt, "an operation");
+    hand(rt, alloc, keeper, Handed::Is("a", 5)).expect(rt, "an operation");
+    let saw_nothing = answers(rt, alloc, viewer, "6 NotReady");
+    let told_two = keeper.publish().expect(rt, "a publish").number() == 2;
+    saw_nothing && told_two && answers(rt, alloc, viewer, "c:3:7:2 fresh a b")
 }
 
 /// The same of a keeper that is then gone.
-fn are_seen_before_it_goes<J: Naming, R: Wait>(
+fn are_seen_before_it_goes<J: Naming, R: Wait + Abort>(
+    rt: &R,
     alloc: Global,
     mut keeper: Keeper<'_, J, R>,
     viewer: &mut Viewer<J>,
-) -> Result<bool, Fail> {
-    are_seen_at_once(alloc, &mut keeper, viewer)
+) -> bool {
+    are_seen_at_once(rt, alloc, &mut keeper, viewer)
 }
 
 fn assert_seen_at_once<J: Naming, R: Wait + Abort>(
@@ -149,37 +147,33 @@ fn assert_seen_at_once<J: Naming, R: Wait + Abort>(
     alloc: Global,
     keeper: Keeper<'_, J, R>,
     viewer: &mut Viewer<J>,
-) -> Result<(), Fail> {
-    assert!(rt; are_seen_before_it_goes(alloc, keeper, viewer)?);
-    assert!(rt; answers(alloc, viewer, "18 NoPlace")?);
-    Ok(())
+) {
+    assert!(rt; are_seen_before_it_goes(rt, alloc, keeper, viewer));
+    assert!(rt; answers(rt, alloc, viewer, "18 NoPlace"));
 }
 
-fn published_at_once<J: Naming, R: Wait + Abort>(
-    rt: &R,
-    alloc: Global,
-    opened: Opened,
-) -> Result<(), Fail>
+fn published_at_once<J: Naming, R: Wait + Abort>(rt: &R, alloc: Global, opened: Opened)
     requires { opened.seen.book ≡ J.book }
 {
-    let (keeper, mut pool) = share::<J, R>(rt, alloc, opened, 3, 7)?;
-    let mut viewer = pool.take()?;
-    assert_seen_at_once(rt, alloc, keeper, &mut viewer)
+    let (keeper, mut pool) = share::<J, R>(rt, alloc, opened, 3, 7);
+    let mut viewer = pool.take().expect(rt, "a viewer");
+    assert_seen_at_once(rt, alloc, keeper, &mut viewer);
 }
 
 #[test]
-fn publishes_at_once(rt: HostRuntime) -> Result<(), Fail> {
-    published_at_once::<Brand, _>(&rt, rt.alloc(), Opened::new())
+fn publishes_at_once(rt: HostRuntime) {
+    published_at_once::<Brand, _>(&rt, rt.alloc(), Opened::new());
 }
 
 /// Publishes what waits, and tells a viewer: the number of the share that was published.
-fn tell<J: Naming, R: Wait>(
+fn tell<J: Naming, R: Wait + Abort>(
+    rt: &R,
     keeper: &mut Keeper<'_, J, R>,
     viewer: &mut Viewer<J>,
-) -> Result<u64, Fail> {
-    let told = keeper.publish()?;
+) -> u64 {
+    let told = keeper.publish().expect(rt, "a publish");
     viewer.learn(&told);
-    Ok(told.share().number)
+    told.share().number
 }
 
 /// What is published on one root is told to a viewer of another, which learns nothing of it.
@@ -188,12 +182,11 @@ fn assert_no_concern<J: Naming, R: Wait + Abort>(
     alloc: Global,
     keeper: &mut Keeper<'_, J, R>,
     other_pool: &mut Pool<J>,
-) -> Result<(), Fail> {
-    hand(alloc, keeper, Handed::Lists(0, &["b"]))?;
-    let mut other = other_pool.take()?;
-    assert!(rt; tell(keeper, &mut other)? == 0 && other.share().number == 1);
-    assert!(rt; answers(alloc, &mut other, "6 NotReady")?);
-    Ok(())
+) {
+    hand(rt, alloc, keeper, Handed::Lists(0, &["b"])).expect(rt, "an operation");
+    let mut other = other_pool.take().expect(rt, "a viewer");
+    assert!(rt; tell(rt, keeper, &mut other) == 0 && other.share().number == 1);
+    assert!(rt; answers(rt, alloc, &mut other, "6 NotReady"));
 }
 
 /// Publishes on the first share, beside a second one.
@@ -202,24 +195,20 @@ fn publish_beside_another<J: Naming, R: Wait + Abort>(
     alloc: Global,
     shares: &mut Shares<J>,
     keeper: &mut Keeper<'_, J, R>,
-) -> Result<(), Fail> {
-    let (_other_keeper, mut other_pool) = shares.share(rt, alloc, 3, 8)?;
-    assert_no_concern(rt, alloc, keeper, &mut other_pool)
+) {
+    let (_other_keeper, mut other_pool) = shares.share(rt, alloc, 3, 8).expect(rt, "a share");
+    assert_no_concern(rt, alloc, keeper, &mut other_pool);
 }
 
-fn published_on_one<J: Naming, R: Wait + Abort>(
-    rt: &R,
-    alloc: Global,
-    opened: Opened,
-) -> Result<(), Fail>
+fn published_on_one<J: Naming, R: Wait + Abort>(rt: &R, alloc: Global, opened: Opened)
     requires { opened.seen.book ≡ J.book }
 {
     let mut shares: Shares<J> = Shares::new(opened);
-    let (mut keeper, _pool) = shares.share(rt, alloc, 3, 7)?;
-    publish_beside_another(rt, alloc, &mut shares, &mut keeper)
+    let (mut keeper, _pool) = shares.share(rt, alloc, 3, 7).expect(rt, "a share");
+    publish_beside_another(rt, alloc, &mut shares, &mut keeper);
 }
 
 #[test]
-fn publishes_on_one_of_two(rt: HostRuntime) -> Result<(), Fail> {
-    published_on_one::<Brand, _>(&rt, rt.alloc(), Opened::new())
+fn publishes_on_one_of_two(rt: HostRuntime) {
+    published_on_one::<Brand, _>(&rt, rt.alloc(), Opened::new());
 }

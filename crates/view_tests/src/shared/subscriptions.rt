@@ -7,7 +7,7 @@ mod telling;
 use crate::making::{file, pair};
 use crate::shared::making::shown;
 use std::alloc::Global;
-use std::test::Fail;
+use std::process::Abort;
 use wm_clock::ClockId;
 use wm_names::Subtree;
 use wm_since::{Answer, Every, Query};
@@ -26,10 +26,11 @@ fn clock(tick: u64) -> ClockId {
 /// A subscription to every file since a tick of root 1 in incarnation 1, and since no clock where
 /// there is none.
 fn subscription(
+    rt: &impl Abort,
     alloc: Global,
     name: &str,
     since: Option<u64>,
-) -> Result<Subscription<Every>, Fail> {
+) -> Subscription<Every> {
     let since = match since {
         Some(tick) => Some(clock(tick)),
         None => None,
@@ -39,7 +40,8 @@ fn subscription(
         test: Every,
         empty_on_fresh: false,
     };
-    Ok(Subscription::new(SubscriptionName::read(alloc, name)?, query))
+    let name = SubscriptionName::read(alloc, name).expect(rt, "a name");
+    Subscription::new(name, query)
 }
 
 /// What happens to a view.
@@ -56,27 +58,27 @@ enum Event {
 }
 
 /// What happens at moment 10, and what is forgotten at moment 30.
-fn op_of(alloc: Global, event: &Event) -> Result<Op, Fail> {
-    Ok(match *event {
+fn op_of(rt: &impl Abort, alloc: Global, event: &Event) -> Op {
+    match *event {
         Event::Begins => Op::Recrawl(10, 0, Listing::new(alloc, Subtree::Whole)),
-        Event::Is(path, size) => Op::Observe(10, pair(alloc, path, Some(file(size)))?),
-        Event::Gone(path) => Op::Observe(10, pair(alloc, path, None)?),
+        Event::Is(path, size) => Op::Observe(10, pair(rt, alloc, path, Some(file(size)))),
+        Event::Gone(path) => Op::Observe(10, pair(rt, alloc, path, None)),
         Event::Forgets => Op::AgeOut(30, 20),
-    })
+    }
 }
 
 /// Lets these events happen, one after the other.
-fn happen(alloc: Global, view: &mut View, events: &[Event]) -> Result<(), Fail> {
+fn happen(rt: &impl Abort, alloc: Global, view: &mut View, events: &[Event]) {
     for event in events {
-        view.perform(alloc, &op_of(alloc, event)?)?;
+        view.perform(alloc, &op_of(rt, alloc, event))
+            .expect(rt, "an operation");
     }
-    Ok(())
 }
 
 /// What is told, and `none` where nothing is.
-fn told(alloc: Global, answer: &Option<Answer>) -> Result<String, Fail> {
+fn told(rt: &impl Abort, alloc: Global, answer: &Option<Answer>) -> String {
     match answer {
-        Some(answer) => Ok(shown(alloc, answer)?),
-        None => Ok(String::from_str(alloc, "none")?),
+        Some(answer) => shown(rt, alloc, answer),
+        None => String::from_str(alloc, "none").expect(rt, "memory"),
     }
 }

@@ -3,16 +3,15 @@ ghost use Rattle.std.specs.Prelude.{◌≡◌};
 
 use crate::shared::making::{Handed, Keeper, answers, every, hand, share};
 use crossbeam_channel::{Receiver, Sender};
-use std::alloc::{Alloc, Global};
+use std::alloc::Global;
 use std::marker::Brand;
 use std::process::Abort;
 use std::sync::Wait;
-use std::test::*;
 use std::thread::{Threads, join};
 use wm_share::{Naming, Opened, Told, Viewer};
 
 /// Publishes each of these, and hands on what was told.
-fn publish_each<J: Naming, R: Wait>(
+fn publish_each<J: Naming, R: Wait + Abort>(
     rt: &R,
     alloc: Global,
     keeper: &mut Keeper<'_, J, R>,
@@ -23,7 +22,7 @@ fn publish_each<J: Naming, R: Wait>(
         Handed::Is("a", 5),
         Handed::Gone("b"),
     ] {
-        if hand(alloc, keeper, handed).is_err() {
+        if hand(rt, alloc, keeper, handed).is_err() {
             return false;
         }
         let Ok(told) = keeper.publish() else {
@@ -81,19 +80,19 @@ fn read_each<J: Naming, R: Wait>(
 }
 
 /// Whether one thread publishes and another one reads what was told.
-fn are_read<J: Naming + Send + Sync, R: Threads + Wait + Sync>(
+fn are_read<J: Naming + Send + Sync, R: Threads + Wait + Abort + Sync>(
     rt: &R,
     alloc: Global,
     keeper: &mut Keeper<'_, J, R>,
     viewer: &mut Viewer<J>,
-) -> Result<bool, Fail> {
-    let (to, from) = crossbeam_channel::unbounded(alloc)?;
+) -> bool {
+    let (to, from) = crossbeam_channel::unbounded(alloc).expect(rt, "memory");
     let (published, read) = join(
         rt,
         || publish_each(rt, alloc, keeper, &to),
         || read_each(rt, alloc, viewer, &from),
     );
-    Ok(published && read)
+    published && read
 }
 
 fn assert_read<J: Naming + Send + Sync, R: Threads + Wait + Abort + Sync>(
@@ -101,25 +100,24 @@ fn assert_read<J: Naming + Send + Sync, R: Threads + Wait + Abort + Sync>(
     alloc: Global,
     keeper: &mut Keeper<'_, J, R>,
     viewer: &mut Viewer<J>,
-) -> Result<(), Fail> {
-    assert!(rt; are_read(rt, alloc, keeper, viewer)?);
-    assert!(rt; answers(alloc, viewer, "c:1:1:3 fresh a")?);
-    Ok(())
+) {
+    assert!(rt; are_read(rt, alloc, keeper, viewer));
+    assert!(rt; answers(rt, alloc, viewer, "c:1:1:3 fresh a"));
 }
 
 fn read_what_was_told<J: Naming + Send + Sync, R: Threads + Wait + Abort + Sync>(
     rt: &R,
     alloc: Global,
     opened: Opened,
-) -> Result<(), Fail>
+)
     requires { opened.seen.book ≡ J.book }
 {
-    let (mut keeper, mut pool) = share::<J, R>(rt, alloc, opened, 1, 1)?;
-    let mut viewer = pool.take()?;
-    assert_read(rt, alloc, &mut keeper, &mut viewer)
+    let (mut keeper, mut pool) = share::<J, R>(rt, alloc, opened, 1, 1);
+    let mut viewer = pool.take().expect(rt, "a viewer");
+    assert_read(rt, alloc, &mut keeper, &mut viewer);
 }
 
 #[test]
-fn told_is_read(rt: HostRuntime) -> Result<(), Fail> {
-    read_what_was_told::<Brand, _>(&rt, rt.alloc(), Opened::new())
+fn told_is_read(rt: HostRuntime) {
+    read_what_was_told::<Brand, _>(&rt, rt.alloc(), Opened::new());
 }

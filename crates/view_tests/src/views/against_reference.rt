@@ -2,7 +2,7 @@
 use super::generated::{Dice, Mix};
 use super::reference::{Listed, Reference};
 use std::alloc::Global;
-use std::test::Fail;
+use std::process::Abort;
 use wm_disk::Refusal;
 use wm_names::RelPath;
 use wm_view::{Known, Op, View};
@@ -35,30 +35,31 @@ fn lists(listed: &[(RelPath, Known)], wanted: &[Listed]) -> bool {
 
 /// Whether both list the same as changed after a tick.
 fn change_alike(
+    rt: &impl Abort,
     alloc: Global,
     view: &View,
     reference: &Reference,
     since: u64,
-) -> Result<bool, Fail> {
-    let listed = view.changed_after(alloc, since)?;
-    Ok(lists(&listed, &reference.changed_after(alloc, since)?))
+) -> bool {
+    let listed = view.changed_after(alloc, since).expect(rt, "memory");
+    lists(&listed, &reference.changed_after(rt, alloc, since))
 }
 
 /// Whether both list the same as existing.
-fn exist_alike(alloc: Global, view: &View, reference: &Reference) -> Result<bool, Fail> {
-    let listed = view.existing(alloc)?;
-    Ok(lists(&listed, &reference.existing(alloc)?))
+fn exist_alike(rt: &impl Abort, alloc: Global, view: &View, reference: &Reference) -> bool {
+    let listed = view.existing(alloc).expect(rt, "memory");
+    lists(&listed, &reference.existing(rt, alloc))
 }
 
 /// Whether both list the same after each of some ticks, and as existing.
-fn list_alike(alloc: Global, view: &View, reference: &Reference) -> Result<bool, Fail> {
+fn list_alike(rt: &impl Abort, alloc: Global, view: &View, reference: &Reference) -> bool {
     let tick = reference.tick();
     for since in [0, reference.floor(), tick / 2, tick.saturating_sub(1), tick] {
-        if !change_alike(alloc, view, reference, since)? {
-            return Ok(false);
+        if !change_alike(rt, alloc, view, reference, since) {
+            return false;
         }
     }
-    exist_alike(alloc, view, reference)
+    exist_alike(rt, alloc, view, reference)
 }
 
 /// Whether both stand at the same tick and floor.
@@ -70,52 +71,53 @@ fn stand_alike(view: &View, reference: &Reference) -> bool {
 
 /// Whether the operation has the same result on both, and leaves them alike.
 fn go_alike(
+    rt: &impl Abort,
     alloc: Global,
     view: &mut View,
     reference: &mut Reference,
     op: &Op,
-) -> Result<bool, Fail> {
+) -> bool {
     let is_same = view.perform(alloc, op) == reference.perform(op);
-    Ok(is_same && stand_alike(view, reference) && list_alike(alloc, view, reference)?)
+    is_same && stand_alike(view, reference) && list_alike(rt, alloc, view, reference)
 }
 
 /// Whether both go alike through a session.
 fn stay_alike(
+    rt: &impl Abort,
     alloc: Global,
     dice: &mut Dice,
     mix: Mix,
     view: &mut View,
     reference: &mut Reference,
-) -> Result<bool, Fail> {
+) -> bool {
     for _ in 0..OPERATIONS {
-        let op = dice.op(alloc, mix, reference)?;
-        if !go_alike(alloc, view, reference, &op)? {
-            return Ok(false);
+        let op = dice.op(rt, alloc, mix, reference);
+        if !go_alike(rt, alloc, view, reference, &op) {
+            return false;
         }
     }
-    Ok(true)
+    true
 }
 
 /// The seed of the first session in which the view parts from the reference.
-fn parting(alloc: Global, sessions: &Sessions) -> Result<Option<u64>, Fail> {
+fn parting(rt: &impl Abort, alloc: Global, sessions: &Sessions) -> Option<u64> {
     let (first, last, mix) = *sessions;
     for seed in first..=last {
         let mut view = View::new(alloc, 1, 1);
         let mut reference = Reference::new(alloc);
         let mut dice = Dice::new(seed);
-        if !stay_alike(alloc, &mut dice, mix, &mut view, &mut reference)? {
-            return Ok(Some(seed));
+        if !stay_alike(rt, alloc, &mut dice, mix, &mut view, &mut reference) {
+            return Some(seed);
         }
     }
-    Ok(None)
+    None
 }
 
 #[test]
-fn agrees_with_the_whole_history(rt: HostRuntime) -> Result<(), Fail> {
+fn agrees_with_the_whole_history(rt: HostRuntime) {
     for sessions in SESSIONS {
-        assert_eq!(rt; parting(rt.alloc(), sessions)?, None);
+        assert_eq!(rt; parting(&rt, rt.alloc(), sessions), None);
     }
-    Ok(())
 }
 
 /// Results, and how many operations of all sessions have each at least.
@@ -128,48 +130,53 @@ const RESULTS: &[(Result<(), Refusal>, u64)] = &[
 
 /// How many operations of a session have this result.
 fn count_of_session(
+    rt: &impl Abort,
     alloc: Global,
     dice: &mut Dice,
     mix: Mix,
     reference: &mut Reference,
     wanted: Result<(), Refusal>,
-) -> Result<u64, Fail> {
+) -> u64 {
     let mut count = 0u64;
     for _ in 0..OPERATIONS {
-        let op = dice.op(alloc, mix, reference)?;
+        let op = dice.op(rt, alloc, mix, reference);
         if reference.perform(&op) == wanted {
             count = count.saturating_add(1);
         }
     }
-    Ok(count)
+    count
 }
 
 /// How many operations of some sessions have it.
-fn count_of(alloc: Global, sessions: &Sessions, wanted: Result<(), Refusal>) -> Result<u64, Fail> {
+fn count_of(
+    rt: &impl Abort,
+    alloc: Global,
+    sessions: &Sessions,
+    wanted: Result<(), Refusal>,
+) -> u64 {
     let (first, last, mix) = *sessions;
     let mut count = 0u64;
     for seed in first..=last {
         let mut reference = Reference::new(alloc);
         let mut dice = Dice::new(seed);
-        let here = count_of_session(alloc, &mut dice, mix, &mut reference, wanted)?;
+        let here = count_of_session(rt, alloc, &mut dice, mix, &mut reference, wanted);
         count = count.saturating_add(here);
     }
-    Ok(count)
+    count
 }
 
 /// Whether so many operations of all sessions have it.
-fn come_to(alloc: Global, wanted: Result<(), Refusal>, least: u64) -> Result<bool, Fail> {
+fn come_to(rt: &impl Abort, alloc: Global, wanted: Result<(), Refusal>, least: u64) -> bool {
     let mut count = 0u64;
     for sessions in SESSIONS {
-        count = count.saturating_add(count_of(alloc, sessions, wanted)?);
+        count = count.saturating_add(count_of(rt, alloc, sessions, wanted));
     }
-    Ok(least <= count)
+    least <= count
 }
 
 #[test]
-fn sessions_come_to_each_result(rt: HostRuntime) -> Result<(), Fail> {
+fn sessions_come_to_each_result(rt: HostRuntime) {
     for (result, least) in RESULTS {
-        assert!(rt; come_to(rt.alloc(), *result, *least)?);
+        assert!(rt; come_to(&rt, rt.alloc(), *result, *least));
     }
-    Ok(())
 }

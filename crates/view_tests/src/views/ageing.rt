@@ -3,7 +3,7 @@ use super::walking::{Deed, Step, assert_walks};
 use super::{Shown, exists_so, stands};
 use crate::making::{Observed, observed};
 use std::alloc::Global;
-use std::test::Fail;
+use std::process::Abort;
 
 const B: Shown = ("b", true, 4, 3, 8, 180);
 
@@ -40,21 +40,25 @@ const AGE_OUTS: &[AgeOut] = &[
 ];
 
 /// Whether an age-out forgets just what isn't left, and a later one of nothing leaves the floor.
-fn forgets_so(alloc: Global, row: &AgeOut) -> Result<bool, Fail> {
+fn forgets_so(rt: &impl Abort, alloc: Global, row: &AgeOut) -> bool {
     let (time, age, floor, left) = *row;
-    let mut view = observed(alloc, &[], TWO_GONE)?;
-    view.age_out(alloc, time, age)?;
-    let forgot = stands(alloc, &view, (9, floor), 0, left)? && exists_so(alloc, &view, &[B])?;
-    view.age_out(alloc, 0, 0)?;
-    Ok(forgot && stands(alloc, &view, (9, floor), 0, left)?)
+    let mut view = observed(rt, alloc, &[], TWO_GONE);
+    view.age_out(alloc, time, age).expect(rt, "an age-out");
+    let forgot = stands(rt, alloc, &view, (9, floor), 0, left) && exists_so(rt, alloc, &view, &[B]);
+    view.age_out(alloc, 0, 0).expect(rt, "an age-out");
+    forgot && stands(rt, alloc, &view, (9, floor), 0, left)
 }
 
 #[test]
-fn forgets_what_is_gone_for_long_enough(rt: HostRuntime) -> Result<(), Fail> {
+fn forgets_what_is_gone_for_long_enough(rt: HostRuntime) {
     for row in AGE_OUTS {
-        assert!(rt; forgets_so(rt.alloc(), row)?, "{} before {}", row.1, row.0);
+        assert!(rt;
+            forgets_so(&rt, rt.alloc(), row),
+            "{} before {}",
+            row.1,
+            row.0
+        );
     }
-    Ok(())
 }
 
 /// `a` is deleted at tick 2 and the last moment.
@@ -63,19 +67,18 @@ const GONE_LAST: Observed = &[(u64::MAX, &[("a", None)])];
 /// A time and an age, and the floor after that age-out.
 const LAST_MOMENT: &[(u64, u64, u64)] = &[(u64::MAX, 1, 0), (9, 10, 0), (u64::MAX, 0, 2)];
 
-fn floor_after(alloc: Global, time: u64, age: u64) -> Result<u64, Fail> {
-    let mut view = observed(alloc, &[("a", 1)], GONE_LAST)?;
-    view.age_out(alloc, time, age)?;
-    Ok(view.floor())
+fn floor_after(rt: &impl Abort, alloc: Global, time: u64, age: u64) -> u64 {
+    let mut view = observed(rt, alloc, &[("a", 1)], GONE_LAST);
+    view.age_out(alloc, time, age).expect(rt, "an age-out");
+    view.floor()
 }
 
 #[test]
-fn forgets_at_the_last_moment(rt: HostRuntime) -> Result<(), Fail> {
+fn forgets_at_the_last_moment(rt: HostRuntime) {
     for (time, age, floor) in LAST_MOMENT {
-        let is_so = floor_after(rt.alloc(), *time, *age)? == *floor;
+        let is_so = floor_after(&rt, rt.alloc(), *time, *age) == *floor;
         assert!(rt; is_so, "{age} before {time}");
     }
-    Ok(())
 }
 
 /// `a` is forgotten, told of as gone once more, comes back, and is gone again.
@@ -105,8 +108,8 @@ const COMES_BACK: &[Step] = &[
 ];
 
 #[test]
-fn knows_again_what_comes_back(rt: HostRuntime) -> Result<(), Fail> {
+fn knows_again_what_comes_back(rt: HostRuntime) {
     let alloc = rt.alloc();
-    let mut view = observed(alloc, &[], TWO_GONE)?;
-    assert_walks(&rt, alloc, &mut view, COMES_BACK, false)
+    let mut view = observed(&rt, alloc, &[], TWO_GONE);
+    assert_walks(&rt, alloc, &mut view, COMES_BACK, false);
 }

@@ -3,8 +3,7 @@ use super::reference::{POOL, Reference};
 use rand_core::{Rng, SeedableRng};
 use rand_xoshiro::SplitMix64;
 use std::alloc::Global;
-use std::test::Fail;
-use wm_disk::Refusal;
+use std::process::Abort;
 use wm_names::{Kind, Meta, RelPath, Subtree};
 use wm_view::{Listing, Op, Pairs};
 
@@ -64,14 +63,14 @@ impl Dice {
         }
     }
 
-    fn path(&mut self, alloc: Global) -> Result<RelPath, Refusal> {
+    fn path(&mut self, rt: &impl Abort, alloc: Global) -> RelPath {
         let place = self.below(POOL.len() as u64) as usize;
         let text = POOL.get(place).copied().unwrap_or("a");
-        RelPath::read(alloc, text)
+        RelPath::read(alloc, text).expect(rt, "a path")
     }
 
     /// Up to seven pairs, and once in a while more than an observation may have, mostly before the first listing.
-    fn pairs(&mut self, alloc: Global, reference: &Reference) -> Result<Pairs, Fail> {
+    fn pairs(&mut self, rt: &impl Abort, alloc: Global, reference: &Reference) -> Pairs {
         let times = if reference.tick() == 0 { 10 } else { 100 };
         let count = if self.once_in(times) {
             65_537
@@ -80,16 +79,18 @@ impl Dice {
         };
         let mut pairs = Vec::new(alloc);
         for _ in 0..count {
-            pairs.push((self.path(alloc)?, self.state()))?;
+            pairs
+                .push((self.path(rt, alloc), self.state()))
+                .expect(rt, "memory");
         }
-        Ok(Pairs::new(pairs))
+        Pairs::new(pairs)
     }
 
-    fn part(&mut self, alloc: Global) -> Result<Subtree, Refusal> {
+    fn part(&mut self, rt: &impl Abort, alloc: Global) -> Subtree {
         if self.once_in(2) {
-            Ok(Subtree::Whole)
+            Subtree::Whole
         } else {
-            Ok(Subtree::Below(self.path(alloc)?))
+            Subtree::Below(self.path(rt, alloc))
         }
     }
 
@@ -102,18 +103,18 @@ impl Dice {
         }
     }
 
-    fn listing(&mut self, alloc: Global, reference: &Reference) -> Result<Listing, Fail> {
-        let mut listing = Listing::new(alloc, self.part(alloc)?);
+    fn listing(&mut self, rt: &impl Abort, alloc: Global, reference: &Reference) -> Listing {
+        let mut listing = Listing::new(alloc, self.part(rt, alloc));
         for (place, text) in POOL.iter().enumerate() {
-            let path = RelPath::read(alloc, text)?;
+            let path = RelPath::read(alloc, text).expect(rt, "a path");
             let found = self.found(reference, place);
             if let Some(meta) = found
                 && listing.subtree().covers(&path)
             {
-                listing.add(path, meta)?;
+                listing.add(path, meta).expect(rt, "an entry");
             }
         }
-        Ok(listing)
+        listing
     }
 
     /// Where a reading began: mostly between the floor and the tick, now and then outside.
@@ -133,7 +134,7 @@ impl Dice {
 
     /// The next operation on a root that stands as the reference does. Before the first listing there are more
     /// recrawls.
-    pub fn op(&mut self, alloc: Global, mix: Mix, reference: &Reference) -> Result<Op, Fail> {
+    pub fn op(&mut self, rt: &impl Abort, alloc: Global, mix: Mix, reference: &Reference) -> Op {
         let (observations, recrawls, age_outs) = mix;
         let listings = observations.saturating_add(recrawls);
         let is_listing = reference.tick() == 0 && self.once_in(3);
@@ -143,13 +144,13 @@ impl Dice {
             self.below(listings.saturating_add(age_outs))
         };
         if drawn < observations {
-            return Ok(Op::Observe(self.moment(), self.pairs(alloc, reference)?));
+            return Op::Observe(self.moment(), self.pairs(rt, alloc, reference));
         }
         if drawn < listings {
             let begun_at = self.begun_at(reference);
-            let listing = self.listing(alloc, reference)?;
-            return Ok(Op::Recrawl(self.moment(), begun_at, listing));
+            let listing = self.listing(rt, alloc, reference);
+            return Op::Recrawl(self.moment(), begun_at, listing);
         }
-        Ok(Op::AgeOut(self.moment(), self.moment()))
+        Op::AgeOut(self.moment(), self.moment())
     }
 }

@@ -2,7 +2,6 @@
 use crate::making::{file, part_of};
 use std::alloc::Global;
 use std::process::Abort;
-use std::test::Fail;
 use wm_disk::Refusal;
 use wm_names::{Meta, RelPath};
 use wm_view::Listing;
@@ -23,13 +22,14 @@ const FOUND: &[(&str, u64)] = &[("x/a", 3), ("x/b", 1), ("x/y/c", 2)];
 
 /// Whether a path is added with this result.
 fn adds(
+    rt: &impl Abort,
     alloc: Global,
     listing: &mut Listing,
     path: &str,
     size: u64,
     wanted: Result<(), Refusal>,
-) -> Result<bool, Fail> {
-    Ok(listing.add(RelPath::read(alloc, path)?, file(size)) == wanted)
+) -> bool {
+    listing.add(RelPath::read(alloc, path).expect(rt, "a path"), file(size)) == wanted
 }
 
 /// Whether a file is the one that is wanted.
@@ -51,22 +51,21 @@ fn finds(files: &[(RelPath, Meta)], wanted: &[(&str, u64)]) -> bool {
 }
 
 /// Whether the part that is listed covers a path and isn't the whole root.
-fn is_part_with(alloc: Global, listing: &Listing, path: &str) -> Result<bool, Fail> {
-    let path = RelPath::read(alloc, path)?;
-    Ok(!listing.subtree().is_whole() && listing.subtree().covers(&path))
+fn is_part_with(rt: &impl Abort, alloc: Global, listing: &Listing, path: &str) -> bool {
+    let path = RelPath::read(alloc, path).expect(rt, "a path");
+    !listing.subtree().is_whole() && listing.subtree().covers(&path)
 }
 
-fn assert_lists(rt: &impl Abort, alloc: Global, listing: &mut Listing) -> Result<(), Fail> {
+fn assert_lists(rt: &impl Abort, alloc: Global, listing: &mut Listing) {
     for (path, size, result) in ADDED {
-        assert!(rt; adds(alloc, listing, path, *size, *result)?, "{path}");
+        assert!(rt; adds(rt, alloc, listing, path, *size, *result), "{path}");
     }
     assert!(rt; finds(listing.files(), FOUND));
-    assert!(rt; is_part_with(alloc, listing, "x/z")?);
-    Ok(())
+    assert!(rt; is_part_with(rt, alloc, listing, "x/z"));
 }
 
 #[test]
-fn lists_each_path_once(rt: HostRuntime) -> Result<(), Fail> {
-    let part = part_of(rt.alloc(), Some("x"))?;
-    assert_lists(&rt, rt.alloc(), &mut Listing::new(rt.alloc(), part))
+fn lists_each_path_once(rt: HostRuntime) {
+    let part = part_of(&rt, rt.alloc(), Some("x"));
+    assert_lists(&rt, rt.alloc(), &mut Listing::new(rt.alloc(), part));
 }

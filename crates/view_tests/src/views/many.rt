@@ -2,7 +2,7 @@
 use super::stands;
 use crate::making::file;
 use std::alloc::Global;
-use std::test::Fail;
+use std::process::Abort;
 use wm_names::{RelPath, Subtree};
 use wm_view::{Listing, Pairs, View};
 
@@ -10,50 +10,54 @@ use wm_view::{Listing, Pairs, View};
 const COUNT: u64 = 65_536;
 
 /// A path of the listing.
-fn numbered(alloc: Global, number: u64) -> Result<RelPath, Fail> {
-    let text = format!(in alloc; "f{number:05}")?;
-    Ok(RelPath::read(alloc, &text)?)
+fn numbered(rt: &impl Abort, alloc: Global, number: u64) -> RelPath {
+    let text = format!(in alloc; "f{number:05}").expect(rt, "memory");
+    RelPath::read(alloc, &text).expect(rt, "a path")
 }
 
 /// The first listing, of empty files.
-fn empty_files(alloc: Global) -> Result<Listing, Fail> {
+fn empty_files(rt: &impl Abort, alloc: Global) -> Listing {
     let mut listing = Listing::new(alloc, Subtree::Whole);
     for number in 0..COUNT {
-        listing.add(numbered(alloc, number)?, file(0))?;
+        let path = numbered(rt, alloc, number);
+        listing.add(path, file(0)).expect(rt, "an entry");
     }
-    Ok(listing)
+    listing
 }
 
-fn ready_with_empty_files(alloc: Global) -> Result<View, Fail> {
+fn ready_with_empty_files(rt: &impl Abort, alloc: Global) -> View {
     let mut view = View::new(alloc, 1, 1);
-    view.recrawl(alloc, 10, 0, &empty_files(alloc)?)?;
-    Ok(view)
+    view.recrawl(alloc, 10, 0, &empty_files(rt, alloc))
+        .expect(rt, "a recrawl");
+    view
 }
 
 /// Whether the view takes in a new size of one path.
-fn takes_size(alloc: Global, view: &mut View, number: u64) -> Result<bool, Fail> {
+fn takes_size(rt: &impl Abort, alloc: Global, view: &mut View, number: u64) -> bool {
     let mut pairs = Vec::new(alloc);
-    pairs.push((numbered(alloc, number)?, Some(file(3))))?;
-    Ok(view.observe(alloc, 20, &Pairs::new(pairs)).is_ok())
+    let path = numbered(rt, alloc, number);
+    pairs.push((path, Some(file(3)))).expect(rt, "memory");
+    view.observe(alloc, 20, &Pairs::new(pairs)).is_ok()
 }
 
 /// Whether it takes in a new size of each path, one after the other.
-fn takes_each_size(alloc: Global, view: &mut View) -> Result<bool, Fail> {
+fn takes_each_size(rt: &impl Abort, alloc: Global, view: &mut View) -> bool {
     for number in 0..COUNT {
-        if !takes_size(alloc, view, number)? {
-            return Ok(false);
+        if !takes_size(rt, alloc, view, number) {
+            return false;
         }
     }
-    Ok(true)
+    true
 }
 
 #[test]
-fn takes_many_observations(rt: HostRuntime) -> Result<(), Fail> {
+fn takes_many_observations(rt: HostRuntime) {
     let alloc = rt.alloc();
-    let mut view = ready_with_empty_files(alloc)?;
-    assert!(rt; takes_each_size(alloc, &mut view)?);
+    let mut view = ready_with_empty_files(&rt, alloc);
+    assert!(rt; takes_each_size(&rt, alloc, &mut view));
     assert!(rt;
         stands(
+            &rt,
             alloc,
             &view,
             (65_537, 0),
@@ -62,7 +66,6 @@ fn takes_many_observations(rt: HostRuntime) -> Result<(), Fail> {
                 ("f65535", true, 3, 1, 65_537, 20),
                 ("f65534", true, 3, 1, 65_536, 20),
             ]
-        )?
+        )
     );
-    Ok(())
 }

@@ -3,7 +3,6 @@ use super::{Shown, exists_so, stands};
 use crate::making::{Told, file, observe_at, pair, ready_with};
 use std::alloc::Global;
 use std::process::Abort;
-use std::test::Fail;
 use wm_disk::Refusal;
 use wm_names::{Kind, Meta, RelPath};
 use wm_view::{Known, Pairs, View};
@@ -53,19 +52,18 @@ const OBSERVATIONS: &[Observation] = &[
 ];
 
 /// Whether an observation of many pairs makes this of a view with `a` and `k`.
-fn takes_so(alloc: Global, row: &Observation) -> Result<bool, Fail> {
+fn takes_so(rt: &impl Abort, alloc: Global, row: &Observation) -> bool {
     let (told, tick, shown) = *row;
-    let mut view = ready_with(alloc, &[("a", 2), ("k", 1)])?;
-    observe_at(alloc, &mut view, 20, told)?;
-    stands(alloc, &view, (tick, 0), 1, shown)
+    let mut view = ready_with(rt, alloc, &[("a", 2), ("k", 1)]);
+    observe_at(rt, alloc, &mut view, 20, told);
+    stands(rt, alloc, &view, (tick, 0), 1, shown)
 }
 
 #[test]
-fn takes_many_pairs_at_once(rt: HostRuntime) -> Result<(), Fail> {
+fn takes_many_pairs_at_once(rt: HostRuntime) {
     for (i, row) in OBSERVATIONS.iter().enumerate() {
-        assert!(rt; takes_so(rt.alloc(), row)?, "observation {i}");
+        assert!(rt; takes_so(&rt, rt.alloc(), row), "observation {i}");
     }
-    Ok(())
 }
 
 /// What is told of `a`, which was a regular file of one byte, and the tick then.
@@ -77,10 +75,11 @@ const METADATA: &[(Kind, u64, u64, u64)] = &[
 ];
 
 /// What an observation of `a` alone makes of a view with it.
-fn with_metadata(alloc: Global, meta: Meta) -> Result<View, Fail> {
-    let mut view = ready_with(alloc, &[("a", 1)])?;
-    view.observe(alloc, 20, &pair(alloc, "a", Some(meta))?)?;
-    Ok(view)
+fn with_metadata(rt: &impl Abort, alloc: Global, meta: Meta) -> View {
+    let mut view = ready_with(rt, alloc, &[("a", 1)]);
+    view.observe(alloc, 20, &pair(rt, alloc, "a", Some(meta)))
+        .expect(rt, "an observation");
+    view
 }
 
 /// Whether one path is listed, with this metadata.
@@ -92,22 +91,21 @@ fn has_one(listed: &[(RelPath, Known)], meta: Meta) -> bool {
 }
 
 /// Whether such an observation leads to this tick, and what it told is there then.
-fn changes_so(alloc: Global, meta: Meta, tick: u64) -> Result<bool, Fail> {
-    let view = with_metadata(alloc, meta)?;
-    Ok(view.tick() == tick && has_one(&view.existing(alloc)?, meta))
+fn changes_so(rt: &impl Abort, alloc: Global, meta: Meta, tick: u64) -> bool {
+    let view = with_metadata(rt, alloc, meta);
+    view.tick() == tick && has_one(&view.existing(alloc).expect(rt, "memory"), meta)
 }
 
 #[test]
-fn changes_by_each_part_of_the_metadata(rt: HostRuntime) -> Result<(), Fail> {
+fn changes_by_each_part_of_the_metadata(rt: HostRuntime) {
     for (kind, size, mtime_ms, tick) in METADATA {
         let meta = Meta {
             kind: *kind,
             size: *size,
             mtime_ms: *mtime_ms,
         };
-        assert!(rt; changes_so(rt.alloc(), meta, *tick)?, "{meta:?}");
+        assert!(rt; changes_so(&rt, rt.alloc(), meta, *tick), "{meta:?}");
     }
-    Ok(())
 }
 
 /// So many pairs, the result of an observation of them, and the tick then.
@@ -117,40 +115,41 @@ const COUNTS: &[(u32, Result<(), Refusal>, u64)] = &[
 ];
 
 /// So many pairs of one path.
-fn pairs_of_one_path(alloc: Global, count: u32) -> Result<Pairs, Fail> {
+fn pairs_of_one_path(rt: &impl Abort, alloc: Global, count: u32) -> Pairs {
     let mut pairs = Vec::new(alloc);
     for _ in 0..count {
-        pairs.push((RelPath::read(alloc, "a")?, Some(file(1))))?;
+        let path = RelPath::read(alloc, "a").expect(rt, "a path");
+        pairs.push((path, Some(file(1)))).expect(rt, "memory");
     }
-    Ok(Pairs::new(pairs))
+    Pairs::new(pairs)
 }
 
 /// Whether an observation of so many pairs has this result, and leads to this tick.
 fn takes_count(
+    rt: &impl Abort,
     alloc: Global,
     view: &mut View,
     count: u32,
     wanted: Result<(), Refusal>,
     tick: u64,
-) -> Result<bool, Fail> {
-    let pairs = pairs_of_one_path(alloc, count)?;
+) -> bool {
+    let pairs = pairs_of_one_path(rt, alloc, count);
     let is_so_long = pairs.as_slice().len() == count as usize;
-    Ok(is_so_long && view.observe(alloc, 20, &pairs) == wanted && view.tick() == tick)
+    is_so_long && view.observe(alloc, 20, &pairs) == wanted && view.tick() == tick
 }
 
-fn assert_counts(rt: &impl Abort, alloc: Global, view: &mut View) -> Result<(), Fail> {
+fn assert_counts(rt: &impl Abort, alloc: Global, view: &mut View) {
     for (count, result, tick) in COUNTS {
         assert!(rt;
-            takes_count(alloc, view, *count, *result, *tick)?,
+            takes_count(rt, alloc, view, *count, *result, *tick),
             "{count}"
         );
     }
-    assert!(rt; exists_so(alloc, view, &[("a", true, 1, 2, 2, 20)])?);
-    Ok(())
+    assert!(rt; exists_so(rt, alloc, view, &[("a", true, 1, 2, 2, 20)]));
 }
 
 #[test]
-fn takes_so_many_pairs(rt: HostRuntime) -> Result<(), Fail> {
-    let mut view = ready_with(rt.alloc(), &[])?;
-    assert_counts(&rt, rt.alloc(), &mut view)
+fn takes_so_many_pairs(rt: HostRuntime) {
+    let mut view = ready_with(&rt, rt.alloc(), &[]);
+    assert_counts(&rt, rt.alloc(), &mut view);
 }

@@ -2,7 +2,7 @@
 use super::{Shown, stands};
 use crate::making::{Found, Observed, listing_of, observed};
 use std::alloc::Global;
-use std::test::Fail;
+use std::process::Abort;
 use wm_view::View;
 
 /// What is read, from which tick on, and what it finds; the tick then, and what has changed after tick 3.
@@ -82,22 +82,22 @@ const FIRST: Found = &[("x", 1), ("x/a", 1), ("x/b", 1), ("xy", 1), ("y/c", 1)];
 const THEN: Observed = &[(20, &[("x/n", Some(1))]), (30, &[("x/a", Some(2))])];
 
 /// Whether a recrawl makes this of a view.
-fn makes(alloc: Global, view: &mut View, row: &Crawl) -> Result<bool, Fail> {
+fn makes(rt: &impl Abort, alloc: Global, view: &mut View, row: &Crawl) -> bool {
     let (top, begun_at, found, tick, shown) = *row;
-    view.recrawl(alloc, 40, begun_at, &listing_of(alloc, top, found)?)?;
-    stands(alloc, view, (tick, 0), 3, shown)
+    view.recrawl(alloc, 40, begun_at, &listing_of(rt, alloc, top, found))
+        .expect(rt, "a recrawl");
+    stands(rt, alloc, view, (tick, 0), 3, shown)
 }
 
 /// Whether it makes that of such a view.
-fn recrawls_so(alloc: Global, row: &Crawl) -> Result<bool, Fail> {
-    let mut view = observed(alloc, FIRST, THEN)?;
-    makes(alloc, &mut view, row)
+fn recrawls_so(rt: &impl Abort, alloc: Global, row: &Crawl) -> bool {
+    let mut view = observed(rt, alloc, FIRST, THEN);
+    makes(rt, alloc, &mut view, row)
 }
 
 #[test]
-fn recrawls_what_did_not_change_since(rt: HostRuntime) -> Result<(), Fail> {
+fn recrawls_what_did_not_change_since(rt: HostRuntime) {
     for (i, row) in RECRAWLS.iter().enumerate() {
-        assert!(rt; recrawls_so(rt.alloc(), row)?, "recrawl {i}");
+        assert!(rt; recrawls_so(&rt, rt.alloc(), row), "recrawl {i}");
     }
-    Ok(())
 }

@@ -1,6 +1,7 @@
 //! A root as its history defines it: every map that it ever was is kept, and all that is asked is found anew
 //! in these. Its paths are those of a pool, so that a map is an array with a place for each of them.
 use std::alloc::Global;
+use std::process::Abort;
 use wm_disk::{NoMemory, Refusal};
 use wm_names::{Meta, Subtree};
 use wm_view::{Known, Listing, Op, Pairs};
@@ -189,35 +190,35 @@ impl Reference {
     }
 
     /// What is known, in the order of the paths.
-    fn all_known(&self, alloc: Global) -> Result<Vec<Listed>, NoMemory> {
+    fn all_known(&self, rt: &impl Abort, alloc: Global) -> Vec<Listed> {
         let mut all = Vec::new(alloc);
         for (path, text) in POOL.iter().enumerate() {
             if let Some(known) = self.known(path) {
-                all.push((*text, known))?;
+                all.push((*text, known)).expect(rt, "memory");
             }
         }
-        Ok(all)
+        all
     }
 
     /// What changed after the tick, the latest change first, at one tick in the order of the paths.
-    pub fn changed_after(&self, alloc: Global, since: u64) -> Result<Vec<Listed>, NoMemory> {
-        let all = self.all_known(alloc)?;
+    pub fn changed_after(&self, rt: &impl Abort, alloc: Global, since: u64) -> Vec<Listed> {
+        let all = self.all_known(rt, alloc);
         let mut changed = Vec::new(alloc);
         for tick in (0..=self.tick()).rev() {
             for listed in &all {
                 if since < tick && listed.1.last == tick {
-                    changed.push(*listed)?;
+                    changed.push(*listed).expect(rt, "memory");
                 }
             }
         }
-        Ok(changed)
+        changed
     }
 
     /// What exists, in the same order.
-    pub fn existing(&self, alloc: Global) -> Result<Vec<Listed>, NoMemory> {
-        let mut existing = self.changed_after(alloc, 0)?;
+    pub fn existing(&self, rt: &impl Abort, alloc: Global) -> Vec<Listed> {
+        let mut existing = self.changed_after(rt, alloc, 0);
         existing.retain(|listed| listed.1.exists);
-        Ok(existing)
+        existing
     }
 
     /// The map now.

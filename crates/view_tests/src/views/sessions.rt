@@ -3,7 +3,6 @@ use super::walking::{Deed, Step, assert_walks};
 use super::{Shown, exists_so, stands};
 use std::alloc::Global;
 use std::process::Abort;
-use std::test::Fail;
 use wm_disk::Refusal;
 use wm_view::View;
 
@@ -69,18 +68,17 @@ const OBSERVED: &[Step] = &[
 /// What exists after that.
 const LEFT: &[Shown] = &[("a.c", true, 5, 7, 7, 70), ("b.c", true, 4, 3, 3, 30)];
 
-fn assert_session(rt: &impl Abort, alloc: Global, view: &mut View) -> Result<(), Fail> {
-    assert_walks(rt, alloc, view, OBSERVED, false)?;
+fn assert_session(rt: &impl Abort, alloc: Global, view: &mut View) {
+    assert_walks(rt, alloc, view, OBSERVED, false);
     assert!(rt; view.ready());
-    assert!(rt; exists_so(alloc, view, LEFT)?);
-    assert!(rt; stands(alloc, view, (7, 0), u64::MAX, &[])?);
-    Ok(())
+    assert!(rt; exists_so(rt, alloc, view, LEFT));
+    assert!(rt; stands(rt, alloc, view, (7, 0), u64::MAX, &[]));
 }
 
 #[test]
-fn follows_a_session(rt: HostRuntime) -> Result<(), Fail> {
+fn follows_a_session(rt: HostRuntime) {
     let mut view = View::new(rt.alloc(), 1, 1);
-    assert_session(&rt, rt.alloc(), &mut view)
+    assert_session(&rt, rt.alloc(), &mut view);
 }
 
 /// What a view refuses before a whole listing that began at tick 0.
@@ -129,20 +127,19 @@ fn is_of_root_5(view: &View, ready: bool) -> bool {
     (view.incarnation(), view.root()) == (3, 5) && view.ready() == ready
 }
 
-fn assert_waits(rt: &impl Abort, alloc: Global, view: &mut View) -> Result<(), Fail> {
+fn assert_waits(rt: &impl Abort, alloc: Global, view: &mut View) {
     assert!(rt; is_of_root_5(view, false));
-    assert_walks(rt, alloc, view, TOO_EARLY, false)?;
+    assert_walks(rt, alloc, view, TOO_EARLY, false);
     assert!(rt; is_of_root_5(view, false));
-    assert!(rt; exists_so(alloc, view, &[])?);
-    assert_walks(rt, alloc, view, FIRST_LISTING, false)?;
+    assert!(rt; exists_so(rt, alloc, view, &[]));
+    assert_walks(rt, alloc, view, FIRST_LISTING, false);
     assert!(rt; is_of_root_5(view, true));
-    Ok(())
 }
 
 #[test]
-fn waits_for_a_whole_listing(rt: HostRuntime) -> Result<(), Fail> {
+fn waits_for_a_whole_listing(rt: HostRuntime) {
     let mut view = View::new(rt.alloc(), 3, 5);
-    assert_waits(&rt, rt.alloc(), &mut view)
+    assert_waits(&rt, rt.alloc(), &mut view);
 }
 
 /// `a` is deleted at tick 2 and forgotten, and recrawls that find nothing begin at some tick.
@@ -217,10 +214,10 @@ const RECRAWLED: &[Step] = &[
 const C_AND_B: &[Shown] = &[("c", true, 1, 3, 3, 30), ("b", true, 1, 1, 1, 10)];
 
 #[test]
-fn recrawls_between_the_floor_and_the_tick(rt: HostRuntime) -> Result<(), Fail> {
+fn recrawls_between_the_floor_and_the_tick(rt: HostRuntime) {
     let alloc = rt.alloc();
     let mut view = View::new(alloc, 1, 1);
-    assert_walks(&rt, alloc, &mut view, RECRAWLED, false)
+    assert_walks(&rt, alloc, &mut view, RECRAWLED, false);
 }
 
 /// Each operation, with what it shows after it.
@@ -264,8 +261,8 @@ const PERFORMED: &[Step] = &[
 ];
 
 #[test]
-fn performs_each_operation(rt: HostRuntime) -> Result<(), Fail> {
+fn performs_each_operation(rt: HostRuntime) {
     let alloc = rt.alloc();
     let mut view = View::new(alloc, 1, 1);
-    assert_walks(&rt, alloc, &mut view, PERFORMED, true)
+    assert_walks(&rt, alloc, &mut view, PERFORMED, true);
 }

@@ -3,7 +3,6 @@ use super::{Shown, stands};
 use crate::making::{Found, Told, listing_of, pairs_of};
 use std::alloc::Global;
 use std::process::Abort;
-use std::test::Fail;
 use wm_disk::Refusal;
 use wm_view::{Op, View};
 
@@ -22,53 +21,60 @@ pub enum Deed {
 pub type Step = (Deed, Result<(), Refusal>, (u64, u64), u64, &'static [Shown]);
 
 /// The deed as a value.
-fn op_of(alloc: Global, deed: &Deed) -> Result<Op, Fail> {
+fn op_of(rt: &impl Abort, alloc: Global, deed: &Deed) -> Op {
     match deed {
-        Deed::Observe(moment, told) => Ok(Op::Observe(*moment, pairs_of(alloc, told)?)),
+        Deed::Observe(moment, told) => Op::Observe(*moment, pairs_of(rt, alloc, told)),
         Deed::Recrawl(moment, begun_at, top, found) => {
-            Ok(Op::Recrawl(*moment, *begun_at, listing_of(alloc, *top, found)?))
+            Op::Recrawl(*moment, *begun_at, listing_of(rt, alloc, *top, found))
         }
-        Deed::AgeOut(time, age) => Ok(Op::AgeOut(*time, *age)),
+        Deed::AgeOut(time, age) => Op::AgeOut(*time, *age),
     }
 }
 
 /// Whether the deed, done as a value, has this result.
 fn performs(
+    rt: &impl Abort,
     alloc: Global,
     view: &mut View,
     deed: &Deed,
     wanted: Result<(), Refusal>,
-) -> Result<bool, Fail> {
-    let op = op_of(alloc, deed)?;
-    Ok(view.perform(alloc, &op) == wanted)
+) -> bool {
+    let op = op_of(rt, alloc, deed);
+    view.perform(alloc, &op) == wanted
 }
 
 /// Whether the deed, done by the method for it, has this result.
 fn does(
+    rt: &impl Abort,
     alloc: Global,
     view: &mut View,
     deed: &Deed,
     wanted: Result<(), Refusal>,
-) -> Result<bool, Fail> {
+) -> bool {
     let result = match deed {
-        Deed::Observe(moment, told) => view.observe(alloc, *moment, &pairs_of(alloc, told)?),
+        Deed::Observe(moment, told) => view.observe(alloc, *moment, &pairs_of(rt, alloc, told)),
         Deed::Recrawl(moment, begun_at, top, found) => {
-            view.recrawl(alloc, *moment, *begun_at, &listing_of(alloc, *top, found)?)
+            view.recrawl(
+                alloc,
+                *moment,
+                *begun_at,
+                &listing_of(rt, alloc, *top, found),
+            )
         }
         Deed::AgeOut(time, age) => view.age_out(alloc, *time, *age),
     };
-    Ok(result == wanted)
+    result == wanted
 }
 
 /// Whether a step goes as told, as a value or by the method for it.
-fn goes_so(alloc: Global, view: &mut View, step: &Step, as_value: bool) -> Result<bool, Fail> {
+fn goes_so(rt: &impl Abort, alloc: Global, view: &mut View, step: &Step, as_value: bool) -> bool {
     let (deed, result, at, since, shown) = step;
     let done = if as_value {
-        performs(alloc, view, deed, *result)?
+        performs(rt, alloc, view, deed, *result)
     } else {
-        does(alloc, view, deed, *result)?
+        does(rt, alloc, view, deed, *result)
     };
-    Ok(done && stands(alloc, view, *at, *since, shown)?)
+    done && stands(rt, alloc, view, *at, *since, shown)
 }
 
 /// Takes the view through the steps, each of which goes as told.
@@ -78,9 +84,8 @@ pub fn assert_walks(
     view: &mut View,
     steps: &[Step],
     as_value: bool,
-) -> Result<(), Fail> {
+) {
     for (i, step) in steps.iter().enumerate() {
-        assert!(rt; goes_so(alloc, view, step, as_value)?, "step {i}");
+        assert!(rt; goes_so(rt, alloc, view, step, as_value), "step {i}");
     }
-    Ok(())
 }

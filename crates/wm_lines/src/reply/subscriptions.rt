@@ -1,6 +1,6 @@
 //! The replies about subscriptions, and the line that is told unasked. Their definitions are in
 //! specs/Replies. Tests: session_tests/src/lines/subscriptions.rt.
-ghost use Rattle.std.specs.Prelude.{◌≡◌, ◌++◌, ◌≤◌, take, vec_len, vec_capacity, IfOk, OnOk, OnErr};
+ghost use Rattle.std.specs.Prelude.{◌≡◌, ◌++◌, ◌+◌, ◌≤◌, take, vec_len, vec_capacity, IfOk, OnOk, OnErr};
 ghost use Rattle.serde_json.specs.Data.{string};
 ghost use Rattle.serde_json.specs.Written.{compact_text};
 ghost use Rattle.serde_json.specs.View.{view};
@@ -8,7 +8,7 @@ ghost use Rattle.wm_lines.specs.AnswerTexts.{due_middle, due_tail, due_text};
 ghost use Rattle.wm_lines.specs.Replies.{due_data, line_text, subscribe_reply, unsubscribe_reply};
 
 use crate::expression::Expression;
-use crate::reply::{HEAD_ROOM, VERSION, put_head, put_line};
+use crate::reply::{HEAD_ROOM, VERSION, line_of, put_head, put_line};
 use serde_json::{Value, json};
 use std::alloc::{AllocError, Global};
 use wm_clock::ClockId;
@@ -24,19 +24,23 @@ fn subscribe(alloc: Global, clock: ClockId, name: &str) -> Result<Value, NoMemor
     Ok(json!(in alloc; {"clock": clock, "subscribe": name, "version": VERSION})?)
 }
 
-/// Appends the reply to `subscribe`, with the clock at which the view stands. An `Err` means that
-/// memory ran out; nothing is appended then.
-pub fn put_subscribe(
+/// The line that `subscribe` is answered with, with the clock at which the view stands, and room for it. An `Err` means
+/// that memory ran out.
+pub fn subscribe_line(
     alloc: Global,
     clock: ClockId,
     name: &SubscriptionName,
     out: &mut Vec<u8>,
-) -> Result<(), NoMemory>
-    ensures ok { OnOk result (out.new.items ≡ out.old.items ++ line_text (subscribe_reply clock name.now)) }
-    ensures err { OnErr result (out.new.items ≡ out.old.items) }
+) -> Result<Vec<u8>, NoMemory>
+    ensures line { IfOk result (λ line. line.items ≡ line_text (subscribe_reply clock name.now)) }
+    ensures fits { IfOk result (λ line. vec_len out.new + vec_len line ≤ vec_capacity out.new) }
+    ensures items { out.new.items ≡ out.old.items }
     ensures room { vec_capacity out.old ≤ vec_capacity out.new }
 {
-    put_line(alloc, &subscribe(alloc, clock, name.as_str())?, out)
+    let value = subscribe(alloc, clock, name.as_str())?;
+    let line = line_of(alloc, &value)?;
+    out.try_reserve(line.len())?;
+    Ok(line)
 }
 
 fn unsubscribe(alloc: Global, is_deleted: bool, name: &str) -> Result<Value, AllocError>

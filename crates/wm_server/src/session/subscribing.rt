@@ -16,30 +16,12 @@ use crate::session::Session;
 use crate::session::front::Front;
 use std::alloc::Global;
 use wm_clock::{ClockId, ClockSpec};
-use wm_disk::{NoMemory, Refusal};
+use wm_disk::Refusal;
 use wm_lines::{Expression, Inquiry, reply};
 use wm_names::RootPath;
 use wm_registry::Command;
 use wm_since::Query;
 use wm_subs::{Subscribed, Subscription, SubscriptionName};
-
-/// The line that tells of a new subscription, and room for it.
-fn line_with_room(
-    alloc: Global,
-    clock: ClockId,
-    name: &SubscriptionName,
-    out: &mut Vec<u8>,
-) -> Result<Vec<u8>, NoMemory>
-    ensures line { IfOk result (λ line. line.items ≡ line_text (subscribe_reply clock name.now)) }
-    ensures fits { IfOk result (λ line. vec_len out.new + vec_len line ≤ vec_capacity out.new) }
-    ensures items { out.new.items ≡ out.old.items }
-    ensures room { vec_capacity out.old ≤ vec_capacity out.new }
-{
-    let mut line = Vec::new(alloc);
-    reply::put_subscribe(alloc, clock, name, &mut line)?;
-    out.try_reserve(line.len())?;
-    Ok(line)
-}
 
 impl<F: Front> Session<F> {
     /// Deletes a watch. The root's subscriptions end where that isn't refused.
@@ -125,7 +107,7 @@ impl<F: Front> Session<F> {
         if !self.subscriptions.has_room(&root, &name) {
             return Err(Refusal::TooMany);
         }
-        let told = line_with_room(alloc, clock, &name, out)?;
+        let told = reply::subscribe_line(alloc, clock, &name, out)?;
         let subscribed = self.subscribed(root, name, inquiry);
         self.begin(subscribed, &told, out)?;
         Ok(())

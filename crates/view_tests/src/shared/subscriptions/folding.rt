@@ -3,7 +3,6 @@ use super::Event::{Begins, Forgets, Gone, Is};
 use super::{Event, happen, subscription};
 use std::alloc::Global;
 use std::process::Abort;
-use std::test::Fail;
 use wm_names::RootPath;
 use wm_since::{Every, Mirror};
 use wm_subs::Subscription;
@@ -11,18 +10,18 @@ use wm_view::View;
 
 /// The client takes what is told of the view, if anything is.
 fn follow(
+    rt: &impl Abort,
     alloc: Global,
     view: &View,
     subscription: &mut Subscription<Every>,
     client: &mut Mirror<Every>,
-) -> Result<(), Fail> {
-    if let Some(answer) = subscription.next_on(alloc, view)? {
+) {
+    if let Some(answer) = subscription.next_on(alloc, view).expect(rt, "an answer") {
         if !client.open() {
-            client.ask(alloc)?;
+            client.ask(alloc).expect(rt, "memory");
         }
-        client.apply(alloc, &answer)?;
+        client.apply(alloc, &answer).expect(rt, "an answer");
     }
-    Ok(())
 }
 
 /// Whether these are the client's files.
@@ -54,20 +53,20 @@ fn assert_keeps(
     view: &mut View,
     subscription: &mut Subscription<Every>,
     client: &mut Mirror<Every>,
-) -> Result<(), Fail> {
+) {
     for (i, row) in ROWS.iter().enumerate() {
-        happen(alloc, view, row.0)?;
-        follow(alloc, view, subscription, client)?;
+        happen(rt, alloc, view, row.0);
+        follow(rt, alloc, view, subscription, client);
         assert!(rt; lists(client, row.1), "row {i}");
     }
-    Ok(())
 }
 
 #[test]
-fn keeps_the_files_of_a_client(rt: HostRuntime) -> Result<(), Fail> {
+fn keeps_the_files_of_a_client(rt: HostRuntime) {
     let alloc = rt.alloc();
-    let mut subscription = subscription(alloc, "s", None)?;
-    let mut client = Mirror::new(alloc, RootPath::read(alloc, "/r")?, Every)?;
+    let mut subscription = subscription(&rt, alloc, "s", None);
+    let root = RootPath::read(alloc, "/r").expect(&rt, "a root path");
+    let mut client = Mirror::new(alloc, root, Every).expect(&rt, "a mirror");
     let mut view = View::new(alloc, 1, 1);
-    assert_keeps(&rt, alloc, &mut view, &mut subscription, &mut client)
+    assert_keeps(&rt, alloc, &mut view, &mut subscription, &mut client);
 }

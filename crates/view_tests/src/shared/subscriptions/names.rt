@@ -1,6 +1,6 @@
 //! Names of subscriptions.
 use std::alloc::Global;
-use std::test::Fail;
+use std::process::Abort;
 use wm_disk::Refusal;
 use wm_subs::SubscriptionName;
 
@@ -11,28 +11,27 @@ const LONGEST: &str = "012345678901234567890123456789012345678901234567890123456
 const TOO_LONG: &str = "01234567890123456789012345678901234567890123456789012345678901234";
 
 /// Whether the text is read as a name with this text.
-fn is_read(alloc: Global, text: &str) -> Result<bool, Fail> {
-    Ok(SubscriptionName::read(alloc, text)?.as_str() == text)
+fn is_read(rt: &impl Abort, alloc: Global, text: &str) -> bool {
+    let name = SubscriptionName::read(alloc, text).expect(rt, "a name");
+    name.as_str() == text
 }
 
 #[test]
-fn reads_names_of_1_to_64_bytes(rt: HostRuntime) -> Result<(), Fail> {
+fn reads_names_of_1_to_64_bytes(rt: HostRuntime) {
     let alloc = rt.alloc();
     for text in ["s", "ä b", LONGEST] {
-        assert!(rt; is_read(alloc, text)?, "{text}");
+        assert!(rt; is_read(&rt, alloc, text), "{text}");
     }
     for text in ["", TOO_LONG] {
         let refused = SubscriptionName::read(alloc, text).err();
         assert!(rt; refused == Some(Refusal::BadArguments), "{text}");
     }
-    Ok(())
 }
 
 #[test]
-fn compares_names(rt: HostRuntime) -> Result<(), Fail> {
+fn compares_names(rt: HostRuntime) {
     let alloc = rt.alloc();
-    let name = SubscriptionName::read(alloc, "s")?;
-    assert!(rt; name == SubscriptionName::read(alloc, "s")?);
-    assert!(rt; name != SubscriptionName::read(alloc, "st")?);
-    Ok(())
+    let name = SubscriptionName::read(alloc, "s").expect(&rt, "a name");
+    assert!(rt; name == SubscriptionName::read(alloc, "s").expect(&rt, "a name"));
+    assert!(rt; name != SubscriptionName::read(alloc, "st").expect(&rt, "a name"));
 }

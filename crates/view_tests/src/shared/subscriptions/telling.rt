@@ -3,7 +3,6 @@ use super::Event::{Begins, Forgets, Gone, Is};
 use super::{Event, clock, happen, subscription, told};
 use std::alloc::Global;
 use std::process::Abort;
-use std::test::Fail;
 use wm_since::Every;
 use wm_subs::Subscription;
 use wm_view::View;
@@ -13,36 +12,39 @@ type Row = (&'static [Event], &'static str);
 
 /// Whether this is due.
 fn is_due(
+    rt: &impl Abort,
     alloc: Global,
     view: &View,
     subscription: &Subscription<Every>,
     wanted: &str,
-) -> Result<bool, Fail> {
-    let due = subscription.due_on(alloc, view)?;
-    Ok(told(alloc, &due)?.as_str() == wanted)
+) -> bool {
+    let due = subscription.due_on(alloc, view).expect(rt, "an answer");
+    told(rt, alloc, &due).as_str() == wanted
 }
 
 /// Whether this is told next.
 fn tells_next(
+    rt: &impl Abort,
     alloc: Global,
     view: &View,
     subscription: &mut Subscription<Every>,
     wanted: &str,
-) -> Result<bool, Fail> {
-    let next = subscription.next_on(alloc, view)?;
-    Ok(told(alloc, &next)?.as_str() == wanted)
+) -> bool {
+    let next = subscription.next_on(alloc, view).expect(rt, "an answer");
+    told(rt, alloc, &next).as_str() == wanted
 }
 
 /// Whether the events are followed by this answer. What is due is so until it is told.
 fn tells(
+    rt: &impl Abort,
     alloc: Global,
     view: &mut View,
     subscription: &mut Subscription<Every>,
     row: &Row,
-) -> Result<bool, Fail> {
-    happen(alloc, view, row.0)?;
-    let due = is_due(alloc, view, subscription, row.1)?;
-    Ok(due && tells_next(alloc, view, subscription, row.1)?)
+) -> bool {
+    happen(rt, alloc, view, row.0);
+    let due = is_due(rt, alloc, view, subscription, row.1);
+    due && tells_next(rt, alloc, view, subscription, row.1)
 }
 
 fn assert_tells_each(
@@ -51,24 +53,18 @@ fn assert_tells_each(
     view: &mut View,
     subscription: &mut Subscription<Every>,
     rows: &[Row],
-) -> Result<(), Fail> {
+) {
     assert!(rt; subscription.name().as_str() == "s");
     for (i, row) in rows.iter().enumerate() {
-        assert!(rt; tells(alloc, view, subscription, row)?, "row {i}");
+        assert!(rt; tells(rt, alloc, view, subscription, row), "row {i}");
     }
-    Ok(())
 }
 
 /// What is told of a new view, to a subscription since a tick.
-fn assert_tells(
-    rt: &impl Abort,
-    alloc: Global,
-    since: Option<u64>,
-    rows: &[Row],
-) -> Result<(), Fail> {
-    let mut subscription = subscription(alloc, "s", since)?;
+fn assert_tells(rt: &impl Abort, alloc: Global, since: Option<u64>, rows: &[Row]) {
+    let mut subscription = subscription(rt, alloc, "s", since);
     let mut view = View::new(alloc, 1, 1);
-    assert_tells_each(rt, alloc, &mut view, &mut subscription, rows)
+    assert_tells_each(rt, alloc, &mut view, &mut subscription, rows);
 }
 
 /// A subscription since tick 2 is told of the third, and then of what is deleted.
@@ -81,8 +77,8 @@ const SINCE_A_CLOCK: &[Row] = &[
 ];
 
 #[test]
-fn tells_since_its_own_last_clock(rt: HostRuntime) -> Result<(), Fail> {
-    assert_tells(&rt, rt.alloc(), Some(2), SINCE_A_CLOCK)
+fn tells_since_its_own_last_clock(rt: HostRuntime) {
+    assert_tells(&rt, rt.alloc(), Some(2), SINCE_A_CLOCK);
 }
 
 /// Nothing is told before the first whole listing; the first answer is fresh where there is no
@@ -96,8 +92,8 @@ const SINCE_NO_CLOCK: &[Row] = &[
 ];
 
 #[test]
-fn waits_for_the_first_listing(rt: HostRuntime) -> Result<(), Fail> {
-    assert_tells(&rt, rt.alloc(), None, SINCE_NO_CLOCK)
+fn waits_for_the_first_listing(rt: HostRuntime) {
+    assert_tells(&rt, rt.alloc(), None, SINCE_NO_CLOCK);
 }
 
 /// The first answer is told though it is neither fresh nor lists a file, and a fresh one without
@@ -110,8 +106,8 @@ const WITHOUT_FILES: &[Row] = &[
 ];
 
 #[test]
-fn tells_answers_without_files(rt: HostRuntime) -> Result<(), Fail> {
-    assert_tells(&rt, rt.alloc(), Some(1), WITHOUT_FILES)
+fn tells_answers_without_files(rt: HostRuntime) {
+    assert_tells(&rt, rt.alloc(), Some(1), WITHOUT_FILES);
 }
 
 /// A clock that isn't one of the view's is answered afresh.
@@ -121,8 +117,8 @@ const SINCE_A_LATER_CLOCK: &[Row] = &[
 ];
 
 #[test]
-fn begins_anew_where_the_clock_is_none_of_the_view(rt: HostRuntime) -> Result<(), Fail> {
-    assert_tells(&rt, rt.alloc(), Some(9), SINCE_A_LATER_CLOCK)
+fn begins_anew_where_the_clock_is_none_of_the_view(rt: HostRuntime) {
+    assert_tells(&rt, rt.alloc(), Some(9), SINCE_A_LATER_CLOCK);
 }
 
 fn assert_told_up_to_a_clock(
@@ -130,19 +126,23 @@ fn assert_told_up_to_a_clock(
     alloc: Global,
     view: &mut View,
     subscription: &mut Subscription<Every>,
-) -> Result<(), Fail> {
-    happen(alloc, view, &[Begins, Is("a.c", 3), Is("b.c", 4)])?;
+) {
+    happen(rt, alloc, view, &[Begins, Is("a.c", 3), Is("b.c", 4)]);
     subscription.told(clock(2));
-    assert!(rt; is_due(alloc, view, subscription, "c:1:1:3 b.c")?);
+    assert!(rt; is_due(rt, alloc, view, subscription, "c:1:1:3 b.c"));
     subscription.told(clock(3));
-    assert!(rt; subscription.due_on(alloc, view)?.is_none());
-    Ok(())
+    assert!(rt;
+        subscription
+            .due_on(alloc, view)
+            .expect(rt, "an answer")
+            .is_none()
+    );
 }
 
 #[test]
-fn is_told_up_to_a_clock(rt: HostRuntime) -> Result<(), Fail> {
+fn is_told_up_to_a_clock(rt: HostRuntime) {
     let alloc = rt.alloc();
-    let mut subscription = subscription(alloc, "s", None)?;
+    let mut subscription = subscription(&rt, alloc, "s", None);
     let mut view = View::new(alloc, 1, 1);
-    assert_told_up_to_a_clock(&rt, alloc, &mut view, &mut subscription)
+    assert_told_up_to_a_clock(&rt, alloc, &mut view, &mut subscription);
 }
