@@ -1,6 +1,5 @@
 //! Crawls of real folders: each thing that a file system has.
 use crate::trees::{assert_lists, crawled, lists, part, told, tried};
-use std::alloc::Global;
 use std::os::unix::net::UnixListener;
 use std::process::{Abort, Command};
 use std::thread::Threads;
