@@ -1,4 +1,5 @@
-# `make test` is the gate: every proof from nothing, the edits that must be refused, the tests, the programs, each growth of memory refused in thirteen calls.
+# `make test` is the gate: every proof, the edits that must be refused, the tests, the programs, each growth of memory refused in thirteen calls. What an earlier run
+# on this machine passed, by the checksums of all that it read, isn't proved again; `tools/gate.sh --anew` proves all from nothing.
 # `make run` serves ./watchmand.socket over ./watchmand.state, which it makes where it isn't there.
 PREFIX ?= $(HOME)/.local
 STATE ?= watchmand.state
@@ -21,8 +22,8 @@ SOURCES := crates.txt $(shell find crates -name out -prune -o -type f \( -name '
 .PHONY: help clean uninstall test lint build run lines serve-use feed-use install bench bench-journal bench-store bench-desk idle-desk bench-crawl bench-view bench-share bench-match bench-peer bench-plots clients crawl-tree session examples examples-use dist dist-use kill faults growths fuzz hostile state-file file-calls
 
 help:
-	@echo "make test          the whole gate: each proof from nothing, edits that must be refused, tests, programs, and each growth of"
-	@echo "                   memory refused in thirteen calls (rt, python3, cc; more than two hours on two cores)"
+	@echo "make test          the whole gate: each proof that no run here passed yet, edits that must be refused, tests, programs, and each growth of"
+	@echo "                   memory refused in thirteen calls (rt, python3, cc; on a new machine more than two hours on two cores)"
 	@echo "make lint          what the gate doesn't see: no definition's name in the specs of two crates, and no use of another crate's proofs/ (sh, awk; at once)"
 	@echo "make build         builds watchmand (rt; some 45 minutes the first time, since it proves it)"
 	@echo "make run           serves SOCKET=$(SOCKET) over STATE=$(STATE), which it makes where it isn't there, and tells what to try next"

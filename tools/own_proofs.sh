@@ -1,6 +1,6 @@
 #!/bin/sh
 # Lists each line in which a crate's file uses another crate's proofs/. What proofs above want of a crate is a clause of a
-# contract, or a law in its specs/laws/. That a type may cross threads is the exception: Rattle writes that of each type into
+# contract, or a law in its specs/. That a type may cross threads is the exception: Rattle writes that of each type into
 # proofs/ (TheSendSync; TheKnot of one that holds itself), and where it can't, it stands in proofs/Crossing.antt. Ends with 1 where there is a line.
 # usage: tools/own_proofs.sh
 set -eu

@@ -6,6 +6,7 @@ use std::rt::Runtime;
 use std::thread::Threads;
 use std::time::Instant;
 use wm_crawler::{Crawled, MAX_WORKERS, Open, Tree, crawl};
+use wm_disk::Refusal;
 use wm_names::{Kind, Subtree};
 
 /// How many files, folders, links and other things a crawl found.
@@ -23,6 +24,21 @@ fn kinds(found: &Crawled) -> [u64; 4] {
     counts
 }
 
+/// Tells what a crawl found, or the refusal.
+fn tell<R: Runtime>(rt: &R, found: &Result<Crawled, Refusal>) -> Result<()> {
+    match found {
+        Ok(found) => {
+            let [files, folders, links, others] = kinds(found);
+            let faults = found.faults;
+            println!(rt;
+                "{files} files, {folders} folders, {links} links, {others} others, {faults} faults"
+            )?;
+        }
+        Err(refused) => println!(rt; "{} {}", refused.number(), refused.name())?,
+    }
+    Ok(())
+}
+
 /// Crawls a tree by so many workers, 1 to 16. It tells the time and the memory on standard error, and on
 /// standard output what was found, or the refusal.
 pub fn bench<R: Runtime + Threads + Sync + AllocGlobal, T: Tree + Sync>(
@@ -37,16 +53,7 @@ pub fn bench<R: Runtime + Threads + Sync + AllocGlobal, T: Tree + Sync>(
     let start = Instant::now(rt)?;
     let found = crawl(rt, alloc, tree, &Subtree::Whole, workers, &Open);
     let took = Instant::now(rt)?.duration_since(start).as_micros();
-    match found {
-        Ok(found) => {
-            let [files, folders, links, others] = kinds(&found);
-            let faults = found.faults;
-            println!(rt;
-                "{files} files, {folders} folders, {links} links, {others} others, {faults} faults"
-            )?;
-        }
-        Err(refused) => println!(rt; "{} {}", refused.number(), refused.name())?,
-    }
+    tell(rt, &found)?;
     let most = Memory::read(rt)?.most / 1_048_576;
     eprintln!(rt; "crawl, {workers} workers: {took} us, at most {most} MB")?;
     Ok(())

@@ -81,6 +81,36 @@ fn pair<R: Runtime>(
 }
 
 /// Tells where two pairs of views stand in the end, one grown and one listed.
+fn tell_ticks<R: Runtime>(
+    rt: &R,
+    grown: &(View, View),
+    listed: &(View, View),
+    files: u64,
+) -> Result<()> {
+    println!(rt;
+        "{files} files: grown views end at ticks {} and {}, and listed ones at {} and {}",
+        grown.0.tick(),
+        grown.1.tick(),
+        listed.0.tick(),
+        listed.1.tick()
+    )?;
+    Ok(())
+}
+
+/// Tells where a pair of views stands in the end, and one that is made by one listing.
+fn tell_both<R: Runtime>(
+    alloc: Global,
+    rt: &R,
+    grown: &(View, View),
+    listed: &[Op],
+    files: u64,
+) -> Result<()> {
+    let labels = ("a view, made by one listing", "a second one");
+    let listed = pair(alloc, rt, labels, listed, files)?;
+    tell_ticks(rt, grown, &listed, files)
+}
+
+/// Tells where two pairs of views stand in the end, one grown and one listed.
 fn tell_ends<R: Runtime>(
     alloc: Global,
     rt: &R,
@@ -90,16 +120,7 @@ fn tell_ends<R: Runtime>(
 ) -> Result<()> {
     let labels = ("a view, grown in the order of its paths", "a second one");
     let grown = pair(alloc, rt, labels, grown, files)?;
-    let labels = ("a view, made by one listing", "a second one");
-    let listed = pair(alloc, rt, labels, listed, files)?;
-    println!(rt;
-        "{files} files: grown views end at ticks {} and {}, and listed ones at {} and {}",
-        grown.0.tick(),
-        grown.1.tick(),
-        listed.0.tick(),
-        listed.1.tick()
-    )?;
-    Ok(())
+    tell_both(alloc, rt, &grown, listed, files)
 }
 
 fn tell_views<R: Runtime>(alloc: Global, rt: &R, paths: &[RelPath], files: u64) -> Result<()> {

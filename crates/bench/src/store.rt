@@ -49,12 +49,24 @@ fn made(rt: &HostRuntime, file: &str) -> Result<FileDisk<Unknown>> {
     FileDisk::<Unknown>::create(rt, file).context(format_args!("making {file}"))
 }
 
-/// Tells on standard error what single commands cost the processor, on disks in memory.
+/// Tells on standard error what single commands cost the processor, on two sides over so many roots and triggers.
+fn tell_costs(
+    rt: &HostRuntime,
+    sides: &mut Sides<MemDisk>,
+    registry: (u32, u32),
+    rounds: u32,
+) -> Result<()> {
+    let costs = measured_costs(rt.alloc(), rt, sides, registry, rounds)?;
+    rt.eprintln(&costs)?;
+    Ok(())
+}
+
+/// Tells it of each size of a registry, on disks in memory.
 fn bench_processor(rt: &HostRuntime, rounds: u32) -> Result<()> {
     let alloc = rt.alloc();
     for registry in REGISTRIES {
         let mut sides = Sides::made(alloc, MemDisk::new(alloc, 0), MemDisk::new(alloc, 0))?;
-        rt.eprintln(&measured_costs(alloc, rt, &mut sides, registry, rounds)?)?;
+        tell_costs(rt, &mut sides, registry, rounds)?;
     }
     Ok(())
 }

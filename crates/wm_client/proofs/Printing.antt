@@ -1,7 +1,7 @@
 -- What is printed line by line is printed whole.
 use Rattle.std.proofs.Common.{◌≡◌, ◌∙◌, ◌&&◌, ◌+◌, ℕ, Bool, List, [], ◌∷◌, ◌++◌, Option, length, refl, sym, ap, ap₂, subst, append_assoc, length-append}
 use Rattle.std.specs.Io.KnownBytes.{Appends}
-use Rattle.std.specs.List.{concat, list_all}
+use Rattle.std.specs.List.{concat}
 use Rattle.std.proofs.lemmas.List.Folds.{list_all-append}
 use Rattle.wm_client.specs.Talks.{PrintsLines, has_come_whole}
 use Rattle.wm_client.proofs.Lines.{grown_twice}

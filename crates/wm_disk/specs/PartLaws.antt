@@ -1,5 +1,5 @@
 -- Laws of parts of a list, for proofs: a reader of definitions may skip them.
-use Rattle.std.proofs.Common.{◌≡◌, inl, inr, List, [], ◌∷◌, ◌++◌, refl, subst, ◌∙◌, append-nil}
+use Rattle.std.proofs.Common.{inl, inr, List, [], ◌∷◌, ◌++◌, refl, subst, ◌∙◌, append-nil}
 use Rattle.wm_disk.specs.Parts.{IsPartOf}
 
 module _ {A : Type 0} where

@@ -22,7 +22,7 @@ use wm_disk::{NoMemory, Refusal};
 use wm_file::{FileDisk, Unknown};
 use wm_groupcommit::Desk;
 use wm_hall::Forgetting;
-use wm_lines::have_expressions;
+use wm_server::open_store;
 use wm_share::{Naming, Opened, Shares};
 use wm_store::Store;
 use wm_triggers::Programs;
@@ -52,14 +52,10 @@ fn open<R: Files<File = File>>(
     let Ok(disk) = FileDisk::<Unknown>::open(rt, file) else {
         return Err(Refusal::DeviceFailed);
     };
-    let store = match Store::open(alloc, disk) {
-        Ok(store) => store,
-        Err((refusal, _)) => return Err(refusal),
-    };
-    if !have_expressions(alloc, store.registry())? {
-        return Err(Refusal::Damaged);
+    match open_store(alloc, disk) {
+        Ok(store) => Ok(store),
+        Err((refusal, _)) => Err(refusal),
     }
-    Ok(store)
 }
 
 /// Serves a state file on a socket until so many sessions have ended. The socket is removed then.

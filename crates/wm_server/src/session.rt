@@ -5,7 +5,7 @@ ghost use Rattle.wm_registry.specs.Roots.{root_at};
 ghost use Rattle.wm_server.specs.session.Asked.{asked_by};
 ghost use Rattle.wm_lines.specs.Lines.{request_of_line};
 ghost use Rattle.wm_server.specs.session.Sessions.{commanded, triggers_met, question_met, line_met, inquiry_met, handled, operation_outcome, by_request, subscriptions_by, view_of};
-ghost use Rattle.wm_lines.specs.Replies.{clock_reply, command_reply, line_text};
+ghost use Rattle.wm_lines.specs.Replies.{clock_reply};
 ghost use Rattle.wm_server.specs.session.Watched.{answer_of, clock_answer};
 ghost use Rattle.wm_server.specs.session.Faults.{Meeting, RepliesAs, RepliesTo, Way, faults_at, faults_of, is_fault as is_fault_lem, seen};
 ghost use Rattle.wm_server.specs.session.Stands.{without_subscriptions, standing};

@@ -1,21 +1,17 @@
 -- For private clauses: how the next incarnation of a registry is begun.
-use Rattle.std.specs.Prelude.{◌≡◌, ◌≢◌, ◌⊎◌, ◌≤◌, ◌<◌, ◌+◌, ℕ, false, List, [], ◌∷◌, OnOk, IfErr, Result}
+use Rattle.std.specs.Prelude.{◌≡◌, ◌≢◌, ◌⊎◌, ◌≤◌, ◌<◌, ◌+◌, ℕ, false, [], ◌∷◌, OnOk, IfErr, Result}
 use Rattle.wm_disk.specs.Calls.{Calls, EachLeft, LeavesAtAnyMoment}
 use Rattle.wm_disk.specs.Counters.{max_counter}
 use Rattle.wm_disk.specs.declared.disk.Disk as disks
 use Rattle.wm_disk.specs.declared.refusal.Refusal.{Refusal}
 use Rattle.wm_disk.specs.declared.refusal.Refusal.TheVariants.{DeviceFailed, Exhausted}
-use Rattle.wm_registry.specs.declared.command.Command.{Command}
 use Rattle.wm_registry.specs.declared.command.Command.TheVariants.{Begin}
-use Rattle.wm_registry.specs.declared.reply.Reply.{Reply}
 use Rattle.wm_registry.specs.declared.reply.Reply.TheVariants.{Changed, Refused}
 use Rattle.wm_registry.specs.Registry.{after_command, reply_to}
-use Rattle.wm_registry.specs.Roots.{State}
 use Rattle.wm_registry.specs.MachineLaws.{watches}
 use Rattle.wm_checkpoint.specs.Meanings.{MeansState, MeansPrefix}
 use Rattle.wm_checkpoint.specs.Numbers.{IsNumberedTo}
 use Rattle.wm_checkpoint.specs.Kept.{disk_of, state_of, has_failed, slot_number_of, room_left, Keeps}
-use Rattle.wm_checkpoint.specs.declared.keeper.Keeper.{Keeper}
 use Rattle.wm_store.specs.Room.{journal_room, begin_len}
 use Rattle.wm_store.specs.Stored.{Stored}
 use Rattle.wm_store.specs.UnderWay.{K, AreCalls}

@@ -1,5 +1,5 @@
 -- What a checkpoint of a store does.
-use Rattle.std.specs.Prelude.{◌≡◌, ◌+◌, ℕ, false, List, []}
+use Rattle.std.specs.Prelude.{◌≡◌, ◌+◌, false, []}
 use Rattle.wm_disk.specs.Calls.{EachLeft, LeavesAtAnyMoment}
 use Rattle.wm_disk.specs.declared.disk.Disk as disks
 use Rattle.wm_checkpoint.specs.Meanings.{Means, MeansState}

@@ -1,5 +1,5 @@
 -- How a store is opened, and why and how it isn't.
-use Rattle.std.specs.Prelude.{◌≡◌, ◌≢◌, ◌⊎◌, ◌≤◌, ◌<◌, ◌+◌, ℕ, List, [], ◌∷◌}
+use Rattle.std.specs.Prelude.{◌≡◌, ◌≢◌, ◌⊎◌, ◌≤◌, ◌<◌, ◌+◌, ℕ, [], ◌∷◌}
 use Rattle.wm_disk.specs.Calls.{EachLeft}
 use Rattle.wm_disk.specs.Counters.{max_counter}
 use Rattle.wm_disk.specs.declared.disk.Disk as disks

@@ -38,6 +38,28 @@ fn timed(clock: &impl Clock, expr: &Expr, entry: &Entry) -> Result<Duration> {
     Ok(time)
 }
 
+/// An error where the pattern doesn't fit a path that it has to fit.
+fn ask_whether_fits(expr: &Expr, fitting: &Entry) -> Result<()> {
+    ensure!(expr.holds(fitting), "a pattern that fits nothing");
+    Ok(())
+}
+
+/// What a call takes, by the middle of so many times.
+fn picoseconds(
+    alloc: Global,
+    clock: &impl Clock,
+    expr: &Expr,
+    entry: &Entry,
+    rounds: u32,
+) -> Result<u128> {
+    let mut times = Vec::new(alloc);
+    for _ in 0..rounds {
+        let time = timed(clock, expr, entry)?;
+        times.push(time.as_nanos().saturating_mul(1_000) / u128::from(CALLS))?;
+    }
+    Ok(median(&mut times))
+}
+
 /// What a call takes for the shape's pattern and path of this length, by so many times. An error where the
 /// pattern fits the path, where it doesn't fit the path that ends as it does, where the clock failed, or where
 /// memory ran out.
@@ -52,18 +74,12 @@ pub fn measure(
     let path = shape.path(alloc, len, 'a')?;
     let expr = expression(alloc, &pattern)?;
     let entry = file(alloc, &path)?;
-    let fitting = file(alloc, &shape.path(alloc, len, 'b')?)?;
-    ensure!(expr.holds(&fitting), "a pattern that fits nothing");
-    let mut times = Vec::new(alloc);
-    for _ in 0..rounds {
-        let time = timed(clock, &expr, &entry)?;
-        times.push(time.as_nanos().saturating_mul(1_000) / u128::from(CALLS))?;
-    }
+    ask_whether_fits(&expr, &file(alloc, &shape.path(alloc, len, 'b')?)?)?;
     Ok(Measured {
         name: shape.name,
         pattern: pattern.len(),
         path: path.len(),
-        picoseconds: median(&mut times),
+        picoseconds: picoseconds(alloc, clock, &expr, &entry, rounds)?,
     })
 }
 

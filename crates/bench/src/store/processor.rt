@@ -62,6 +62,18 @@ fn standing(alloc: Global, number: u32) -> Result<RootPath> {
     Ok(RootPath::read(alloc, path.as_str())?)
 }
 
+/// Gives a root the trigger of a number, by a batch of its own.
+fn add_trigger<D: Disk + Drop>(
+    alloc: Global,
+    sides: &mut Sides<D>,
+    path: &RootPath,
+    number: u32,
+) -> Result<()> {
+    let name = format!(in alloc; "t{number}")?;
+    let trigger = Trigger::new(alloc, name.as_str(), &WORDS, None, false, Stdin::DevNull)?;
+    sides.accepts(alloc, Command::Trigger(path.copy(alloc)?, trigger))
+}
+
 /// Watches a root and gives it triggers, each by a batch of its own.
 fn set_up<D: Disk + Drop>(
     alloc: Global,
@@ -72,9 +84,7 @@ fn set_up<D: Disk + Drop>(
     let path = standing(alloc, number)?;
     sides.accepts(alloc, Command::Watch(path.copy(alloc)?))?;
     for trigger in 0..triggers {
-        let name = format!(in alloc; "t{trigger}")?;
-        let trigger = Trigger::new(alloc, name.as_str(), &WORDS, None, false, Stdin::DevNull)?;
-        sides.accepts(alloc, Command::Trigger(path.copy(alloc)?, trigger))?;
+        add_trigger(alloc, sides, &path, trigger)?;
     }
     Ok(())
 }

@@ -63,6 +63,24 @@ impl Times {
         }
     }
 
+    /// Takes what an answer took, and what its text takes. An error where it isn't of so many files.
+    fn take_text<R: Runtime>(
+        &mut self,
+        alloc: Global,
+        rt: &R,
+        took: Duration,
+        answer: &Answer,
+        files: u64,
+    ) -> Result<()> {
+        let listed = answer.files.as_slice().len() as u64;
+        ensure!(listed == files, "{listed} files in place of {files}");
+        self.answers.push(took.as_nanos())?;
+        let fields = Fields::default_fields(alloc)?;
+        let time = timed_text(alloc, rt, answer, &fields)?;
+        self.texts.push(time.as_nanos())?;
+        Ok(())
+    }
+
     /// Asks once. An error where the answer isn't of so many files.
     fn take<R: Runtime>(
         &mut self,
@@ -74,14 +92,7 @@ impl Times {
     ) -> Result<()> {
         let start = Instant::now(rt)?;
         let answer = answer(alloc, view, query)?;
-        let time = start.elapsed(rt)?;
-        let listed = answer.files.as_slice().len() as u64;
-        ensure!(listed == files, "{listed} files in place of {files}");
-        self.answers.push(time.as_nanos())?;
-        let fields = Fields::default_fields(alloc)?;
-        let time = timed_text(alloc, rt, &answer, &fields)?;
-        self.texts.push(time.as_nanos())?;
-        Ok(())
+        self.take_text(alloc, rt, start.elapsed(rt)?, &answer, files)
     }
 }
 

@@ -25,15 +25,20 @@ fn timed<R: Runtime>(
     Ok(start.elapsed(rt)?)
 }
 
+/// A listing, taken in twice.
+fn list_twice<R: Runtime>(alloc: Global, rt: &R, view: &mut View, listing: &Listing) -> Result<()> {
+    let time = timed(alloc, rt, view, listing)?;
+    tell(rt, "first recrawl", time.as_nanos())?;
+    let time = timed(alloc, rt, view, listing)?;
+    tell(rt, "the same recrawl again", time.as_nanos())
+}
+
 /// The first listing, taken in twice.
 pub fn list_all<R: Runtime>(alloc: Global, rt: &R, view: &mut View, files: u64) -> Result<()> {
     let start = Instant::now(rt)?;
     let listing = listing(alloc, files)?;
     tell(rt, "the first listing made", start.elapsed(rt)?.as_nanos())?;
-    let time = timed(alloc, rt, view, &listing)?;
-    tell(rt, "first recrawl", time.as_nanos())?;
-    let time = timed(alloc, rt, view, &listing)?;
-    tell(rt, "the same recrawl again", time.as_nanos())
+    list_twice(alloc, rt, view, &listing)
 }
 
 /// A listing of one folder that shows nothing new, taken in again and again.

@@ -11,6 +11,7 @@ ghost use Rattle.wm_server.specs.session.Watched.{first_views};
 ghost use Rattle.wm_store.specs.Batches.{is_begin};
 ghost use Rattle.wm_server.specs.declared.local.root_views.RootView.{RootView};
 
+use crate::local::opening::open_store;
 use crate::local::root_views;
 use crate::local::root_views::RootView;
 use crate::session::Front;
@@ -18,7 +19,7 @@ use std::alloc::Global;
 use wm_clock::{ClockId, CursorName};
 use wm_disk::{Disk, NoMemory, Refusal};
 use wm_expr::Expr;
-use wm_lines::{Expression, Progress, have_expressions};
+use wm_lines::{Expression, Progress};
 use wm_names::RootPath;
 use wm_registry::{Command, Registry, Reply};
 use wm_since::{Answer, Query, answer};
@@ -56,9 +57,8 @@ impl<D: Disk + Drop> LocalFront<D> {
     ghost use Rattle.wm_store.specs.Openings.{IsBegun};
 
     /// Takes up the registry that a disk means, and begins the next incarnation. The refusals are those
-    /// of [`Store::open`], and after it `Damaged` where a trigger keeps a text that is no expression, and
-    /// `NoMemory` where the views find no room: then the disk means the registry with one more `Begin`.
-    /// Each hands the disk back.
+    /// of [`open_store`], and `NoMemory` where the views find no room: then the disk means the registry
+    /// with one more `Begin`. Each hands the disk back.
     pub fn open(alloc: Global, disk: D) -> Result<LocalFront<D>, (Refusal, D)>
         ensures begun { IfOk result (λ front. D.honest (disk_of_front front) → IsBegun D.Disk disk front.store) }
         ensures kept { IfOk result (λ front. D.honest (disk_of_front front) → IsKeptOn D.Disk (session_state_of front).registry (disk_of_front front)) }
@@ -69,13 +69,13 @@ impl<D: Disk + Drop> LocalFront<D> {
         ensures refused { IfErr result (λ e. StartRefused D.Disk e.0 disk e.1) }
         ensures cut { IfErr result (λ e. StartCut D.Disk disk e.1) }
     {
-        let store = match Store::open(alloc, disk) {
+        let store = match open_store(alloc, disk) {
             Ok(store) => store,
             Err((refusal, disk)) => return Err((refusal, disk)),
         };
-        match views_for(alloc, store.registry()) {
+        match root_views::first_views(alloc, store.registry()) {
             Ok(views) => Ok(LocalFront { store, views }),
-            Err(refusal) => Err((refusal, store.into_disk())),
+            Err(NoMemory) => Err((Refusal::NoMemory, store.into_disk())),
         }
     }
 
@@ -211,17 +211,6 @@ impl<D: Disk + Drop> Front for LocalFront<D> {
     ghost stays = { λ a asked. stays_lem _ asked a.store };
 
     ghost goes_on = { λ a b c first second. leads_on _ first second a.store b.store c.store };
-}
-
-/// The first views of a registry. `Damaged` where a trigger keeps a text that is no expression.
-fn views_for(alloc: Global, registry: &Registry) -> Result<Vec<RootView>, Refusal>
-    ensures ok { IfOk result (λ views. (have_expressions_lem registry.now ≡ true) × (views.items ≡ first_views registry.now)) }
-    ensures refused { IfErr result (λ e. ((e ≡ Refusal.Damaged) × (have_expressions_lem registry.now ≡ false)) ⊎ (e ≡ Refusal.NoMemory)) }
-{
-    if !have_expressions(alloc, registry)? {
-        return Err(Refusal::Damaged);
-    }
-    Ok(root_views::first_views(alloc, registry)?)
 }
 
 /// Changes the views as an accepted command does.

@@ -1,10 +1,9 @@
 //! The subscriptions of a session: how they begin and end, and what is due to them after a line. Their
 //! definitions are in specs/session: Sessions, Dues.
 //! Tests: session_tests/src/lines/subscriptions.rt.
-ghost use Rattle.std.specs.Prelude.{◌≡◌, ◌≤◌, ◌<◌, ◌∷◌, ◌++◌, ◌+◌, [], true, length, vec_len, vec_capacity, IsOk, IfOk, IfErr, OnOk, OnErr};
+ghost use Rattle.std.specs.Prelude.{◌≡◌, ◌≤◌, ◌<◌, ◌∷◌, ◌++◌, ◌+◌, [], true, length, vec_len, vec_capacity, IsOk, IfErr, OnOk, OnErr};
 ghost use Rattle.wm_registry.specs.Roots.{root_at};
 ghost use Rattle.wm_registry.specs.declared.command.Command as commands;
-ghost use Rattle.wm_lines.specs.Replies.{line_text, subscribe_reply};
 ghost use Rattle.wm_subs.specs.SessionLists.{may_subscribe, with_subscription, without_subscribed, without_subscription};
 ghost use Rattle.wm_server.specs.session.Inquiries.{since_point};
 ghost use Rattle.wm_server.specs.session.Pages.{Handles, page};

@@ -13,7 +13,7 @@ use Rattle.wm_registry.specs.declared.reply.Reply.{Reply}
 use Rattle.wm_registry.specs.declared.reply.Reply.TheVariants.{Unchanged, Refused}
 use Rattle.wm_registry.specs.MachineLaws.{watches}
 use Rattle.wm_registry.specs.Roots as registry
-use Rattle.wm_registry.specs.Registry.{after_command, changed, is_change, reply_to}
+use Rattle.wm_registry.specs.Registry.{changed, is_change, reply_to}
 use Rattle.wm_store.specs.Batches.{AreAnswered, IsBatch, accepted_of, is_begin, unless_begin}
 use Rattle.wm_store.specs.Stored.{Stored}
 use Rattle.wm_server.specs.session.Faults.{FrontState, Submits, Lasts, Defined, Device, Memory, Spent}

@@ -67,10 +67,10 @@ start_refused disk old new e cut damaged retired exhausted stands failed kinds =
     ]
 
 -- after a store was begun: a trigger keeps a text that is no expression, or memory is wanted
-pub views_refused : {D : Type 0} (disk : Ghosts D) (old : D) (store : Stored D) (e : Refusal) → (disk.honest store.disk → IsBegun disk old store)
+pub expressions_refused : {D : Type 0} (disk : Ghosts D) (old : D) (store : Stored D) (e : Refusal) → (disk.honest store.disk → IsBegun disk old store)
     → ((e ≡ refusals.Damaged) × (have_expressions store.registry ≡ false)) ⊎ (e ≡ refusals.NoMemory)
     → StartRefused disk e old store.disk
-views_refused disk old store e begun why =
+expressions_refused disk old store e begun why =
     elim why [
       | inl none ↦ subst (λ (x : Refusal). StartRefused disk x old store.disk) (sym none.0)
           (λ h. (let b = begun h in inr (b.found, sym (expressions_after_begin b.found) ∙ ap have_expressions (sym b.registry) ∙ none.1, b.opened)))

@@ -6,7 +6,7 @@ use Rattle.wm_expr.specs.Terms.{Term}
 use Rattle.wm_since.specs.declared.query.Answer.{Answer}
 use Rattle.wm_subs.specs.declared.subscribed.Subscribed.{Subscribed}
 use Rattle.wm_lines.specs.Replies.{reply_bytes}
-use Rattle.wm_server.specs.session.Faults.{FrontState, HasCause, Meeting, RepliesTo, Way, faults_at, faults_of, seen, state_or, subscriptions_told, told_by}
+use Rattle.wm_server.specs.session.Faults.{FrontState, HasCause, Meeting, RepliesTo, Way, faults_at, faults_of, seen, subscriptions_told, told_by}
 use Rattle.wm_server.specs.session.Pages.{Replied}
 use Rattle.wm_server.specs.session.Sessions.{SessionState, WithSubscriptions, SubscriptionList, line_met}
 use Rattle.wm_server.specs.session.Dues.{after_telling, after_told, are_all_found, due_in, due_line, told_lines}

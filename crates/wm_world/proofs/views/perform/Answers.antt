@@ -1,4 +1,4 @@
-use Rattle.std.proofs.Common.{◌≡◌, position, set, sym, subst, ap, ◌∙◌}
+use Rattle.std.proofs.Common.{position, set, sym, subst, ap, ◌∙◌}
 use Rattle.std.specs.Prelude.{IfErr, ◌≢◌}
 use Rattle.std.proofs.lemmas.Result.{on_ok_weaker}
 use Rattle.wm_disk.specs.declared.refusal.Refusal.TheVariants.{NoMemory}

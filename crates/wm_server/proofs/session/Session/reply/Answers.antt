@@ -1,6 +1,6 @@
 use Rattle.std.proofs.Common.{sym}
 use Rattle.wm_server.specs.session.Stands.{standing}
-use Rattle.wm_server.proofs.lemmas.session.PlainLemmas.{fault_told, plain_told}
+use Rattle.wm_server.proofs.lemmas.session.PlainLemmas.{fault_told}
 use Rattle.wm_server.proofs.session.Session.reply.Goals as goal
 
 pub returns-then-is_fault-clause-told : goal.returns-then-is_fault-clause-told

@@ -1,4 +1,4 @@
-use Rattle.std.proofs.Common.{◌≡◌, ◌<◌, ◌∙◌, sym, length, arith}
+use Rattle.std.proofs.Common.{◌<◌, ◌∙◌, sym, length, arith}
 use Rattle.wm_server.proofs.lemmas.session.TellingLemmas.{failed, one_missed, one_told, went}
 use Rattle.wm_server.proofs.session.Session.tell_due.Goals as goal
 use Rattle.wm_server.proofs.session.Session.tell_due.Goals.{then-is_err, else-is_err}
