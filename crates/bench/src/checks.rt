@@ -4,7 +4,7 @@ ghost use Rattle.std.specs.Prelude.{◌≤◌};
 
 use crate::by_hand::reaches;
 use crate::journal::Areas;
-use crate::matching::SHAPES;
+use crate::matching::{SHAPES, Shape};
 use crate::memory::told;
 use crate::paths::path;
 use crate::store::{END, START, Sides};
@@ -60,16 +60,15 @@ const MADE: [(&str, &str); 4] = [
     ("**/a/a/a/a/b", "a/a/a/a/a/a"),
 ];
 
+fn makes_so(alloc: Global, shape: &Shape, pattern: &str, path: &str) -> Result<bool> {
+    let made = shape.pattern(alloc, 12)?;
+    Ok(made.as_str() == pattern && shape.path(alloc, 12, 'a')?.as_str() == path)
+}
+
 fn makes_patterns_and_paths(alloc: Global) -> Result<()> {
     for (shape, (pattern, path)) in SHAPES.iter().zip(&MADE) {
-        ensure!(
-            shape.pattern(alloc, 12)?.as_str() == *pattern,
-            "another pattern than {pattern}"
-        );
-        ensure!(
-            shape.path(alloc, 12, 'a')?.as_str() == *path,
-            "another path than {path}"
-        );
+        let made = makes_so(alloc, shape, pattern, path)?;
+        ensure!(made, "another pattern than {pattern}, or path than {path}");
     }
     Ok(())
 }
@@ -113,20 +112,32 @@ fn reads_lines_of_a_status() -> Result<()> {
 /// The first bytes of a journal of three commands, whether they come in groups of one or of three.
 const JOURNAL: &[u8; 13] = b"\xa5\x00\xa5\x01\x00\x00\x00\x02\x2f\x72\xa5\x00\x00";
 
-fn journal_by_groups(alloc: Global, size: usize) -> Result<()> {
-    let commands = [
-        Command::Begin,
-        Command::Watch(RootPath::read(alloc, "/r")?),
-        Command::Begin,
-    ];
-    let mut areas = Areas::made(alloc, MemDisk::new(alloc, 0))?;
+fn put_all(
+    alloc: Global,
+    areas: &mut Areas<MemDisk>,
+    commands: &[Command],
+    size: usize,
+) -> Result<()> {
     for group in commands.chunks(size.max(1)) {
-        ensure!(areas.put(alloc, group)?, "no room for a group");
+        let is_put = areas.put(alloc, group)?;
+        ensure!(is_put, "no room for a group");
     }
+    Ok(())
+}
+
+fn compare(areas: &mut Areas<MemDisk>, size: usize) -> Result<()> {
     let mut bytes = [0xff; 13];
     areas.read_start(&mut bytes)?;
     ensure!(&bytes == JOURNAL, "another journal by groups of {size}");
     Ok(())
+}
+
+fn journal_by_groups(alloc: Global, size: usize) -> Result<()> {
+    let watch = Command::Watch(RootPath::read(alloc, "/r")?);
+    let commands = [Command::Begin, watch, Command::Begin];
+    let mut areas = Areas::made(alloc, MemDisk::new(alloc, 0))?;
+    put_all(alloc, &mut areas, &commands, size)?;
+    compare(&mut areas, size)
 }
 
 /// A watch and its end, each behind its open gate, and a closed gate.
@@ -134,30 +145,26 @@ const RECORDS: &[u8; 57] =
     b"\xa5\x01\0\0\0\x16/home/user/project-001\xa5\x02\0\0\0\x16/home/user/project-001\0";
 
 /// Whether these records stand in a disk's first journal, from a place on.
-fn has_records(disk: &mut MemDisk, place: u64) -> Result<bool>
+fn has_records<D: Disk + Drop>(mut disk: D, place: u64) -> Result<bool>
     requires { place ≤ 2 }
 {
     let mut bytes = [0xff; 57];
-    reaches(disk, END)?;
+    reaches(&mut disk, END)?;
     disk.read_at(START + place, &mut bytes)?;
     Ok(&bytes == RECORDS)
 }
 
-/// The disks behind a round through a store and by hand.
-fn after_a_round(rt: &HostRuntime) -> Result<(MemDisk, MemDisk)> {
-    let alloc = rt.alloc();
-    let mut sides = Sides::made(alloc, MemDisk::new(alloc, 0), MemDisk::new(alloc, 0))?;
-    let measured = sides.measured(alloc, rt, 1, 2)?;
-    ensure!(measured.items() == 2, "another number of commands");
-    Ok(sides.into_disks())
-}
-
 /// A round through a store and by hand leaves the same bytes in both journals.
-fn both_write_the_same(rt: &HostRuntime) -> Result<()> {
-    let (mut disk, mut by_hand) = after_a_round(rt)?;
+fn both_write_the_same<D: Disk + Drop>(rt: &HostRuntime, mut sides: Sides<D>) -> Result<()> {
+    let measured = sides.measured(rt.alloc(), rt, 1, 2);
+    let (disk, by_hand) = sides.into_disks();
     // The store's first record is its start.
-    ensure!(has_records(&mut disk, 2)?, "another journal of the store");
-    ensure!(has_records(&mut by_hand, 0)?, "another journal by hand");
+    let is_stored = has_records(disk, 2);
+    let is_by_hand = has_records(by_hand, 0);
+    let measured = measured?;
+    ensure!(measured.items() == 2, "another number of commands");
+    ensure!(is_stored?, "another journal of the store");
+    ensure!(is_by_hand?, "another journal by hand");
     Ok(())
 }
 
@@ -170,7 +177,7 @@ pub fn check(rt: &HostRuntime) -> Result<()> {
     reads_lines_of_a_status()?;
     journal_by_groups(alloc, 1)?;
     journal_by_groups(alloc, 3)?;
-    both_write_the_same(rt)?;
+    both_write_the_same(rt, Sides::in_memory(alloc)?)?;
     rt.println("what the benches make is what it must be")?;
     Ok(())
 }

@@ -39,6 +39,20 @@ fn tell<R: Runtime>(rt: &R, found: &Result<Crawled, Refusal>) -> Result<()> {
     Ok(())
 }
 
+/// Tells it, the time since the crawl began, and the memory.
+fn tell_all<R: Runtime>(
+    rt: &R,
+    found: &Result<Crawled, Refusal>,
+    workers: usize,
+    start: Instant,
+) -> Result<()> {
+    let took = start.elapsed(rt)?.as_micros();
+    tell(rt, found)?;
+    let most = Memory::read(rt)?.most / 1_048_576;
+    eprintln!(rt; "crawl, {workers} workers: {took} us, at most {most} MB")?;
+    Ok(())
+}
+
 /// Crawls a tree by so many workers, 1 to 16. It tells the time and the memory on standard error, and on
 /// standard output what was found, or the refusal.
 pub fn bench<R: Runtime + Threads + Sync + AllocGlobal, T: Tree + Sync>(
@@ -52,9 +66,7 @@ pub fn bench<R: Runtime + Threads + Sync + AllocGlobal, T: Tree + Sync>(
     let alloc = rt.alloc();
     let start = Instant::now(rt)?;
     let found = crawl(rt, alloc, tree, &Subtree::Whole, workers, &Open);
-    let took = Instant::now(rt)?.duration_since(start).as_micros();
-    tell(rt, &found)?;
-    let most = Memory::read(rt)?.most / 1_048_576;
-    eprintln!(rt; "crawl, {workers} workers: {took} us, at most {most} MB")?;
-    Ok(())
+    let told = tell_all(rt, &found, workers, start);
+    drop(found);
+    told
 }

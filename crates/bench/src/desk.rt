@@ -113,25 +113,37 @@ fn flush_all<R: Wait, D: Disk + Drop>(rt: &R, desk: &Desk<D>, ended: &AtomicU64)
     }
 }
 
-/// A desk on a new file.
-fn made(rt: &HostRuntime, file: &str) -> Result<Desk<FileDisk<Unknown>>> {
-    let alloc = rt.alloc();
-    let mut disk = FileDisk::<Unknown>::create(rt, file).context(format_args!("making {file}"))?;
+/// A desk on an empty disk.
+fn made_on<D: Disk + Drop>(alloc: Global, mut disk: D) -> Result<Desk<D>> {
     wm_store::format(alloc, &mut disk)?;
     let store = Store::open(alloc, disk).ok().context("opening the store")?;
     Desk::new(alloc, store).ok().context("making the desk")
+}
+
+/// A desk on a new file.
+fn made(rt: &HostRuntime, file: &str) -> Result<Desk<FileDisk<Unknown>>> {
+    let disk = FileDisk::<Unknown>::create(rt, file).context(format_args!("making {file}"))?;
+    made_on(rt.alloc(), disk)
+}
+
+/// Times syncs, each behind a write of one byte.
+fn time_syncs<D: Disk>(clock: &impl Clock, disk: &mut D, times: &mut Vec<u128>) -> Result<()> {
+    for _ in 0..SYNCS {
+        let start = Instant::now(clock)?;
+        disk.write_at(0, &[1])?;
+        disk.sync()?;
+        times.push(start.elapsed(clock)?.as_nanos())?;
+    }
+    Ok(())
 }
 
 /// The middle time of a sync behind a write of one byte, in nanoseconds.
 fn sync_time(rt: &HostRuntime, file: &str) -> Result<u128> {
     let mut disk = FileDisk::<Unknown>::create(rt, file).context(format_args!("making {file}"))?;
     let mut times = Vec::new(rt.alloc());
-    for _ in 0..SYNCS {
-        let start = Instant::now(rt)?;
-        disk.write_at(0, &[1])?;
-        disk.sync()?;
-        times.push(start.elapsed(rt)?.as_nanos())?;
-    }
+    let timed = time_syncs(rt, &mut disk, &mut times);
+    drop(disk);
+    timed?;
     Ok(median(&mut times))
 }
 
@@ -176,6 +188,28 @@ fn speed<R: Threads + Wait + Sync>(
     Ok(u128::from(accepted).saturating_mul(1_000_000_000) / time.max(1))
 }
 
+/// Tells on standard error what a sync takes.
+fn tell_sync(rt: &HostRuntime, file: &str) -> Result<()> {
+    let file = format!(in rt.alloc(); "{file}.sync")?;
+    let sync = sync_time(rt, &file)? / 1_000;
+    eprintln!(rt; "a write of one byte and its sync by hand: {sync} microseconds")?;
+    Ok(())
+}
+
+/// Tells on standard error how many commands a second are accepted from so many threads of the host.
+fn tell_speed<R: Threads + Wait + Sync>(
+    rt: &HostRuntime,
+    host: &R,
+    file: &str,
+    threads: u64,
+    rounds: u32,
+) -> Result<()> {
+    let file = format!(in rt.alloc(); "{file}.{threads}")?;
+    let speed = speed(rt, host, &file, threads, rounds)?;
+    eprintln!(rt; "{threads} threads: {speed} commands a second accepted through the desk")?;
+    Ok(())
+}
+
 /// Tells on standard error what a sync takes, and how many commands a second are accepted from so many threads of the
 /// host; on standard output how many were.
 pub fn bench<R: Threads + Wait + Sync>(
@@ -184,16 +218,9 @@ pub fn bench<R: Threads + Wait + Sync>(
     file: &str,
     rounds: u32,
 ) -> Result<()> {
-    let by_hand = format!(in rt.alloc(); "{file}.sync")?;
-    let sync = sync_time(rt, &by_hand)?;
-    eprintln!(rt;
-        "a write of one byte and its sync by hand: {} microseconds",
-        sync / 1_000
-    )?;
+    tell_sync(rt, file)?;
     for threads in THREADS {
-        let file = format!(in rt.alloc(); "{file}.{threads}")?;
-        let speed = speed(rt, host, &file, threads, rounds)?;
-        eprintln!(rt; "{threads} threads: {speed} commands a second accepted through the desk")?;
+        tell_speed(rt, host, file, threads, rounds)?;
     }
     println!(rt; "1, 8 and 31 threads: {rounds} commands accepted from each")?;
     Ok(())

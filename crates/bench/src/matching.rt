@@ -5,7 +5,7 @@ mod timing;
 
 use anyhow::Result;
 use shapes::LENGTHS;
-pub use shapes::SHAPES;
+pub use shapes::{SHAPES, Shape};
 use std::rt::Runtime;
 use timing::measure;
 

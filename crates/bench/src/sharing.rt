@@ -47,13 +47,23 @@ fn listed(alloc: Global, paths: &[RelPath]) -> Result<Vec<Op>> {
     Ok(ops)
 }
 
-/// A view to which all of this was told.
-fn grown(alloc: Global, ops: &[Op]) -> Result<View> {
-    let mut view = View::new(alloc, 1, 1);
+fn perform_all(alloc: Global, view: &mut View, ops: &[Op]) -> Result<()> {
     for op in ops {
         view.perform(alloc, op)?;
     }
-    Ok(view)
+    Ok(())
+}
+
+/// A view to which all of this was told.
+fn grown(alloc: Global, ops: &[Op]) -> Result<View> {
+    let mut view = View::new(alloc, 1, 1);
+    match perform_all(alloc, &mut view, ops) {
+        Ok(()) => Ok(view),
+        Err(error) => {
+            drop(view);
+            Err(error)
+        }
+    }
 }
 
 /// Tells how many bytes of memory have come since then, for each file.
@@ -62,6 +72,25 @@ fn tell<R: Runtime>(rt: &R, what: &str, before: Memory, files: u64) -> Result<Me
     let bytes = memory.now.saturating_sub(before.now) / files.max(1);
     eprintln!(rt; "| {what} | {bytes} |")?;
     Ok(memory)
+}
+
+/// A view to which all of this was told. Tells on standard error what it takes beside the memory before it.
+fn told_view<R: Runtime>(
+    alloc: Global,
+    rt: &R,
+    label: &str,
+    ops: &[Op],
+    before: Memory,
+    files: u64,
+) -> Result<(View, Memory)> {
+    let view = grown(alloc, ops)?;
+    match tell(rt, label, before, files) {
+        Ok(memory) => Ok((view, memory)),
+        Err(error) => {
+            drop(view);
+            Err(error)
+        }
+    }
 }
 
 /// Two views to which the same was told. Tells on standard error what each takes.
@@ -73,11 +102,14 @@ fn pair<R: Runtime>(
     files: u64,
 ) -> Result<(View, View)> {
     let memory = Memory::read(rt)?;
-    let first = grown(alloc, ops)?;
-    let memory = tell(rt, labels.0, memory, files)?;
-    let second = grown(alloc, ops)?;
-    tell(rt, labels.1, memory, files)?;
-    Ok((first, second))
+    let (first, memory) = told_view(alloc, rt, labels.0, ops, memory, files)?;
+    match told_view(alloc, rt, labels.1, ops, memory, files) {
+        Ok((second, _)) => Ok((first, second)),
+        Err(error) => {
+            drop(first);
+            Err(error)
+        }
+    }
 }
 
 /// Tells where two pairs of views stand in the end, one grown and one listed.
@@ -107,7 +139,9 @@ fn tell_both<R: Runtime>(
 ) -> Result<()> {
     let labels = ("a view, made by one listing", "a second one");
     let listed = pair(alloc, rt, labels, listed, files)?;
-    tell_ticks(rt, grown, &listed, files)
+    let told = tell_ticks(rt, grown, &listed, files);
+    drop(listed);
+    told
 }
 
 /// Tells where two pairs of views stand in the end, one grown and one listed.
@@ -120,13 +154,34 @@ fn tell_ends<R: Runtime>(
 ) -> Result<()> {
     let labels = ("a view, grown in the order of its paths", "a second one");
     let grown = pair(alloc, rt, labels, grown, files)?;
-    tell_both(alloc, rt, &grown, listed, files)
+    let told = tell_both(alloc, rt, &grown, listed, files);
+    drop(grown);
+    told
 }
 
 fn tell_views<R: Runtime>(alloc: Global, rt: &R, paths: &[RelPath], files: u64) -> Result<()> {
     let grown = told(alloc, paths)?;
-    let listed = listed(alloc, paths)?;
-    tell_ends(alloc, rt, &grown, &listed, files)
+    let told = match listed(alloc, paths) {
+        Ok(listed) => {
+            let told = tell_ends(alloc, rt, &grown, &listed, files);
+            drop(listed);
+            told
+        }
+        Err(error) => Err(error),
+    };
+    drop(grown);
+    told
+}
+
+fn tell_paths<R: Runtime>(
+    alloc: Global,
+    rt: &R,
+    paths: &[RelPath],
+    before: Memory,
+    files: u64,
+) -> Result<()> {
+    tell(rt, "paths, in a list", before, files)?;
+    tell_views(alloc, rt, paths, files)
 }
 
 /// Tells on standard error what two views of so many files take, grown path after path, and made by one listing,
@@ -137,6 +192,7 @@ pub fn bench<R: Runtime + AllocGlobal>(rt: &R, files: u64) -> Result<()> {
     rt.eprintln("|---|---|")?;
     let memory = Memory::read(rt)?;
     let paths = paths_of(alloc, files)?;
-    tell(rt, "paths, in a list", memory, files)?;
-    tell_views(alloc, rt, &paths, files)
+    let told = tell_paths(alloc, rt, &paths, memory, files);
+    drop(paths);
+    told
 }

@@ -11,9 +11,10 @@ use anyhow::{Context, Result, ensure};
 pub use area::{END, START};
 use batches::SIZES;
 use processor::{REGISTRIES, measured_costs};
+use rounds::Found;
 pub use rounds::Sides;
 use std::fmt;
-use wm_disk::MemDisk;
+use wm_disk::Disk;
 use wm_file::{FileDisk, Unknown};
 
 /// The nanoseconds of a second.
@@ -50,23 +51,22 @@ fn made(rt: &HostRuntime, file: &str) -> Result<FileDisk<Unknown>> {
 }
 
 /// Tells on standard error what single commands cost the processor, on two sides over so many roots and triggers.
-fn tell_costs(
+fn tell_costs<D: Disk + Drop>(
     rt: &HostRuntime,
-    sides: &mut Sides<MemDisk>,
+    mut sides: Sides<D>,
     registry: (u32, u32),
     rounds: u32,
 ) -> Result<()> {
-    let costs = measured_costs(rt.alloc(), rt, sides, registry, rounds)?;
-    rt.eprintln(&costs)?;
+    let costs = measured_costs(rt.alloc(), rt, &mut sides, registry, rounds);
+    drop(sides);
+    rt.eprintln(&costs?)?;
     Ok(())
 }
 
 /// Tells it of each size of a registry, on disks in memory.
 fn bench_processor(rt: &HostRuntime, rounds: u32) -> Result<()> {
-    let alloc = rt.alloc();
     for registry in REGISTRIES {
-        let mut sides = Sides::made(alloc, MemDisk::new(alloc, 0), MemDisk::new(alloc, 0))?;
-        tell_costs(rt, &mut sides, registry, rounds)?;
+        tell_costs(rt, Sides::in_memory(rt.alloc())?, registry, rounds)?;
     }
     Ok(())
 }
@@ -80,9 +80,9 @@ struct Total {
 }
 
 /// Measures each size, and tells the speeds on standard error.
-fn measured_sizes(
+fn measured_sizes<D: Disk + Drop>(
     rt: &HostRuntime,
-    sides: &mut Sides<FileDisk<Unknown>>,
+    sides: &mut Sides<D>,
     rounds: u32,
 ) -> Result<Total> {
     let mut total = Total {
@@ -111,16 +111,13 @@ fn sides_of(rt: &HostRuntime, file: &str) -> Result<Sides<FileDisk<Unknown>>> {
     Ok(Sides::made(rt.alloc(), disk, by_hand)?)
 }
 
-/// Measures on two new files, tells the speeds on standard error, and what a start finds on standard output.
-fn bench_files(rt: &HostRuntime, file: &str, rounds: u32) -> Result<()> {
-    let mut sides = sides_of(rt, file)?;
-    let total = measured_sizes(rt, &mut sides, rounds)?;
+/// Tells on standard output what a start found. An error where it isn't what was measured.
+fn tell_found(rt: &HostRuntime, found: &Found, total: Total) -> Result<()> {
     let Total {
         batches,
         accepted,
         roots,
     } = total;
-    let found = sides.start_again(rt.alloc())?;
     ensure!(
         found.roots as u64 == roots && found.incarnation == 2,
         "{} roots and incarnation {} in place of {roots} and 2",
@@ -133,8 +130,15 @@ fn bench_files(rt: &HostRuntime, file: &str, rounds: u32) -> Result<()> {
     Ok(())
 }
 
+/// Measures on two disks, tells the speeds on standard error, and what a start finds on standard output.
+fn bench_sides<D: Disk + Drop>(rt: &HostRuntime, mut sides: Sides<D>, rounds: u32) -> Result<()> {
+    let total = measured_sizes(rt, &mut sides, rounds)?;
+    let found = sides.start_again(rt.alloc())?;
+    tell_found(rt, &found, total)
+}
+
 /// Measures on two new files, and then over disks in memory.
 pub fn bench(rt: &HostRuntime, file: &str, rounds: u32) -> Result<()> {
-    bench_files(rt, file, rounds)?;
+    bench_sides(rt, sides_of(rt, file)?, rounds)?;
     bench_processor(rt, rounds)
 }

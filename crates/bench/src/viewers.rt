@@ -82,6 +82,7 @@ fn answer<J: Naming, C: Clock>(
     let start = Instant::now(clock).ok()?;
     let answer = viewer.answer(alloc, query).ok()?;
     let is_whole = answer.files.as_slice().len() as u64 == CHANGING;
+    drop(answer);
     let took = u64::try_from(start.elapsed(clock).ok()?.as_nanos()).ok()?;
     Some((is_whole, took))
 }
@@ -107,6 +108,8 @@ fn answer_all<J: Naming, R: Wait + Clock>(
         answers = answers.saturating_add(1);
         slowest = slowest.max(took);
     }
+    drop(query);
+    drop(viewer);
     counts.answers.fetch_add(answers, Ordering::SeqCst);
     counts.slowest.fetch_max(slowest, Ordering::SeqCst);
 }
@@ -226,8 +229,14 @@ fn opened<'a, J: Naming, R: Wait>(
     files: u64,
 ) -> Result<(Keeper<'a, J, R>, Pool<J>)> {
     let (mut keeper, pool) = shares.share(rt, alloc, 1, 1)?;
-    fill(alloc, &mut keeper, files)?;
-    Ok((keeper, pool))
+    match fill(alloc, &mut keeper, files) {
+        Ok(()) => Ok((keeper, pool)),
+        Err(error) => {
+            drop(pool);
+            drop(keeper);
+            Err(error)
+        }
+    }
 }
 
 /// Tells the row of so many viewers.
@@ -259,7 +268,25 @@ fn time<J: Naming + Send + Sync, R: Runtime + Threads + Wait + Sync>(
         || keep(rt, alloc, &mut keeper, extent, publishes, &counts),
         || answer_from(rt, alloc, &mut pool, viewers, &counts),
     );
+    drop(pool);
+    drop(keeper);
     tell(rt, viewers, extent, &counts)
+}
+
+/// Tells a row of each number of viewers, beside either keeper.
+fn tell_rows<J: Naming + Send + Sync, R: Runtime + Threads + Wait + Sync>(
+    rt: &R,
+    alloc: Global,
+    shares: &mut Shares<J>,
+    extent: Extent,
+) -> Result<()> {
+    rt.eprintln("| viewers | published a second | answers a second | slowest answer, µs |")?;
+    rt.eprintln("|---|---|---|---|")?;
+    for viewers in VIEWERS {
+        time(rt, alloc, shares, extent, viewers, false)?;
+        time(rt, alloc, shares, extent, viewers, true)?;
+    }
+    Ok(())
 }
 
 fn measured<J: Naming + Send + Sync, R: Runtime + Threads + Wait + Sync>(
@@ -271,13 +298,9 @@ fn measured<J: Naming + Send + Sync, R: Runtime + Threads + Wait + Sync>(
     requires { opened.seen.book ≡ J.book }
 {
     let mut shares: Shares<J> = Shares::new(opened);
-    rt.eprintln("| viewers | published a second | answers a second | slowest answer, µs |")?;
-    rt.eprintln("|---|---|---|---|")?;
-    for viewers in VIEWERS {
-        time(rt, alloc, &mut shares, extent, viewers, false)?;
-        time(rt, alloc, &mut shares, extent, viewers, true)?;
-    }
-    Ok(())
+    let told = tell_rows(rt, alloc, &mut shares, extent);
+    drop(shares);
+    told
 }
 
 /// Tells on standard error how fast the viewers of a share of so many files answer, each number of them for so many

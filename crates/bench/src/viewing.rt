@@ -27,11 +27,10 @@ pub fn bench<R: Runtime + AllocGlobal>(rt: &R, files: u64) -> Result<()> {
     let alloc = rt.alloc();
     table::head(rt, files)?;
     let mut view = View::new(alloc, 1, 1);
-    measure(alloc, rt, &mut view, files)?;
-    println!(rt;
-        "{files} files: the view ends at tick {} and floor {}",
-        view.tick(),
-        view.floor()
-    )?;
+    let measured = measure(alloc, rt, &mut view, files);
+    let (tick, floor) = (view.tick(), view.floor());
+    drop(view);
+    measured?;
+    println!(rt; "{files} files: the view ends at tick {tick} and floor {floor}")?;
     Ok(())
 }

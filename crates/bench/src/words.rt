@@ -57,23 +57,33 @@ fn rounds(word: &str) -> Option<u32> {
 }
 
 impl<'a> Task<'a> {
+    /// The task of a word, of a file or what else stands second, and of a number.
+    fn of_a_file(word: &str, file: &'a str, number: &str) -> Option<Task<'a>> {
+        match word {
+            "journal" => Some(Task::Journal(file, rounds(number)?)),
+            "store" => Some(Task::Store(file, rounds(number)?)),
+            "desk" => Some(Task::Desk(file, rounds(number)?)),
+            "crawl" => Some(Task::Crawl(file, workers(number)?)),
+            "share" => Some(Task::Share(files(file)?, u64::from(rounds(number)?))),
+            _ => None,
+        }
+    }
+
+    /// The task of a word and a number.
+    fn of_a_number(word: &str, number: &str) -> Option<Task<'a>> {
+        match word {
+            "match" => Some(Task::Match(rounds(number)?)),
+            "view" => Some(Task::View(files(number)?)),
+            "memory" => Some(Task::Memory(files(number)?)),
+            _ => None,
+        }
+    }
+
     /// The task that these words name, all of them.
     fn read(words: &[&'a str]) -> Option<Task<'a>> {
         match words {
-            [word, file, number] => match *word {
-                "journal" => Some(Task::Journal(*file, rounds(number)?)),
-                "store" => Some(Task::Store(*file, rounds(number)?)),
-                "desk" => Some(Task::Desk(*file, rounds(number)?)),
-                "crawl" => Some(Task::Crawl(*file, workers(number)?)),
-                "share" => Some(Task::Share(files(file)?, u64::from(rounds(number)?))),
-                _ => None,
-            },
-            [word, number] => match *word {
-                "match" => Some(Task::Match(rounds(number)?)),
-                "view" => Some(Task::View(files(number)?)),
-                "memory" => Some(Task::Memory(files(number)?)),
-                _ => None,
-            },
+            [word, file, number] => Task::of_a_file(word, file, number),
+            [word, number] => Task::of_a_number(word, number),
             ["check"] => Some(Task::Check),
             _ => None,
         }

@@ -1,4 +1,5 @@
 //! What a crawl of a tree in memory lists, counts and refuses.
+use crate::checks::check;
 use crate::trees::{Folder, Row, assert_lists, crawled, meta, part, tree_of, tried};
 use std::alloc::Global;
 use std::process::Abort;
@@ -18,7 +19,9 @@ fn counts<R: Threads + Abort + Sync>(
     faults: u64,
 ) -> bool {
     let found = crawled(rt, alloc, tree, &Subtree::Whole, workers, &Open);
-    found.listing.files().len() == files && found.faults == faults
+    let counted = (found.listing.files().len(), found.faults);
+    drop(found);
+    counted == (files, faults)
 }
 
 fn is_refused<R: Threads + Abort + Sync>(
@@ -29,10 +32,11 @@ fn is_refused<R: Threads + Abort + Sync>(
     workers: usize,
 ) -> bool {
     let top = part(rt, alloc, top);
-    matches!(
-        tried(rt, alloc, tree, &top, workers, &Open),
-        Err(Refusal::DeviceFailed)
-    )
+    let found = tried(rt, alloc, tree, &top, workers, &Open);
+    drop(top);
+    let is_refused = matches!(found, Err(Refusal::DeviceFailed));
+    drop(found);
+    is_refused
 }
 
 /// Folders in folders, a link that leads to one, and a name that stands twice.
@@ -78,9 +82,10 @@ const EACH: &[usize] = &[1, 2, 3, 4, 5, 6, 7, 8, 9, 10, 11, 12, 13, 14, 15, 16];
 
 #[test]
 fn lists_each_path_once(rt: HostRuntime) {
-    assert!(rt; EACH.len() == MAX_WORKERS);
+    check!(rt; EACH.len() == MAX_WORKERS);
     let tree = tree_of(&rt, rt.alloc(), FOLDERS, FILES);
     assert_lists(&rt, rt.alloc(), &tree, EACH, LISTED);
+    drop(tree);
 }
 
 /// Names with a slash, of dots, empty, and with a zero byte; `f` holds one that isn't text, and `f/g` nothing else.
@@ -108,6 +113,7 @@ const COUNTED: &[Row] = &[
 fn counts_names_that_are_no_paths(rt: HostRuntime) {
     let tree = tree_of(&rt, rt.alloc(), WITH_FAULTS, FILES_WITH_FAULTS);
     assert_lists(&rt, rt.alloc(), &tree, &[1, 2, 4], COUNTED);
+    drop(tree);
 }
 
 /// A name of so many bytes.
@@ -136,10 +142,13 @@ fn with_long_name(rt: &impl Abort, alloc: Global, len: usize) -> MemTree {
 fn put_long_name(rt: &impl Abort, alloc: Global, tree: &mut MemTree, len: usize) {
     let name = long_name(rt, alloc, len);
     hold_one(rt, alloc, tree, part(rt, alloc, "f"), &name);
-    let path = format!(in alloc; "f/{name}").expect(rt, "memory");
-    if let Ok(path) = RelPath::read(alloc, &path) {
+    let text = format!(in alloc; "f/{name}").expect(rt, "memory");
+    let read = RelPath::read(alloc, &text);
+    drop(text);
+    if let Ok(path) = read {
         tree.put(path, meta(Kind::File, 7)).expect(rt, "memory");
     }
+    drop(name);
 }
 
 /// How long a name is, how many files are found then, and how many names are left out.
@@ -150,10 +159,8 @@ const LENGTHS: &[(usize, usize, u64)] = &[(1022, 2, 0), (1023, 1, 1)];
 fn leaves_out_paths_that_are_too_long(rt: HostRuntime) {
     for (len, files, faults) in LENGTHS {
         let tree = with_long_name(&rt, rt.alloc(), *len);
-        assert!(rt;
-            counts(&rt, rt.alloc(), &tree, 1, *files, *faults),
-            "a name of {len} bytes"
-        );
+        check!(rt; counts(&rt, rt.alloc(), &tree, 1, *files, *faults), len);
+        drop(tree);
     }
 }
 
@@ -170,6 +177,7 @@ fn put_folders(rt: &impl Abort, alloc: Global, tree: &mut MemTree) {
         put_folder(rt, alloc, tree, &path);
         path.push_str("/folder7").expect(rt, "memory");
     }
+    drop(path);
 }
 
 /// As deep as a path can be with names of 7 bytes: 128 folders, each in the one before. The name in the last folder, whose path
@@ -179,8 +187,9 @@ fn goes_as_deep_as_paths_do(rt: HostRuntime) {
     let alloc = rt.alloc();
     let mut tree = tree_of(&rt, alloc, &[("", "folder7", 0)], &[]);
     put_folders(&rt, alloc, &mut tree);
-    assert!(rt; counts(&rt, alloc, &tree, 1, 128, 1));
-    assert!(rt; counts(&rt, alloc, &tree, 4, 128, 1));
+    check!(rt; counts(&rt, alloc, &tree, 1, 128, 1));
+    check!(rt; counts(&rt, alloc, &tree, 4, 128, 1));
+    drop(tree);
 }
 
 /// A tree with a folder that can't be read.
@@ -209,7 +218,7 @@ fn assert_refused<R: Threads + Abort + Sync>(
 ) {
     for workers in numbers {
         for top in tops {
-            assert!(rt; is_refused(rt, alloc, tree, top, *workers));
+            check!(rt; is_refused(rt, alloc, tree, top, *workers));
         }
     }
 }
@@ -221,6 +230,7 @@ fn is_refused_where_a_folder_cannot_be_read(rt: HostRuntime) {
     let tree = with_closed_folder(&rt, alloc);
     assert_refused(&rt, alloc, &tree, &[1, 2, 16], &["", "b"]);
     assert_lists(&rt, alloc, &tree, &[1, 2, 16], &[("a", "f:a/c ", 0)]);
+    drop(tree);
 }
 
 fn with_hidden_file(rt: &impl Abort, alloc: Global) -> MemTree {
@@ -234,6 +244,7 @@ fn with_hidden_file(rt: &impl Abort, alloc: Global) -> MemTree {
 fn is_refused_where_metadata_cannot_be_told(rt: HostRuntime) {
     let tree = with_hidden_file(&rt, rt.alloc());
     assert_refused(&rt, rt.alloc(), &tree, &[1, 2], &[""]);
+    drop(tree);
 }
 
 /// Puts a file whose name and size are a number.
@@ -243,6 +254,7 @@ fn put_numbered(rt: &impl Abort, alloc: Global, tree: &mut MemTree, dir: &mut Di
     tree.put(path, meta(Kind::File, number))
         .expect(rt, "memory");
     dir.add(alloc, &name).expect(rt, "memory");
+    drop(name);
 }
 
 /// A tree of one folder with 2,000 files.
@@ -259,7 +271,9 @@ fn wide(rt: &impl Abort, alloc: Global) -> MemTree {
 /// Whether a file's name is its size.
 fn is_numbered(rt: &impl Abort, alloc: Global, path: &RelPath, meta: &Meta) -> bool {
     let name = format!(in alloc; "{}.c", meta.size).expect(rt, "memory");
-    path.as_str() == name.as_str()
+    let is_name = path.as_str() == name.as_str();
+    drop(name);
+    is_name
 }
 
 fn are_numbered(rt: &impl Abort, alloc: Global, listing: &Listing) -> bool {
@@ -279,7 +293,9 @@ fn finds_numbered<R: Threads + Abort + Sync>(
     workers: usize,
 ) -> bool {
     let found = crawled(rt, alloc, tree, &Subtree::Whole, workers, &Open);
-    are_numbered(rt, alloc, &found.listing)
+    let holds = are_numbered(rt, alloc, &found.listing);
+    drop(found);
+    holds
 }
 
 /// 2,000 names in one folder, so that several workers ask for them.
@@ -287,6 +303,7 @@ fn finds_numbered<R: Threads + Abort + Sync>(
 fn lists_a_wide_folder(rt: HostRuntime) {
     let tree = wide(&rt, rt.alloc());
     for workers in &[1, 3, 16] {
-        assert!(rt; finds_numbered(&rt, rt.alloc(), &tree, *workers));
+        check!(rt; finds_numbered(&rt, rt.alloc(), &tree, *workers));
     }
+    drop(tree);
 }

@@ -1,5 +1,6 @@
 //! Crawls of real folders: each thing that a file system has.
-use crate::trees::{assert_lists, crawled, lists, part, told, tried};
+use crate::checks::check;
+use crate::trees::{assert_lists, crawled, is_told, lists, part, told, tried};
 use std::os::unix::net::UnixListener;
 use std::process::{Abort, Command};
 use std::thread::Threads;
@@ -12,14 +13,19 @@ use wm_names::{Kind, Meta, RelPath, RootPath, Subtree};
 fn root_of(rt: &HostRuntime, host: &impl Abort, name: &str) -> RootPath {
     let folder = env::current_dir(rt).expect(host, "a folder");
     let path = format!(in rt.alloc(); "{}/{name}", folder.as_str()).expect(host, "memory");
-    RootPath::read(rt.alloc(), &path).expect(host, "a path")
+    let root = RootPath::read(rt.alloc(), &path).expect(host, "a path");
+    drop(folder);
+    drop(path);
+    root
 }
 
 /// Whether a command line of the shell succeeded.
 fn sh(rt: &HostRuntime, host: &impl Abort, line: &str) -> bool {
     let mut command = Command::new(rt.alloc(), "sh").expect(host, "memory");
     command.args(["-c", line]).expect(host, "memory");
-    command.status(rt).expect(host, "a shell").success()
+    let status = command.status(rt).expect(host, "a shell");
+    drop(command);
+    status.success()
 }
 
 /// The tree of a folder where the tests run.
@@ -43,14 +49,16 @@ const ALL: &str =
 fn assert_lists_all<R: Threads + Abort + Sync>(rt: &HostRuntime, host: &R) {
     let tree = tree_at(rt, host, "crawl_all");
     assert_lists(host, rt.alloc(), &tree, &[1, 2, 4], &[("", ALL, 3)]);
+    drop(tree);
 }
 
 #[test]
 fn lists_what_a_file_system_has(rt: HostRuntime) {
-    assert!(rt; sh(&rt, &rt, MAKE));
-    let _socket = UnixListener::bind(&rt, "crawl_all/sock").expect(&rt, "a socket");
+    check!(rt; sh(&rt, &rt, MAKE));
+    let socket = UnixListener::bind(&rt, "crawl_all/sock").expect(&rt, "a socket");
     assert_lists_all(&rt, &rt);
-    assert!(rt; sh(&rt, &rt, "rm -rf crawl_all"));
+    drop(socket);
+    check!(rt; sh(&rt, &rt, "rm -rf crawl_all"));
 }
 
 /// Whether a crawl of one of many roots lists that.
@@ -65,28 +73,29 @@ fn lists_of_root<R: Threads + Abort + Sync>(
     let alloc = rt.alloc();
     let listing = crawl_root(host, alloc, folders, root, &Subtree::Whole, workers, &Open);
     let listing = listing.expect(host, "a crawl");
-    told(host, alloc, &listing).as_str() == wanted
+    is_told(host, alloc, listing, wanted)
 }
 
 fn assert_lists_of_root<R: Threads + Abort + Sync>(rt: &HostRuntime, host: &R, root: &RootPath) {
     let folders = SystemFolders::new(rt.clone().expect(host, "memory"));
     for workers in &[0, 1, 17] {
-        assert!(host; lists_of_root(rt, host, &folders, root, *workers, "d:d f:d/f "));
+        check!(host; lists_of_root(rt, host, &folders, root, *workers, "d:d f:d/f "));
     }
+    drop(folders);
 }
 
 /// By way of the folders of all roots: none or too many workers are as few or as many as may be.
 #[test]
 fn crawls_one_of_many_roots(rt: HostRuntime) {
-    assert!(rt;
-        sh(
+    check!(rt; sh(
             &rt,
             &rt,
             "rm -rf crawl_root && mkdir -p crawl_root/d && : > crawl_root/d/f"
-        )
-    );
-    assert_lists_of_root(&rt, &rt, &root_of(&rt, &rt, "crawl_root"));
-    assert!(rt; sh(&rt, &rt, "rm -rf crawl_root"));
+        ));
+    let root = root_of(&rt, &rt, "crawl_root");
+    assert_lists_of_root(&rt, &rt, &root);
+    drop(root);
+    check!(rt; sh(&rt, &rt, "rm -rf crawl_root"));
 }
 
 /// Two files, their sizes and their times.
@@ -104,7 +113,10 @@ fn are_times(files: &[(RelPath, Meta)]) -> bool {
 fn tells_times<R: Threads + Abort + Sync>(rt: &HostRuntime, host: &R) -> bool {
     let tree = tree_at(rt, host, "crawl_times");
     let found = crawled(host, rt.alloc(), &tree, &Subtree::Whole, 1, &Open);
-    are_times(found.listing.files())
+    drop(tree);
+    let tells = are_times(found.listing.files());
+    drop(found);
+    tells
 }
 
 /// Sizes in bytes, and times in milliseconds; one before 1970 is 0.
@@ -113,9 +125,9 @@ fn tells_sizes_and_times(rt: HostRuntime) {
     const MADE: &str =
         "rm -rf crawl_times && mkdir crawl_times && cd crawl_times && printf abc > new && : > old && \
         touch -d '2001-09-09 01:46:40.123456789 UTC' new && touch -d '1969-12-31 23:59:59 UTC' old";
-    assert!(rt; sh(&rt, &rt, MADE));
-    assert!(rt; tells_times(&rt, &rt));
-    assert!(rt; sh(&rt, &rt, "rm -rf crawl_times"));
+    check!(rt; sh(&rt, &rt, MADE));
+    check!(rt; tells_times(&rt, &rt));
+    check!(rt; sh(&rt, &rt, "rm -rf crawl_times"));
 }
 
 /// Roots, and what is listed below them.
@@ -133,7 +145,9 @@ fn lists_below<R: Threads + Abort + Sync>(
     wanted: &'static str,
 ) -> bool {
     let tree = tree_at(rt, host, root);
-    lists(host, rt.alloc(), &tree, 1, ("", wanted, 0))
+    let is_listed = lists(host, rt.alloc(), &tree, 1, ("", wanted, 0));
+    drop(tree);
+    is_listed
 }
 
 /// Parts of a root, and how many files are listed below them.
@@ -154,14 +168,18 @@ fn counts_below<R: Threads + Abort + Sync>(
 ) -> bool {
     let top = part(host, rt.alloc(), top);
     let found = crawled(host, rt.alloc(), tree, &top, 1, &Open);
-    found.listing.files().len() == files
+    drop(top);
+    let counted = found.listing.files().len();
+    drop(found);
+    counted == files
 }
 
 fn assert_counts_below<R: Threads + Abort + Sync>(rt: &HostRuntime, host: &R) {
     let tree = tree_at(rt, host, "crawl_tops");
     for (top, files) in PARTS {
-        assert!(host; counts_below(rt, host, &tree, top, *files), "below {top}");
+        check!(host; counts_below(rt, host, &tree, top, *files), top);
     }
+    drop(tree);
 }
 
 /// A root that is missing, one that is a file, and one that a link leads to; parts that are missing, a
@@ -171,12 +189,12 @@ fn lists_nothing_below_what_is_no_folder(rt: HostRuntime) {
     const MADE: &str =
         "rm -rf crawl_tops crawl_link && mkdir -p crawl_tops/d && : > crawl_tops/d/f && \
         ln -s d crawl_tops/l && ln -s crawl_tops crawl_link";
-    assert!(rt; sh(&rt, &rt, MADE));
+    check!(rt; sh(&rt, &rt, MADE));
     for (root, wanted) in ROOTS {
-        assert!(rt; lists_below(&rt, &rt, root, wanted), "below {root}");
+        check!(rt; lists_below(&rt, &rt, root, wanted), root);
     }
     assert_counts_below(&rt, &rt);
-    assert!(rt; sh(&rt, &rt, "rm -rf crawl_tops crawl_link"));
+    check!(rt; sh(&rt, &rt, "rm -rf crawl_tops crawl_link"));
 }
 
 /// Whether a crawl lists two files where all may be read, and else is refused.
@@ -188,7 +206,11 @@ fn goes_by_rights<R: Threads + Abort + Sync>(
     may_read: bool,
 ) -> bool {
     match tried(host, rt.alloc(), tree, &Subtree::Whole, workers, &Open) {
-        Ok(found) => may_read && found.listing.files().len() == 2,
+        Ok(found) => {
+            let counted = found.listing.files().len();
+            drop(found);
+            may_read && counted == 2
+        }
         Err(refused) => !may_read && matches!(refused, Refusal::DeviceFailed),
     }
 }
@@ -196,23 +218,22 @@ fn goes_by_rights<R: Threads + Abort + Sync>(
 fn assert_goes_by_rights<R: Threads + Abort + Sync>(rt: &HostRuntime, host: &R, may_read: bool) {
     let tree = tree_at(rt, host, "crawl_rights");
     for workers in &[1, 2] {
-        assert!(host; goes_by_rights(rt, host, &tree, *workers, may_read));
+        check!(host; goes_by_rights(rt, host, &tree, *workers, may_read));
     }
+    drop(tree);
 }
 
 /// Whoever may read all reads it, and for anybody else the crawl is refused whole.
 #[test]
 fn is_refused_where_rights_are_missing(rt: HostRuntime) {
-    assert!(rt;
-        sh(
+    check!(rt; sh(
             &rt,
             &rt,
             "rm -rf crawl_rights && mkdir -p crawl_rights/a crawl_rights/b && chmod 000 crawl_rights/b"
-        )
-    );
+        ));
     let may_read = sh(&rt, &rt, "ls crawl_rights/b 2>/dev/null");
     assert_goes_by_rights(&rt, &rt, may_read);
-    assert!(rt; sh(&rt, &rt, "chmod 755 crawl_rights/b && rm -rf crawl_rights"));
+    check!(rt; sh(&rt, &rt, "chmod 755 crawl_rights/b && rm -rf crawl_rights"));
 }
 
 /// A gate that takes a folder away, as another program would, before it is read.
@@ -223,7 +244,7 @@ struct Takes<'a> {
 
 impl Turnstile for Takes<'_> {
     fn pass(&self) {
-        let _taken = fs::remove_dir(self.rt, "crawl_going/b");
+        drop(fs::remove_dir(self.rt, "crawl_going/b"));
     }
 }
 
@@ -235,7 +256,9 @@ fn told_meanwhile<R: Threads + Abort + Sync>(
 ) -> String {
     let gate = Takes { rt };
     let found = crawled(host, rt.alloc(), tree, &Subtree::Whole, 1, &gate);
-    told(host, rt.alloc(), &found.listing)
+    let text = told(host, rt.alloc(), &found.listing);
+    drop(found);
+    text
 }
 
 fn assert_folder_goes<R: Threads + Abort + Sync>(
@@ -243,19 +266,21 @@ fn assert_folder_goes<R: Threads + Abort + Sync>(
     host: &R,
     tree: &FolderTree<HostRuntime>,
 ) {
-    assert_eq!(host; told_meanwhile(rt, host, tree).as_str(), "d:a f:a/f d:b ");
-    assert!(host; lists(host, rt.alloc(), tree, 1, ("", "d:a f:a/f ", 0)));
+    let text = told_meanwhile(rt, host, tree);
+    check!(host; text.as_str() == "d:a f:a/f d:b ", text.as_str());
+    drop(text);
+    check!(host; lists(host, rt.alloc(), tree, 1, ("", "d:a f:a/f ", 0)));
 }
 
 #[test]
 fn a_folder_may_go_while_it_is_read(rt: HostRuntime) {
-    assert!(rt;
-        sh(
+    check!(rt; sh(
             &rt,
             &rt,
             "rm -rf crawl_going && mkdir -p crawl_going/a crawl_going/b && : > crawl_going/a/f"
-        )
-    );
-    assert_folder_goes(&rt, &rt, &tree_at(&rt, &rt, "crawl_going"));
-    assert!(rt; sh(&rt, &rt, "rm -rf crawl_going"));
+        ));
+    let tree = tree_at(&rt, &rt, "crawl_going");
+    assert_folder_goes(&rt, &rt, &tree);
+    drop(tree);
+    check!(rt; sh(&rt, &rt, "rm -rf crawl_going"));
 }

@@ -1,4 +1,5 @@
 //! Gates: how often they are passed, and that two workers are at work at once.
+use crate::checks::check;
 use crate::trees::{Folder, crawled, tree_of};
 use std::alloc::Global;
 use std::process::Abort;
@@ -24,8 +25,11 @@ fn passed<R: Threads + Abort + Sync>(rt: &R, alloc: Global, tree: &MemTree, work
     let gate = Counted {
         passed: AtomicU64::new(0),
     };
-    crawled(rt, alloc, tree, &Subtree::Whole, workers, &gate);
-    gate.passed.load(Ordering::SeqCst)
+    let found = crawled(rt, alloc, tree, &Subtree::Whole, workers, &gate);
+    drop(found);
+    let times = gate.passed.load(Ordering::SeqCst);
+    drop(gate);
+    times
 }
 
 const FOLDERS: &[Folder<'static>] = &[("", "a|b|c|f", 0), ("b", "d", 0), ("b/d", "e", 0)];
@@ -47,12 +51,10 @@ const NUMBERS: &[usize] = &[1, 2, 4, 16];
 fn is_passed_once_for_each_folder_below_the_top(rt: HostRuntime) {
     let tree = tree_of(&rt, rt.alloc(), FOLDERS, FILES);
     for workers in NUMBERS {
-        assert_eq!(rt;
-            passed(&rt, rt.alloc(), &tree, *workers),
-            3,
-            "{workers} workers"
-        );
+        let times = passed(&rt, rt.alloc(), &tree, *workers);
+        check!(rt; times == 3, (workers, times));
     }
+    drop(tree);
 }
 
 /// A gate that holds the first reading back until the second was let through.
@@ -89,7 +91,9 @@ fn found_by_two<R: Threads + Abort + Sync>(
     gate: &Meeting,
 ) -> usize {
     let found = crawled(rt, alloc, tree, &Subtree::Whole, 2, gate);
-    found.listing.files().len()
+    let counted = found.listing.files().len();
+    drop(found);
+    counted
 }
 
 /// Two workers read the folders x and y at once: by one alone the first reading would never be let through.
@@ -106,6 +110,9 @@ fn two_crawlers_meet(rt: HostRuntime) {
         second_is_through: AtomicBool::new(false),
         gave_up: AtomicBool::new(false),
     };
-    assert_eq!(rt; found_by_two(&rt, rt.alloc(), &tree, &gate), 2);
-    assert!(rt; !gate.gave_up.load(Ordering::SeqCst));
+    let found = found_by_two(&rt, rt.alloc(), &tree, &gate);
+    drop(tree);
+    check!(rt; found == 2, found);
+    check!(rt; !gate.gave_up.load(Ordering::SeqCst));
+    drop(gate);
 }

@@ -1,6 +1,7 @@
 //! Trees in memory, crawls of trees, and listings as texts.
 ghost use Rattle.std.specs.Prelude.{◌≤◌};
 
+use crate::checks::check;
 use std::alloc::Global;
 use std::process::Abort;
 use std::thread::Threads;
@@ -83,6 +84,15 @@ pub(crate) fn told(rt: &impl Abort, alloc: Global, listing: &Listing) -> String 
     text
 }
 
+/// Whether the listing's text is this.
+pub(crate) fn is_told(rt: &impl Abort, alloc: Global, listing: Listing, wanted: &str) -> bool {
+    let text = told(rt, alloc, &listing);
+    drop(listing);
+    let holds = text.as_str() == wanted;
+    drop(text);
+    holds
+}
+
 /// What so many workers find below the top, or how they are refused.
 pub(crate) fn tried<R: Threads + Sync, T: Tree + Sync, G: Turnstile + Sync>(
     rt: &R,
@@ -120,7 +130,9 @@ pub(crate) fn lists<R: Threads + Abort + Sync, T: Tree + Sync>(
 ) -> bool {
     let top = part(rt, alloc, top);
     let found = crawled(rt, alloc, tree, &top, workers, &Open);
-    told(rt, alloc, &found.listing).as_str() == wanted && found.faults == faults
+    drop(top);
+    let is_counted = found.faults == faults;
+    is_told(rt, alloc, found.listing, wanted) && is_counted
 }
 
 /// Asserts that each of these numbers of workers lists what the rows tell.
@@ -133,11 +145,7 @@ pub(crate) fn assert_lists<R: Threads + Abort + Sync, T: Tree + Sync>(
 ) {
     for row in rows {
         for workers in numbers {
-            assert!(rt;
-                lists(rt, alloc, tree, *workers, *row),
-                "{workers} workers below {}",
-                row.0
-            );
+            check!(rt; lists(rt, alloc, tree, *workers, *row), (workers, row.0));
         }
     }
 }

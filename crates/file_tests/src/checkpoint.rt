@@ -59,7 +59,9 @@ fn refused(rt: &impl Abort, alloc: Global, disk: MemDisk) -> (Refusal, MemDisk) 
 /// The state that is found on a disk.
 fn found(rt: &impl Abort, alloc: Global, disk: MemDisk) -> u64 {
     let kept = open(rt, alloc, disk);
-    *kept.keeper.state()
+    let state = *kept.keeper.state();
+    drop(kept);
+    state
 }
 
 /// Commits one command, which has to differ from the state.

@@ -1,4 +1,5 @@
 //! Disks in memory, and the bytes on them.
+use crate::checks::check;
 use std::alloc::Global;
 use std::process::Abort;
 use wm_disk::{Crashed, Disk, MemDisk};
@@ -44,7 +45,7 @@ pub(crate) fn stands(content: &[u8], at: usize, bytes: &[u8]) -> bool {
 /// Each of these bytes has to stand at its place.
 pub(crate) fn assert_stand(rt: &impl Abort, content: &[u8], parts: &[(usize, &[u8])]) {
     for (at, bytes) in parts {
-        assert!(rt; stands(content, *at, bytes), "at {at}");
+        check!(rt; stands(content, *at, bytes), at);
     }
 }
 

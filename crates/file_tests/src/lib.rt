@@ -8,6 +8,8 @@
 #[cfg(test)]
 mod checkpoint;
 #[cfg(test)]
+mod checks;
+#[cfg(test)]
 mod desk;
 #[cfg(test)]
 mod disks;

@@ -26,17 +26,24 @@ fn flush<R: Wait>(rt: &R, desk: &Desk<MemDisk>, is_done: &AtomicBool) {
             Ok(_) | Err(_) => {}
         }
     }
+    drop(flusher);
 }
 
 /// The command that watches `/a`, from a new seat.
 fn submit<R: Wait>(rt: &R, desk: &Desk<MemDisk>, command: Command, was_watched: bool) -> Met {
     let Ok(mut seat) = desk.seat(rt) else {
+        drop(command);
         return Met::Refused(Refusal::NoMemory);
     };
-    match desk.submit(rt, &mut seat, command) {
-        Ok((reply, _)) => by_reply(reply, was_watched),
+    let met = match desk.submit(rt, &mut seat, command) {
+        Ok((reply, receipt)) => {
+            drop(receipt);
+            by_reply(reply, was_watched)
+        }
         Err(refusal) => Met::Refused(refusal),
-    }
+    };
+    drop(seat);
+    met
 }
 
 fn submit_both<R: Wait>(rt: &R, desk: &Desk<MemDisk>, commands: (Command, Command)) -> [Met; 2] {
@@ -80,7 +87,10 @@ fn submit_twice<R: Threads + Wait + Sync>(rt: &R, alloc: Global, desk: &Desk<Mem
 fn desk_of_one(alloc: Global) -> Result<Desk<MemDisk>, Refusal> {
     match Desk::new(alloc, watching_one(alloc)?) {
         Ok(desk) => Ok(desk),
-        Err((refusal, _)) => Err(refusal),
+        Err((refusal, store)) => {
+            drop(store);
+            Err(refusal)
+        }
     }
 }
 
@@ -88,6 +98,11 @@ pub(crate) fn submitting<R: Threads + Wait + Sync>(rt: &R, alloc: Global) -> Twi
     let desk = desk_of_one(alloc)?;
     let both = submit_twice(rt, alloc, &desk);
     let store = desk.into_store();
-    let both = both?;
-    ending(alloc, both, store, (has_right(both), false))
+    match both {
+        Ok(both) => ending(alloc, both, store, (has_right(both), false)),
+        Err(refusal) => {
+            drop(store);
+            Err(refusal)
+        }
+    }
 }

@@ -83,7 +83,13 @@ fn is_told<J: Naming, R: Wait, K: Wait + Drop>(
     let Some(inquiry) = inquiry(alloc)? else {
         return Ok(false);
     };
-    let mut viewer = hall.lend(rt)?;
+    let mut viewer = match hall.lend(rt) {
+        Ok(viewer) => viewer,
+        Err(refusal) => {
+            drop(inquiry);
+            return Err(refusal);
+        }
+    };
     let told = tells(rt, alloc, hall, &mut viewer, inquiry);
     hall.take_back(rt, viewer);
     told
@@ -132,8 +138,12 @@ fn observed_and_read<J: Naming, R: Wait>(rt: &R, alloc: Global, opened: Opened) 
     requires { opened.seen.book ≡ J.book }
 {
     let mut shares: Shares<J> = Shares::new(opened);
-    let hall = hall(rt, alloc, &mut shares)?;
-    observe_and_read(rt, alloc, &hall)
+    let hall = hall(rt, alloc, &mut shares);
+    drop(shares);
+    let hall = hall?;
+    let told = observe_and_read(rt, alloc, &hall);
+    drop(hall);
+    told
 }
 
 /// What is observed before a reading doesn't overtake it, also where memory ran out for it.

@@ -12,7 +12,10 @@ fn front(alloc: Global) -> Result<LocalFront<MemDisk>, Refusal> {
     let disk = watching_one(alloc)?.into_disk();
     match LocalFront::open(alloc, disk) {
         Ok(front) => Ok(front),
-        Err((refusal, _)) => Err(refusal),
+        Err((refusal, disk)) => {
+            drop(disk);
+            Err(refusal)
+        }
     }
 }
 
@@ -121,11 +124,11 @@ fn started(alloc: Global, disk: MemDisk, listed: &[u8]) -> (Met, MemDisk) {
 /// The answers, where the triggers behind another start are listed so; after a failure of the device also with the one that
 /// was refused.
 fn ending(alloc: Global, both: [Met; 2], disk: MemDisk, listed: &[u8]) -> Twice {
-    let (met, disk) = started(alloc, disk, listed);
-    let met = match met {
-        Met::Wrong if has_failed(both) => started(alloc, disk, BUILD).0,
-        _ => met,
-    };
+    let (mut met, mut disk) = started(alloc, disk, listed);
+    if matches!(met, Met::Wrong) && has_failed(both) {
+        (met, disk) = started(alloc, disk, BUILD);
+    }
+    drop(disk);
     match met {
         Met::Right => Ok(both),
         // the growth was this look's
@@ -168,7 +171,10 @@ fn with_trigger(alloc: Global) -> Result<MemDisk, Refusal> {
     let (_, disk) = session.front.close();
     match made {
         Met::Right => Ok(disk),
-        _ => Err(Refusal::NoMemory),
+        _ => {
+            drop(disk);
+            Err(Refusal::NoMemory)
+        }
     }
 }
 
@@ -221,5 +227,7 @@ fn observed_and_asked(alloc: Global, session: &mut MemSession) -> Twice {
 /// An observation behind which a line is due, and the line after it.
 pub(crate) fn telling(alloc: Global) -> Twice {
     let mut session = session(alloc)?;
-    observed_and_asked(alloc, &mut session)
+    let told = observed_and_asked(alloc, &mut session);
+    drop(session);
+    told
 }

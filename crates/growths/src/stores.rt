@@ -15,7 +15,10 @@ pub(crate) type Watched = (bool, bool);
 fn open(alloc: Global, disk: MemDisk) -> Result<Kept, Refusal> {
     match Store::open(alloc, disk) {
         Ok(store) => Ok(store),
-        Err((refusal, _)) => Err(refusal),
+        Err((refusal, disk)) => {
+            drop(disk);
+            Err(refusal)
+        }
     }
 }
 
@@ -25,6 +28,7 @@ pub(crate) fn watch(alloc: Global, path: &str) -> Result<Command, Refusal> {
 
 fn commit(alloc: Global, store: &mut Kept, commands: Vec<Command>) -> Result<Vec<Reply>, Refusal> {
     if commands.len() > MAX_BATCH {
+        drop(commands);
         return Err(Refusal::TooMany);
     }
     store.commit_batch(alloc, commands)
@@ -32,8 +36,13 @@ fn commit(alloc: Global, store: &mut Kept, commands: Vec<Command>) -> Result<Vec
 
 fn formatted(alloc: Global) -> Result<MemDisk, Refusal> {
     let mut disk = MemDisk::new(alloc, 1);
-    format(alloc, &mut disk)?;
-    Ok(disk)
+    match format(alloc, &mut disk) {
+        Ok(()) => Ok(disk),
+        Err(refusal) => {
+            drop(disk);
+            Err(refusal)
+        }
+    }
 }
 
 fn watch_first(alloc: Global, store: &mut Kept) -> Result<(), Refusal> {
@@ -47,8 +56,13 @@ fn watch_first(alloc: Global, store: &mut Kept) -> Result<(), Refusal> {
 /// A store that watches `/r`.
 pub(crate) fn watching_one(alloc: Global) -> Result<Kept, Refusal> {
     let mut store = open(alloc, formatted(alloc)?)?;
-    watch_first(alloc, &mut store)?;
-    Ok(store)
+    match watch_first(alloc, &mut store) {
+        Ok(()) => Ok(store),
+        Err(refusal) => {
+            drop(store);
+            Err(refusal)
+        }
+    }
 }
 
 fn has(store: &Kept, path: &str) -> bool {
@@ -80,8 +94,13 @@ fn may_have(found: Watched, shown: Watched, has_failed: bool) -> bool {
 /// The answers, where the disk has so much when it is opened again.
 fn behind(alloc: Global, both: [Met; 2], disk: MemDisk, shown: Watched) -> Twice {
     let found = match Store::open(alloc, disk) {
-        Ok(store) => watched(&store),
-        Err((refusal, _disk)) => {
+        Ok(store) => {
+            let found = watched(&store);
+            drop(store);
+            found
+        }
+        Err((refusal, disk)) => {
+            drop(disk);
             // the growth was this look's
             if are_right(both) {
                 return Err(refusal);
@@ -101,6 +120,7 @@ pub(crate) fn ending(alloc: Global, both: [Met; 2], store: Kept, shown: Watched)
     if watched(&store) == Some(shown) {
         behind(alloc, both, store.into_disk(), shown)
     } else {
+        drop(store);
         Ok([Met::Wrong; 2])
     }
 }
@@ -166,8 +186,16 @@ fn batch_twice(alloc: Global, store: &mut Kept) -> Result<([Met; 2], Watched), R
 
 pub(crate) fn batching(alloc: Global) -> Twice {
     let mut store = watching_one(alloc)?;
-    let (both, after) = batch_twice(alloc, &mut store)?;
-    ending(alloc, both, store, after)
+    match batch_twice(alloc, &mut store) {
+        Ok(met) => {
+            let (both, after) = met;
+            ending(alloc, both, store, after)
+        }
+        Err(refusal) => {
+            drop(store);
+            Err(refusal)
+        }
+    }
 }
 
 fn checkpoint(alloc: Global, store: &mut Kept) -> Met {

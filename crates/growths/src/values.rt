@@ -40,7 +40,9 @@ pub(crate) fn put(alloc: Global) -> Twice {
     let texts = texts(alloc)?;
     let mut out = Vec::new(alloc);
     let first = put_once(&texts, &mut out);
-    Ok([first, put_once(&texts, &mut out)])
+    let both = [first, put_once(&texts, &mut out)];
+    drop(texts);
+    Ok(both)
 }
 
 fn taken(alloc: Global) -> Result<bool, NoMemory> {
@@ -78,16 +80,26 @@ const EMPTY: Meta = Meta {
 /// Whether the value is an expression that the first of the files passes and the second doesn't.
 fn is_read(alloc: Global, value: &Value, files: &(Entry, Entry)) -> Result<bool, Refusal> {
     let expr = Expr::read(alloc, value)?;
-    Ok(expr.holds(&files.0) && !expr.holds(&files.1))
+    let is_read = expr.holds(&files.0) && !expr.holds(&files.1);
+    drop(expr);
+    Ok(is_read)
+}
+
+fn read_twice(alloc: Global, value: &Value) -> Twice {
+    let files = (entry(alloc, "a.c")?, entry(alloc, "c.c")?);
+    let first = by_refusal(is_read(alloc, value, &files));
+    let both = [first, by_refusal(is_read(alloc, value, &files))];
+    drop(files);
+    Ok(both)
 }
 
 pub(crate) fn expression(alloc: Global) -> Twice {
     let Ok(value) = Value::from_slice(alloc, EXPRESSION.as_bytes()) else {
         return Err(Refusal::NoMemory);
     };
-    let files = (entry(alloc, "a.c")?, entry(alloc, "c.c")?);
-    let first = by_refusal(is_read(alloc, &value, &files));
-    Ok([first, by_refusal(is_read(alloc, &value, &files))])
+    let both = read_twice(alloc, &value);
+    drop(value);
+    both
 }
 
 /// A view of two files.
@@ -118,5 +130,7 @@ pub(crate) fn answering(alloc: Global) -> Twice {
         empty_on_fresh: false,
     };
     let first = by_refusal(is_told(alloc, &view, &query));
-    Ok([first, by_refusal(is_told(alloc, &view, &query))])
+    let both = [first, by_refusal(is_told(alloc, &view, &query))];
+    drop(view);
+    Ok(both)
 }

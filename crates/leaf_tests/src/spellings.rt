@@ -29,7 +29,18 @@ fn again<W: Wire + Drop>(rt: &impl Abort, alloc: Global, value: &W, want: &[u8])
     }
 }
 
+// Whether the value is spelled so, and taken back.
+fn is_again<W: Wire + Drop>(rt: &impl Abort, alloc: Global, value: &W, want: &[u8]) -> bool {
+    let back = again(rt, alloc, value, want);
+    let is_some = back.is_some();
+    drop(back);
+    is_some
+}
+
 // Whether the bytes begin with no spelling.
 fn is_none<W: Wire + Drop>(rt: &impl Abort, alloc: Global, bytes: &[u8]) -> bool {
-    W::take(alloc, bytes).expect(rt, "memory").is_none()
+    let taken = W::take(alloc, bytes).expect(rt, "memory");
+    let is_none = taken.is_none();
+    drop(taken);
+    is_none
 }

@@ -1,8 +1,10 @@
 //! The spellings of commands.
+use crate::checks::check;
 use crate::lines::named;
 use crate::spelling::{is_spelled, taken};
 use std::alloc::Global;
 use std::process::Abort;
+use wm_names::RootPath;
 use wm_registry::{Command, Stdin, Trigger};
 
 /// A command by its verb, its path, its trigger's name and its program, and its spelling.
@@ -40,18 +42,23 @@ fn is_trigger(trigger: &Trigger, name: &str, program: &str) -> bool {
     started && bare && quiet && trigger.name() == name
 }
 
+// Whether the verb is the wanted one, and the place the path.
+fn is_at(verb: &str, wanted: &str, at: &RootPath, path: &str) -> bool {
+    verb == wanted && at.as_str() == path
+}
+
 // Whether the command is that of the row.
 fn is_row(command: &Command, row: &Row) -> bool {
     let (verb, path, name, program, _) = *row;
     match command {
         Command::Begin => verb == "begin",
-        Command::Watch(at) => verb == "watch" && at.as_str() == path,
-        Command::WatchDel(at) => verb == "watch-del" && at.as_str() == path,
+        Command::Watch(at) => is_at(verb, "watch", at, path),
+        Command::WatchDel(at) => is_at(verb, "watch-del", at, path),
         Command::Trigger(at, trigger) => {
-            verb == "trigger" && at.as_str() == path && is_trigger(trigger, name, program)
+            is_at(verb, "trigger", at, path) && is_trigger(trigger, name, program)
         }
         Command::TriggerDel(at, other) => {
-            verb == "trigger-del" && at.as_str() == path && other.as_str() == name
+            is_at(verb, "trigger-del", at, path) && other.as_str() == name
         }
     }
 }
@@ -60,13 +67,19 @@ fn is_row(command: &Command, row: &Row) -> bool {
 fn is_put(rt: &impl Abort, alloc: Global, row: &Row) -> bool {
     let (verb, path, name, program, want) = *row;
     let command = named(rt, alloc, verb, path, name, program);
-    is_row(&command, row) && is_spelled(rt, alloc, &command, want)
+    let is_put = is_row(&command, row) && is_spelled(rt, alloc, &command, want);
+    drop(command);
+    is_put
 }
 
 // Whether the row's command is taken from the bytes.
 fn is_taken(rt: &impl Abort, alloc: Global, row: &Row) -> bool {
     match taken::<Command>(rt, alloc, row.4) {
-        Some(command) => is_row(&command, row),
+        Some(command) => {
+            let is_row = is_row(&command, row);
+            drop(command);
+            is_row
+        }
         None => false,
     }
 }
@@ -75,7 +88,7 @@ fn is_taken(rt: &impl Abort, alloc: Global, row: &Row) -> bool {
 fn spells_commands(rt: HostRuntime) {
     for row in SPELLINGS {
         let put = is_put(&rt, rt.alloc(), row);
-        assert!(rt; put && is_taken(&rt, rt.alloc(), row), "{}", row.0);
+        check!(rt; put && is_taken(&rt, rt.alloc(), row), row.0);
     }
 }
 

@@ -1,4 +1,5 @@
 //! A draft, as roots go from its front and from elsewhere.
+use crate::checks::check;
 use crate::lines::{apply_all, command, is_shown};
 use crate::registries::Row;
 use std::alloc::Global;
@@ -32,17 +33,23 @@ const ROWS: &[Row] = &[
 fn begun(rt: &impl Abort, alloc: Global) -> Draft {
     let mut registry = Registry::new(alloc);
     apply_all(rt, alloc, &mut registry, FOUR);
-    Draft::new(alloc, &registry).expect(rt, "memory")
+    let draft = Draft::new(alloc, &registry).expect(rt, "memory");
+    drop(registry);
+    draft
 }
 
 // How the command is met.
 fn apply(alloc: Global, draft: &mut Draft, command: Command) -> Reply {
-    draft.apply(alloc, &command)
+    let reply = draft.apply(alloc, &command);
+    drop(command);
+    reply
 }
 
 // How the command would be met.
 fn reply_to(draft: &mut Draft, command: Command) -> Reply {
-    draft.reply_to(&command)
+    let reply = draft.reply_to(&command);
+    drop(command);
+    reply
 }
 
 // How the command of a line is met.
@@ -58,30 +65,31 @@ fn ask(rt: &impl Abort, alloc: Global, draft: &mut Draft, line: &str) -> Reply {
 // Whether a copy of the draft is that registry.
 fn is_left(rt: &impl Abort, alloc: Global, draft: &Draft, state: &str) -> bool {
     let copy = draft.copy(alloc).expect(rt, "memory");
-    is_shown(rt, alloc, &copy, state)
+    let is_shown = is_shown(rt, alloc, &copy, state);
+    drop(copy);
+    is_shown
 }
 
 // Asserts that the draft is told so and becomes that, and that the last root is watched then.
 fn walk(rt: &impl Abort, alloc: Global, draft: &mut Draft) {
     for (line, reply, state) in ROWS {
         let met = tell(rt, alloc, draft, line) == *reply;
-        assert!(rt;
-            met && is_left(rt, alloc, draft, state),
-            "{line} to {state}"
-        );
+        check!(rt; met && is_left(rt, alloc, draft, state), (line, state));
     }
-    assert!(rt; ask(rt, alloc, draft, "watch /a") == Reply::Unchanged);
+    check!(rt; ask(rt, alloc, draft, "watch /a") == Reply::Unchanged);
 }
 
 // Whether the draft becomes that registry.
 fn is_left_at_last(rt: &impl Abort, alloc: Global, draft: Draft, state: &str) -> bool {
     let registry = draft.into_registry();
-    is_shown(rt, alloc, &registry, state)
+    let is_shown = is_shown(rt, alloc, &registry, state);
+    drop(registry);
+    is_shown
 }
 
 #[test]
 fn takes_roots_out(rt: HostRuntime) {
     let mut draft = begun(&rt, rt.alloc());
     walk(&rt, rt.alloc(), &mut draft);
-    assert!(rt; is_left_at_last(&rt, rt.alloc(), draft, "0 6; /a 5"));
+    check!(rt; is_left_at_last(&rt, rt.alloc(), draft, "0 6; /a 5"));
 }

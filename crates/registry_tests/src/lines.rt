@@ -1,4 +1,5 @@
 //! Commands as lines, and a registry as a line.
+use crate::checks::check;
 use std::alloc::Global;
 use std::process::Abort;
 use wm_names::RootPath;
@@ -65,17 +66,23 @@ fn show(rt: &impl Abort, line: &mut String, registry: &Registry) {
 pub(crate) fn is_shown(rt: &impl Abort, alloc: Global, registry: &Registry, state: &str) -> bool {
     let mut line = String::new(alloc);
     show(rt, &mut line, registry);
-    line.as_str() == state
+    let is_shown = line.as_str() == state;
+    drop(line);
+    is_shown
 }
 
 /// How the command is met, where it is applied.
 pub(crate) fn apply(alloc: Global, registry: &mut Registry, command: Command) -> Reply {
-    registry.apply(alloc, &command)
+    let reply = registry.apply(alloc, &command);
+    drop(command);
+    reply
 }
 
 /// How the command would be met.
 pub(crate) fn ask(registry: &Registry, command: Command) -> Reply {
-    registry.reply_to(&command)
+    let reply = registry.reply_to(&command);
+    drop(command);
+    reply
 }
 
 /// How the command of a line is met, where it is applied.
@@ -101,13 +108,13 @@ pub(crate) fn apply_all(
     rows: &[(&str, Reply)],
 ) {
     for (line, reply) in rows {
-        assert!(rt; applied(rt, alloc, registry, line) == *reply, "{line}");
+        check!(rt; applied(rt, alloc, registry, line) == *reply, line);
     }
 }
 
 /// Asserts that the commands would be met so, each by the registry as it is.
 pub(crate) fn ask_all(rt: &impl Abort, alloc: Global, registry: &Registry, rows: &[(&str, Reply)]) {
     for (line, reply) in rows {
-        assert!(rt; asked(rt, alloc, registry, line) == *reply, "{line}");
+        check!(rt; asked(rt, alloc, registry, line) == *reply, line);
     }
 }

@@ -1,4 +1,5 @@
 //! States with as many roots and as many bytes as there may be.
+use crate::checks::check;
 use crate::spelling::{spells, taken, takes};
 use std::alloc::Global;
 use std::process::Abort;
@@ -29,25 +30,31 @@ fn is_crowded(rt: &impl Abort, alloc: Global, bytes: &[u8]) -> bool {
     let Some(registry) = taken::<Registry>(rt, alloc, bytes) else {
         return false;
     };
-    registry.roots().len() == 256 && spells(rt, alloc, &registry, bytes)
+    let is_crowded = registry.roots().len() == 256 && spells(rt, alloc, &registry, bytes);
+    drop(registry);
+    is_crowded
 }
 
 // Whether a state of so many more than 255 roots is taken whole.
 fn is_crowd(rt: &impl Abort, alloc: Global, more: u8) -> bool {
     let bytes = crowd(rt, alloc, 255, more);
-    is_crowded(rt, alloc, &bytes)
+    let is_crowded = is_crowded(rt, alloc, &bytes);
+    drop(bytes);
+    is_crowded
 }
 
 // Whether a state of 257 roots is taken.
 fn is_crowd_too_many(rt: &impl Abort, alloc: Global) -> bool {
     let bytes = crowd(rt, alloc, 255, 2);
-    takes::<Registry>(rt, alloc, &bytes)
+    let takes = takes::<Registry>(rt, alloc, &bytes);
+    drop(bytes);
+    takes
 }
 
 #[test]
 fn takes_256_roots(rt: HostRuntime) {
-    assert!(rt; is_crowd(&rt, rt.alloc(), 1), "256 roots");
-    assert!(rt; !is_crowd_too_many(&rt, rt.alloc()), "one too many");
+    check!(rt; is_crowd(&rt, rt.alloc(), 1));
+    check!(rt; !is_crowd_too_many(&rt, rt.alloc()));
 }
 
 // Appends a text of so many bytes.
@@ -104,7 +111,11 @@ fn long_state(rt: &impl Abort, alloc: Global, expression: u32) -> Vec<u8> {
 // Whether the bytes are so many, and those of a state that knows how many.
 fn is_long(rt: &impl Abort, alloc: Global, bytes: &[u8], size: u64) -> bool {
     match taken::<Registry>(rt, alloc, bytes) {
-        Some(registry) => bytes.len() as u64 == size && registry.size() == size,
+        Some(registry) => {
+            let is_long = bytes.len() as u64 == size && registry.size() == size;
+            drop(registry);
+            is_long
+        }
         None => false,
     }
 }
@@ -112,17 +123,21 @@ fn is_long(rt: &impl Abort, alloc: Global, bytes: &[u8], size: u64) -> bool {
 // Whether the longest state is taken whole.
 fn is_longest(rt: &impl Abort, alloc: Global) -> bool {
     let bytes = long_state(rt, alloc, 137);
-    is_long(rt, alloc, &bytes, 1_048_563)
+    let is_long = is_long(rt, alloc, &bytes, 1_048_563);
+    drop(bytes);
+    is_long
 }
 
 // Whether a state has one byte too many, and isn't taken.
 fn is_too_long(rt: &impl Abort, alloc: Global) -> bool {
     let bytes = long_state(rt, alloc, 138);
-    bytes.len() == 1_048_564 && !takes::<Registry>(rt, alloc, &bytes)
+    let is_too_long = bytes.len() == 1_048_564 && !takes::<Registry>(rt, alloc, &bytes);
+    drop(bytes);
+    is_too_long
 }
 
 #[test]
 fn takes_the_longest_state(rt: HostRuntime) {
-    assert!(rt; is_longest(&rt, rt.alloc()), "the longest");
-    assert!(rt; is_too_long(&rt, rt.alloc()), "one byte too many");
+    check!(rt; is_longest(&rt, rt.alloc()));
+    check!(rt; is_too_long(&rt, rt.alloc()));
 }

@@ -1,4 +1,5 @@
 //! Registries under commands, each with what it leaves, and their copies.
+use crate::checks::check;
 use crate::lines::{applied, is_shown};
 use crate::roots::{PLACES, TRIGGERS, TWO, TWO_LEFT};
 use std::alloc::Global;
@@ -16,14 +17,19 @@ const UNKNOWN: Reply = Reply::Refused(Refusal::NotWatched);
 
 // Whether the registry is that.
 fn is_left(rt: &impl Abort, alloc: Global, registry: Registry, state: &str) -> bool {
-    is_shown(rt, alloc, &registry, state)
+    let is_shown = is_shown(rt, alloc, &registry, state);
+    drop(registry);
+    is_shown
 }
 
 // Whether the bytes are all of the spelling of that registry.
 fn are_bytes_of(rt: &impl Abort, alloc: Global, bytes: &[u8], state: &str) -> bool {
     match Registry::take(alloc, bytes).expect(rt, "memory") {
-        Some((registry, size)) if size == bytes.len() => is_left(rt, alloc, registry, state),
-        _ => false,
+        Some((registry, size)) => {
+            let is_left = is_left(rt, alloc, registry, state);
+            size == bytes.len() && is_left
+        }
+        None => false,
     }
 }
 
@@ -31,7 +37,9 @@ fn are_bytes_of(rt: &impl Abort, alloc: Global, bytes: &[u8], state: &str) -> bo
 fn is_taken_back(rt: &impl Abort, alloc: Global, registry: &Registry, state: &str) -> bool {
     let mut out = Vec::new(alloc);
     registry.put(&mut out).expect(rt, "memory");
-    registry.size() == out.len() as u64 && are_bytes_of(rt, alloc, &out, state)
+    let is_taken = registry.size() == out.len() as u64 && are_bytes_of(rt, alloc, &out, state);
+    drop(out);
+    is_taken
 }
 
 // Whether the command is met so, and leaves that.
@@ -44,25 +52,22 @@ fn is_met(rt: &impl Abort, alloc: Global, registry: &mut Registry, row: &Row) ->
 // Asserts that the commands are met so, one after another, and leave that.
 fn walk(rt: &impl Abort, alloc: Global, registry: &mut Registry, rows: &[Row]) {
     for row in rows {
-        assert!(rt; is_met(rt, alloc, registry, row), "{} to {}", row.0, row.2);
+        check!(rt; is_met(rt, alloc, registry, row), (row.0, row.2));
     }
 }
 
 // Whether the command is met so by a copy of the registry, which has its size, and leaves that.
 fn is_met_by_copy(rt: &impl Abort, alloc: Global, registry: &Registry, row: &Row) -> bool {
     let mut copy = registry.copy(alloc).expect(rt, "memory");
-    copy.size() == registry.size() && is_met(rt, alloc, &mut copy, row)
+    let is_met = copy.size() == registry.size() && is_met(rt, alloc, &mut copy, row);
+    drop(copy);
+    is_met
 }
 
 // Asserts that each of the commands is met so by a copy of the registry, and leaves that.
 fn try_each(rt: &impl Abort, alloc: Global, registry: &Registry, rows: &[Row]) {
     for row in rows {
-        assert!(rt;
-            is_met_by_copy(rt, alloc, registry, row),
-            "{} to {}",
-            row.0,
-            row.2
-        );
+        check!(rt; is_met_by_copy(rt, alloc, registry, row), (row.0, row.2));
     }
 }
 
@@ -118,6 +123,7 @@ const WALKS: &[&[Row]] = &[COMMANDS, AGAIN, TRIGGERS];
 fn walk_anew(rt: &impl Abort, alloc: Global, rows: &[Row]) {
     let mut registry = Registry::new(alloc);
     walk(rt, alloc, &mut registry, rows);
+    drop(registry);
 }
 
 #[test]
@@ -166,23 +172,28 @@ fn copies_registries(rt: HostRuntime) {
     for row in TRIES {
         let mut registry = Registry::new(rt.alloc());
         walk_with_copies(&rt, rt.alloc(), &mut registry, row);
+        drop(registry);
     }
 }
 
 // The incarnation of a copy of the state.
 fn copied(rt: &impl Abort, alloc: Global, state: &Registry) -> u64 {
     let copy = <Registry as Machine>::copy(alloc, state).expect(rt, "memory");
-    copy.incarnation()
+    let incarnation = copy.incarnation();
+    drop(copy);
+    incarnation
 }
 
 // Whether a new state is changed by a start, and a copy has the first incarnation then.
 fn begins(rt: &impl Abort, alloc: Global) -> bool {
     let mut state = Registry::new(alloc);
     let met = <Registry as Machine>::apply(alloc, &mut state, &Command::Begin).expect(rt, "memory");
-    met.0 == Reply::Changed && met.1 && copied(rt, alloc, &state) == 1
+    let copied = copied(rt, alloc, &state);
+    drop(state);
+    met.0 == Reply::Changed && met.1 && copied == 1
 }
 
 #[test]
 fn copies_a_state(rt: HostRuntime) {
-    assert!(rt; begins(&rt, rt.alloc()));
+    check!(rt; begins(&rt, rt.alloc()));
 }

@@ -1,4 +1,5 @@
 //! Where a registry has no room: counters that are spent, and a root, a trigger or a byte too many.
+use crate::checks::check;
 use crate::lines::{applied, apply, apply_all, ask_all, asked};
 use std::alloc::Global;
 use std::process::Abort;
@@ -53,7 +54,11 @@ fn are_met(
 // Whether the registry that the bytes begin with meets them so.
 fn meets(rt: &impl Abort, alloc: Global, bytes: &[u8], begin: Reply, watch: Reply) -> bool {
     match Registry::take(alloc, bytes).expect(rt, "memory") {
-        Some((registry, _)) => are_met(rt, alloc, &registry, begin, watch),
+        Some((registry, _)) => {
+            let are_met = are_met(rt, alloc, &registry, begin, watch);
+            drop(registry);
+            are_met
+        }
         None => false,
     }
 }
@@ -62,10 +67,8 @@ fn meets(rt: &impl Abort, alloc: Global, bytes: &[u8], begin: Reply, watch: Repl
 fn refuses_a_spent_counter(rt: HostRuntime) {
     for (incarnation, next, begin, watch) in COUNTERS {
         let bytes = counters(&rt, rt.alloc(), *incarnation, *next);
-        assert!(rt;
-            meets(&rt, rt.alloc(), &bytes, *begin, *watch),
-            "{incarnation} {next}"
-        );
+        check!(rt; meets(&rt, rt.alloc(), &bytes, *begin, *watch), (incarnation, next));
+        drop(bytes);
     }
 }
 
@@ -80,10 +83,8 @@ fn fill(
 ) {
     for number in 0..count {
         let line = format!(in alloc; "{before}{number}{after}").expect(rt, "memory");
-        assert!(rt;
-            applied(rt, alloc, registry, &line) == Reply::Changed,
-            "{line}"
-        );
+        check!(rt; applied(rt, alloc, registry, &line) == Reply::Changed, line);
+        drop(line);
     }
 }
 
@@ -109,16 +110,14 @@ fn crowd_roots(rt: &impl Abort, alloc: Global, registry: &mut Registry) {
     fill(rt, alloc, registry, ("watch /", ""), 256);
     apply_all(rt, alloc, registry, ROOTS);
     let misplaced = misplaced(registry);
-    assert!(rt;
-        registry.roots().len() == 256 && misplaced.is_none(),
-        "{misplaced:?}"
-    );
+    check!(rt; registry.roots().len() == 256 && misplaced.is_none(), misplaced);
 }
 
 #[test]
 fn refuses_one_root_too_many(rt: HostRuntime) {
     let mut registry = Registry::new(rt.alloc());
     crowd_roots(&rt, rt.alloc(), &mut registry);
+    drop(registry);
 }
 
 /// The root that the triggers are of.
@@ -144,6 +143,7 @@ fn crowd_triggers(rt: &impl Abort, alloc: Global, registry: &mut Registry) {
 fn refuses_one_trigger_too_many(rt: HostRuntime) {
     let mut registry = Registry::new(rt.alloc());
     crowd_triggers(&rt, rt.alloc(), &mut registry);
+    drop(registry);
 }
 
 // So many bytes.
@@ -174,6 +174,7 @@ fn last_trigger(rt: &impl Abort, alloc: Global, long: &str, last: &str) -> Comma
 fn define(rt: &impl Abort, alloc: Global, registry: &mut Registry, i: u32, long: &str) -> Reply {
     let name = format!(in alloc; "{i:02}").expect(rt, "memory");
     let command = trigger(rt, alloc, name.as_str(), &[long; 16]);
+    drop(name);
     apply(alloc, registry, command)
 }
 
@@ -181,7 +182,7 @@ fn define(rt: &impl Abort, alloc: Global, registry: &mut Registry, i: u32, long:
 fn almost_fill(rt: &impl Abort, alloc: Global, registry: &mut Registry, long: &str) {
     applied(rt, alloc, registry, "watch /r");
     for i in 0..63u32 {
-        assert!(rt; define(rt, alloc, registry, i, long) == Reply::Changed);
+        check!(rt; define(rt, alloc, registry, i, long) == Reply::Changed);
     }
 }
 
@@ -189,6 +190,7 @@ fn almost_fill(rt: &impl Abort, alloc: Global, registry: &mut Registry, long: &s
 fn met(rt: &impl Abort, alloc: Global, registry: &mut Registry, long: &str, length: u32) -> Reply {
     let last = word(rt, alloc, length);
     let command = last_trigger(rt, alloc, long, last.as_str());
+    drop(last);
     apply(alloc, registry, command)
 }
 
@@ -216,7 +218,7 @@ fn refuse(rt: &impl Abort, alloc: Global, registry: &mut Registry, long: &str) {
     for (length, reply, size) in BYTES {
         let found = met(rt, alloc, registry, long, *length) == *reply;
         let bytes = registry.size();
-        assert!(rt; found && bytes == *size, "{length}: {bytes} bytes");
+        check!(rt; found && bytes == *size, (length, bytes));
     }
     apply_all(rt, alloc, registry, ROOM);
 }
@@ -226,4 +228,6 @@ fn refuses_a_byte_too_many(rt: HostRuntime) {
     let long = word(&rt, rt.alloc(), 1024);
     let mut registry = Registry::new(rt.alloc());
     refuse(&rt, rt.alloc(), &mut registry, long.as_str());
+    drop(registry);
+    drop(long);
 }

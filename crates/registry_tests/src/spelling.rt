@@ -1,4 +1,5 @@
 //! What each type's spellings are put to.
+use crate::checks::check;
 use std::alloc::Global;
 use std::process::Abort;
 use wm_wire::Wire;
@@ -13,10 +14,12 @@ fn put_behind<W: Wire>(rt: &impl Abort, alloc: Global, value: &W) -> Vec<u8> {
 /// Whether the value is spelled so, behind what is there, and in as many bytes as it says.
 pub(crate) fn spells<W: Wire>(rt: &impl Abort, alloc: Global, value: &W, want: &[u8]) -> bool {
     let out = put_behind(rt, alloc, value);
-    match out.as_slice() {
+    let spells = match out.as_slice() {
         [7, rest @ ..] => rest == want && value.size() == want.len() as u64,
         _ => false,
-    }
+    };
+    drop(out);
+    spells
 }
 
 /// The value that the bytes begin with, in front of two others. `None` where they begin with none, or
@@ -25,15 +28,23 @@ pub(crate) fn taken<W: Wire + Drop>(rt: &impl Abort, alloc: Global, bytes: &[u8]
     let mut long = Vec::new(alloc);
     long.extend_from_slice(bytes).expect(rt, "memory");
     long.extend_from_slice(b"\xff\0").expect(rt, "memory");
-    match W::take(alloc, &long).expect(rt, "memory") {
+    let taken = W::take(alloc, &long).expect(rt, "memory");
+    drop(long);
+    match taken {
         Some((value, size)) if size == bytes.len() => Some(value),
-        _ => None,
+        other => {
+            drop(other);
+            None
+        }
     }
 }
 
 /// Whether the bytes begin with a spelling.
 pub(crate) fn takes<W: Wire + Drop>(rt: &impl Abort, alloc: Global, bytes: &[u8]) -> bool {
-    W::take(alloc, bytes).expect(rt, "memory").is_some()
+    let taken = W::take(alloc, bytes).expect(rt, "memory");
+    let takes = taken.is_some();
+    drop(taken);
+    takes
 }
 
 // How many bytes the shortest prefix has that begins with a spelling, where a cut of the bytes does, or
@@ -60,6 +71,6 @@ pub(crate) fn is_spelled<W: Wire + Drop>(
 /// Asserts that none of the bytes begin with a spelling. Each stand behind what is wrong with them.
 pub(crate) fn takes_none<W: Wire + Drop>(rt: &impl Abort, alloc: Global, rows: &[(&str, &[u8])]) {
     for (why, bytes) in rows {
-        assert!(rt; !takes::<W>(rt, alloc, bytes), "{why}");
+        check!(rt; !takes::<W>(rt, alloc, bytes), why);
     }
 }

@@ -1,4 +1,5 @@
 //! Tables of states, each with its exact bytes, and bytes that are no spelling.
+use crate::checks::check;
 use crate::spelling::{is_spelled, spells, taken};
 use std::alloc::Global;
 use std::process::Abort;
@@ -119,14 +120,19 @@ fn is_state(rt: &impl Abort, alloc: Global, registry: &Registry, state: &State) 
 // Whether a copy of the registry is the state, and spelled so.
 fn is_copied(rt: &impl Abort, alloc: Global, registry: &Registry, state: &State) -> bool {
     let copy = registry.copy(alloc).expect(rt, "memory");
-    is_state(rt, alloc, &copy, state)
+    let is_state = is_state(rt, alloc, &copy, state);
+    drop(copy);
+    is_state
 }
 
 // Whether the state is taken from its bytes and spelled so, and a copy of it too.
 fn is_kept(rt: &impl Abort, alloc: Global, state: &State) -> bool {
     match taken::<Registry>(rt, alloc, state.bytes) {
         Some(registry) => {
-            is_state(rt, alloc, &registry, state) && is_copied(rt, alloc, &registry, state)
+            let is_kept = is_state(rt, alloc, &registry, state)
+                && is_copied(rt, alloc, &registry, state);
+            drop(registry);
+            is_kept
         }
         None => false,
     }
@@ -135,14 +141,16 @@ fn is_kept(rt: &impl Abort, alloc: Global, state: &State) -> bool {
 // Whether a new registry is spelled as the first.
 fn spells_new(rt: &impl Abort, alloc: Global) -> bool {
     let registry = Registry::new(alloc);
-    registry.size() == 20 && spells(rt, alloc, &registry, FIRST)
+    let spells = registry.size() == 20 && spells(rt, alloc, &registry, FIRST);
+    drop(registry);
+    spells
 }
 
 #[test]
 fn spells_states(rt: HostRuntime) {
-    assert!(rt; spells_new(&rt, rt.alloc()), "a new registry");
+    check!(rt; spells_new(&rt, rt.alloc()));
     for state in STATES {
-        assert!(rt; is_kept(&rt, rt.alloc(), state), "{}", state.name);
+        check!(rt; is_kept(&rt, rt.alloc(), state), state.name);
     }
 }
 
@@ -170,16 +178,22 @@ fn is_root(root: &Root, number: u64, count: usize, last: &str) -> bool {
 fn has_root(rt: &impl Abort, alloc: Global, registry: &Registry, row: &RootRow) -> bool {
     let (_, path, number, count, last) = *row;
     let path = RootPath::read(alloc, path).expect(rt, "a path");
-    match registry.roots().get(&path) {
+    let has_root = match registry.roots().get(&path) {
         Some(root) => is_root(root, number, count, last),
         None => false,
-    }
+    };
+    drop(path);
+    has_root
 }
 
 // Whether the row's root is taken with its state.
 fn is_taken(rt: &impl Abort, alloc: Global, row: &RootRow) -> bool {
     match taken::<Registry>(rt, alloc, row.0) {
-        Some(registry) => has_root(rt, alloc, &registry, row),
+        Some(registry) => {
+            let has_root = has_root(rt, alloc, &registry, row);
+            drop(registry);
+            has_root
+        }
         None => false,
     }
 }
@@ -187,7 +201,7 @@ fn is_taken(rt: &impl Abort, alloc: Global, row: &RootRow) -> bool {
 #[test]
 fn takes_roots(rt: HostRuntime) {
     for row in ROOTS {
-        assert!(rt; is_taken(&rt, rt.alloc(), row), "{} of {}", row.1, row.2);
+        check!(rt; is_taken(&rt, rt.alloc(), row), (row.1, row.2));
     }
 }
 

@@ -1,4 +1,5 @@
 //! The lengths that a trigger's parts may have, where it is made and where it is taken from bytes.
+use crate::checks::check;
 use crate::names::long;
 use crate::plans::{Plan, made};
 use std::alloc::Global;
@@ -63,8 +64,13 @@ fn is_accepted(rt: &impl Abort, alloc: Global, text: &str, lengths: Lengths) -> 
         append_files: true,
         stdin: Stdin::DevNull,
     };
-    match made(alloc, plan) {
-        Ok(_) => true,
+    let made = made(alloc, plan);
+    drop(words);
+    match made {
+        Ok(trigger) => {
+            drop(trigger);
+            true
+        }
         Err(Refusal::BadTrigger) => false,
         Err(refusal) => panic!(rt; "{refusal:?}"),
     }
@@ -112,7 +118,11 @@ fn put(rt: &impl Abort, lengths: Lengths, out: &mut Vec<u8>) {
 fn is_taken(rt: &impl Abort, alloc: Global, lengths: Lengths) -> bool {
     let mut bytes = Vec::new(alloc);
     put(rt, lengths, &mut bytes);
-    Trigger::take(alloc, &bytes).expect(rt, "memory").is_some()
+    let taken = Trigger::take(alloc, &bytes).expect(rt, "memory");
+    drop(bytes);
+    let is_taken = taken.is_some();
+    drop(taken);
+    is_taken
 }
 
 // Whether a trigger of such lengths is accepted, and taken, where it is to be.
@@ -133,6 +143,7 @@ fn keeps_the_rules(rt: HostRuntime) {
             later: *later,
             expression: *expression,
         };
-        assert!(rt; is_right(&rt, rt.alloc(), &text, lengths, *want), "{why}");
+        check!(rt; is_right(&rt, rt.alloc(), &text, lengths, *want), why);
     }
+    drop(text);
 }

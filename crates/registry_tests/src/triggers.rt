@@ -1,4 +1,5 @@
 //! The spellings of triggers, and triggers that are and aren't defined in the same way.
+use crate::checks::check;
 use crate::lines::{applied, apply, ask};
 use crate::plans::{LEAST, MORE, Plan, definition, is_of, made};
 use crate::spelling::{is_spelled, taken};
@@ -18,7 +19,9 @@ const SPELLINGS: &[(Plan<'static>, &[u8])] = &[
 // Whether a copy of the trigger is of the plan.
 fn is_copied(rt: &impl Abort, trigger: &Trigger, plan: Plan<'_>) -> bool {
     let copy = trigger.copy().expect(rt, "memory");
-    is_of(&copy, plan)
+    let is_of = is_of(&copy, plan);
+    drop(copy);
+    is_of
 }
 
 // Whether the trigger and a copy of it are of the plan, and it is spelled so, and no cut of that is a
@@ -26,13 +29,19 @@ fn is_copied(rt: &impl Abort, trigger: &Trigger, plan: Plan<'_>) -> bool {
 fn is_put(rt: &impl Abort, alloc: Global, plan: Plan<'_>, want: &[u8]) -> bool {
     let trigger = made(alloc, plan).expect(rt, "a trigger");
     let shown = is_of(&trigger, plan) && is_copied(rt, &trigger, plan);
-    shown && is_spelled(rt, alloc, &trigger, want)
+    let is_put = shown && is_spelled(rt, alloc, &trigger, want);
+    drop(trigger);
+    is_put
 }
 
 // Whether a trigger of the plan is taken from the bytes.
 fn is_taken(rt: &impl Abort, alloc: Global, plan: Plan<'_>, bytes: &[u8]) -> bool {
     match taken::<Trigger>(rt, alloc, bytes) {
-        Some(trigger) => is_of(&trigger, plan),
+        Some(trigger) => {
+            let is_of = is_of(&trigger, plan);
+            drop(trigger);
+            is_of
+        }
         None => false,
     }
 }
@@ -41,11 +50,7 @@ fn is_taken(rt: &impl Abort, alloc: Global, plan: Plan<'_>, bytes: &[u8]) -> boo
 fn spells_triggers(rt: HostRuntime) {
     for (plan, want) in SPELLINGS {
         let put = is_put(&rt, rt.alloc(), *plan, want);
-        assert!(rt;
-            put && is_taken(&rt, rt.alloc(), *plan, want),
-            "{}",
-            plan.name
-        );
+        check!(rt; put && is_taken(&rt, rt.alloc(), *plan, want), plan.name);
     }
 }
 
@@ -143,16 +148,15 @@ fn met(rt: &impl Abort, alloc: Global, first: Plan<'_>, second: Plan<'_>) -> Rep
     let second = definition(rt, alloc, second);
     let mut registry = Registry::new(alloc);
     define(rt, alloc, &mut registry, first);
-    ask(&registry, second)
+    let reply = ask(&registry, second);
+    drop(registry);
+    reply
 }
 
 #[test]
 fn tells_triggers_apart(rt: HostRuntime) {
     for (why, plan, reply) in MEETINGS {
         let forth = met(&rt, rt.alloc(), PLAN, *plan) == *reply;
-        assert!(rt;
-            forth && met(&rt, rt.alloc(), *plan, PLAN) == *reply,
-            "{why}"
-        );
+        check!(rt; forth && met(&rt, rt.alloc(), *plan, PLAN) == *reply, why);
     }
 }

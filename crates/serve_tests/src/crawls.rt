@@ -1,4 +1,5 @@
 //! Crawls of a server, and what happens while they run.
+use crate::checks::check;
 use crate::client::{Client, TRIES, ask_of};
 use crate::places::{Place, path_of};
 use std::process::Abort;
@@ -81,7 +82,10 @@ fn observe_meanwhile(rt: &HostRuntime, host: &impl Abort, place: &Place, gate: &
     observe_new(rt, host, &mut client, root);
     gate.is_open.store(true, Ordering::SeqCst);
     other.line().expect(host, "a reply");
-    names(rt, host, &mut client, root)
+    let told = names(rt, host, &mut client, root);
+    drop(other);
+    drop(client);
+    told
 }
 
 /// What is observed while a crawl reads stays, though the crawl didn't find it.
@@ -99,9 +103,10 @@ fn operation_in_crawl(rt: HostRuntime) {
         || place.serve(&rt, alloc, &gate, 2),
         || observe_meanwhile(&rt, &rt, &place, &gate),
     );
-    assert!(rt; served.is_ok());
-    assert!(rt; !gate.gave_up.load(Ordering::SeqCst));
-    assert!(rt; told.contains("\"files\":[\"new\",\"a\",\"d\",\"d/b\"]"));
+    drop(place);
+    check!(rt; served.is_ok());
+    check!(rt; !gate.gave_up.load(Ordering::SeqCst));
+    check!(rt; told.contains("\"files\":[\"new\",\"a\",\"d\",\"d/b\"]"));
 }
 
 /// Makes a trigger that writes into a file what it is given.
@@ -155,7 +160,9 @@ fn crawl_for_trigger(
 ) -> (String, String) {
     let mut client = Client::connect(rt, host, place.socket.as_str());
     let first = crawl_twice(rt, host, &mut client, place.root.as_str(), out);
-    (first, given(rt, out))
+    let given = given(rt, out);
+    drop(client);
+    (first, given)
 }
 
 #[test]
@@ -168,12 +175,10 @@ fn crawls_and_triggers(rt: HostRuntime) {
         || place.serve(&rt, alloc, &Open, 1),
         || crawl_for_trigger(&rt, &rt, &place, out.as_str()),
     );
+    drop(place);
     let (first, given) = told;
-    assert!(rt; served.is_ok());
-    assert!(rt;
-        first.contains("\"files\":[\"a\",\"d\",\"d/b\"],\"is_fresh_instance\":true"),
-        "{first}"
-    );
-    assert!(rt; first.starts_with("{\"clock\":\"c:1:1:1\""), "{first}");
-    assert!(rt; given.as_str() == "x.c\n", "{given}");
+    check!(rt; served.is_ok());
+    check!(rt; first.contains("\"files\":[\"a\",\"d\",\"d/b\"],\"is_fresh_instance\":true"), first);
+    check!(rt; first.starts_with("{\"clock\":\"c:1:1:1\""), first);
+    check!(rt; given.as_str() == "x.c\n", given);
 }

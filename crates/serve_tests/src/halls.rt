@@ -1,6 +1,7 @@
 //! One watched root by itself: what two sessions are told by viewers of their own, and what a root has a limit of.
 ghost use Rattle.std.specs.Prelude.{◌≡◌};
 
+use crate::checks::check;
 use std::alloc::{Alloc, Global};
 use std::marker::Brand;
 use std::process::Abort;
@@ -85,6 +86,7 @@ fn opened_hall<'a, J: Naming, R: Wait + Abort>(
 ) -> RootHall<J, &'a R> {
     let path = RootPath::read(alloc, "/r").expect(rt, "a path");
     let (keeper, pool) = shares.share(rt, alloc, 1, 5).expect(rt, "a share");
+    drop(shares);
     RootHall::new(alloc, &path, 5, keeper, pool).expect(rt, "a hall")
 }
 
@@ -197,7 +199,7 @@ fn tell_rows<J: Naming, R: Wait + Abort, K: Wait + Drop>(
         } else {
             meet_line(rt, alloc, hall, second, line, &mut out)
         };
-        assert!(rt; is_told(met, &out, told), "{line}");
+        check!(rt; is_told(met, &out, told), line);
     }
 }
 
@@ -206,14 +208,14 @@ fn tells_two_sessions<J: Naming, R: Wait + Abort>(rt: &R, alloc: Global, opened:
 {
     let shares: Shares<J> = Shares::new(opened);
     let hall = opened_hall(rt, alloc, shares);
-    tell_rows(
-        rt,
-        alloc,
-        &hall,
-        &mut Viewers::new(alloc),
-        &mut Viewers::new(alloc),
-    );
-    assert_eq!(rt; hall.tick(rt), 2);
+    let mut first = Viewers::new(alloc);
+    let mut second = Viewers::new(alloc);
+    tell_rows(rt, alloc, &hall, &mut first, &mut second);
+    let tick = hall.tick(rt);
+    drop(second);
+    drop(first);
+    drop(hall);
+    assert_eq!(rt; tick, 2);
 }
 
 #[test]
@@ -292,8 +294,11 @@ fn keeps_both_limits<J: Naming, R: Wait + Abort, K: Wait + Drop>(
     let mut viewers = Viewers::new(alloc);
     let mut out = Vec::new(alloc);
     keeps_cursor_limit(rt, alloc, hall, &mut viewers, &mut out);
-    let _lent = lent(rt, alloc, hall);
-    keeps_viewer_limit(rt, alloc, hall, viewers, &mut Viewers::new(alloc), &mut out);
+    let lent = lent(rt, alloc, hall);
+    let mut other = Viewers::new(alloc);
+    keeps_viewer_limit(rt, alloc, hall, viewers, &mut other, &mut out);
+    drop(other);
+    drop(lent);
 }
 
 fn keeps_limits<J: Naming, R: Wait + Abort>(rt: &R, alloc: Global, opened: Opened)
@@ -302,6 +307,7 @@ fn keeps_limits<J: Naming, R: Wait + Abort>(rt: &R, alloc: Global, opened: Opene
     let shares: Shares<J> = Shares::new(opened);
     let hall = opened_hall(rt, alloc, shares);
     keeps_both_limits(rt, alloc, &hall);
+    drop(hall);
 }
 
 #[test]

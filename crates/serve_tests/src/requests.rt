@@ -1,4 +1,5 @@
 //! What a line asks of a server.
+use crate::checks::check;
 use std::alloc::{AllocError, Global};
 use wm_disk::Refusal;
 use wm_lines::{Request, ServerRequest};
@@ -53,6 +54,6 @@ fn told(alloc: Global, line: &str) -> Result<String, AllocError> {
 fn lines_of_the_table(rt: HostRuntime) {
     for (line, wanted) in ASKED {
         let told = told(rt.alloc(), line).expect(&rt, "memory");
-        assert!(rt; told.as_str() == *wanted, "{line}: {told}");
+        check!(rt; told.as_str() == *wanted, (line, told));
     }
 }

@@ -1,4 +1,5 @@
 //! A server that is killed, and the next one over its state file.
+use crate::checks::check;
 use crate::client::{Client, ask_of};
 use crate::places::Place;
 use std::process::Abort;
@@ -25,7 +26,9 @@ fn watch_and_copy(rt: &HostRuntime, host: &impl Abort, place: &Place, copy: &str
     let mut client = Client::connect(rt, host, place.socket.as_str());
     ask_of(host, &mut client, "watch", root);
     copy_state(rt, host, place, copy);
-    observe(rt, host, &mut client, root)
+    let told = observe(rt, host, &mut client, root);
+    drop(client);
+    told
 }
 
 /// Asks what changed since a clock of the killed server.
@@ -35,7 +38,9 @@ fn ask_since(rt: &HostRuntime, host: &impl Abort, place: &Place, clock: &str) ->
         "[\"query\",\"{root}\",{{\"fields\":[\"name\",\"size\"],\"since\":\"{clock}\",\"expression\":[\"type\",\"f\"]}}]"
     ).expect(host, "memory");
     let mut client = Client::connect(rt, host, place.socket.as_str());
-    client.ask_ready(rt, host, line.as_str())
+    let told = client.ask_ready(rt, host, line.as_str());
+    drop(client);
+    told
 }
 
 /// The roots stand, and every older clock is answered as fresh.
@@ -49,16 +54,17 @@ fn killed_server(rt: HostRuntime) {
         || place.serve(&rt, alloc, &Open, 1),
         || watch_and_copy(&rt, &rt, &place, copy),
     );
-    assert!(rt; served.is_ok());
-    assert!(rt; told.as_str() == "{\"clock\":\"c:1:1:2\",\"version\":\"w1\"}");
+    check!(rt; served.is_ok());
+    check!(rt; told.as_str() == "{\"clock\":\"c:1:1:2\",\"version\":\"w1\"}");
     place.state = String::from_str(alloc, copy).expect(&rt, "memory");
     let (served, told) = thread::join(
         &rt,
         || place.serve(&rt, alloc, &Open, 1),
         || ask_since(&rt, &rt, &place, "c:1:1:2"),
     );
-    assert!(rt; served.is_ok());
+    drop(place);
+    check!(rt; served.is_ok());
     let wanted =
         "{\"clock\":\"c:2:1:1\",\"files\":[{\"name\":\"a\",\"size\":3},{\"name\":\"d/b\",\"size\":0}],\"is_fresh_instance\":true,\"version\":\"w1\"}";
-    assert!(rt; told.as_str() == wanted, "{told}");
+    check!(rt; told.as_str() == wanted, told);
 }

@@ -1,4 +1,5 @@
 //! Sessions of one server: beside one another, with crawls, triggers and subscriptions.
+use crate::checks::check;
 use crate::client::{Client, TRIES, ask_of};
 use crate::places::Place;
 use std::alloc::{AllocError, Global};
@@ -16,7 +17,9 @@ fn is_answered(client: &mut Client) -> io::Result<bool> {
 /// Whether a session that comes is answered.
 fn is_served(rt: &HostRuntime, host: &impl Abort, place: &Place) -> io::Result<bool> {
     let mut client = Client::connect(rt, host, place.socket.as_str());
-    is_answered(&mut client)
+    let answered = is_answered(&mut client);
+    drop(client);
+    answered
 }
 
 /// Whether a second session is answered beside a first one, and then the first once more.
@@ -24,6 +27,7 @@ fn beside(rt: &HostRuntime, host: &impl Abort, place: &Place, first: &mut Client
     let mut second = Client::connect(rt, host, place.socket.as_str());
     let two = is_answered(&mut second).expect(host, "an answer");
     let three = is_answered(first).expect(host, "an answer");
+    drop(second);
     two && three
 }
 
@@ -32,6 +36,7 @@ fn one_after_another(rt: &HostRuntime, host: &impl Abort, place: &Place) -> bool
     let mut first = Client::connect(rt, host, place.socket.as_str());
     let one = is_answered(&mut first).expect(host, "an answer");
     let others = beside(rt, host, place, &mut first);
+    drop(first);
     one && others
 }
 
@@ -44,8 +49,9 @@ fn one_session_after_another(rt: HostRuntime) {
         || place.serve(&rt, alloc, &Open, 2),
         || one_after_another(&rt, &rt, &place),
     );
-    assert!(rt; served.is_ok());
-    assert!(rt; answered);
+    drop(place);
+    check!(rt; served.is_ok());
+    check!(rt; answered);
 }
 
 /// Comes in once there is a chair.
@@ -88,7 +94,9 @@ fn sit_on_each(
 fn told_late(rt: &HostRuntime, host: &impl Abort, place: &Place) -> (String, String) {
     let mut late = Client::connect(rt, host, place.socket.as_str());
     let first = late.line().expect(host, "a line");
-    (first, late.line().expect(host, "a line"))
+    let second = late.line().expect(host, "a line");
+    drop(late);
+    (first, second)
 }
 
 /// Fills each chair, tells what one session more is told and a line later, and lets one more in once another left.
@@ -96,8 +104,9 @@ fn too_many(rt: &HostRuntime, host: &impl Abort, place: &Place) -> (u64, String,
     let mut clients = Vec::new(rt.alloc());
     let answered = sit_on_each(rt, host, place, &mut clients);
     let (first, second) = told_late(rt, host, place);
-    clients.pop();
+    drop(clients.pop());
     come_in(rt, host, place);
+    drop(clients);
     (answered, first, second)
 }
 
@@ -110,14 +119,12 @@ fn one_session_too_many(rt: HostRuntime) {
         || place.serve(&rt, alloc, &Open, 32),
         || too_many(&rt, &rt, &place),
     );
+    drop(place);
     let (answered, first, second) = told;
-    assert!(rt; served.is_ok());
+    check!(rt; served.is_ok());
     assert_eq!(rt; answered, 31);
-    assert!(rt;
-        first.as_str() == "{\"error\":\"17 TooMany\",\"version\":\"w1\"}",
-        "{first}"
-    );
-    assert!(rt; second.is_empty());
+    check!(rt; first.as_str() == "{\"error\":\"17 TooMany\",\"version\":\"w1\"}", first);
+    check!(rt; second.is_empty());
 }
 
 /// Watches the root, and subscribes to it.
@@ -156,6 +163,8 @@ fn tell_unasked(rt: &HostRuntime, host: &impl Abort, place: &Place) -> (String, 
     let mut second = Client::connect(rt, host, place.socket.as_str());
     let subscribed = subscribe(rt, host, &mut first, root);
     let (told, again) = told_by_another(rt, host, &mut first, &mut second, root);
+    drop(second);
+    drop(first);
     (subscribed, told, again)
 }
 
@@ -181,14 +190,13 @@ fn told_unasked(rt: HostRuntime) {
         || place.serve(&rt, alloc, &Open, 2),
         || tell_unasked(&rt, &rt, &place),
     );
-    assert!(rt; served.is_ok());
+    check!(rt; served.is_ok());
     let (subscribed, first, second) = told;
     let root = place.root.as_str();
-    assert!(rt;
-        subscribed.as_str() == "{\"clock\":\"c:1:1:1\",\"subscribe\":\"s\",\"version\":\"w1\"}"
-    );
+    check!(rt; subscribed.as_str() == "{\"clock\":\"c:1:1:1\",\"subscribe\":\"s\",\"version\":\"w1\"}");
     let fresh = due_line(alloc, root, "c:1:1:1", "\"a\",\"d\",\"d/b\"", true).expect(&rt, "memory");
     let gone = due_line(alloc, root, "c:1:1:2", "\"a\"", false).expect(&rt, "memory");
-    assert!(rt; first == fresh, "{first}");
-    assert!(rt; second == gone, "{second}");
+    check!(rt; first == fresh, first);
+    check!(rt; second == gone, second);
+    drop(place);
 }

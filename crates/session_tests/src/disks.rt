@@ -29,6 +29,7 @@ pub(crate) fn file_after(rt: &impl Abort, alloc: Global, sessions: &[&str]) -> M
     for input in sessions {
         let end = end_of(rt, alloc, disk, &mut input.as_bytes());
         disk = disk_of(rt, alloc, &end.content);
+        drop(end);
     }
     disk
 }
@@ -47,5 +48,6 @@ pub(crate) fn content_of(rt: &impl Abort, alloc: Global, disk: MemDisk) -> Vec<u
     let len = disk.len().expect(rt, "a length") as usize;
     let mut content = vec![in alloc; 0u8; len].expect(rt, "memory");
     disk.read_at(0, &mut content).expect(rt, "a read");
+    drop(disk);
     content
 }

@@ -1,4 +1,5 @@
 //! How sessions end: their replies, what they tell of faults, and what they leave in their files.
+use crate::checks::check;
 use crate::disks::{content_of, file_after, journal, new_file};
 use std::alloc::Global;
 use std::io::BufRead;
@@ -7,7 +8,8 @@ use wm_disk::{MemDisk, OneFault};
 use wm_server::lines::lines_on;
 use wm_server::{Input, Output};
 
-/// A line and its reply.
+/// A line and its reply. What a function's proof costs goes by the square of the bytes of the tables that
+/// it names: a long table has a function of its own.
 pub(crate) type Row<'a> = (&'a str, &'a str);
 
 /// The journal after a first start without an accepted command.
@@ -84,13 +86,8 @@ pub(crate) fn assert_ends(rt: &impl Abort, end: &End, wanted: Wanted<'_>, about:
     let is_output = end.output.as_str() == output;
     let is_rest = end.faults.as_str() == faults && end.status == status;
     let is_journal = journal(&end.content, used.len()) == used;
-    assert!(rt;
-        is_output && is_rest && is_journal,
-        "{about}: {} {} {}",
-        end.status,
-        end.faults,
-        end.output
-    );
+    let told = (about, end.status, end.faults.as_str(), end.output.as_str());
+    check!(rt; is_output && is_rest && is_journal, told);
 }
 
 /// The lines of a session, and their replies.
@@ -134,6 +131,7 @@ pub(crate) fn assert_serves(
     let mut reader = input;
     let end = end_of(rt, alloc, disk, &mut reader);
     assert_ends(rt, &end, wanted, about);
+    drop(end);
 }
 
 /// A session over a new file with lines of which some are accepted, which must be answered so.
@@ -161,16 +159,19 @@ pub(crate) fn assert_rows(
     let (input, output) = texts(rt, alloc, tables);
     let wanted = (0, output.as_str(), "", used);
     assert_serves(rt, alloc, disk, input.as_bytes(), wanted, about);
+    drop(input);
+    drop(output);
 }
 
-/// A session: what it shows, the lines of the sessions before it, its tables, and how the journal begins
-/// then.
-pub(crate) type Told<'a> = (&'a str, &'a [&'a str], &'a [&'a [Row<'a>]], &'a [u8]);
-
-/// Each session over a new file, or one that earlier sessions left.
-pub(crate) fn assert_sessions(rt: &impl Abort, alloc: Global, sessions: &[Told<'_>]) {
-    for (about, earlier, tables, used) in sessions {
-        let disk = file_after(rt, alloc, earlier);
-        assert_rows(rt, alloc, disk, tables, used, about);
-    }
+/// A session with the rows of these tables over a new file, or over one that earlier sessions left.
+pub(crate) fn assert_session(
+    rt: &impl Abort,
+    alloc: Global,
+    earlier: &[&str],
+    tables: &[&[Row<'_>]],
+    used: &[u8],
+    about: &str,
+) {
+    let disk = file_after(rt, alloc, earlier);
+    assert_rows(rt, alloc, disk, tables, used, about);
 }

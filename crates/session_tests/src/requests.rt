@@ -8,6 +8,7 @@ mod subscriptions;
 mod triggers;
 
 use self::shown::show;
+use crate::checks::check;
 use crate::ends::Row;
 use std::alloc::Global;
 use std::process::Abort;
@@ -38,6 +39,7 @@ fn read(rt: &impl Abort, alloc: Global, line: &str) -> String {
         Ok(request) => show_read(rt, request, &mut text),
         Err(refusal) => text.push_str(refusal.text()).expect(rt, "memory"),
     }
+    drop(bytes);
     text
 }
 
@@ -45,27 +47,35 @@ fn read(rt: &impl Abort, alloc: Global, line: &str) -> String {
 fn assert_reads(rt: &impl Abort, alloc: Global, table: &[Row<'_>]) {
     for (line, wanted) in table {
         let text = read(rt, alloc, line);
-        assert!(rt; text.as_str() == *wanted, "{line}: {text}");
+        check!(rt; text.as_str() == *wanted, (line, text.as_str()));
+        drop(text);
     }
 }
 
 #[test]
 fn reads_requests(rt: HostRuntime) {
-    assert_reads(&rt, rt.alloc(), observed::ROWS);
-    assert_reads(&rt, rt.alloc(), listed::ROWS);
-    assert_reads(&rt, rt.alloc(), clocks::ROWS);
+    assert_reads(&rt, rt.alloc(), observed::rows());
+    assert_reads(&rt, rt.alloc(), observed::bad_pairs());
+    assert_reads(&rt, rt.alloc(), listed::rows());
+    assert_reads(&rt, rt.alloc(), listed::bad_paths());
+    assert_reads(&rt, rt.alloc(), clocks::rows());
+    assert_reads(&rt, rt.alloc(), clocks::since());
 }
 
 #[test]
 fn reads_queries_and_subscriptions(rt: HostRuntime) {
-    assert_reads(&rt, rt.alloc(), queries::ROWS);
-    assert_reads(&rt, rt.alloc(), subscriptions::ROWS);
+    assert_reads(&rt, rt.alloc(), queries::rows());
+    assert_reads(&rt, rt.alloc(), queries::refused());
+    assert_reads(&rt, rt.alloc(), subscriptions::rows());
+    assert_reads(&rt, rt.alloc(), subscriptions::in_order());
 }
 
 #[test]
 fn reads_triggers(rt: HostRuntime) {
-    assert_reads(&rt, rt.alloc(), triggers::ENDED);
-    assert_reads(&rt, rt.alloc(), triggers::DEFINED);
+    assert_reads(&rt, rt.alloc(), triggers::ended());
+    assert_reads(&rt, rt.alloc(), triggers::defined());
+    assert_reads(&rt, rt.alloc(), triggers::refused());
+    assert_reads(&rt, rt.alloc(), triggers::bad_triggers());
 }
 
 /// A line that lists so many paths, the last first.
@@ -101,9 +111,11 @@ fn reads_long_lines(rt: HostRuntime) {
     let alloc = rt.alloc();
     let line = long_line(&rt, alloc, "[\"observe\",\"/r\",[", 65_537, "null");
     let (pairs, _) = counts_read(&rt, alloc, &line);
-    assert!(rt; pairs == 65_537);
+    drop(line);
+    check!(rt; pairs == 65_537);
     let meta = "{\"type\":\"f\",\"size\":0,\"mtime_ms\":0}";
     let line = long_line(&rt, alloc, "[\"listing\",\"/r\",0,\"\",[", 2_000, meta);
     let (_, files) = counts_read(&rt, alloc, &line);
-    assert!(rt; files == 2_000);
+    drop(line);
+    check!(rt; files == 2_000);
 }

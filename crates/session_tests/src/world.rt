@@ -94,6 +94,7 @@ fn show_client(rt: &impl Abort, alloc: Global, client: &Connection, text: &mut S
     if let Some(clock) = client.mirror.clock() {
         let clock = clock.text(alloc).expect(rt, "memory");
         write!(text, " at {clock}").expect(rt, "memory");
+        drop(clock);
     }
 }
 
@@ -111,7 +112,9 @@ fn show(rt: &impl Abort, alloc: Global, world: &World<MemDisk>, text: &mut Strin
 fn is_shown(rt: &impl Abort, alloc: Global, world: &World<MemDisk>, wanted: &str) -> bool {
     let mut text = String::new(alloc);
     show(rt, alloc, world, &mut text);
-    text.as_str() == wanted
+    let shows = text.as_str() == wanted;
+    drop(text);
+    shows
 }
 
 /// What a world shows after these events on a new file, where this choice says what a crash leaves.
@@ -119,5 +122,6 @@ fn shown_after(rt: &impl Abort, alloc: Global, choice: u64, events: Vec<Event>) 
     let mut text = String::new(alloc);
     let world = driven(alloc, MemDisk::new(alloc, choice), events).expect(rt, "a world");
     show(rt, alloc, &world, &mut text);
+    drop(world);
     text
 }

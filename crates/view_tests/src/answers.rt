@@ -47,7 +47,9 @@ impl Test for Smaller {
 /// The expression that a JSON text is.
 fn read(rt: &impl Abort, alloc: Global, text: &str) -> Expr {
     let value = Value::from_slice(alloc, text.as_bytes()).expect(rt, "JSON");
-    Expr::read(alloc, &value).expect(rt, "an expression")
+    let expr = Expr::read(alloc, &value).expect(rt, "an expression");
+    drop(value);
+    expr
 }
 
 fn clock(incarnation: u64, root: u64, tick: u64) -> ClockId {
@@ -79,7 +81,9 @@ fn answer_since<T: Test>(
         test,
         empty_on_fresh: false,
     };
-    answer(alloc, view, &query).expect(rt, "an answer")
+    let answer = answer(alloc, view, &query).expect(rt, "an answer");
+    drop(query);
+    answer
 }
 
 /// The answer's files as a text.
@@ -92,7 +96,9 @@ fn rendered(rt: &impl Abort, alloc: Global, answer: &Answer, fields: &Fields) ->
 /// The same, with the fields of these names.
 fn rendered_by(rt: &impl Abort, alloc: Global, answer: &Answer, names: &[&str]) -> String {
     let fields = Fields::read(alloc, names).expect(rt, "fields");
-    rendered(rt, alloc, answer, &fields)
+    let text = rendered(rt, alloc, answer, &fields);
+    drop(fields);
+    text
 }
 
 /// What a mirror asks; nothing where a question is open already.

@@ -12,7 +12,9 @@ mod readings;
 /// The expression that a JSON text is.
 fn read(rt: &impl Abort, alloc: Global, text: &str) -> Expr {
     let value = Value::from_str(alloc, text).expect(rt, "JSON");
-    Expr::read(alloc, &value).expect(rt, "an expression")
+    let expr = Expr::read(alloc, &value).expect(rt, "an expression");
+    drop(value);
+    expr
 }
 
 /// What is known of a file.

@@ -67,15 +67,18 @@ pub fn listing_of(rt: &impl Abort, alloc: Global, top: Option<&str>, found: Foun
 /// A view of root 1 in incarnation 1, whose first listing found this at moment 10.
 pub fn ready_with(rt: &impl Abort, alloc: Global, found: Found) -> View {
     let mut view = View::new(alloc, 1, 1);
-    view.recrawl(alloc, 10, 0, &listing_of(rt, alloc, None, found))
-        .expect(rt, "a recrawl");
+    let listing = listing_of(rt, alloc, None, found);
+    view.recrawl(alloc, 10, 0, &listing).expect(rt, "a recrawl");
+    drop(listing);
     view
 }
 
 /// The view takes an observation at this moment.
 pub fn observe_at(rt: &impl Abort, alloc: Global, view: &mut View, moment: u64, told: Told) {
-    view.observe(alloc, moment, &pairs_of(rt, alloc, told))
+    let pairs = pairs_of(rt, alloc, told);
+    view.observe(alloc, moment, &pairs)
         .expect(rt, "an observation");
+    drop(pairs);
 }
 
 /// The view takes these observations.

@@ -49,7 +49,10 @@ fn lists(listed: &[(RelPath, Known)], wanted: &[Shown]) -> bool {
 
 /// Whether this is what exists.
 fn exists_so(rt: &impl Abort, alloc: Global, view: &View, wanted: &[Shown]) -> bool {
-    lists(&view.existing(alloc).expect(rt, "memory"), wanted)
+    let existing = view.existing(alloc).expect(rt, "memory");
+    let is_so = lists(&existing, wanted);
+    drop(existing);
+    is_so
 }
 
 /// Whether the view stands at this tick and floor, and shows this as changed after a tick.

@@ -1,5 +1,5 @@
--- That what the threads of a server share over a real file may be used by many at once. Rattle finds this for a struct by itself, but not
--- where a desk, the rights to make words of a log, or an expression stands below it.
+-- That what the threads of a server share may be used by many at once. Rattle finds this for a struct by itself, but not
+-- where the rights to make words of a log, or an expression stands below it.
 use base.Shift.{Keyless}
 use denote.Builtin
 use denote.Param.Send.{IsSend, IsSync, recorded_send, sendable, struct_send, view_send}
@@ -27,13 +27,6 @@ use Rattle.logbook.proofs.tokens.Seen.TheSendSync as SeenSent
 use Rattle.logbook.specs.Kept.{pens_own}
 use Rattle.logbook.specs.contracts.tokens.Pens
 use Rattle.wm_expr.proofs.expr.Expr.TheLaws.TheKnot as Expressions
-use Rattle.wm_file.specs.contracts.file.FileDisk
-use Rattle.wm_file.specs.contracts.file.Unknown
-use Rattle.wm_file.specs.contracts.file.UnknownStart.TheImpl as UnknownImpl
-use Rattle.wm_file.specs.contracts.file.FileDiskDisk.TheImpl as FileDiskImpl
-use Rattle.wm_file.proofs.file.FileDisk.TheSendSync as FileDiskSent
-use Rattle.wm_groupcommit.specs.contracts.desk.Desk
-use Rattle.wm_groupcommit.proofs.Crossing.{desk_sync}
 use Rattle.wm_hall.proofs.hall.RootHall.TheSendSync as HallSent
 use Rattle.wm_hall.proofs.viewers.Viewers.TheSendSync as ViewersSent
 use Rattle.wm_hall.specs.contracts.hall.RootHall
@@ -108,18 +101,10 @@ chairs_sync J g = search (chair_sync J g, crosses, sendable) depth 60 fits 20000
 count_send : IsSend Builtin.u64
 count_send = search sendable
 
-file_desk : IsSync (Desk.the_row (FileDisk.the_row Unknown.the_row UnknownImpl.ghosts) (FileDiskImpl.ghosts Unknown.the_row UnknownImpl.ghosts FileDiskImpl.no_dict FileDiskImpl.no_dict))
-file_desk =
-    desk_sync
-    (FileDisk.the_row Unknown.the_row UnknownImpl.ghosts)
-    (FileDiskImpl.ghosts Unknown.the_row UnknownImpl.ghosts FileDiskImpl.no_dict FileDiskImpl.no_dict)
-    (FileDiskSent.the_send Unknown.the_row UnknownImpl.ghosts)
-
-pub file_shared : (J K : RattleType) (g : Naming.Ghosts J.Denot) → IsSend K → IsSync K
-    → IsSync (Shared.the_row (FileDisk.the_row Unknown.the_row UnknownImpl.ghosts) J K (FileDiskImpl.ghosts Unknown.the_row UnknownImpl.ghosts FileDiskImpl.no_dict FileDiskImpl.no_dict) g)
-file_shared J K g k k' =
-    declared_sync (Shared.the_type (FileDisk.the_row Unknown.the_row UnknownImpl.ghosts) J K (FileDiskImpl.ghosts Unknown.the_row UnknownImpl.ghosts FileDiskImpl.no_dict FileDiskImpl.no_dict) g) (
-      file_desk,
+pub shared_sync : (T J K : RattleType) (g : Naming.Ghosts J.Denot) → IsSync T → IsSend K → IsSync K → IsSync (Shared.the_row T J K g)
+shared_sync T J K g desk k k' =
+    declared_sync (Shared.the_type T J K g) (
+      record { shared = desk.shared },
       (
         record { shared = k'.shared },
         (

@@ -3,6 +3,7 @@
 use crate::chair::Chair;
 use crate::meeting::meet;
 use crate::place::Place;
+use crate::registrar::Registrar;
 use crate::shared::Shared;
 use std::alloc::Global;
 use std::io;
@@ -11,7 +12,7 @@ use std::net::Shutdown;
 use std::os::unix::net::UnixStream;
 use std::sync::{Arc, Wait};
 use std::time::{Clock, Duration};
-use wm_disk::{Disk, NoMemory, Refusal};
+use wm_disk::{NoMemory, Refusal};
 use wm_lines::reply::{PROGRESS_ROOM, REFUSAL_ROOM, put_clock, put_refusal};
 use wm_lines::{Progress, Request, ServerRequest};
 use wm_names::{RootPath, Subtree};
@@ -38,14 +39,16 @@ fn send_alone<R: Wait, J: Naming>(
     stream: &UnixStream,
     line: Result<&[u8], NoMemory>,
 ) -> io::Result<()> {
-    let _page = chair.page.lock(rt);
-    send(stream, line)
+    let page = chair.page.lock(rt);
+    let sent = send(stream, line);
+    drop(page);
+    sent
 }
 
 /// Waits for the end of a crawl. The session's viewer learns of it.
-fn crawl<R: Wait, D: Disk + Drop, J: Naming, K: Wait + Copy + Drop>(
+fn crawl<R: Wait, T: Registrar, J: Naming, K: Wait + Copy + Drop>(
     rt: &R,
-    shared: &Shared<D, J, K>,
+    shared: &Shared<T, J, K>,
     chair: &Chair<J>,
     root: &RootPath,
     subtree: Subtree,
@@ -53,14 +56,15 @@ fn crawl<R: Wait, D: Disk + Drop, J: Naming, K: Wait + Copy + Drop>(
     let hall = shared.hall(rt, root)?;
     let ended = hall.work.crawl(rt, subtree);
     chair.viewers.lock(rt).learn(rt, &hall);
+    drop(hall);
     ended
 }
 
 /// Waits for the end of a crawl, and gives the reply.
-fn recrawl<R: Wait, D: Disk + Drop, J: Naming, K: Wait + Copy + Drop>(
+fn recrawl<R: Wait, T: Registrar, J: Naming, K: Wait + Copy + Drop>(
     rt: &R,
     alloc: Global,
-    shared: &Shared<D, J, K>,
+    shared: &Shared<T, J, K>,
     chair: &Chair<J>,
     root: &RootPath,
     subtree: Subtree,
@@ -91,12 +95,12 @@ fn send_page(stream: &UnixStream, written: Result<(), NoMemory>, page: &[u8]) ->
 }
 
 /// Answers a request on an empty page, which has room for a refusal.
-fn answer<R: Wait + Clock, D: Disk + Drop, J: Naming, K: Wait + Copy + Drop>(
+fn answer<R: Wait + Clock, T: Registrar, J: Naming, K: Wait + Copy + Drop>(
     rt: &R,
     alloc: Global,
-    shared: &Shared<D, J, K>,
+    shared: &Shared<T, J, K>,
     chair: &Chair<J>,
-    place: &mut Option<Place<'_, D>>,
+    place: &mut Option<Place<'_, T>>,
     stream: &UnixStream,
     request: Request,
 ) -> io::Result<()> {
@@ -106,7 +110,9 @@ fn answer<R: Wait + Clock, D: Disk + Drop, J: Naming, K: Wait + Copy + Drop>(
         Ok(()) => Ok(()),
         Err(refusal) => refuse(refusal, &mut page),
     };
-    send_page(stream, written, &page)
+    let sent = send_page(stream, written, &page);
+    drop(page);
+    sent
 }
 
 /// Answers that a line is refused.
@@ -118,17 +124,19 @@ fn answer_refused<R: Wait, J: Naming>(
 ) -> io::Result<()> {
     let mut page = chair.page.lock(rt);
     let written = refuse(refusal, &mut page);
-    send_page(stream, written, &page)
+    let sent = send_page(stream, written, &page);
+    drop(page);
+    sent
 }
 
 /// Answers a line that was read. The room of a refusal is made first. A crawl is awaited before the page is taken, so that
 /// subscriptions are told meanwhile.
-fn serve_line<R: Wait + Clock, D: Disk + Drop, J: Naming, K: Wait + Copy + Drop>(
+fn serve_line<R: Wait + Clock, T: Registrar, J: Naming, K: Wait + Copy + Drop>(
     rt: &R,
     alloc: Global,
-    shared: &Shared<D, J, K>,
+    shared: &Shared<T, J, K>,
     chair: &Chair<J>,
-    place: &mut Option<Place<'_, D>>,
+    place: &mut Option<Place<'_, T>>,
     stream: &UnixStream,
     line: &[u8],
 ) -> io::Result<()> {
@@ -149,49 +157,80 @@ fn serve_line<R: Wait + Clock, D: Disk + Drop, J: Naming, K: Wait + Copy + Drop>
     }
 }
 
-/// Answers a session's lines until it ends or its socket fails.
-fn serve_lines<R: Wait + Clock, D: Disk + Drop, J: Naming, K: Wait + Copy + Drop>(
+/// Reads the next line of a session.
+fn next_line(reader: &mut BufReader<&UnixStream>, line: &mut Vec<u8>) -> io::Result<LineRead> {
+    read_line(&mut Input::new(reader), line)
+}
+
+/// Answers the lines of a reader until they end or its socket fails.
+fn serve_lines_of<R: Wait + Clock, T: Registrar, J: Naming, K: Wait + Copy + Drop>(
     rt: &R,
     alloc: Global,
-    shared: &Shared<D, J, K>,
+    shared: &Shared<T, J, K>,
     chair: &Chair<J>,
-    place: &mut Option<Place<'_, D>>,
+    place: &mut Option<Place<'_, T>>,
     stream: &UnixStream,
+    reader: &mut BufReader<&UnixStream>,
+    line: &mut Vec<u8>,
 ) -> io::Result<()> {
-    let mut reader = BufReader::new(alloc, stream)?;
-    let mut line = Vec::new(alloc);
     for _ in rt.forever() {
-        let read = {
-            let mut input = Input::new(&mut reader);
-            read_line(&mut input, &mut line)?
-        };
-        match read {
+        match next_line(reader, line)? {
             LineRead::End => return Ok(()),
             LineRead::Lost => send_alone(rt, chair, stream, Err(NoMemory))?,
-            LineRead::Kept => serve_line(rt, alloc, shared, chair, place, stream, &line)?,
+            LineRead::Kept => serve_line(rt, alloc, shared, chair, place, stream, line)?,
         }
     }
     Ok(())
 }
 
-/// Gives a viewer back to its hall, if that is there still.
-fn give_back<R: Wait, D: Disk + Drop, J: Naming, K: Wait + Copy + Drop>(
+/// Answers a session's lines until it ends or its socket fails.
+fn serve_lines<R: Wait + Clock, T: Registrar, J: Naming, K: Wait + Copy + Drop>(
     rt: &R,
-    shared: &Shared<D, J, K>,
+    alloc: Global,
+    shared: &Shared<T, J, K>,
+    chair: &Chair<J>,
+    place: &mut Option<Place<'_, T>>,
+    stream: &UnixStream,
+) -> io::Result<()> {
+    let mut reader = BufReader::new(alloc, stream)?;
+    let mut line = Vec::new(alloc);
+    let served = serve_lines_of(
+        rt,
+        alloc,
+        shared,
+        chair,
+        place,
+        stream,
+        &mut reader,
+        &mut line,
+    );
+    drop(line);
+    drop(reader);
+    served
+}
+
+/// Gives a viewer back to its hall, if that is there still.
+fn give_back<R: Wait, T: Registrar, J: Naming, K: Wait + Copy + Drop>(
+    rt: &R,
+    shared: &Shared<T, J, K>,
     viewer: Viewer<J>,
 ) {
-    if let Some(hall) = shared.numbered(rt, viewer.share().root) {
-        hall.take_back(rt, viewer);
+    match shared.numbered(rt, viewer.share().root) {
+        Some(hall) => {
+            hall.take_back(rt, viewer);
+            drop(hall);
+        }
+        None => drop(viewer),
     }
 }
 
 /// One session on a chair.
-fn attend<R: Wait + Clock, D: Disk + Drop, J: Naming, K: Wait + Copy + Drop>(
+fn attend<R: Wait + Clock, T: Registrar, J: Naming, K: Wait + Copy + Drop>(
     rt: &R,
     alloc: Global,
-    shared: &Shared<D, J, K>,
+    shared: &Shared<T, J, K>,
     chair: &Chair<J>,
-    place: &mut Option<Place<'_, D>>,
+    place: &mut Option<Place<'_, T>>,
     stream: UnixStream,
 ) {
     let _timed = stream.set_write_timeout(Some(Duration::from_secs(WRITE_SECONDS)));
@@ -199,11 +238,13 @@ fn attend<R: Wait + Clock, D: Disk + Drop, J: Naming, K: Wait + Copy + Drop>(
         return;
     };
     let Ok(other) = Arc::try_clone(&stream) else {
+        drop(stream);
         return;
     };
     chair.seat(rt, alloc, Some(other));
     let _ended = serve_lines(rt, alloc, shared, chair, place, &stream);
     let _ = stream.shutdown(Shutdown::Both);
+    drop(stream);
     chair.seat(rt, alloc, None);
     for viewer in chair.take_viewers(rt, alloc).into_vec() {
         give_back(rt, shared, viewer);
@@ -211,16 +252,17 @@ fn attend<R: Wait + Clock, D: Disk + Drop, J: Naming, K: Wait + Copy + Drop>(
 }
 
 /// Answers the lines of one session after the other, until no session comes any longer.
-pub fn sit_on<R: Wait + Clock, D: Disk + Drop, J: Naming, K: Wait + Copy + Drop>(
+pub fn sit_on<R: Wait + Clock, T: Registrar, J: Naming, K: Wait + Copy + Drop>(
     rt: &R,
     alloc: Global,
-    shared: &Shared<D, J, K>,
+    shared: &Shared<T, J, K>,
     chair: &Chair<J>,
 ) {
     // Without a seat the commands of these sessions are refused 16.
     let mut place = Place::take(rt, &shared.desk).ok();
     for _ in rt.forever() {
         let Some(stream) = shared.door.next(rt) else {
+            drop(place);
             return;
         };
         attend(rt, alloc, shared, chair, &mut place, stream);

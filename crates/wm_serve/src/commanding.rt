@@ -1,10 +1,11 @@
 //! A command of the registry from a session.
 //! Tests: serve_tests/src/sessions.rt.
 use crate::place::Place;
+use crate::registrar::Registrar;
 use crate::shared::Shared;
 use std::alloc::Global;
 use std::sync::Wait;
-use wm_disk::{Disk, Refusal};
+use wm_disk::Refusal;
 use wm_lines::reply::lines_to;
 use wm_names::RootPath;
 use wm_registry::{Command, Reply};
@@ -45,10 +46,10 @@ fn prepare(alloc: Global, command: &Command, out: &mut Vec<u8>) -> Result<Prepar
 }
 
 /// Appends the line of a reply, once the hall of the root follows the registry.
-fn tell<R: Wait, D: Disk + Drop, J: Naming, K: Wait + Copy + Drop>(
+fn tell<R: Wait, T: Registrar, J: Naming, K: Wait + Copy + Drop>(
     rt: &R,
     alloc: Global,
-    shared: &Shared<D, J, K>,
+    shared: &Shared<T, J, K>,
     prepared: &Prepared,
     reply: Reply,
     out: &mut Vec<u8>,
@@ -68,33 +69,41 @@ fn tell<R: Wait, D: Disk + Drop, J: Naming, K: Wait + Copy + Drop>(
 }
 
 /// How a command was met at a session's seat. `NoMemory` where the session has none.
-fn submit<R: Wait, D: Disk + Drop>(
+fn submit<R: Wait, T: Registrar>(
     rt: &R,
-    place: &mut Option<Place<'_, D>>,
+    place: &mut Option<Place<'_, T>>,
     command: Command,
 ) -> Reply {
     match place {
         Some(place) => place.submit(rt, command),
-        None => Reply::Refused(Refusal::NoMemory),
+        None => {
+            drop(command);
+            Reply::Refused(Refusal::NoMemory)
+        }
     }
 }
 
 /// Submits a command. Each reply that it may have is made first, with its room, so that an accepted command has its reply.
 /// `NoMemory` where that finds no room, for a session without a seat and for a `Begin`: then nothing is submitted. Else it is
 /// refused as [`Place::submit`] is. A refusal appends nothing.
-pub fn command<R: Wait, D: Disk + Drop, J: Naming, K: Wait + Copy + Drop>(
+pub fn command<R: Wait, T: Registrar, J: Naming, K: Wait + Copy + Drop>(
     rt: &R,
     alloc: Global,
-    shared: &Shared<D, J, K>,
-    place: &mut Option<Place<'_, D>>,
+    shared: &Shared<T, J, K>,
+    place: &mut Option<Place<'_, T>>,
     command: Command,
     out: &mut Vec<u8>,
 ) -> Result<(), Refusal> {
     match prepare(alloc, &command, out) {
         Ok(prepared) => {
             let reply = submit(rt, place, command);
-            tell(rt, alloc, shared, &prepared, reply, out)
+            let told = tell(rt, alloc, shared, &prepared, reply, out);
+            drop(prepared);
+            told
         }
-        Err(refusal) => Err(refusal),
+        Err(refusal) => {
+            drop(command);
+            Err(refusal)
+        }
     }
 }

@@ -17,6 +17,7 @@ mod leading;
 mod listening;
 mod meeting;
 mod place;
+mod registrar;
 mod second;
 mod seeing;
 mod serving;

@@ -3,6 +3,7 @@
 use crate::chair::Chair;
 use crate::commanding::command;
 use crate::place::Place;
+use crate::registrar::Registrar;
 use crate::second::second;
 use crate::seeing::{clock, inquire};
 use crate::shared::Shared;
@@ -10,9 +11,9 @@ use crate::subscribing::{subscribe, unsubscribe};
 use std::alloc::Global;
 use std::sync::Wait;
 use std::time::Clock;
-use wm_disk::{Disk, Refusal};
-use wm_lines::Request;
+use wm_disk::Refusal;
 use wm_lines::reply::{PROGRESS_ROOM, put_clock, put_floor};
+use wm_lines::{Progress, Request};
 use wm_names::RootPath;
 use wm_registry::{Command, Registry};
 use wm_server::{RegistryFront, Session};
@@ -32,10 +33,10 @@ fn meet_registry(
 }
 
 /// Lists the roots of the desk's registry as it is now.
-fn list<R: Wait, D: Disk + Drop, J: Naming, K: Wait + Copy + Drop>(
+fn list<R: Wait, T: Registrar, J: Naming, K: Wait + Copy + Drop>(
     rt: &R,
     alloc: Global,
-    shared: &Shared<D, J, K>,
+    shared: &Shared<T, J, K>,
     out: &mut Vec<u8>,
 ) -> Result<(), Refusal> {
     let registry = shared.desk.registry(rt)?;
@@ -43,10 +44,10 @@ fn list<R: Wait, D: Disk + Drop, J: Naming, K: Wait + Copy + Drop>(
 }
 
 /// Lists a root's triggers of the desk's registry as it is now.
-fn list_triggers<R: Wait, D: Disk + Drop, J: Naming, K: Wait + Copy + Drop>(
+fn list_triggers<R: Wait, T: Registrar, J: Naming, K: Wait + Copy + Drop>(
     rt: &R,
     alloc: Global,
-    shared: &Shared<D, J, K>,
+    shared: &Shared<T, J, K>,
     path: RootPath,
     out: &mut Vec<u8>,
 ) -> Result<(), Refusal> {
@@ -54,10 +55,26 @@ fn list_triggers<R: Wait, D: Disk + Drop, J: Naming, K: Wait + Copy + Drop>(
     meet_registry(alloc, registry, Request::TriggerList(path), out)
 }
 
-/// Performs an operation, and appends where the view stands after it. The session's viewer learns of it before that is told.
-fn operate<R: Wait + Clock, D: Disk + Drop, J: Naming, K: Wait + Copy + Drop>(
+/// Performs an operation. The session's viewer learns of it before that is told.
+fn operate_on<R: Wait + Clock, T: Registrar, J: Naming, K: Wait + Copy + Drop>(
     rt: &R,
-    shared: &Shared<D, J, K>,
+    shared: &Shared<T, J, K>,
+    chair: &Chair<J>,
+    path: &RootPath,
+    op: Op,
+) -> Result<Progress, Refusal> {
+    let hall = shared.hall(rt, path)?;
+    let met = hall.operate(rt, shared.forgetting, op);
+    chair.viewers.lock(rt).learn(rt, &hall);
+    shared.ring(rt);
+    drop(hall);
+    met
+}
+
+/// Performs an operation, and appends where the view stands after it.
+fn operate<R: Wait + Clock, T: Registrar, J: Naming, K: Wait + Copy + Drop>(
+    rt: &R,
+    shared: &Shared<T, J, K>,
     chair: &Chair<J>,
     path: &RootPath,
     op: Op,
@@ -65,11 +82,7 @@ fn operate<R: Wait + Clock, D: Disk + Drop, J: Naming, K: Wait + Copy + Drop>(
 ) -> Result<(), Refusal> {
     out.try_reserve(PROGRESS_ROOM)?;
     let tells_floor = matches!(op, Op::AgeOut(_, _));
-    let hall = shared.hall(rt, path)?;
-    let met = hall.operate(rt, shared.forgetting, op);
-    chair.viewers.lock(rt).learn(rt, &hall);
-    shared.ring(rt);
-    let progress = met?;
+    let progress = operate_on(rt, shared, chair, path, op)?;
     if tells_floor {
         put_floor(progress.floor, out);
     } else {
@@ -79,10 +92,10 @@ fn operate<R: Wait + Clock, D: Disk + Drop, J: Naming, K: Wait + Copy + Drop>(
 }
 
 /// Appends the clock of a root, as the session's viewer sees it.
-fn tell_clock<R: Wait, D: Disk + Drop, J: Naming, K: Wait + Copy + Drop>(
+fn tell_clock<R: Wait, T: Registrar, J: Naming, K: Wait + Copy + Drop>(
     rt: &R,
     alloc: Global,
-    shared: &Shared<D, J, K>,
+    shared: &Shared<T, J, K>,
     chair: &Chair<J>,
     path: &RootPath,
     out: &mut Vec<u8>,
@@ -94,12 +107,12 @@ fn tell_clock<R: Wait, D: Disk + Drop, J: Naming, K: Wait + Copy + Drop>(
 }
 
 /// Meets a request of a session, which is refused, with nothing appended, or has its reply appended.
-pub fn meet<R: Wait + Clock, D: Disk + Drop, J: Naming, K: Wait + Copy + Drop>(
+pub fn meet<R: Wait + Clock, T: Registrar, J: Naming, K: Wait + Copy + Drop>(
     rt: &R,
     alloc: Global,
-    shared: &Shared<D, J, K>,
+    shared: &Shared<T, J, K>,
     chair: &Chair<J>,
-    place: &mut Option<Place<'_, D>>,
+    place: &mut Option<Place<'_, T>>,
     request: Request,
     out: &mut Vec<u8>,
 ) -> Result<(), Refusal> {

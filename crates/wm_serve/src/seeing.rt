@@ -1,10 +1,11 @@
 //! A root as the viewer of a session sees it: its clock, and what a question is answered.
 //! Tests: serve_tests/src/sessions.rt.
+use crate::registrar::Registrar;
 use crate::shared::Shared;
 use std::alloc::Global;
 use std::sync::Wait;
 use wm_clock::ClockId;
-use wm_disk::{Disk, Refusal};
+use wm_disk::Refusal;
 use wm_hall::{RootHall, Viewers};
 use wm_lines::Inquiry;
 use wm_names::RootPath;
@@ -22,15 +23,17 @@ pub fn clock_of<R: Wait, J: Naming, K: Wait + Drop>(
 }
 
 /// The clock of a watched root.
-pub fn clock<R: Wait, D: Disk + Drop, J: Naming, K: Wait + Copy + Drop>(
+pub fn clock<R: Wait, T: Registrar, J: Naming, K: Wait + Copy + Drop>(
     rt: &R,
     alloc: Global,
-    shared: &Shared<D, J, K>,
+    shared: &Shared<T, J, K>,
     viewers: &mut Viewers<J>,
     path: &RootPath,
 ) -> Result<ClockId, Refusal> {
     let hall = shared.hall(rt, path)?;
-    clock_of(rt, alloc, viewers, &hall)
+    let clock = clock_of(rt, alloc, viewers, &hall);
+    drop(hall);
+    clock
 }
 
 fn inquire_of<R: Wait, J: Naming, K: Wait + Drop>(
@@ -41,20 +44,34 @@ fn inquire_of<R: Wait, J: Naming, K: Wait + Drop>(
     inquiry: Inquiry,
     out: &mut Vec<u8>,
 ) -> Result<(), Refusal> {
-    let viewer = viewers.of_root(rt, hall)?;
-    hall.inquire(rt, alloc, viewer, inquiry, out)
+    match viewers.of_root(rt, hall) {
+        Ok(viewer) => hall.inquire(rt, alloc, viewer, inquiry, out),
+        Err(refusal) => {
+            drop(inquiry);
+            Err(refusal)
+        }
+    }
 }
 
 /// Appends the answer to a question of a watched root.
-pub fn inquire<R: Wait, D: Disk + Drop, J: Naming, K: Wait + Copy + Drop>(
+pub fn inquire<R: Wait, T: Registrar, J: Naming, K: Wait + Copy + Drop>(
     rt: &R,
     alloc: Global,
-    shared: &Shared<D, J, K>,
+    shared: &Shared<T, J, K>,
     viewers: &mut Viewers<J>,
     path: &RootPath,
     inquiry: Inquiry,
     out: &mut Vec<u8>,
 ) -> Result<(), Refusal> {
-    let hall = shared.hall(rt, path)?;
-    inquire_of(rt, alloc, viewers, &hall, inquiry, out)
+    match shared.hall(rt, path) {
+        Ok(hall) => {
+            let met = inquire_of(rt, alloc, viewers, &hall, inquiry, out);
+            drop(hall);
+            met
+        }
+        Err(refusal) => {
+            drop(inquiry);
+            Err(refusal)
+        }
+    }
 }

@@ -6,6 +6,7 @@ ghost use Rattle.wm_lines.specs.KeptExpressions.{have_expressions as have_expres
 
 use crate::admitting::serve_on;
 use crate::listening::listen;
+use crate::registrar::Registrar;
 use crate::shared::Shared;
 use std::alloc::Global;
 use std::fs;
@@ -18,7 +19,7 @@ use std::sync::Wait;
 use std::thread::Threads;
 use std::time::Clock;
 use wm_crawler::{Folders, Turnstile};
-use wm_disk::{NoMemory, Refusal};
+use wm_disk::{Disk, NoMemory, Refusal};
 use wm_file::{FileDisk, Unknown};
 use wm_groupcommit::Desk;
 use wm_hall::Forgetting;
@@ -54,7 +55,10 @@ fn open<R: Files<File = File>>(
     };
     match open_store(alloc, disk) {
         Ok(store) => Ok(store),
-        Err((refusal, _)) => Err(refusal),
+        Err((refusal, disk)) => {
+            drop(disk);
+            Err(refusal)
+        }
     }
 }
 
@@ -83,9 +87,10 @@ pub fn serve<
 ) -> Result<(), Refusal> {
     let store = open(rt, alloc, file)?;
     let Ok(listener) = listen(rt, socket) else {
+        drop(store);
         return Err(Refusal::DeviceFailed);
     };
-    let served = serve_over::<Brand, R, F, G, P, W>(
+    let served = serve_over::<FileDisk<Unknown>, Brand, R, F, G, P, W>(
         rt,
         alloc,
         store,
@@ -97,33 +102,34 @@ pub fn serve<
         writer,
         Opened::new(),
     );
+    drop(listener);
     let _gone = fs::remove_file(rt, socket);
     served
 }
 
 /// A desk over the store, which is let go where it finds no room.
-fn desk_over(
-    alloc: Global,
-    store: Store<FileDisk<Unknown>>,
-) -> Result<Desk<FileDisk<Unknown>>, Refusal> {
+fn desk_over<D: Disk + Drop>(alloc: Global, store: Store<D>) -> Result<Desk<D>, Refusal> {
     match Desk::new(alloc, store) {
         Ok(desk) => Ok(desk),
-        Err((refusal, _store)) => Err(refusal),
+        Err((refusal, store)) => {
+            drop(store);
+            Err(refusal)
+        }
     }
 }
 
 /// What all threads share, over the desk, which is let go where that finds no room.
-fn shared_over<J: Naming, K: Wait + Copy + Drop>(
+fn shared_over<D: Disk + Drop, J: Naming, K: Wait + Copy + Drop>(
     alloc: Global,
     keeping: K,
-    desk: Desk<FileDisk<Unknown>>,
+    desk: Desk<D>,
     shares: Shares<J>,
     forgetting: Forgetting,
-) -> Result<Shared<FileDisk<Unknown>, J, K>, NoMemory> {
+) -> Result<Shared<Desk<D>, J, K>, NoMemory> {
     match Shared::new(alloc, keeping, desk, shares, forgetting) {
         Ok(shared) => Ok(shared),
         Err((NoMemory, desk)) => {
-            let _store = desk.into_store();
+            drop(desk.into_store());
             Err(NoMemory)
         }
     }
@@ -131,6 +137,7 @@ fn shared_over<J: Naming, K: Wait + Copy + Drop>(
 
 /// Serves with the views' book that was opened.
 fn serve_over<
+    D: Disk + Drop + Send,
     J: Naming + Send + Sync,
     R: Threads + Wait + Clock + Net + Files<File = File> + Sync,
     F: Folders + Sync,
@@ -140,7 +147,7 @@ fn serve_over<
 >(
     rt: &R,
     alloc: Global,
-    store: Store<FileDisk<Unknown>>,
+    store: Store<D>,
     listener: &UnixListener,
     folders: &F,
     gate: &G,
@@ -162,12 +169,13 @@ fn serve_over<
     let served = serve_shared(
         rt, alloc, &shared, listener, folders, gate, programs, settings, writer,
     );
-    let _store = shared.into_desk().into_store();
+    drop(shared.into_desk().into_store());
     served
 }
 
 /// Makes a hall for each root, and serves the socket.
 fn serve_shared<
+    T: Registrar + Sync,
     J: Naming + Send + Sync,
     K: Wait + Copy + Drop + Send + Sync,
     R: Threads + Wait + Clock + Net + Files<File = File> + Sync,
@@ -178,7 +186,7 @@ fn serve_shared<
 >(
     rt: &R,
     alloc: Global,
-    shared: &Shared<FileDisk<Unknown>, J, K>,
+    shared: &Shared<T, J, K>,
     listener: &UnixListener,
     folders: &F,
     gate: &G,

@@ -3,11 +3,11 @@
 use crate::chair::Chair;
 use crate::door::{CHAIRS, Door};
 use crate::house::Worker;
+use crate::registrar::Registrar;
 use std::alloc::Global;
 use std::sync::atomic::{AtomicU64, Ordering};
 use std::sync::{Arc, Condvar, Mutex, Wait};
-use wm_disk::{Disk, NoMemory, Refusal};
-use wm_groupcommit::Desk;
+use wm_disk::{NoMemory, Refusal};
 use wm_hall::{Forgetting, RootHall};
 use wm_names::RootPath;
 use wm_registry::{Registry, Root};
@@ -21,8 +21,8 @@ pub struct Missing {
 }
 
 /// What all threads share.
-pub struct Shared<D: Disk + Drop, J: Naming, K: Wait + Copy + Drop> {
-    pub desk: Desk<D>,
+pub struct Shared<T: Registrar, J: Naming, K: Wait + Copy + Drop> {
+    pub desk: T,
     /// What keepers wait with.
     keeping: K,
     /// What makes the keeper and the viewers of a root.
@@ -39,15 +39,15 @@ pub struct Shared<D: Disk + Drop, J: Naming, K: Wait + Copy + Drop> {
     pub forgetting: Forgetting,
 }
 
-impl<D: Disk + Drop, J: Naming, K: Wait + Copy + Drop> Shared<D, J, K> {
+impl<T: Registrar, J: Naming, K: Wait + Copy + Drop> Shared<T, J, K> {
     /// What all threads share, with no hall and no worker yet, and a door that lets nobody in. `NoMemory` hands the desk back.
     pub fn new(
         alloc: Global,
         keeping: K,
-        desk: Desk<D>,
+        desk: T,
         shares: Shares<J>,
         forgetting: Forgetting,
-    ) -> Result<Shared<D, J, K>, (NoMemory, Desk<D>)> {
+    ) -> Result<Shared<T, J, K>, (NoMemory, T)> {
         let Ok(chairs) = chairs(alloc) else {
             return Err((NoMemory, desk));
         };
@@ -70,7 +70,7 @@ impl<D: Disk + Drop, J: Naming, K: Wait + Copy + Drop> Shared<D, J, K> {
     }
 
     /// The desk, once each thread has ended.
-    pub fn into_desk(self) -> Desk<D> {
+    pub fn into_desk(self) -> T {
         let Shared {
             keeping: _,
             desk,
@@ -89,28 +89,26 @@ impl<D: Disk + Drop, J: Naming, K: Wait + Copy + Drop> Shared<D, J, K> {
 
     /// The hall of a watched root. `NotWatched` where there is none, and `NoMemory` where it has too many owners.
     pub fn hall<R: Wait>(&self, rt: &R, path: &RootPath) -> Result<Arc<RootHall<J, K>>, Refusal> {
-        for hall in self.halls.lock(rt).iter() {
-            if hall.path == *path {
-                return Arc::try_clone(hall).map_err(|_| Refusal::NoMemory);
-            }
-        }
-        Err(Refusal::NotWatched)
+        let halls = self.halls.lock(rt);
+        let found = hall_of(&halls, path);
+        drop(halls);
+        found
     }
 
     /// The hall of a root by its number.
     pub fn numbered<R: Wait>(&self, rt: &R, number: u64) -> Option<Arc<RootHall<J, K>>> {
-        for hall in self.halls.lock(rt).iter() {
-            if hall.number == number {
-                return Arc::try_clone(hall).ok();
-            }
-        }
-        None
+        let halls = self.halls.lock(rt);
+        let found = hall_numbered(&halls, number);
+        drop(halls);
+        found
     }
 
     /// Makes a hall for each root of the registry at the start. `NoMemory`, and then some may have none.
     pub fn begin<R: Wait>(&self, rt: &R, alloc: Global) -> Result<(), NoMemory> {
         let registry = self.desk.registry(rt)?;
-        self.add_all(rt, alloc, &registry)
+        let added = self.add_all(rt, alloc, &registry);
+        drop(registry);
+        added
     }
 
     fn add_all<R: Wait>(&self, rt: &R, alloc: Global, registry: &Registry) -> Result<(), NoMemory> {
@@ -128,27 +126,40 @@ impl<D: Disk + Drop, J: Naming, K: Wait + Copy + Drop> Shared<D, J, K> {
         path: &RootPath,
         incarnation: u64,
         root: &Root,
-    ) -> Result<RootHall<J, K>, NoMemory> {
+    ) -> Result<Arc<RootHall<J, K>>, NoMemory> {
         let mut shares = self.shares.lock(rt);
         let Ok((keeper, pool)) = shares.share(self.keeping, alloc, incarnation, root.number) else {
             return Err(NoMemory);
         };
         drop(shares);
-        RootHall::new(alloc, path, root.number, keeper, pool)
+        let hall = RootHall::new(alloc, path, root.number, keeper, pool)?;
+        Arc::new(alloc, hall).map_err(|_| NoMemory)
     }
 
-    /// Puts a hall into the table, and has its workers started.
-    fn put<R: Wait>(&self, rt: &R, hall: Arc<RootHall<J, K>>) -> Result<(), NoMemory> {
+    /// Puts a hall into the table, and its workers among those that are to be started.
+    fn put_with<R: Wait>(
+        &self,
+        rt: &R,
+        hall: Arc<RootHall<J, K>>,
+        workers: &mut Vec<Worker>,
+    ) -> Result<(), NoMemory> {
         let number = hall.number;
-        let mut missing = self.missing.lock(rt);
-        if missing.workers.try_reserve(2).is_err() {
+        if workers.try_reserve(2).is_err() {
             drop(hall);
             return Err(NoMemory);
         }
         self.halls.lock(rt).push(hall)?;
-        missing.workers.push(Worker::Crawler(number))?;
-        missing.workers.push(Worker::Triggers(number))?;
+        workers.push(Worker::Crawler(number))?;
+        workers.push(Worker::Triggers(number))?;
         Ok(())
+    }
+
+    /// Puts a hall into the table, and has its workers started.
+    fn put<R: Wait>(&self, rt: &R, hall: Arc<RootHall<J, K>>) -> Result<(), NoMemory> {
+        let mut missing = self.missing.lock(rt);
+        let put = self.put_with(rt, hall, &mut missing.workers);
+        drop(missing);
+        put
     }
 
     fn add<R: Wait>(
@@ -160,10 +171,13 @@ impl<D: Disk + Drop, J: Naming, K: Wait + Copy + Drop> Shared<D, J, K> {
         root: &Root,
     ) -> Result<(), NoMemory> {
         let hall = self.new_hall(rt, alloc, path, incarnation, root)?;
-        let Ok(hall) = Arc::new(alloc, hall) else {
+        if hall
+            .keep_triggers(rt, alloc, root.triggers.as_slice())
+            .is_err()
+        {
+            drop(hall);
             return Err(NoMemory);
-        };
-        hall.keep_triggers(rt, alloc, root.triggers.as_slice())?;
+        }
         self.put(rt, hall)?;
         self.came.notify_all();
         Ok(())
@@ -178,10 +192,12 @@ impl<D: Disk + Drop, J: Naming, K: Wait + Copy + Drop> Shared<D, J, K> {
                 found = Some(i);
             }
         }
-        match found {
+        let taken = match found {
             Some(i) if i < halls.len() => Some(halls.remove(i)),
             _ => None,
-        }
+        };
+        drop(halls);
+        taken
     }
 
     fn remove<R: Wait>(&self, rt: &R, path: &RootPath) {
@@ -192,14 +208,18 @@ impl<D: Disk + Drop, J: Naming, K: Wait + Copy + Drop> Shared<D, J, K> {
         for chair in self.chairs.iter() {
             chair.end_root(rt, path, hall.number);
         }
+        drop(hall);
     }
 
     /// The hall of a path follows the registry, after a command that changed it. `NoMemory`: then it is as it was, or a watched
     /// root has none.
     pub fn follow<R: Wait>(&self, rt: &R, alloc: Global, path: &RootPath) -> Result<(), NoMemory> {
-        let _following = self.following.lock(rt);
+        let following = self.following.lock(rt);
         let registry = self.desk.registry(rt)?;
-        self.follow_to(rt, alloc, path, &registry)
+        let followed = self.follow_to(rt, alloc, path, &registry);
+        drop(registry);
+        drop(following);
+        followed
     }
 
     fn follow_to<R: Wait>(
@@ -235,14 +255,42 @@ impl<D: Disk + Drop, J: Naming, K: Wait + Copy + Drop> Shared<D, J, K> {
     pub fn end_workers<R: Wait>(&self, rt: &R) {
         self.missing.lock(rt).is_closing = true;
         self.came.notify_all();
-        for hall in self.halls.lock(rt).iter() {
+        let halls = self.halls.lock(rt);
+        for hall in halls.iter() {
             hall.work.end(rt);
         }
+        drop(halls);
         for chair in self.chairs.iter() {
             chair.bell.close(rt);
         }
         self.closing.store(1, Ordering::SeqCst);
     }
+}
+
+/// The hall of a path among these, refused as `Shared::hall`.
+fn hall_of<J: Naming, K: Wait + Drop>(
+    halls: &[Arc<RootHall<J, K>>],
+    path: &RootPath,
+) -> Result<Arc<RootHall<J, K>>, Refusal> {
+    for hall in halls {
+        if hall.path == *path {
+            return Arc::try_clone(hall).map_err(|_| Refusal::NoMemory);
+        }
+    }
+    Err(Refusal::NotWatched)
+}
+
+/// The hall of a number among these.
+fn hall_numbered<J: Naming, K: Wait + Drop>(
+    halls: &[Arc<RootHall<J, K>>],
+    number: u64,
+) -> Option<Arc<RootHall<J, K>>> {
+    for hall in halls {
+        if hall.number == number {
+            return Arc::try_clone(hall).ok();
+        }
+    }
+    None
 }
 
 fn chairs<J: Naming>(alloc: Global) -> Result<Vec<Chair<J>>, NoMemory> {

@@ -1,9 +1,8 @@
 //! What threads are given of a server: `Shared` as a house.
 //! Tests: serve_tests/src/sessions.rt.
-ghost use Rattle.wm_groupcommit.specs.Seats.{IsFlusherOf};
-
 use crate::answering::sit_on;
 use crate::house::{Crawl, House, Worker};
+use crate::registrar::Registrar;
 use crate::second::second;
 use crate::shared::Shared;
 use crate::telling::tell_for;
@@ -11,41 +10,14 @@ use crate::triggering::trigger_for;
 use std::alloc::Global;
 use std::os::unix::net::UnixStream;
 use std::sync::Wait;
-use std::sync::atomic::Ordering;
-use std::thread;
-use std::time::{Clock, Duration};
-use wm_disk::{Disk, NoMemory, Refusal};
-use wm_groupcommit::{Desk, Flusher};
+use std::time::Clock;
+use wm_disk::{NoMemory, Refusal};
 use wm_hall::RootHall;
 use wm_lines::Progress;
 use wm_names::Subtree;
 use wm_share::Naming;
 use wm_triggers::Programs;
 use wm_view::{Listing, Op};
-
-/// Commits what is submitted: whether the flusher may end, since the desk is closed and nothing is left.
-fn flush_once<R: Wait + Clock, D: Disk + Drop>(
-    rt: &R,
-    desk: &Desk<D>,
-    flusher: &mut Flusher,
-    is_closing: bool,
-) -> bool
-    requires { IsFlusherOf desk.now flusher.old }
-    ensures { IsFlusherOf desk.now flusher.new }
-{
-    match desk.flush_once(rt, flusher) {
-        Ok(0) => {
-            if is_closing {
-                return true;
-            }
-            desk.wait_for_calls(rt, flusher);
-        }
-        Ok(_) => {}
-        // Memory ran out: others may give some back.
-        Err(_) => thread::sleep(rt, Duration::from_millis(20)),
-    }
-    false
-}
 
 /// A crawl of a hall's root.
 fn crawl_of<J: Naming, K: Wait + Drop>(
@@ -61,7 +33,7 @@ fn crawl_of<J: Naming, K: Wait + Drop>(
     })
 }
 
-impl<D: Disk + Drop, J: Naming, K: Wait + Copy + Drop> House for Shared<D, J, K> {
+impl<T: Registrar, J: Naming, K: Wait + Copy + Drop> House for Shared<T, J, K> {
     fn open_door<R: Wait>(&self, rt: &R, chairs: u64) {
         self.door.open(rt, chairs);
     }
@@ -83,25 +55,20 @@ impl<D: Disk + Drop, J: Naming, K: Wait + Copy + Drop> House for Shared<D, J, K>
     }
 
     fn flush<R: Wait + Clock>(&self, rt: &R) {
-        let Ok(mut flusher) = self.desk.flusher(rt) else {
-            return;
-        };
-        for _ in rt.forever() {
-            let is_closing = self.closing.load(Ordering::SeqCst) == 1;
-            if flush_once(rt, &self.desk, &mut flusher, is_closing) {
-                return;
-            }
-        }
+        self.desk.flush(rt, &self.closing);
     }
 
     fn next_worker<R: Wait>(&self, rt: &R) -> Option<Worker> {
         let missing = self.came.wait_while(rt, self.missing.lock(rt), |missing| {
             missing.workers.is_empty() && !missing.is_closing
         });
-        if missing.is_closing {
-            return None;
-        }
-        missing.workers.last().copied()
+        let next = if missing.is_closing {
+            None
+        } else {
+            missing.workers.last().copied()
+        };
+        drop(missing);
+        next
     }
 
     fn started<R: Wait>(&self, rt: &R, worker: Worker) {
@@ -111,9 +78,15 @@ impl<D: Disk + Drop, J: Naming, K: Wait + Copy + Drop> House for Shared<D, J, K>
     fn next_crawl<R: Wait>(&self, rt: &R, alloc: Global, root: u64) -> Option<Crawl> {
         let hall = self.numbered(rt, root)?;
         for _ in rt.forever() {
-            let (ticket, subtree) = hall.work.next_crawl(rt)?;
+            let Some((ticket, subtree)) = hall.work.next_crawl(rt) else {
+                drop(hall);
+                return None;
+            };
             match crawl_of(alloc, &hall, ticket, subtree) {
-                Ok(crawl) => return Some(crawl),
+                Ok(crawl) => {
+                    drop(hall);
+                    return Some(crawl);
+                }
                 Err(NoMemory) => hall.work.crawled(rt, ticket, Err(Refusal::NoMemory)),
             }
         }
@@ -122,7 +95,11 @@ impl<D: Disk + Drop, J: Naming, K: Wait + Copy + Drop> House for Shared<D, J, K>
 
     fn tick<R: Wait>(&self, rt: &R, root: u64) -> u64 {
         match self.numbered(rt, root) {
-            Some(hall) => hall.tick(rt),
+            Some(hall) => {
+                let tick = hall.tick(rt);
+                drop(hall);
+                tick
+            }
             None => 0,
         }
     }
@@ -135,24 +112,28 @@ impl<D: Disk + Drop, J: Naming, K: Wait + Copy + Drop> House for Shared<D, J, K>
         found: Listing,
     ) -> Result<Progress, Refusal> {
         let Some(hall) = self.numbered(rt, root) else {
+            drop(found);
             return Err(Refusal::NotWatched);
         };
         let moment = second(rt);
         let op = Op::Recrawl(moment, begun_at, found);
         let met = hall.operate(rt, self.forgetting, op);
         self.ring(rt);
+        drop(hall);
         met
     }
 
     fn crawled<R: Wait>(&self, rt: &R, root: u64, ticket: u64, ended: Result<Progress, Refusal>) {
         if let Some(hall) = self.numbered(rt, root) {
             hall.work.crawled(rt, ticket, ended);
+            drop(hall);
         }
     }
 
     fn run_triggers<R: Wait, P: Programs>(&self, rt: &R, alloc: Global, root: u64, programs: &P) {
         if let Some(hall) = self.numbered(rt, root) {
             trigger_for(rt, alloc, &hall, programs);
+            drop(hall);
         }
     }
 

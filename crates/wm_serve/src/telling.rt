@@ -1,13 +1,14 @@
 //! Tells the subscriptions of a session.
 //! Tests: serve_tests/src/sessions.rt.
 use crate::chair::Chair;
+use crate::registrar::Registrar;
 use crate::shared::Shared;
 use std::alloc::Global;
 use std::io::Write;
 use std::net::Shutdown;
 use std::sync::Wait;
 use wm_clock::ClockId;
-use wm_disk::{Disk, Refusal};
+use wm_disk::Refusal;
 use wm_hall::{RootHall, Viewers};
 use wm_lines::{Expression, reply};
 use wm_share::{Naming, Viewer};
@@ -23,8 +24,11 @@ fn tell_due<J: Naming>(
     let Some(answer) = subscribed.subscription.due_of(alloc, viewer)? else {
         return Ok(None);
     };
-    reply::put_due(alloc, subscribed, &answer, out)?;
-    Ok(Some(answer.clock))
+    let told = reply::put_due(alloc, subscribed, &answer, out);
+    let clock = answer.clock;
+    drop(answer);
+    told?;
+    Ok(Some(clock))
 }
 
 /// As [`tell_due`], by the session's viewer of a hall, which learns first what was told of it.
@@ -42,23 +46,25 @@ fn tell_of<R: Wait, J: Naming, K: Wait + Drop>(
 }
 
 /// Appends a subscription's line where it is due, and gives its clock.
-fn tell_one<R: Wait, D: Disk + Drop, J: Naming, K: Wait + Copy + Drop>(
+fn tell_one<R: Wait, T: Registrar, J: Naming, K: Wait + Copy + Drop>(
     rt: &R,
     alloc: Global,
-    shared: &Shared<D, J, K>,
+    shared: &Shared<T, J, K>,
     viewers: &mut Viewers<J>,
     subscribed: &Subscribed<Expression>,
     out: &mut Vec<u8>,
 ) -> Result<Option<ClockId>, Refusal> {
     let hall = shared.hall(rt, &subscribed.root)?;
-    tell_of(rt, alloc, &hall, viewers, subscribed, out)
+    let told = tell_of(rt, alloc, &hall, viewers, subscribed, out);
+    drop(hall);
+    told
 }
 
 /// Appends the lines that are due, in the order of subscribing. One that is refused is tried again with the next change.
-fn tell_all<R: Wait, D: Disk + Drop, J: Naming, K: Wait + Copy + Drop>(
+fn tell_all<R: Wait, T: Registrar, J: Naming, K: Wait + Copy + Drop>(
     rt: &R,
     alloc: Global,
-    shared: &Shared<D, J, K>,
+    shared: &Shared<T, J, K>,
     chair: &Chair<J>,
     out: &mut Vec<u8>,
 ) {
@@ -80,10 +86,10 @@ fn tell_all<R: Wait, D: Disk + Drop, J: Naming, K: Wait + Copy + Drop>(
 }
 
 /// Tells the subscriptions of the sessions on a chair, until the server closes.
-pub fn tell_for<R: Wait, D: Disk + Drop, J: Naming, K: Wait + Copy + Drop>(
+pub fn tell_for<R: Wait, T: Registrar, J: Naming, K: Wait + Copy + Drop>(
     rt: &R,
     alloc: Global,
-    shared: &Shared<D, J, K>,
+    shared: &Shared<T, J, K>,
     chair: &Chair<J>,
 ) {
     for _ in rt.forever() {
@@ -99,5 +105,7 @@ pub fn tell_for<R: Wait, D: Disk + Drop, J: Naming, K: Wait + Copy + Drop>(
         if !page.is_empty() && (&*stream).write_all(&page).is_err() {
             let _ = stream.shutdown(Shutdown::Both);
         }
+        drop(stream);
+        drop(page);
     }
 }

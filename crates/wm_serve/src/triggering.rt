@@ -1,6 +1,7 @@
 //! Runs the triggers of a root.
 //! Tests: serve_tests/src/sessions.rt.
 use std::alloc::Global;
+use std::mem;
 use std::sync::Wait;
 use wm_disk::Refusal;
 use wm_hall::RootHall;
@@ -39,8 +40,9 @@ fn due_run<J: Naming>(
     runs: &TriggerRun,
 ) -> Result<Option<Run>, Refusal> {
     let query = runs.ask(alloc)?;
-    let answer = viewer.answer(alloc, &query)?;
-    Ok(runs.run_of(answer))
+    let answer = viewer.answer(alloc, &query);
+    drop(query);
+    Ok(runs.run_of(answer?))
 }
 
 /// Runs a trigger if it is due.
@@ -58,6 +60,7 @@ fn run_one<J: Naming, K: Wait + Drop, P: Programs>(
         Ok(()) => kept.runs.started(&run),
         Err(_) => kept.runs.failed_to_start(),
     }
+    drop(run);
     Ok(())
 }
 
@@ -86,10 +89,36 @@ fn run_all<R: Wait, J: Naming, K: Wait + Drop, P: Programs>(
 ) -> Result<Vec<Kept>, Refusal> {
     let mut now = Vec::new(alloc);
     for trigger in hall.triggers(rt, alloc)? {
-        let one = runs_of(alloc, &trigger, kept)?;
-        run_and_keep(alloc, hall, viewer, programs, one, &mut now)?;
+        let one = runs_of(alloc, &trigger, kept);
+        drop(trigger);
+        run_and_keep(alloc, hall, viewer, programs, one?, &mut now)?;
     }
     Ok(now)
+}
+
+/// Runs the triggers with each change, until the root isn't watched any longer. Without a viewer it runs none.
+fn follow<R: Wait, J: Naming, K: Wait + Drop, P: Programs>(
+    rt: &R,
+    alloc: Global,
+    hall: &RootHall<J, K>,
+    viewer: &mut Option<Viewer<J>>,
+    programs: &P,
+    kept: &mut Vec<Kept>,
+) {
+    let mut seen = 0;
+    for _ in rt.forever() {
+        let Some(changes) = hall.work.next_change(rt, seen) else {
+            return;
+        };
+        seen = changes;
+        let Some(viewer) = viewer else {
+            continue;
+        };
+        hall.teach(rt, viewer);
+        if let Ok(now) = run_all(rt, alloc, hall, viewer, programs, kept) {
+            drop(mem::replace(kept, now));
+        }
+    }
 }
 
 /// The worker that runs the triggers of a root, with a viewer of its own from its start on. Where none is left then, it runs none.
@@ -100,19 +129,8 @@ pub fn trigger_for<R: Wait, J: Naming, K: Wait + Drop, P: Programs>(
     programs: &P,
 ) {
     let mut viewer = hall.lend(rt).ok();
-    let mut seen = 0;
     let mut kept = Vec::new(alloc);
-    for _ in rt.forever() {
-        let Some(changes) = hall.work.next_change(rt, seen) else {
-            return;
-        };
-        seen = changes;
-        let Some(viewer) = &mut viewer else {
-            continue;
-        };
-        hall.teach(rt, viewer);
-        if let Ok(now) = run_all(rt, alloc, hall, viewer, programs, &mut kept) {
-            kept = now;
-        }
-    }
+    follow(rt, alloc, hall, &mut viewer, programs, &mut kept);
+    drop(kept);
+    drop(viewer);
 }

@@ -38,26 +38,44 @@ fn timed(clock: &impl Clock, expr: &Expr, entry: &Entry) -> Result<Duration> {
     Ok(time)
 }
 
-/// An error where the pattern doesn't fit a path that it has to fit.
-fn ask_whether_fits(expr: &Expr, fitting: &Entry) -> Result<()> {
-    ensure!(expr.holds(fitting), "a pattern that fits nothing");
+/// An error where the shape's pattern doesn't fit the path of this length that it has to fit.
+fn ask_whether_fits(alloc: Global, expr: &Expr, shape: &Shape, len: usize) -> Result<()> {
+    let path = shape.path(alloc, len, 'b')?;
+    let fitting = file(alloc, &path)?;
+    ensure!(expr.holds(&fitting), "a pattern that fits nothing");
     Ok(())
 }
 
-/// What a call takes, by the middle of so many times.
+/// What a call takes for a file of this path, by the middle of so many times.
 fn picoseconds(
     alloc: Global,
     clock: &impl Clock,
     expr: &Expr,
-    entry: &Entry,
+    path: &str,
     rounds: u32,
 ) -> Result<u128> {
+    let entry = file(alloc, path)?;
     let mut times = Vec::new(alloc);
     for _ in 0..rounds {
-        let time = timed(clock, expr, entry)?;
+        let time = timed(clock, expr, &entry)?;
         times.push(time.as_nanos().saturating_mul(1_000) / u128::from(CALLS))?;
     }
     Ok(median(&mut times))
+}
+
+/// The bytes of the shape's path of this length, and what a call takes for it.
+fn measure_expression(
+    alloc: Global,
+    clock: &impl Clock,
+    shape: &Shape,
+    len: usize,
+    expr: &Expr,
+    rounds: u32,
+) -> Result<(usize, u128)> {
+    ask_whether_fits(alloc, expr, shape, len)?;
+    let path = shape.path(alloc, len, 'a')?;
+    let taken = picoseconds(alloc, clock, expr, &path, rounds)?;
+    Ok((path.len(), taken))
 }
 
 /// What a call takes for the shape's pattern and path of this length, by so many times. An error where the
@@ -70,16 +88,19 @@ pub fn measure(
     len: usize,
     rounds: u32,
 ) -> Result<Measured> {
-    let pattern = shape.pattern(alloc, len)?;
-    let path = shape.path(alloc, len, 'a')?;
-    let expr = expression(alloc, &pattern)?;
-    let entry = file(alloc, &path)?;
-    ask_whether_fits(&expr, &file(alloc, &shape.path(alloc, len, 'b')?)?)?;
+    let text = shape.pattern(alloc, len)?;
+    let pattern = text.len();
+    let expr = expression(alloc, &text);
+    drop(text);
+    let expr = expr?;
+    let measured = measure_expression(alloc, clock, shape, len, &expr, rounds);
+    drop(expr);
+    let (path, picoseconds) = measured?;
     Ok(Measured {
         name: shape.name,
-        pattern: pattern.len(),
-        path: path.len(),
-        picoseconds: picoseconds(alloc, clock, &expr, &entry, rounds)?,
+        pattern,
+        path,
+        picoseconds,
     })
 }
 

@@ -89,6 +89,22 @@ fn set_up<D: Disk + Drop>(
     Ok(())
 }
 
+/// The middle time of a watch of the root of this number, which stands already.
+fn idle_time<D: Disk + Drop>(
+    alloc: Global,
+    clock: &impl Clock,
+    sides: &mut Sides<D>,
+    number: u32,
+    rounds: u32,
+) -> Result<u128> {
+    let mut times = Vec::new(alloc);
+    for _ in 0..rounds {
+        let watch = Command::Watch(standing(alloc, number)?);
+        times.push(sides.changes_nothing(alloc, clock, watch)?.as_nanos())?;
+    }
+    Ok(median(&mut times))
+}
+
 /// What single commands cost over so many roots with so many triggers each. An error where a command wasn't
 /// answered as it has to be, where the clock failed, or when out of memory.
 pub fn measured_costs<D: Disk + Drop>(
@@ -103,17 +119,12 @@ pub fn measured_costs<D: Disk + Drop>(
     for number in 0..roots {
         set_up(alloc, sides, number, triggers)?;
     }
-    let mut idle = Vec::new(alloc);
-    for _ in 0..rounds {
-        let path = standing(alloc, roots.saturating_sub(1))?;
-        let time = sides.changes_nothing(alloc, &processor, Command::Watch(path))?;
-        idle.push(time.as_nanos())?;
-    }
+    let idle = idle_time(alloc, &processor, sides, roots.saturating_sub(1), rounds)?;
     let accepted = sides.measured(alloc, &processor, 1, rounds)?;
     Ok(Costs {
         roots,
         triggers,
-        idle: median(&mut idle),
+        idle,
         store: accepted.layer,
         by_hand: accepted.by_hand,
     })

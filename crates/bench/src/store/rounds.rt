@@ -6,7 +6,7 @@ use crate::measured::{Measured, Medians};
 use anyhow::{Result, ensure};
 use std::alloc::Global;
 use std::time::{Clock, Duration, Instant};
-use wm_disk::{Disk, Refusal};
+use wm_disk::{Disk, MemDisk, Refusal};
 use wm_registry::{Command, MAX_BATCH, Reply};
 use wm_store::Store;
 
@@ -113,6 +113,13 @@ impl<D: Disk + Drop> Sides<D> {
     /// Both disks.
     pub fn into_disks(self) -> (D, D) {
         (self.store.into_disk(), self.by_hand.disk)
+    }
+}
+
+impl Sides<MemDisk> {
+    /// Both on disks in memory.
+    pub fn in_memory(alloc: Global) -> Result<Sides<MemDisk>, Refusal> {
+        Sides::made(alloc, MemDisk::new(alloc, 0), MemDisk::new(alloc, 0))
     }
 }
 

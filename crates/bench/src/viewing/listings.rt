@@ -33,21 +33,45 @@ fn list_twice<R: Runtime>(alloc: Global, rt: &R, view: &mut View, listing: &List
     tell(rt, "the same recrawl again", time.as_nanos())
 }
 
+/// A listing that was begun then, and taken in twice.
+fn list_first<R: Runtime>(
+    alloc: Global,
+    rt: &R,
+    view: &mut View,
+    listing: &Listing,
+    start: Instant,
+) -> Result<()> {
+    tell(rt, "the first listing made", start.elapsed(rt)?.as_nanos())?;
+    list_twice(alloc, rt, view, listing)
+}
+
 /// The first listing, taken in twice.
 pub fn list_all<R: Runtime>(alloc: Global, rt: &R, view: &mut View, files: u64) -> Result<()> {
     let start = Instant::now(rt)?;
     let listing = listing(alloc, files)?;
-    tell(rt, "the first listing made", start.elapsed(rt)?.as_nanos())?;
-    list_twice(alloc, rt, view, &listing)
+    let listed = list_first(alloc, rt, view, &listing, start);
+    drop(listing);
+    listed
+}
+
+/// The middle time of a listing that is taken in again and again, in nanoseconds.
+fn middle_time<R: Runtime>(
+    alloc: Global,
+    rt: &R,
+    view: &mut View,
+    listing: &Listing,
+) -> Result<u128> {
+    let mut times = Vec::new(alloc);
+    for _ in 0..ROUNDS {
+        times.push(timed(alloc, rt, view, listing)?.as_nanos())?;
+    }
+    Ok(median(&mut times))
 }
 
 /// A listing of one folder that shows nothing new, taken in again and again.
 pub fn list_folder<R: Runtime>(alloc: Global, rt: &R, view: &mut View) -> Result<()> {
     let listing = folder_listing(alloc)?;
-    let mut times = Vec::new(alloc);
-    for _ in 0..ROUNDS {
-        let time = timed(alloc, rt, view, &listing)?;
-        times.push(time.as_nanos())?;
-    }
-    tell(rt, "recrawl of a folder of 100 files", median(&mut times))
+    let time = middle_time(alloc, rt, view, &listing);
+    drop(listing);
+    tell(rt, "recrawl of a folder of 100 files", time?)
 }

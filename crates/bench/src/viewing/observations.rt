@@ -22,11 +22,30 @@ fn timed<R: Runtime>(alloc: Global, rt: &R, view: &mut View, pairs: &Pairs) -> R
     Ok(start.elapsed(rt)?)
 }
 
-/// How long it takes for an age-out.
-fn timed_age_out<R: Runtime>(alloc: Global, rt: &R, view: &mut View) -> Result<Duration> {
+/// Adds the time of an observation.
+fn add<R: Runtime>(
+    alloc: Global,
+    rt: &R,
+    view: &mut View,
+    pairs: &Pairs,
+    times: &mut Vec<u128>,
+) -> Result<()> {
+    let time = timed(alloc, rt, view, pairs)?;
+    times.push(time.as_nanos())?;
+    Ok(())
+}
+
+/// Adds the time of an age-out.
+fn add_age_out<R: Runtime>(
+    alloc: Global,
+    rt: &R,
+    view: &mut View,
+    times: &mut Vec<u128>,
+) -> Result<()> {
     let start = Instant::now(rt)?;
     view.age_out(alloc, MOMENT, 0)?;
-    Ok(start.elapsed(rt)?)
+    times.push(start.elapsed(rt)?.as_nanos())?;
+    Ok(())
 }
 
 /// A thousand observations, of a new size of one path each, so many files apart.
@@ -40,8 +59,9 @@ fn observe_apart<R: Runtime>(
     let mut times = Vec::new(alloc);
     for i in 0..MANY {
         let pairs = pair(alloc, i.saturating_mul(apart), view.tick())?;
-        let time = timed(alloc, rt, view, &pairs)?;
-        times.push(time.as_nanos())?;
+        let added = add(alloc, rt, view, &pairs, &mut times);
+        drop(pairs);
+        added?;
     }
     tell(rt, what, median(&mut times))
 }
@@ -83,17 +103,29 @@ impl Times {
         files: u64,
     ) -> Result<()> {
         let pairs = changed(alloc, files, view.tick())?;
-        let time = timed(alloc, rt, view, &pairs)?;
-        self.changed.push(time.as_nanos())?;
-        let time = timed(alloc, rt, view, &beside(alloc, files, Some(file(0)))?)?;
-        self.new.push(time.as_nanos())?;
-        let time = timed(alloc, rt, view, &beside(alloc, files, None)?)?;
-        self.gone.push(time.as_nanos())?;
-        let time = timed_age_out(alloc, rt, view)?;
-        self.forgotten.push(time.as_nanos())?;
-        let time = timed_age_out(alloc, rt, view)?;
-        self.nothing.push(time.as_nanos())?;
-        Ok(())
+        let added = add(alloc, rt, view, &pairs, &mut self.changed);
+        drop(pairs);
+        added?;
+        self.come_and_go(alloc, rt, view, files)?;
+        add_age_out(alloc, rt, view, &mut self.forgotten)?;
+        add_age_out(alloc, rt, view, &mut self.nothing)
+    }
+
+    fn come_and_go<R: Runtime>(
+        &mut self,
+        alloc: Global,
+        rt: &R,
+        view: &mut View,
+        files: u64,
+    ) -> Result<()> {
+        let new = beside(alloc, files, Some(file(0)))?;
+        let added = add(alloc, rt, view, &new, &mut self.new);
+        drop(new);
+        added?;
+        let gone = beside(alloc, files, None)?;
+        let added = add(alloc, rt, view, &gone, &mut self.gone);
+        drop(gone);
+        added
     }
 
     fn tell<R: Runtime>(&mut self, rt: &R) -> Result<()> {

@@ -2,6 +2,7 @@
 use super::{
     Call, Kept, UNUSED, USED, USED_TWICE, content_after, formatted, found, meet, open, refused,
 };
+use crate::checks::check;
 use crate::disks::{Calls, disk_of, overwrite};
 use std::alloc::Global;
 use std::process::Abort;
@@ -34,6 +35,7 @@ fn goes(rt: &impl Abort, alloc: Global, disk: MemDisk, rows: &[Row]) -> bool {
     let counted = disk.calls() == *calls;
     let kept = open(rt, alloc, disk.crash());
     let is_found = *kept.keeper.state() == *state && !kept.keeper.has_failed();
+    drop(kept);
     answered && counted && is_found
 }
 
@@ -42,7 +44,7 @@ fn assert_goes(rt: &impl Abort, alloc: Global, content: &[u8], rows: &[Row]) {
     for end in 0..rows.len() {
         let (rows, _) = rows.split_at(end + 1);
         let goes = goes(rt, alloc, disk_of(rt, alloc, 0, content), rows);
-        assert!(rt; goes, "{rows:?}");
+        check!(rt; goes, rows);
     }
 }
 
@@ -67,11 +69,13 @@ const COUNTED: &[Row] = &[
 fn counts_its_calls(rt: HostRuntime) {
     let alloc = rt.alloc();
     // 41 writes of zeros, the slot, the header, the slot's gate and the header's
-    assert!(rt; formatted(&rt, alloc, 1).calls() == (45, 4, 0));
+    let disk = formatted(&rt, alloc, 1);
+    check!(rt; disk.calls() == (45, 4, 0));
+    drop(disk);
     for end in 0..COUNTED.len() {
         let (rows, _) = COUNTED.split_at(end + 1);
         let goes = goes(&rt, alloc, formatted(&rt, alloc, 1), rows);
-        assert!(rt; goes, "{rows:?}");
+        check!(rt; goes, rows);
     }
 }
 
@@ -206,7 +210,8 @@ fn fails_to_open(
     disk.arm(passing);
     let (refusal, disk) = refused(rt, alloc, disk);
     let told = refusal == Refusal::DeviceFailed && disk.calls() == calls;
-    told && found(rt, alloc, disk.stop()) == 6
+    let found = found(rt, alloc, disk.stop());
+    told && found == 6
 }
 
 /// How many calls pass, and the disk's calls with the write and the sync that made it.
@@ -217,6 +222,6 @@ fn tells_a_failing_opening(rt: HostRuntime) {
     let content = content_after(&rt, rt.alloc(), UNUSED);
     for (passing, calls) in OPENINGS {
         let fails = fails_to_open(&rt, rt.alloc(), &content, *passing, *calls);
-        assert!(rt; fails, "after {passing}");
+        check!(rt; fails, passing);
     }
 }

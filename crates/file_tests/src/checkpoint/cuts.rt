@@ -3,6 +3,7 @@ use super::{
     Call, Kept, RegisterKeeper, UNUSED, USED, USED_TWICE, content_after, found, meet_all, open,
     set_three,
 };
+use crate::checks::check;
 use crate::disks::disk_of;
 use std::alloc::Global;
 use std::process::Abort;
@@ -89,7 +90,7 @@ fn assert_keeps(rt: &impl Abort, alloc: Global, before: &[Call], wanted: (u64, u
     let content = content_after(rt, alloc, before);
     for calls in 0..9u64 {
         for cut in &cuts(rt, alloc, calls) {
-            assert!(rt; keeps(rt, alloc, &content, *cut, wanted), "{cut:?}");
+            check!(rt; keeps(rt, alloc, &content, *cut, wanted), cut);
         }
     }
 }
@@ -144,7 +145,7 @@ fn assert_begins(rt: &impl Abort, alloc: Global, before: &[Call], state: u64) {
     for (calls, counts) in COUNTS.iter().enumerate() {
         for cut in &cuts(rt, alloc, calls as u64) {
             let count = counted(rt, alloc, &content, *cut, state);
-            assert!(rt; may_count(*cut, count, *counts), "{count:?} at {cut:?}");
+            check!(rt; may_count(*cut, count, *counts), (count, cut));
         }
     }
 }
@@ -179,7 +180,7 @@ fn goes_on_after_a_cut(rt: HostRuntime) {
     for calls in 0..9u64 {
         for choice in CHOICES {
             let cut = crash(calls, *choice);
-            assert!(rt; goes_on(&rt, rt.alloc(), &content, cut), "{cut:?}");
+            check!(rt; goes_on(&rt, rt.alloc(), &content, cut), cut);
         }
     }
 }
@@ -203,7 +204,7 @@ fn formats_again_after_a_cut(rt: HostRuntime) {
     for calls in FORMATS {
         for choice in 0..4u64 {
             let cut = crash(*calls, choice);
-            assert!(rt; formats_again(&rt, rt.alloc(), cut), "{cut:?}");
+            check!(rt; formats_again(&rt, rt.alloc(), cut), cut);
         }
     }
 }

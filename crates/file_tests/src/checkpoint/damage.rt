@@ -1,5 +1,6 @@
 //! Files that mean no state, and retired ones.
 use super::{TWO_SLOTS, content_after, edited, full_journal, open, refused};
+use crate::checks::check;
 use crate::disks::{content_of, disk_of, overwrite};
 use std::alloc::Global;
 use std::process::Abort;
@@ -22,7 +23,7 @@ fn assert_refused(rt: &impl Abort, alloc: Global, changes: &[Edited], wanted: Re
     let content = content_after(rt, alloc, TWO_SLOTS);
     for (about, edits) in changes {
         let content = edited(rt, alloc, &content, edits);
-        assert!(rt; refuses(rt, alloc, &content, wanted, 2), "{about}");
+        check!(rt; refuses(rt, alloc, &content, wanted, 2), about);
     }
 }
 
@@ -120,14 +121,16 @@ fn refuses_short_files(rt: HostRuntime) {
         }
         content.truncate(*len);
         let refused = refuses(&rt, alloc, &content, Refusal::Damaged, 1);
-        assert!(rt; refused, "{len}, retired: {has_open_gate}");
+        check!(rt; refused, (len, has_open_gate));
     }
 }
 
 /// The state and the room of a keeper of these bytes.
 fn state_and_room(rt: &impl Abort, alloc: Global, content: &[u8]) -> (u64, u64) {
     let kept = open(rt, alloc, disk_of(rt, alloc, 0, content));
-    (*kept.keeper.state(), kept.keeper.room())
+    let told = (*kept.keeper.state(), kept.keeper.room());
+    drop(kept);
+    told
 }
 
 #[test]
@@ -136,7 +139,7 @@ fn refuses_a_journal_with_no_closed_gate(rt: HostRuntime) {
     let mut content = content_after(&rt, alloc, TWO_SLOTS);
     let journal = full_journal(&rt, alloc);
     overwrite(&rt, &mut content, 2_363_392, &journal);
-    assert!(rt; state_and_room(&rt, alloc, &content) == (5, 0));
+    check!(rt; state_and_room(&rt, alloc, &content) == (5, 0));
     overwrite(&rt, &mut content, 2_625_535, b"\xa5");
-    assert!(rt; refuses(&rt, alloc, &content, Refusal::Damaged, 2));
+    check!(rt; refuses(&rt, alloc, &content, Refusal::Damaged, 2));
 }

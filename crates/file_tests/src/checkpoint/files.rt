@@ -2,6 +2,7 @@
 use super::{
     Call, Kept, RegisterKeeper, TWO_SLOTS, content_after, edited, formatted, found, meet_all, open,
 };
+use crate::checks::check;
 use crate::disks::{assert_stand, content_of, disk_of, stands};
 use std::alloc::Global;
 use std::process::Abort;
@@ -31,11 +32,11 @@ fn laid_out(rt: &impl Abort, alloc: Global) -> Vec<u8> {
 #[test]
 fn lays_files_out(rt: HostRuntime) {
     let content = laid_out(&rt, rt.alloc());
-    assert!(rt; content.len() == 2_625_540);
+    check!(rt; content.len() == 2_625_540);
     assert_stand(&rt, &content, LAID_OUT);
     // the bytes of the header, the slot and what is behind the file
     let count = content.iter().filter(|byte| **byte != 0).count();
-    assert!(rt; count == 9 + 10 + 4, "{count}");
+    check!(rt; count == 9 + 10 + 4, count);
 }
 
 /// The journal of slot A, slot B and its journal.
@@ -54,7 +55,7 @@ const WRITTEN: Parts = &[
 #[test]
 fn writes_commands_and_states(rt: HostRuntime) {
     let content = content_after(&rt, rt.alloc(), TWO_SLOTS);
-    assert!(rt; content.len() == 2_625_536);
+    check!(rt; content.len() == 2_625_536);
     assert_stand(&rt, &content, WRITTEN);
 }
 
@@ -140,10 +141,7 @@ fn goes_on(rt: &impl Abort, alloc: Global, (stage, state, _, _, numbers): Stage)
 fn opens_what_it_keeps(rt: HostRuntime) {
     let alloc = rt.alloc();
     for row in STAGES {
-        assert!(rt;
-            keeps(&rt, alloc, *row) && goes_on(&rt, alloc, *row),
-            "{row:?}"
-        );
+        check!(rt; keeps(&rt, alloc, *row) && goes_on(&rt, alloc, *row), row);
     }
 }
 
@@ -187,7 +185,7 @@ fn reads_only_what_counts(rt: HostRuntime) {
     let content = content_after(&rt, rt.alloc(), TWO_SLOTS);
     for (about, edits, state) in GOOD {
         let found = found_with(&rt, rt.alloc(), &content, edits);
-        assert!(rt; found == *state, "{about}");
+        check!(rt; found == *state, about);
     }
 }
 
@@ -208,5 +206,5 @@ fn keeps_more(rt: &impl Abort, alloc: Global, content: &[u8]) -> bool {
 fn ignores_bytes_behind_the_file(rt: HostRuntime) {
     let mut content = content_after(&rt, rt.alloc(), TWO_SLOTS);
     content.extend_from_slice(b"\xa5more").expect(&rt, "memory");
-    assert!(rt; keeps_more(&rt, rt.alloc(), &content));
+    check!(rt; keeps_more(&rt, rt.alloc(), &content));
 }

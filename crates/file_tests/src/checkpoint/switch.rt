@@ -3,6 +3,7 @@ ghost use Rattle.std.specs.Prelude.{if◌then◌else◌};
 ghost use Rattle.std.proofs.Common.{arith};
 ghost use Rattle.file_tests.specs.Registers.{alive_register, changes_register, idle_register, position};
 
+use crate::checks::check;
 use crate::disks::{content_of, disk_of, overwrite};
 use std::alloc::Global;
 use std::process::Abort;
@@ -57,8 +58,15 @@ fn with_journal(rt: &impl Abort, alloc: Global, journal: &[u8]) -> MemDisk {
 fn found(rt: &impl Abort, alloc: Global, journal: &[u8]) -> Result<u64, Refusal> {
     let disk = with_journal(rt, alloc, journal);
     match Keeper::<MemDisk, Switch>::open(alloc, disk) {
-        Ok(keeper) => Ok(*keeper.state()),
-        Err((refusal, _)) => Err(refusal),
+        Ok(keeper) => {
+            let state = *keeper.state();
+            drop(keeper);
+            Ok(state)
+        }
+        Err((refusal, disk)) => {
+            drop(disk);
+            Err(refusal)
+        }
     }
 }
 
@@ -78,6 +86,6 @@ const JOURNALS: &[(&[u8], Result<u64, Refusal>)] = &[
 fn refuses_what_is_no_command(rt: HostRuntime) {
     for (journal, wanted) in JOURNALS {
         let found = found(&rt, rt.alloc(), journal);
-        assert!(rt; found == *wanted, "{journal:?}");
+        check!(rt; found == *wanted, journal);
     }
 }

@@ -26,7 +26,9 @@ pub(crate) fn desk_over(rt: &impl Abort, alloc: Global, store: Store<MemDisk>) -
 /// How many roots the desk's store watches at the end.
 pub(crate) fn roots_of(desk: Kept) -> usize {
     let store = desk.into_store();
-    store.registry().roots().len()
+    let count = store.registry().roots().len();
+    drop(store);
+    count
 }
 
 /// Watches the path.
@@ -54,7 +56,9 @@ pub(crate) fn submit_one<R: Wait + Abort>(
     command: Command,
 ) -> Result<(Reply, Receipt), Refusal> {
     let mut seat = desk.seat(rt).expect(rt, "a seat");
-    desk.submit(rt, &mut seat, command)
+    let answer = desk.submit(rt, &mut seat, command);
+    drop(seat);
+    answer
 }
 
 /// What a command from a new seat is refused.
@@ -80,5 +84,6 @@ pub(crate) fn flush_for<R: Wait + Abort>(rt: &R, desk: &Kept, wanted: usize) -> 
             Err(_) => {}
         }
     }
+    drop(flusher);
     total
 }

@@ -1,4 +1,5 @@
 //! A device that fails under a desk.
+use crate::checks::check;
 use crate::desk::desks::{Kept, desk_over, flush_for, refusal_of, roots_of, watch};
 use crate::store::opened;
 use std::alloc::Global;
@@ -33,9 +34,10 @@ fn a_device_fails(rt: HostRuntime) {
         || flush_for(&rt, shared, 3),
         || three(&rt, alloc, shared),
     );
-    assert_eq!(rt; roots_of(desk), 1);
-    assert_eq!(rt; total, 3);
-    assert!(rt; first.is_none());
-    assert!(rt; second == Some(Refusal::DeviceFailed));
-    assert!(rt; third == Some(Refusal::StoreFailed));
+    let count = roots_of(desk);
+    check!(rt; count == 1, count);
+    check!(rt; total == 3, total);
+    check!(rt; first.is_none());
+    check!(rt; second == Some(Refusal::DeviceFailed));
+    check!(rt; third == Some(Refusal::StoreFailed));
 }

@@ -1,6 +1,7 @@
 //! One list of commands: what two seats are told of it, and eight threads.
 ghost use Rattle.wm_groupcommit.specs.Seats.{IsSeatOf};
 
+use crate::checks::check;
 use crate::desk::desks::{Kept, desk, flush_for, is_watch, refusal_of, unwatch, watch};
 use crate::store::open;
 use std::alloc::Global;
@@ -39,12 +40,12 @@ fn ask_twice<R: Wait + Abort>(
 {
     let a = watch(rt, alloc, "/a");
     let (reply, first) = desk.submit(rt, seat, a).expect(rt, "/a");
-    assert!(rt; reply == Reply::Changed, "/a changes nothing");
-    assert!(rt; stands_at(first.standing(), 1, "/a"), "/a isn't number 1");
+    check!(rt; reply == Reply::Changed);
+    check!(rt; stands_at(first.standing(), 1, "/a"));
     let a = watch(rt, alloc, "/a");
     let (reply, again) = desk.submit(rt, seat, a).expect(rt, "/a again");
-    assert!(rt; reply == Reply::Unchanged, "/a again changes the registry");
-    assert!(rt; is_unchanged(again.standing(), 1), "/a again isn't after 1");
+    check!(rt; reply == Reply::Unchanged);
+    check!(rt; is_unchanged(again.standing(), 1));
     (first, again)
 }
 
@@ -55,19 +56,22 @@ fn ask_other<R: Wait + Abort>(rt: &R, alloc: Global, desk: &Kept, seat: &mut Sea
 {
     let b = unwatch(rt, alloc, "/b");
     let refused = desk.submit(rt, seat, b).err();
-    assert!(rt; refused == Some(Refusal::NotWatched), "/b isn't refused 5");
+    check!(rt; refused == Some(Refusal::NotWatched));
     let b = watch(rt, alloc, "/b");
     let (_, second) = desk.submit(rt, seat, b).expect(rt, "/b");
-    assert!(rt; stands_at(second.standing(), 2, "/b"), "/b isn't number 2");
+    check!(rt; stands_at(second.standing(), 2, "/b"));
+    drop(second);
 }
 
 /// Of the two receipts for `/a` the command of the first has to stand in the list, and none of the other.
 fn assert_listed<R: Wait + Abort>(rt: &R, desk: &Kept, first: &Receipt, again: &Receipt) {
     let found = desk.stands(rt, first).expect(rt, "memory");
     let found = found.expect(rt, "a command for /a");
-    assert!(rt; is_watch(&found, "/a"), "another command stands for /a");
+    check!(rt; is_watch(&found, "/a"));
+    drop(found);
     let none = desk.stands(rt, again).expect(rt, "memory");
-    assert!(rt; none.is_none(), "/a again stands");
+    check!(rt; none.is_none());
+    drop(none);
 }
 
 /// A `Begin`, and the watch of `/c` behind the desk's closing.
@@ -75,14 +79,11 @@ fn ask_late<R: Wait + Abort>(rt: &R, alloc: Global, desk: &Kept, seat: &mut Seat
     requires { IsSeatOf desk.now seat.old }
 {
     let begin = desk.submit(rt, seat, Command::Begin).err();
-    assert!(rt;
-        begin == Some(Refusal::BadArguments),
-        "a Begin isn't refused 3"
-    );
+    check!(rt; begin == Some(Refusal::BadArguments));
     desk.close(rt).expect(rt, "a closed desk");
     let c = watch(rt, alloc, "/c");
     let late = desk.submit(rt, seat, c).err();
-    assert!(rt; late == Some(Refusal::StoreFailed), "/c isn't refused 12");
+    check!(rt; late == Some(Refusal::StoreFailed));
 }
 
 /// Six commands from two seats.
@@ -93,6 +94,10 @@ fn ask_both<R: Wait + Abort>(rt: &R, alloc: Global, desk: &Kept) {
     ask_other(rt, alloc, desk, &mut two);
     assert_listed(rt, desk, &first, &again);
     ask_late(rt, alloc, desk, &mut two);
+    drop(first);
+    drop(again);
+    drop(two);
+    drop(one);
 }
 
 #[test]
@@ -106,7 +111,7 @@ fn two_seats(rt: HostRuntime) {
         || ask_both(&rt, alloc, shared),
     );
     drop(desk.into_store());
-    assert_eq!(rt; total, 6);
+    check!(rt; total == 6, total);
 }
 
 /// The numbers at which the paths of a seat stand.
@@ -138,7 +143,9 @@ fn watch_one<R: Wait + Abort>(
 {
     let command = own_watch(rt, alloc, path);
     let (_, receipt) = desk.submit(rt, seat, command).expect(rt, "a receipt");
-    number_of(receipt.standing())
+    let number = number_of(receipt.standing());
+    drop(receipt);
+    number
 }
 
 /// Watches 32 paths from that number on, and gives the numbers at which they stand.
@@ -148,6 +155,7 @@ fn watch_all<R: Wait + Abort>(rt: &R, alloc: Global, desk: &Kept, first: usize) 
     for i in 0..32 {
         numbers[i] = watch_one(rt, alloc, desk, &mut seat, first.wrapping_add(i));
     }
+    drop(seat);
     numbers
 }
 
@@ -206,10 +214,14 @@ fn is_new(seen: &mut Vec<bool>, number: u64) -> bool {
 
 /// Has to be a store with 256 roots, which a start finds behind a crash.
 fn assert_outlasts(rt: &impl Abort, alloc: Global, store: Store<MemDisk>) {
-    assert_eq!(rt; store.registry().roots().len(), 256);
+    let count = store.registry().roots().len();
+    check!(rt; count == 256, count);
     let store = open(rt, alloc, store.into_disk().crash());
-    assert_eq!(rt; store.registry().roots().len(), 256);
-    assert_eq!(rt; store.registry().incarnation(), 2);
+    let count = store.registry().roots().len();
+    check!(rt; count == 256, count);
+    let incarnation = store.registry().incarnation();
+    check!(rt; incarnation == 2, incarnation);
+    drop(store);
 }
 
 /// The numbers have to be those up to 256, and those of each seat in their order.
@@ -218,8 +230,8 @@ fn assert_numbered(rt: &impl Abort, alloc: Global, numbers: &[Numbers]) {
     for of_seat in numbers {
         let mut last = 0;
         for number in of_seat {
-            assert!(rt; *number > last && *number <= 256);
-            assert!(rt; is_new(&mut seen, *number));
+            check!(rt; *number > last && *number <= 256);
+            check!(rt; is_new(&mut seen, *number));
             last = *number;
         }
     }
@@ -237,6 +249,6 @@ fn eight_threads_watch(rt: HostRuntime) {
     );
     assert_outlasts(&rt, alloc, desk.into_store());
     assert_numbered(&rt, alloc, &numbers);
-    assert_eq!(rt; total, 257);
-    assert!(rt; more == Some(Refusal::TooMany));
+    check!(rt; total == 257, total);
+    check!(rt; more == Some(Refusal::TooMany));
 }

@@ -1,4 +1,5 @@
 //! That seats and a flusher can be had, and that it is the flusher who commits.
+use crate::checks::check;
 use crate::desk::desks::{Kept, desk, is_watch, roots_of, submit_one, watch};
 use std::alloc::Global;
 use std::process::Abort;
@@ -19,24 +20,33 @@ fn always_no_place(rt: HostRuntime) {
 /// The desk has to have 64 seats and one flusher.
 fn assert_places<R: Wait + Abort>(rt: &R, desk: &Kept) {
     for _ in 0..64 {
-        assert!(rt; desk.seat(rt).is_ok());
+        let seat = desk.seat(rt);
+        check!(rt; seat.is_ok());
+        drop(seat);
     }
-    assert!(rt; desk.seat(rt).err() == Some(Refusal::NoPlace));
-    assert!(rt; desk.flusher(rt).is_ok());
-    assert!(rt; desk.flusher(rt).err() == Some(Refusal::NoPlace));
+    check!(rt; desk.seat(rt).err() == Some(Refusal::NoPlace));
+    let flusher = desk.flusher(rt);
+    check!(rt; flusher.is_ok());
+    drop(flusher);
+    check!(rt; desk.flusher(rt).err() == Some(Refusal::NoPlace));
 }
 
 /// Whether the command that watches `/a` stands in the list.
 fn stands<R: Wait + Abort>(rt: &R, desk: &Kept, receipt: &Receipt) -> bool {
     let found = desk.stands(rt, receipt).expect(rt, "memory");
-    is_watch(&found.expect(rt, "a command"), "/a")
+    let found = found.expect(rt, "a command");
+    let stands = is_watch(&found, "/a");
+    drop(found);
+    stands
 }
 
 /// Whether a path that is watched then stands in the list.
 fn watch_stands<R: Wait + Abort>(rt: &R, alloc: Global, desk: &Kept) -> bool {
     let answer = submit_one(rt, desk, watch(rt, alloc, "/a"));
     let (_, receipt) = answer.expect(rt, "a receipt");
-    stands(rt, desk, &receipt)
+    let stands = stands(rt, desk, &receipt);
+    drop(receipt);
+    stands
 }
 
 /// Flushes until something was answered, and tells how much was.
@@ -45,7 +55,10 @@ fn flush_some<R: Wait + Abort>(rt: &R, desk: &Kept) -> usize {
     for _ in rt.forever() {
         match desk.flush_once(rt, &mut flusher).expect(rt, "a flush") {
             0 => thread::yield_now(),
-            count => return count,
+            count => {
+                drop(flusher);
+                return count;
+            }
         }
     }
     unreachable!()
@@ -61,7 +74,8 @@ fn submit_commits_by_itself(rt: HostRuntime) {
         || flush_some(&rt, shared),
         || watch_stands(&rt, alloc, shared),
     );
-    assert_eq!(rt; roots_of(desk), 1);
-    assert_eq!(rt; answered, 1);
-    assert!(rt; stands);
+    let count = roots_of(desk);
+    check!(rt; count == 1, count);
+    check!(rt; answered == 1, answered);
+    check!(rt; stands);
 }

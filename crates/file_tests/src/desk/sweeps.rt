@@ -1,5 +1,6 @@
 //! Four threads at a desk whose device fails from some call on: what was answered is found behind each crash and each stop,
 //! and what was refused as no longer asked of the device isn't.
+use crate::checks::check;
 use crate::desk::desks::{Kept, desk_over, flush_for, refusal_of, watch};
 use crate::store::open;
 use std::alloc::Global;
@@ -80,7 +81,9 @@ fn may_be(refused: Option<Refusal>, is_found: bool) -> bool {
 /// Whether a start on this disk finds what may be found.
 fn finds(rt: &impl Abort, alloc: Global, disk: MemDisk, refusals: &Refusals) -> bool {
     let store = open(rt, alloc, disk);
-    holds(&store, refusals)
+    let holds = holds(&store, refusals);
+    drop(store);
+    holds
 }
 
 /// Whether the store watches what may be found.
@@ -127,7 +130,8 @@ fn cut<R: Threads + Wait + Abort + Sync>(
         End::Crash => disk.crash(),
         End::Stop(calls) => started(alloc, disk.stop(), calls).crash(),
     };
-    if count != 4 || !finds(rt, alloc, disk, &refusals) {
+    let is_found = finds(rt, alloc, disk, &refusals);
+    if count != 4 || !is_found {
         return None;
     }
     Some(refusals.iter().any(|refused| refused.is_some()))
@@ -149,7 +153,7 @@ fn stands<R: Threads + Wait + Abort + Sync>(rt: &R, alloc: Global, choice: u64, 
 /// They have to be found under a quarter of the choices.
 fn assert_found<R: Threads + Wait + Abort + Sync>(rt: &R, alloc: Global, quarter: u32) {
     for choice in &choices(rt, alloc, quarter) {
-        assert!(rt; stands(rt, alloc, *choice, End::Crash), "{choice}");
+        check!(rt; stands(rt, alloc, *choice, End::Crash), choice);
     }
 }
 
@@ -178,10 +182,7 @@ fn answered_commands_are_found_behind_a_stop(rt: HostRuntime) {
     let alloc = rt.alloc();
     for choice in 0..4u64 {
         for calls in 0..START_CALLS + 1 {
-            assert!(rt;
-                stands(&rt, alloc, choice, End::Stop(calls)),
-                "{choice} {calls}"
-            );
+            check!(rt; stands(&rt, alloc, choice, End::Stop(calls)), (choice, calls));
         }
     }
 }

@@ -2,6 +2,7 @@
 ghost use Rattle.wm_journal.specs.Regions.{InSamePlace, IsAt, LiesOn};
 
 use super::{append, disk_of, joined, region_of, see_whole, texts};
+use crate::checks::check;
 use crate::disks::read_whole;
 use std::alloc::Global;
 use std::process::Abort;
@@ -64,7 +65,7 @@ fn reads(rt: &impl Abort, alloc: Global, bytes: &[u8], want: Option<(&str, usize
 #[test]
 fn reads_what_stands_there(rt: HostRuntime) {
     for (bytes, want) in READ {
-        assert!(rt; reads(&rt, rt.alloc(), bytes, *want), "{bytes:?}");
+        check!(rt; reads(&rt, rt.alloc(), bytes, *want), bytes);
     }
 }
 
@@ -140,9 +141,9 @@ fn try_steps<W: Wire + Drop>(
     requires lies { LiesOn region.old }
     requires place { IsAt region.old 5 len }
 {
-    assert!(rt; is_empty::<W>(rt, alloc, region));
+    check!(rt; is_empty::<W>(rt, alloc, region));
     for step in steps {
-        assert!(rt; lays(rt, alloc, region, len, step), "{:?}", step.1);
+        check!(rt; lays(rt, alloc, region, len, step), step.1);
     }
 }
 
@@ -150,6 +151,7 @@ fn try_steps<W: Wire + Drop>(
 fn try_anew<W: Wire + Drop>(rt: &impl Abort, alloc: Global, len: u16, steps: &[Step<W>]) {
     let mut region = filled(rt, alloc, len);
     try_steps(rt, alloc, &mut region, len, steps);
+    drop(region);
 }
 
 /// The same records as one group.

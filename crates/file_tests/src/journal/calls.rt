@@ -2,6 +2,7 @@
 ghost use Rattle.wm_journal.specs.Regions.{IsAt, LiesOn};
 
 use super::{append, disk_of, region_of, see_whole};
+use crate::checks::check;
 use std::alloc::Global;
 use std::process::Abort;
 use wm_disk::MemDisk;
@@ -94,6 +95,7 @@ fn counts(rt: &impl Abort, alloc: Global, count: u32, room: u64) -> bool {
     let appended = counts_an_append(rt, alloc, &mut region, &records, room);
     let opened = counts_the_gates(rt, &mut region, written, room);
     let found = finds(rt, alloc, &mut region, &records, written, room);
+    drop(region);
     scanned && appended && opened && found
 }
 
@@ -103,6 +105,6 @@ const GROUPS: &[(u32, u64)] = &[(0, 320), (1, 315), (3, 305), (64, 0)];
 #[test]
 fn counts_its_calls(rt: HostRuntime) {
     for (count, room) in GROUPS {
-        assert!(rt; counts(&rt, rt.alloc(), *count, *room), "{count}");
+        check!(rt; counts(&rt, rt.alloc(), *count, *room), count);
     }
 }

@@ -2,6 +2,7 @@
 ghost use Rattle.wm_journal.specs.Regions.{InSamePlace, IsAt, LiesOn};
 
 use super::{append, disk_of, joined, region_of, see_whole, texts};
+use crate::checks::check;
 use crate::disks::read_whole;
 use std::alloc::Global;
 use std::process::Abort;
@@ -193,7 +194,8 @@ fn holds(rt: &impl Abort, alloc: Global, fill: &[u8], run: Run) -> bool {
     let (disk, answered) = cut(rt, alloc, fill, run);
     let (mut region, is_begun) = found(rt, alloc, disk, begun);
     add(rt, &mut region, alloc, LAST);
-    let (_, goes_on) = found(rt, alloc, region.disk.crash(), gone_on);
+    let (after, goes_on) = found(rt, alloc, region.disk.crash(), gone_on);
+    drop(after);
     answered && is_begun && goes_on
 }
 
@@ -209,7 +211,7 @@ fn try_choice(rt: &impl Abort, alloc: Global, fill: &[u8], choice: u64, kept: us
                 stops,
                 left: if stops { *written } else { left },
             };
-            assert!(rt; holds(rt, alloc, fill, run), "{run:?} over {fill:?}");
+            check!(rt; holds(rt, alloc, fill, run), (run, fill));
         }
     }
 }

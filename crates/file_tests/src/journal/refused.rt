@@ -2,6 +2,7 @@
 ghost use Rattle.wm_journal.specs.Regions.{InSamePlace, IsAt, LiesOn};
 
 use super::{append, disk_of, region_of, see_whole};
+use crate::checks::check;
 use std::alloc::Global;
 use std::process::Abort;
 use wm_disk::{Crashed, Disk, MemDisk, Refusal};
@@ -22,13 +23,15 @@ fn refuses(rt: &impl Abort, alloc: Global, area: &[u8]) -> bool {
     let len = u16::try_from(area.len()).expect(rt, "a short area");
     let disk = disk_of(rt, alloc, 0, &[b"front", area, b"\0behind"]);
     let mut region = region_of(rt, alloc, disk, 5, len);
-    region.scan::<bool>(alloc).err() == Some(Refusal::Damaged)
+    let refused = region.scan::<bool>(alloc).err();
+    drop(region);
+    refused == Some(Refusal::Damaged)
 }
 
 #[test]
 fn refuses_damaged_bytes(rt: HostRuntime) {
     for area in DAMAGED {
-        assert!(rt; refuses(&rt, rt.alloc(), area), "{area:?}");
+        check!(rt; refuses(&rt, rt.alloc(), area), area);
     }
 }
 
@@ -46,10 +49,12 @@ fn rescans(
     see_whole(rt, region, 5, 7);
     region.disk.write_at(6, &[byte]).expect(rt, "a write");
     see_whole(rt, region, 5, 7);
-    let is_found = match &region.scan::<bool>(alloc) {
+    let scanned = region.scan::<bool>(alloc);
+    let is_found = match &scanned {
         Ok(records) => want == Ok(records.as_slice()),
         Err(refusal) => want == Err(*refusal),
     };
+    drop(scanned);
     is_found && region.room() == 4
 }
 
@@ -59,15 +64,9 @@ fn scan_again(rt: &impl Abort, alloc: Global, region: &mut Region<MemDisk>)
     requires place { IsAt region.old 5 7 }
 {
     let found = region.scan::<bool>(alloc).expect(rt, "a scan");
-    assert!(rt; found.as_slice() == [true].as_slice());
-    assert!(rt;
-        rescans(rt, alloc, region, 2, Err(Refusal::Damaged)),
-        "no truth value"
-    );
-    assert!(rt;
-        rescans(rt, alloc, region, 0, Ok(&[false])),
-        "a truth value"
-    );
+    check!(rt; found.as_slice() == [true].as_slice());
+    check!(rt; rescans(rt, alloc, region, 2, Err(Refusal::Damaged)));
+    check!(rt; rescans(rt, alloc, region, 0, Ok(&[false])));
 }
 
 /// The same region is scanned again after a refusal.
@@ -77,6 +76,7 @@ fn scans_again_after_damage(rt: HostRuntime) {
     let disk = disk_of(&rt, alloc, 0, &[b"front\xa5\x01\0\0\0\0\0behind"]);
     let mut region = region_of(&rt, alloc, disk, 5, 7);
     scan_again(&rt, alloc, &mut region);
+    drop(region);
 }
 
 /// The first refusal of a scan, a group of two and the opening of its gates, and the call that gave it.
@@ -188,12 +188,14 @@ fn recovers(rt: &impl Abort, alloc: Global, region: &mut Region<MemDisk>, failur
 /// Whether a journal with one record does so.
 fn one_recovers(rt: &impl Abort, alloc: Global, failure: Failure) -> bool {
     let mut region = with_one_record(rt, alloc);
-    recovers(rt, alloc, &mut region, failure)
+    let recovers = recovers(rt, alloc, &mut region, failure);
+    drop(region);
+    recovers
 }
 
 #[test]
 fn goes_on_after_a_failure(rt: HostRuntime) {
     for row in FAILURES {
-        assert!(rt; one_recovers(&rt, rt.alloc(), *row), "after {}", row.0);
+        check!(rt; one_recovers(&rt, rt.alloc(), *row), row.0);
     }
 }

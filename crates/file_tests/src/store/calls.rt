@@ -1,5 +1,6 @@
 //! How many calls the disk has.
 use super::{JOURNAL_B, Kept, SLOT_B, accept, opened, replies, watching, watching_one};
+use crate::checks::check;
 use crate::disks::{Calls, assert_stand, content_of};
 use std::alloc::Global;
 use std::process::Abort;
@@ -53,7 +54,9 @@ fn writes(rt: &impl Abort, alloc: Global, count: u8, calls: Calls) -> bool {
     let mut store = opened(rt, alloc);
     let accepted = watch_many(rt, alloc, &mut store, b'a', count, 3);
     let roots = store.registry().roots().len();
-    let counted = store.into_disk().calls() == calls;
+    let disk = store.into_disk();
+    let counted = disk.calls() == calls;
+    drop(disk);
     let count = usize::from(count);
     accepted == count && roots == count && counted
 }
@@ -65,7 +68,7 @@ const BATCHES: &[(u8, Calls)] = &[(1, (49, 9, 2)), (8, (56, 9, 2)), (64, (112, 9
 #[test]
 fn writes_a_group_at_once(rt: HostRuntime) {
     for (count, calls) in BATCHES {
-        assert!(rt; writes(&rt, rt.alloc(), *count, *calls), "for {count}");
+        check!(rt; writes(&rt, rt.alloc(), *count, *calls), count);
     }
 }
 
@@ -81,15 +84,17 @@ fn accepts_none(rt: &impl Abort, alloc: Global, store: &mut Kept) -> bool {
 
 /// Meets a batch that isn't accepted, and one of no command.
 fn meet_nothing(rt: &impl Abort, alloc: Global, store: &mut Kept) {
-    assert!(rt; accepts_none(rt, alloc, store));
-    assert!(rt; replies(rt, alloc, store, Vec::new(alloc), &[]));
+    check!(rt; accepts_none(rt, alloc, store));
+    check!(rt; replies(rt, alloc, store, Vec::new(alloc), &[]));
 }
 
 #[test]
 fn makes_no_call_for_what_it_does_not_accept(rt: HostRuntime) {
     let mut store = watching_one(&rt, rt.alloc());
     meet_nothing(&rt, rt.alloc(), &mut store);
-    assert!(rt; store.into_disk().calls() == (49, 9, 2));
+    let disk = store.into_disk();
+    check!(rt; disk.calls() == (49, 9, 2));
+    drop(disk);
 }
 
 fn checkpoint_twice(rt: &impl Abort, alloc: Global, store: &mut Kept) {
@@ -102,7 +107,9 @@ fn writes_into_a_slot_with_an_open_gate(rt: HostRuntime) {
     let mut store = opened(&rt, rt.alloc());
     checkpoint_twice(&rt, rt.alloc(), &mut store);
     // three writes into the slot with a closed gate, and four into the other
-    assert!(rt; store.into_disk().calls() == (54, 13, 4));
+    let disk = store.into_disk();
+    check!(rt; disk.calls() == (54, 13, 4));
+    drop(disk);
 }
 
 /// Meets three batches of 64 watches of long paths.
@@ -136,8 +143,8 @@ fn makes_room_within_a_batch(rt: HostRuntime) {
     let disk = store.into_disk();
     let calls = disk.calls();
     let content = content_of(&rt, alloc, disk.crash());
-    assert!(rt; is_whole);
+    check!(rt; is_whole);
     // 65 writes and two syncs for each of the first three batches, and then 63 + 3 + 3 and 2 + 3 + 2
-    assert!(rt; calls == (47 + 195 + 69, 7 + 6 + 7, 3));
+    check!(rt; calls == (47 + 195 + 69, 7 + 6 + 7, 3));
     assert_stand(&rt, &content, SPLIT);
 }

@@ -2,6 +2,7 @@
 use super::{
     Kept, checkpointed, formatted, open, open_bytes, opened, watch, watches, watching_one,
 };
+use crate::checks::check;
 use crate::disks::content_of;
 use std::alloc::Global;
 use std::process::Abort;
@@ -34,7 +35,9 @@ fn goes_down(rt: &impl Abort, alloc: Global, store: &mut Kept, passing: u64) -> 
 /// Whether a next store on this disk has these roots.
 fn is_found(rt: &impl Abort, alloc: Global, disk: MemDisk, roots: &[&str]) -> bool {
     let store = open(rt, alloc, disk);
-    watches(&store, roots)
+    let is_found = watches(&store, roots);
+    drop(store);
+    is_found
 }
 
 /// Whether the store goes down so, and leaves these roots on the disk.
@@ -60,7 +63,7 @@ const STOPS: &[(u64, &[&str])] = &[
 fn finds_a_prefix_of_a_cut_batch(rt: HostRuntime) {
     for (passing, found) in STOPS {
         let leaves = leaves(&rt, rt.alloc(), *passing, found);
-        assert!(rt; leaves, "after {passing}");
+        check!(rt; leaves, passing);
     }
 }
 
@@ -90,7 +93,9 @@ fn begins(
     let mut store = open_bytes(rt, alloc, choice, content);
     let failed = fails(rt, alloc, &mut store, passing);
     let store = open(rt, alloc, store.into_disk().crash());
-    failed && has_prefix(&store, most)
+    let has_prefix = has_prefix(&store, most);
+    drop(store);
+    failed && has_prefix
 }
 
 /// How many device calls pass, and how many commands are left at most. The gates are written one after the
@@ -104,7 +109,7 @@ fn finds_a_prefix_after_a_crash(rt: HostRuntime) {
     for (passing, most) in CRASHES {
         for choice in CHOICES {
             let cut = (*passing, *choice);
-            assert!(rt; begins(&rt, alloc, &content, cut, *most), "{cut:?}");
+            check!(rt; begins(&rt, alloc, &content, cut, *most), cut);
         }
     }
 }
@@ -122,7 +127,9 @@ fn keeps(rt: &impl Abort, alloc: Global, content: &[u8], (passing, choice): Cut)
     let mut store = open_bytes(rt, alloc, choice, content);
     let stays = stays(alloc, &mut store, passing);
     let store = open(rt, alloc, store.into_disk().crash());
-    stays && watches(&store, &["/r"]) && store.registry().incarnation() == 3
+    let is_found = watches(&store, &["/r"]) && store.registry().incarnation() == 3;
+    drop(store);
+    stays && is_found
 }
 
 /// Before, within and after each of the device calls.
@@ -132,7 +139,7 @@ fn keeps_its_registry_through_a_cut_checkpoint(rt: HostRuntime) {
     for passing in 0..9u64 {
         for choice in CHOICES {
             let cut = (passing, *choice);
-            assert!(rt; keeps(&rt, rt.alloc(), &content, cut), "{cut:?}");
+            check!(rt; keeps(&rt, rt.alloc(), &content, cut), cut);
         }
     }
 }
@@ -149,7 +156,7 @@ fn keeps_an_answered_batch(rt: HostRuntime) {
     let mut store = opened(&rt, alloc);
     let is_answered = is_answered(&rt, alloc, &mut store);
     let is_found = is_found(&rt, alloc, store.into_disk().crash(), BATCH);
-    assert!(rt; is_answered && is_found);
+    check!(rt; is_answered && is_found);
 }
 
 /// Whether the store can be closed, is down then, and keeps its registry.
@@ -165,8 +172,8 @@ fn is_down_once_closed(rt: HostRuntime) {
     let disk = store.into_disk();
     let calls = disk.calls();
     let is_found = is_found(&rt, alloc, disk.crash(), &["/r"]);
-    assert!(rt; is_closed && is_found);
-    assert!(rt; calls == (49, 10, 2));
+    check!(rt; is_closed && is_found);
+    check!(rt; calls == (49, 10, 2));
 }
 
 /// Whether a failing last sync is told, and leaves the store down.
@@ -178,5 +185,6 @@ fn fails_to_close(rt: &impl Abort, alloc: Global, store: &mut Kept) -> bool {
 #[test]
 fn is_down_where_the_last_sync_fails(rt: HostRuntime) {
     let mut store = watching_one(&rt, rt.alloc());
-    assert!(rt; fails_to_close(&rt, rt.alloc(), &mut store));
+    check!(rt; fails_to_close(&rt, rt.alloc(), &mut store));
+    drop(store);
 }

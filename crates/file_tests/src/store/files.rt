@@ -3,6 +3,7 @@ use super::{
     JOURNAL_A, JOURNAL_B, Kept, SLOT_B, checkpointed_disk, edited, formatted, is_numbered, open,
     open_bytes, opened, replies, watches, watching,
 };
+use crate::checks::check;
 use crate::disks::{assert_stand, content_of, disk_of, stands};
 use std::alloc::Global;
 use std::process::Abort;
@@ -17,10 +18,11 @@ fn begins_at_each_opening(rt: HostRuntime) {
     for incarnation in 1..4u64 {
         let store = open(&rt, alloc, disk);
         let is_new = is_numbered(&store, incarnation, 1) && store.registry().roots().is_empty();
-        assert!(rt; is_new, "in {incarnation}");
+        check!(rt; is_new, incarnation);
         // The incarnation is durable.
         disk = store.into_disk().crash();
     }
+    drop(disk);
 }
 
 /// Whether a `Begin` is refused.
@@ -36,15 +38,17 @@ fn refuses_a_begin(rt: HostRuntime) {
     let mut store = opened(&rt, rt.alloc());
     let is_refused = refuses_begin(&rt, rt.alloc(), &mut store);
     let incarnation = store.registry().incarnation();
-    let calls = store.into_disk().calls();
-    assert!(rt; is_refused);
-    assert!(rt; incarnation == 1 && calls == (47, 7, 2));
+    let disk = store.into_disk();
+    let calls = disk.calls();
+    drop(disk);
+    check!(rt; is_refused);
+    check!(rt; incarnation == 1 && calls == (47, 7, 2));
 }
 
 /// The bytes of this disk. A next store on it has to have the incarnation 2, the next root 2 and these roots.
 fn found(rt: &impl Abort, alloc: Global, disk: MemDisk, roots: &[&str]) -> Vec<u8> {
     let store = open(rt, alloc, disk);
-    assert!(rt; is_numbered(&store, 2, 2) && watches(&store, roots));
+    check!(rt; is_numbered(&store, 2, 2) && watches(&store, roots));
     content_of(rt, alloc, store.into_disk())
 }
 
@@ -62,8 +66,8 @@ fn writes_what_it_accepts(rt: HostRuntime) {
     let is_taken = takes_root(&rt, alloc, &mut store);
     let disk = store.into_disk().crash();
     let content = found(&rt, alloc, disk, &["/r"]);
-    assert!(rt; is_taken);
-    assert!(rt; stands(&content, JOURNAL_A, JOURNAL));
+    check!(rt; is_taken);
+    check!(rt; stands(&content, JOURNAL_A, JOURNAL));
 }
 
 /// The head of slot B, the registry in it, and the closed gate of its journal.
@@ -82,7 +86,9 @@ const CHECKPOINTED: &[(usize, &[u8])] = &[
 /// Whether a next store on these bytes has the incarnation 2 and watches `/r`.
 fn reads(rt: &impl Abort, alloc: Global, content: &[u8]) -> bool {
     let store = open_bytes(rt, alloc, 0, content);
-    store.registry().incarnation() == 2 && watches(&store, &["/r"])
+    let reads = store.registry().incarnation() == 2 && watches(&store, &["/r"]);
+    drop(store);
+    reads
 }
 
 #[test]
@@ -90,9 +96,9 @@ fn writes_its_registry_into_the_other_slot(rt: HostRuntime) {
     let disk = checkpointed_disk(&rt, rt.alloc());
     let calls = disk.calls();
     let content = content_of(&rt, rt.alloc(), disk.crash());
-    assert!(rt; calls == (52, 12, 3));
+    check!(rt; calls == (52, 12, 3));
     assert_stand(&rt, &content, CHECKPOINTED);
-    assert!(rt; reads(&rt, rt.alloc(), &content));
+    check!(rt; reads(&rt, rt.alloc(), &content));
 }
 
 /// The disk of a new file with other bytes at a place.
@@ -108,7 +114,7 @@ fn leaves_what_is_behind_a_closed_gate(rt: HostRuntime) {
         b"\xa5\x00\xa5\x01\x00\x00\x00\x02\x2f\x61\x00\x01\x00\x00\x00\x02\x2f\x62\xa5\x01\x00\x00\x00\x02\x2f\x63\x00";
     let disk = edited_disk(&rt, rt.alloc(), JOURNAL_A, FOUND);
     let content = found(&rt, rt.alloc(), disk, &["/a"]);
-    assert!(rt; stands(&content, JOURNAL_A + 10, b"\xa5\x00\x00"));
+    check!(rt; stands(&content, JOURNAL_A + 10, b"\xa5\x00\x00"));
 }
 
 #[test]
@@ -116,5 +122,6 @@ fn refuses_an_empty_disk(rt: HostRuntime) {
     let answer = Store::open(rt.alloc(), MemDisk::new(rt.alloc(), 0));
     let (refusal, disk) = answer.err().expect(&rt, "a refusal");
     let (writes, _, _) = disk.calls();
-    assert!(rt; refusal == Refusal::Damaged && writes == 0);
+    drop(disk);
+    check!(rt; refusal == Refusal::Damaged && writes == 0);
 }

@@ -1,6 +1,7 @@
 //! Files whose opening is refused, and spent numbers.
 use super::calls::{fill, many};
 use super::{JOURNAL_A, Kept, SLOT_B, edited, formatted, meet, open, open_bytes, watch};
+use crate::checks::check;
 use crate::disks::{content_of, disk_of, overwrite};
 use std::alloc::Global;
 use std::process::Abort;
@@ -94,8 +95,15 @@ fn hands_a_disk_back(rt: HostRuntime) {
 /// The incarnation that an opening on this disk begins, or what it is refused.
 fn begun(alloc: Global, disk: MemDisk) -> Result<u64, Refusal> {
     match Store::open(alloc, disk) {
-        Ok(store) => Ok(store.registry().incarnation()),
-        Err((refusal, _)) => Err(refusal),
+        Ok(store) => {
+            let incarnation = store.registry().incarnation();
+            drop(store);
+            Ok(incarnation)
+        }
+        Err((refusal, disk)) => {
+            drop(disk);
+            Err(refusal)
+        }
     }
 }
 
@@ -104,7 +112,8 @@ fn fails(rt: &impl Abort, alloc: Global, passing: u64, incarnation: u64) -> bool
     let mut disk = formatted(rt, alloc);
     disk.arm(passing);
     let (refusal, disk) = refused(rt, alloc, disk);
-    refusal == Refusal::DeviceFailed && begun(alloc, disk.stop()) == Ok(incarnation)
+    let begun = begun(alloc, disk.stop());
+    refusal == Refusal::DeviceFailed && begun == Ok(incarnation)
 }
 
 /// How many device calls of the opening pass, and the incarnation that a next one begins.
@@ -115,7 +124,7 @@ const FAILING: &[(u64, u64)] = &[(0, 1), (1, 1), (2, 1), (3, 1), (4, 1), (5, 1),
 fn tells_a_failing_opening(rt: HostRuntime) {
     for (passing, incarnation) in FAILING {
         let fails = fails(&rt, rt.alloc(), *passing, *incarnation);
-        assert!(rt; fails, "after {passing}");
+        check!(rt; fails, passing);
     }
 }
 
@@ -129,10 +138,10 @@ fn begins_where_the_journal_is_full(rt: HostRuntime) {
     let alloc = rt.alloc();
     let journal = full_journal(&rt, alloc);
     let mut content = edited(&rt, alloc, JOURNAL_A, &journal);
-    assert!(rt; begun_from(&rt, alloc, &content) == Ok(131_072));
+    check!(rt; begun_from(&rt, alloc, &content) == Ok(131_072));
     // the `Begin` needs a checkpoint
     overwrite(&rt, &mut content, NUMBER, LAST);
-    assert!(rt; begun_from(&rt, alloc, &content) == Err(Refusal::Exhausted));
+    check!(rt; begun_from(&rt, alloc, &content) == Err(Refusal::Exhausted));
 }
 
 /// A store whose slot has the last number.
@@ -155,14 +164,14 @@ fn meet_fourth(rt: &impl Abort, alloc: Global, store: &mut Kept) {
     let batch = many(rt, alloc, b'd', 64, 1_024);
     let replies = meet(rt, alloc, store, batch).expect(rt, "replies");
     for (place, reply) in replies.iter().enumerate() {
-        assert!(rt; *reply == wanted(place), "at {place}");
+        check!(rt; *reply == wanted(place), place);
     }
 }
 
 /// Fills the journal of a store that can make no checkpoint.
 fn spend(rt: &impl Abort, alloc: Global, store: &mut Kept) {
-    assert!(rt; store.checkpoint(alloc) == Err(Refusal::Exhausted));
-    assert!(rt; watch(rt, alloc, store, &["/r"]) == Ok(1));
+    check!(rt; store.checkpoint(alloc) == Err(Refusal::Exhausted));
+    check!(rt; watch(rt, alloc, store, &["/r"]) == Ok(1));
     fill(rt, alloc, store);
     meet_fourth(rt, alloc, store);
 }
@@ -173,5 +182,6 @@ fn takes_what_needs_no_further_slot(rt: HostRuntime) {
     let mut store = spent(&rt, alloc);
     spend(&rt, alloc, &mut store);
     let store = open(&rt, alloc, store.into_disk().crash());
-    assert!(rt; store.registry().roots().len() == 255);
+    check!(rt; store.registry().roots().len() == 255);
+    drop(store);
 }

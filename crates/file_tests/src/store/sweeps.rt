@@ -2,6 +2,7 @@
 //! under each choice of what it leaves, or after a stop and a start that is cut as well. Two cuts are enough, since a cut
 //! start leaves nothing that a first cut doesn't.
 use super::{Kept, START_CALLS, checkpointed, open, watch, watches};
+use crate::checks::check;
 use crate::disks::disk_of;
 use std::alloc::Global;
 use std::process::Abort;
@@ -79,7 +80,7 @@ fn start(rt: &impl Abort, alloc: Global, mut disk: MemDisk, found: Found, passin
             is_cut: false,
         },
         Err((refusal, disk)) => {
-            assert!(rt; refusal == Refusal::DeviceFailed);
+            check!(rt; refusal == Refusal::DeviceFailed);
             Left {
                 disk,
                 found: Found { last, ..found },
@@ -93,7 +94,7 @@ fn start(rt: &impl Abort, alloc: Global, mut disk: MemDisk, found: Found, passin
 fn is_batch_cut(rt: &impl Abort, alloc: Global, store: &mut Kept, passing: u64) -> bool {
     store.arm(passing);
     let answer = watch(rt, alloc, store, BATCH);
-    assert!(rt; answer == Ok(BATCH.len()) || answer == Err(Refusal::DeviceFailed));
+    check!(rt; answer == Ok(BATCH.len()) || answer == Err(Refusal::DeviceFailed));
     answer.is_err()
 }
 
@@ -118,7 +119,7 @@ fn batch(rt: &impl Abort, alloc: Global, disk: MemDisk, passing: u64) -> Left {
 fn is_checkpoint_cut(rt: &impl Abort, alloc: Global, store: &mut Kept, passing: u64) -> bool {
     store.arm(passing);
     let answer = store.checkpoint(alloc);
-    assert!(rt; answer == Ok(()) || answer == Err(Refusal::DeviceFailed));
+    check!(rt; answer == Ok(()) || answer == Err(Refusal::DeviceFailed));
     answer.is_err()
 }
 
@@ -170,7 +171,9 @@ fn has(store: &Kept, found: Found) -> bool {
 /// Whether a crash of this disk leaves what may be found.
 fn is_found(rt: &impl Abort, alloc: Global, left: Left) -> bool {
     let store = open(rt, alloc, left.disk.crash());
-    has(&store, left.found)
+    let has = has(&store, left.found);
+    drop(store);
+    has
 }
 
 /// More device calls than any work here makes.
@@ -218,10 +221,10 @@ fn stopped(
 fn assert_found(rt: &impl Abort, alloc: Global, on: (&[u8], Work), calls: u64, choices: &[u64]) {
     for choice in choices {
         let crashed = crashed(rt, alloc, on, *choice);
-        assert!(rt; crashed == Some(calls), "{choice}");
+        check!(rt; crashed == Some(calls), choice);
         for passing in 0..calls.saturating_add(1) {
             let stopped = stopped(rt, alloc, on, *choice, passing);
-            assert!(rt; stopped == Some(START_CALLS), "{choice} {passing}");
+            check!(rt; stopped == Some(START_CALLS), (choice, passing));
         }
     }
 }

@@ -1,4 +1,5 @@
 //! Clocks and their texts.
+use crate::checks::check;
 use std::alloc::Global;
 use std::process::Abort;
 use wm_clock::{ClockId, MAX_CLOCK_TEXT, MAX_DIGITS, put_number};
@@ -32,7 +33,7 @@ fn has_a_text(rt: HostRuntime) {
             root: *root,
             tick: *tick,
         };
-        assert!(rt; has_text(&rt, rt.alloc(), clock, want), "{want}");
+        check!(rt; has_text(&rt, rt.alloc(), clock, want), want);
     }
 }
 
@@ -47,7 +48,7 @@ fn puts_the_longest_text_behind_others(rt: HostRuntime) {
     };
     clock.put(&mut out);
     let want = b"[c:18446744073709551615:18446744073709551615:18446744073709551615";
-    assert!(rt; out.as_slice() == want.as_slice());
+    check!(rt; out.as_slice() == want.as_slice());
 }
 
 #[test]
@@ -55,5 +56,5 @@ fn puts_the_longest_number_behind_others(rt: HostRuntime) {
     let mut out = Vec::with_capacity(rt.alloc(), MAX_DIGITS + 1).expect(&rt, "memory");
     out.push(b'[').expect(&rt, "memory");
     put_number(u64::MAX, &mut out);
-    assert!(rt; out.as_slice() == b"[18446744073709551615".as_slice());
+    check!(rt; out.as_slice() == b"[18446744073709551615".as_slice());
 }

@@ -1,4 +1,5 @@
 //! Texts that a question may begin from: clocks, and cursors by their names.
+use crate::checks::check;
 use std::alloc::Global;
 use std::process::Abort;
 use std::string::String;
@@ -64,7 +65,9 @@ fn shown(rt: &impl Abort, alloc: Global, spec: &ClockSpec) -> String {
 // Whether the text is read as what is shown so.
 fn is_read(rt: &impl Abort, alloc: Global, text: &str, want: &str) -> bool {
     let spec = ClockSpec::read(alloc, text).expect(rt, "a clock");
-    shown(rt, alloc, &spec).as_str() == want
+    let shown = shown(rt, alloc, &spec);
+    drop(spec);
+    shown.as_str() == want
 }
 
 // Whether the name behind `n:` is read as a cursor's.
@@ -76,19 +79,16 @@ fn names_a_cursor(rt: &impl Abort, alloc: Global, name: &str) -> bool {
 
 // Whether the text is refused as no clock.
 fn is_refused(alloc: Global, text: &str) -> bool {
-    match ClockSpec::read(alloc, text) {
-        Ok(_) => false,
-        Err(refusal) => refusal == Refusal::BadClock,
-    }
+    ClockSpec::read(alloc, text).err() == Some(Refusal::BadClock)
 }
 
 #[test]
 fn reads_clocks(rt: HostRuntime) {
     for text in CLOCKS {
-        assert!(rt; is_read(&rt, rt.alloc(), text, text), "{text:?}");
+        check!(rt; is_read(&rt, rt.alloc(), text, text), text);
     }
     for text in OF_ANOTHER {
-        assert!(rt; is_read(&rt, rt.alloc(), text, "another"), "{text:?}");
+        check!(rt; is_read(&rt, rt.alloc(), text, "another"), text);
     }
 }
 
@@ -99,24 +99,27 @@ fn reads_the_parts_of_a_clock(rt: HostRuntime) {
         root: 2,
         tick: 105,
     };
-    match ClockSpec::read(rt.alloc(), "c:7:2:105").expect(&rt, "a clock") {
-        ClockSpec::Clock(clock) => assert!(rt; clock == want),
-        _ => assert!(rt; false, "no clock"),
-    }
+    let spec = ClockSpec::read(rt.alloc(), "c:7:2:105").expect(&rt, "a clock");
+    let is_read = match &spec {
+        ClockSpec::Clock(clock) => *clock == want,
+        _ => false,
+    };
+    drop(spec);
+    check!(rt; is_read);
 }
 
 #[test]
 fn reads_cursors(rt: HostRuntime) {
     for name in CURSORS {
-        assert!(rt; names_a_cursor(&rt, rt.alloc(), name), "{name:?}");
+        check!(rt; names_a_cursor(&rt, rt.alloc(), name), name);
     }
 }
 
 #[test]
 fn refuses_other_texts(rt: HostRuntime) {
     for text in NO_CLOCKS {
-        assert!(rt; is_refused(rt.alloc(), text), "{text:?}");
+        check!(rt; is_refused(rt.alloc(), text), text);
     }
     let too_long = format!(in rt.alloc(); "n:{LONGEST}!").expect(&rt, "memory");
-    assert!(rt; is_refused(rt.alloc(), &too_long));
+    check!(rt; is_refused(rt.alloc(), &too_long));
 }

@@ -1,4 +1,5 @@
 //! The names of cursors.
+use crate::checks::check;
 use std::alloc::Global;
 use std::process::Abort;
 use std::string::String;
@@ -31,7 +32,10 @@ fn is_read(rt: &impl Abort, alloc: Global, text: &str, want: bool) -> bool {
     match CursorName::read(alloc, text) {
         Ok(name) => {
             let copy = name.copy(alloc).expect(rt, "memory");
-            want && name.as_str() == text && copy.as_str() == text
+            let is_so = want && name.as_str() == text && copy.as_str() == text;
+            drop(copy);
+            drop(name);
+            is_so
         }
         Err(refusal) => !want && refusal == Refusal::BadClock,
     }
@@ -41,23 +45,23 @@ fn is_read(rt: &impl Abort, alloc: Global, text: &str, want: bool) -> bool {
 fn compares(rt: &impl Abort, alloc: Global, first: &str, second: &str, want: bool) -> bool {
     let name = CursorName::read(alloc, first).expect(rt, "a name");
     let other = CursorName::read(alloc, second).expect(rt, "a name");
-    (name == other) == want && (other == name) == want
+    let is_so = (name == other) == want && (other == name) == want;
+    drop(other);
+    drop(name);
+    is_so
 }
 
 #[test]
 fn reads_names(rt: HostRuntime) {
     for (len, want) in LENGTHS {
         let text = long(&rt, rt.alloc(), *len);
-        assert!(rt; is_read(&rt, rt.alloc(), &text, *want), "{len} bytes");
+        check!(rt; is_read(&rt, rt.alloc(), &text, *want), len);
     }
 }
 
 #[test]
 fn compares_names(rt: HostRuntime) {
     for (first, second, want) in COMPARED {
-        assert!(rt;
-            compares(&rt, rt.alloc(), first, second, *want),
-            "{first} and {second}"
-        );
+        check!(rt; compares(&rt, rt.alloc(), first, second, *want), (first, second));
     }
 }

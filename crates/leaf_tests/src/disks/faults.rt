@@ -1,4 +1,5 @@
 //! A disk of which one call fails.
+use crate::checks::check;
 use wm_disk::{Disk, MemDisk, OneFault};
 
 // After how many calls one fails, which of five pass, and how many writes, syncs and others came
@@ -28,9 +29,7 @@ fn one_call_fails(rt: HostRuntime) {
     for (calls, want, came) in ROWS {
         let mut disk = OneFault::new(MemDisk::new(rt.alloc(), 0), *calls);
         let passed = passing(&mut disk);
-        assert!(rt;
-            passed == *want && disk.disk.calls() == *came,
-            "after {calls}"
-        );
+        check!(rt; passed == *want && disk.disk.calls() == *came, calls);
+        drop(disk);
     }
 }

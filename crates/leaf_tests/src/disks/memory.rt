@@ -1,5 +1,6 @@
 //! A disk in memory: what it gives back, its planned failures, what a crash leaves, and its counts.
 
+use crate::checks::check;
 use std::alloc::Global;
 use std::process::Abort;
 use wm_disk::{Crashed, Disk, MemDisk};
@@ -66,17 +67,15 @@ fn keeps(
 #[test]
 fn gives_back_what_was_written(rt: HostRuntime) {
     let mut disk = MemDisk::new(rt.alloc(), 0);
-    assert!(rt; disk.len().expect(&rt, "a length") == 0);
+    check!(rt; disk.len().expect(&rt, "a length") == 0);
     for (at, bytes, want) in WRITES {
-        assert!(rt;
-            keeps(&rt, rt.alloc(), &mut disk, *at, bytes, want),
-            "{want}"
-        );
+        check!(rt; keeps(&rt, rt.alloc(), &mut disk, *at, bytes, want), want);
     }
     let mut part = [0u8; 3];
     assert!(rt; disk.len().expect(&rt, "a length") == 8);
     disk.read_at(2, &mut part).expect(&rt, "a read");
-    assert!(rt; &part == b"YZe" && disk.failures() == 0);
+    check!(rt; &part == b"YZe" && disk.failures() == 0);
+    drop(disk);
 }
 
 // A disk that holds a durable `abcd`.
@@ -110,12 +109,13 @@ fn fails_as_it_was_armed(rt: HostRuntime) {
     for (calls, passed, read, left) in ARMED {
         let mut disk = MemDisk::new(rt.alloc(), 0);
         put(&rt, &mut disk, 0, b"abcd");
-        assert!(rt; passes(&mut disk, *calls, *passed), "after {calls}");
+        check!(rt; passes(&mut disk, *calls, *passed), calls);
         let mut disk = disk.stop();
         let is_read = holds(&rt, &mut disk, rt.alloc(), read.as_bytes());
         let mut disk = disk.crash();
         let is_left = holds(&rt, &mut disk, rt.alloc(), left.as_bytes());
-        assert!(rt; is_read && is_left, "after {calls}");
+        drop(disk);
+        check!(rt; is_read && is_left, calls);
     }
 }
 
@@ -125,7 +125,9 @@ fn leaves(rt: &impl Abort, mut disk: MemDisk, alloc: Global, want: &[u8]) -> boo
     let mut disk = disk.crash();
     let first = holds(rt, &mut disk, alloc, want);
     let mut disk = disk.crash();
-    first && holds(rt, &mut disk, alloc, want)
+    let second = holds(rt, &mut disk, alloc, want);
+    drop(disk);
+    first && second
 }
 
 #[test]
@@ -136,10 +138,8 @@ fn leaves_what_the_choice_says(rt: HostRuntime) {
         put(&rt, &mut disk, 3, b"ZWV");
         let mut disk = disk.stop();
         let is_read = holds(&rt, &mut disk, rt.alloc(), b"aXYZWV");
-        assert!(rt;
-            is_read && leaves(&rt, disk, rt.alloc(), want),
-            "choice {choice}"
-        );
+        let is_left = leaves(&rt, disk, rt.alloc(), want);
+        check!(rt; is_read && is_left, choice);
     }
 }
 
@@ -150,25 +150,29 @@ fn takes_the_bit_of_the_place_modulo_64(rt: HostRuntime) {
     disk.sync().expect(&rt, "a sync");
     put(&rt, &mut disk, 0, &[2u8; 130]);
     let mut want = [1u8; 130];
-    for place in [0usize, 2, 63, 64, 66, 127, 128] {
-        if let Some(byte) = want.get_mut(place) {
+    for place in &[0usize, 2, 63, 64, 66, 127, 128] {
+        if let Some(byte) = want.get_mut(*place) {
             *byte = 2;
         }
     }
-    assert!(rt; holds(&rt, &mut disk.crash(), rt.alloc(), &want));
+    let mut disk = disk.crash();
+    check!(rt; holds(&rt, &mut disk, rt.alloc(), &want));
+    drop(disk);
 }
 
 #[test]
 fn counts_its_calls(rt: HostRuntime) {
     let mut disk = MemDisk::new(rt.alloc(), 1);
-    assert!(rt; disk.calls() == (0, 0, 0));
+    check!(rt; disk.calls() == (0, 0, 0));
     put(&rt, &mut disk, 0, b"abcd");
     put(&rt, &mut disk, 1, b"Z");
     disk.sync().expect(&rt, "a sync");
     // three lengths and a reading beside the writes and the sync
-    assert!(rt; holds(&rt, &mut disk, rt.alloc(), b"aZcd") && disk.calls() == (2, 1, 4));
+    check!(rt; holds(&rt, &mut disk, rt.alloc(), b"aZcd") && disk.calls() == (2, 1, 4));
     // A call that fails is counted, and neither a crash nor a stop is a call.
     disk.arm(0);
     let failed = disk.write_at(0, b"X").is_err() && disk.sync().is_err();
-    assert!(rt; failed && disk.stop().crash().calls() == (3, 2, 4));
+    let disk = disk.stop().crash();
+    check!(rt; failed && disk.calls() == (3, 2, 4));
+    drop(disk);
 }

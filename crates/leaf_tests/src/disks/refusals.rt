@@ -1,4 +1,5 @@
 //! The number, the name and the text of each refusal.
+use crate::checks::check;
 use std::alloc::{AllocError, Global};
 use std::process::Abort;
 use wm_disk::{DeviceFailed, NoMemory, Refusal};
@@ -43,18 +44,17 @@ fn shows(
 ) -> bool {
     let shown = format!(in alloc; "{refusal}").expect(rt, "memory");
     let told = refusal.number() == number && refusal.name() == name;
-    told && refusal.text() == text && shown.as_str() == text
+    let is_so = told && refusal.text() == text && shown.as_str() == text;
+    drop(shown);
+    is_so
 }
 
 #[test]
 fn shows_each_refusal(rt: HostRuntime) {
     for (refusal, number, name, text) in ROWS {
-        assert!(rt;
-            shows(&rt, rt.alloc(), *refusal, *number, name, text),
-            "{number}"
-        );
+        check!(rt; shows(&rt, rt.alloc(), *refusal, *number, name, text), number);
     }
-    assert!(rt; Refusal::from(DeviceFailed) == Refusal::DeviceFailed);
-    assert!(rt; Refusal::from(NoMemory) == Refusal::NoMemory);
-    assert!(rt; Refusal::from(AllocError) == Refusal::NoMemory);
+    check!(rt; Refusal::from(DeviceFailed) == Refusal::DeviceFailed);
+    check!(rt; Refusal::from(NoMemory) == Refusal::NoMemory);
+    check!(rt; Refusal::from(AllocError) == Refusal::NoMemory);
 }

@@ -1,4 +1,5 @@
 //! Metadata compared part by part, and the letters of kinds.
+use crate::checks::check;
 use wm_names::{Kind, Meta};
 
 const META: Meta = Meta {
@@ -50,21 +51,21 @@ fn are_same(first: &Meta, second: &Meta) -> (bool, bool) {
 
 #[test]
 fn is_the_same_where_each_part_is(rt: HostRuntime) {
-    assert!(rt; META.same(&META));
+    check!(rt; META.same(&META));
     for other in OTHERS {
-        assert!(rt; other.same(other), "{other:?}");
-        assert!(rt; are_same(&META, other) == (false, false), "{other:?}");
+        check!(rt; other.same(other), other);
+        check!(rt; are_same(&META, other) == (false, false), other);
     }
 }
 
 #[test]
 fn each_kind_has_one_letter(rt: HostRuntime) {
     for (letter, kind) in LETTERS {
-        assert_eq!(rt; kind.letter(), *letter);
-        assert_eq!(rt; Kind::from_letter(letter), Some(*kind));
+        check!(rt; kind.letter() == *letter, letter);
+        check!(rt; Kind::from_letter(letter) == Some(*kind), letter);
     }
-    for other in ["", "F", "ff", "x"] {
-        assert!(rt; Kind::from_letter(other).is_none(), "{other}");
+    for other in &["", "F", "ff", "x"] {
+        check!(rt; Kind::from_letter(other).is_none(), other);
     }
 }
 
@@ -72,7 +73,7 @@ fn each_kind_has_one_letter(rt: HostRuntime) {
 fn each_kind_is_the_same_as_itself_alone(rt: HostRuntime) {
     for (i, (_, first)) in LETTERS.iter().enumerate() {
         for (k, (_, second)) in LETTERS.iter().enumerate() {
-            assert!(rt; first.same(*second) == (i == k), "{first:?} {second:?}");
+            check!(rt; first.same(*second) == (i == k), (first, second));
         }
     }
 }

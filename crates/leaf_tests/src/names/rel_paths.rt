@@ -1,5 +1,6 @@
 //! Paths below a root.
 use super::long;
+use crate::checks::check;
 use std::alloc::Global;
 use std::cmp::Ordering;
 use std::process::Abort;
@@ -52,76 +53,79 @@ const ORDERED: &[(&str, &str, Ordering)] = &[
 fn is_read(rt: &impl Abort, alloc: Global, text: &str) -> bool {
     let path = RelPath::read(alloc, text).expect(rt, "a path");
     let copy = path.copy().expect(rt, "memory");
-    path.as_str() == text && copy.as_str() == text
+    let is_so = path.as_str() == text && copy.as_str() == text;
+    drop(copy);
+    drop(path);
+    is_so
 }
 
 // Whether the text is refused as no path.
 fn is_refused(alloc: Global, text: &str) -> bool {
-    match RelPath::read(alloc, text) {
-        Ok(_) => false,
-        Err(refusal) => refusal == Refusal::BadPath,
-    }
+    RelPath::read(alloc, text).err() == Some(Refusal::BadPath)
 }
 
 fn is_below(rt: &impl Abort, alloc: Global, path: &str, top: &str) -> bool {
     let path = RelPath::read(alloc, path).expect(rt, "a path");
     let top = RelPath::read(alloc, top).expect(rt, "a path");
-    path.under(&top)
+    let is_below = path.under(&top);
+    drop(top);
+    drop(path);
+    is_below
 }
 
 fn has_basename(rt: &impl Abort, alloc: Global, path: &str, want: &str) -> bool {
     let path = RelPath::read(alloc, path).expect(rt, "a path");
-    path.basename() == want
+    let is_so = path.basename() == want;
+    drop(path);
+    is_so
 }
 
 // Whether the paths stand in this order, and are the same only where they are equal.
 fn compares(rt: &impl Abort, alloc: Global, first: &str, second: &str, want: Ordering) -> bool {
     let path = RelPath::read(alloc, first).expect(rt, "a path");
     let other = RelPath::read(alloc, second).expect(rt, "a path");
-    path.compare(&other) == want && path.same(&other) == (want == Ordering::Equal)
+    let is_same = path.same(&other) == (want == Ordering::Equal);
+    let is_so = path.compare(&other) == want && is_same;
+    drop(other);
+    drop(path);
+    is_so
 }
 
 #[test]
 fn reads_paths(rt: HostRuntime) {
     for text in PATHS {
-        assert!(rt; is_read(&rt, rt.alloc(), text), "{text}");
+        check!(rt; is_read(&rt, rt.alloc(), text), text);
     }
     let longest = long(&rt, rt.alloc(), "", 1024);
-    assert!(rt; is_read(&rt, rt.alloc(), &longest));
+    check!(rt; is_read(&rt, rt.alloc(), &longest));
 }
 
 #[test]
 fn refuses_other_texts(rt: HostRuntime) {
     for text in NO_PATHS {
-        assert!(rt; is_refused(rt.alloc(), text), "{text:?}");
+        check!(rt; is_refused(rt.alloc(), text), text);
     }
     let too_long = long(&rt, rt.alloc(), "", 1025);
-    assert!(rt; is_refused(rt.alloc(), &too_long));
+    check!(rt; is_refused(rt.alloc(), &too_long));
 }
 
 #[test]
 fn stands_below(rt: HostRuntime) {
     for (path, top, want) in BELOW {
-        assert!(rt;
-            is_below(&rt, rt.alloc(), path, top) == *want,
-            "{path} under {top}"
-        );
+        check!(rt; is_below(&rt, rt.alloc(), path, top) == *want, (path, top));
     }
 }
 
 #[test]
 fn has_a_basename(rt: HostRuntime) {
     for (path, want) in BASENAMES {
-        assert!(rt; has_basename(&rt, rt.alloc(), path, want), "{path}");
+        check!(rt; has_basename(&rt, rt.alloc(), path, want), path);
     }
 }
 
 #[test]
 fn stands_in_the_order_of_bytes(rt: HostRuntime) {
     for (first, second, want) in ORDERED {
-        assert!(rt;
-            compares(&rt, rt.alloc(), first, second, *want),
-            "{first} and {second}"
-        );
+        check!(rt; compares(&rt, rt.alloc(), first, second, *want), (first, second));
     }
 }

@@ -1,5 +1,6 @@
 //! Paths of roots.
 use super::long;
+use crate::checks::check;
 use std::alloc::Global;
 use std::process::Abort;
 use wm_disk::Refusal;
@@ -36,50 +37,50 @@ const COMPARED: &[(&str, &str, bool)] = &[
 fn is_read(rt: &impl Abort, alloc: Global, text: &str) -> bool {
     let path = RootPath::read(alloc, text).expect(rt, "a root path");
     let copy = path.copy(alloc).expect(rt, "memory");
-    path.as_str() == text && copy.as_str() == text
+    let is_so = path.as_str() == text && copy.as_str() == text;
+    drop(copy);
+    drop(path);
+    is_so
 }
 
 // Whether the text is refused as no path.
 fn is_refused(alloc: Global, text: &str) -> bool {
-    match RootPath::read(alloc, text) {
-        Ok(_) => false,
-        Err(refusal) => refusal == Refusal::BadPath,
-    }
+    RootPath::read(alloc, text).err() == Some(Refusal::BadPath)
 }
 
 // Whether the paths are equal, from either side, where that is wanted.
 fn compares(rt: &impl Abort, alloc: Global, first: &str, second: &str, want: bool) -> bool {
     let path = RootPath::read(alloc, first).expect(rt, "a root path");
     let other = RootPath::read(alloc, second).expect(rt, "a root path");
-    (path == other) == want && (other == path) == want
+    let is_so = (path == other) == want && (other == path) == want;
+    drop(other);
+    drop(path);
+    is_so
 }
 
 #[test]
 fn reads_paths(rt: HostRuntime) {
     for text in PATHS {
-        assert!(rt; is_read(&rt, rt.alloc(), text), "{text}");
+        check!(rt; is_read(&rt, rt.alloc(), text), text);
     }
     for len in LENGTHS {
         let text = long(&rt, rt.alloc(), "/", *len);
-        assert!(rt; is_read(&rt, rt.alloc(), &text), "{len} bytes");
+        check!(rt; is_read(&rt, rt.alloc(), &text), len);
     }
 }
 
 #[test]
 fn refuses_other_texts(rt: HostRuntime) {
     for text in NO_PATHS {
-        assert!(rt; is_refused(rt.alloc(), text), "{text:?}");
+        check!(rt; is_refused(rt.alloc(), text), text);
     }
     let too_long = long(&rt, rt.alloc(), "/", 1025);
-    assert!(rt; is_refused(rt.alloc(), &too_long));
+    check!(rt; is_refused(rt.alloc(), &too_long));
 }
 
 #[test]
 fn compares_paths(rt: HostRuntime) {
     for (first, second, want) in COMPARED {
-        assert!(rt;
-            compares(&rt, rt.alloc(), first, second, *want),
-            "{first} and {second}"
-        );
+        check!(rt; compares(&rt, rt.alloc(), first, second, *want), (first, second));
     }
 }

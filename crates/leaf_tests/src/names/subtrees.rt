@@ -1,5 +1,6 @@
 //! What stands in a part of a root.
 use super::long;
+use crate::checks::check;
 use std::alloc::Global;
 use std::process::Abort;
 use wm_disk::Refusal;
@@ -18,17 +19,22 @@ const ROWS: &[(&str, bool)] = &[
 fn covers(rt: &impl Abort, alloc: Global, path: &str, want: bool) -> bool {
     let path = RelPath::read(alloc, path).expect(rt, "a path");
     let below = Subtree::Below(RelPath::read(alloc, "x").expect(rt, "a path"));
-    Subtree::Whole.covers(&path) && below.covers(&path) == want
+    let is_so = Subtree::Whole.covers(&path) && below.covers(&path) == want;
+    drop(below);
+    drop(path);
+    is_so
 }
 
 #[test]
 fn covers_what_stands_below(rt: HostRuntime) {
     for (path, want) in ROWS {
-        assert!(rt; covers(&rt, rt.alloc(), path, *want), "{path}");
+        check!(rt; covers(&rt, rt.alloc(), path, *want), path);
     }
-    assert!(rt; Subtree::Whole.is_whole());
+    check!(rt; Subtree::Whole.is_whole());
     let top = RelPath::read(rt.alloc(), "x").expect(&rt, "a path");
-    assert!(rt; !Subtree::Below(top).is_whole());
+    let below = Subtree::Below(top);
+    check!(rt; !below.is_whole());
+    drop(below);
 }
 
 // A folder, the empty text for the root, and a name in it; the name's path, where it is one.
@@ -71,11 +77,15 @@ fn folder(rt: &impl Abort, alloc: Global, path: &str) -> Subtree {
 // Whether the name's path in the folder is that, or where none is given the name is refused.
 fn is_joined(rt: &impl Abort, alloc: Global, top: &str, name: &str, want: Option<&str>) -> bool {
     let folder = folder(rt, alloc, top);
-    match (folder.join(alloc, name), want) {
+    let joined = folder.join(alloc, name);
+    drop(folder);
+    let is_so = match (&joined, want) {
         (Ok(path), Some(want)) => path.as_str() == want,
         (Err(Refusal::BadPath), None) => true,
         _ => false,
-    }
+    };
+    drop(joined);
+    is_so
 }
 
 fn is_joined_long(rt: &impl Abort, alloc: Global, top: usize, name: usize, fits: bool) -> bool {
@@ -85,21 +95,19 @@ fn is_joined_long(rt: &impl Abort, alloc: Global, top: usize, name: usize, fits:
     path.push('/').expect(rt, "memory");
     path.push_str(&name).expect(rt, "memory");
     let want = if fits { Some(path.as_str()) } else { None };
-    is_joined(rt, alloc, &top, &name, want)
+    let is_so = is_joined(rt, alloc, &top, &name, want);
+    drop(path);
+    drop(name);
+    drop(top);
+    is_so
 }
 
 #[test]
 fn a_name_is_joined_to_its_folder(rt: HostRuntime) {
     for (top, name, want) in JOINED {
-        assert!(rt;
-            is_joined(&rt, rt.alloc(), top, name, *want),
-            "{top} {name}"
-        );
+        check!(rt; is_joined(&rt, rt.alloc(), top, name, *want), (top, name));
     }
     for (top, name, fits) in LONG {
-        assert!(rt;
-            is_joined_long(&rt, rt.alloc(), *top, *name, *fits),
-            "{top} and {name} bytes"
-        );
+        check!(rt; is_joined_long(&rt, rt.alloc(), *top, *name, *fits), (top, name));
     }
 }

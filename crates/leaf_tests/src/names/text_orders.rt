@@ -1,5 +1,6 @@
 //! The order of texts by their bytes.
 use super::long;
+use crate::checks::check;
 use std::cmp::Ordering;
 use wm_names::compare_texts;
 
@@ -20,11 +21,8 @@ const ROWS: &[(&[u8], &[u8], Ordering)] = &[
 #[test]
 fn texts_stand_in_the_order_of_their_bytes(rt: HostRuntime) {
     for (one, other, want) in ROWS {
-        assert!(rt; compare_texts(one, other) == *want, "{one:?} and {other:?}");
-        assert!(rt;
-            compare_texts(other, one) == want.reverse(),
-            "{other:?} and {one:?}"
-        );
+        check!(rt; compare_texts(one, other) == *want, (one, other));
+        check!(rt; compare_texts(other, one) == want.reverse(), (other, one));
     }
 }
 
@@ -34,15 +32,12 @@ fn each_place_tells_the_order(rt: HostRuntime) {
     let one = long(&rt, rt.alloc(), "", 50);
     for at in 0..50 {
         let mut front = long(&rt, rt.alloc(), "", at);
-        assert!(rt;
-            compare_texts(one.as_bytes(), front.as_bytes()) == Ordering::Greater,
-            "{at}"
-        );
+        check!(rt; compare_texts(one.as_bytes(), front.as_bytes()) == Ordering::Greater, at);
         front.push('b').expect(&rt, "memory");
         let other = long(&rt, rt.alloc(), &front, 50);
-        assert!(rt;
-            compare_texts(one.as_bytes(), other.as_bytes()) == Ordering::Less,
-            "{at}"
-        );
+        drop(front);
+        check!(rt; compare_texts(one.as_bytes(), other.as_bytes()) == Ordering::Less, at);
+        drop(other);
     }
+    drop(one);
 }

@@ -1,5 +1,6 @@
 //! Lists with a bound on their length, whose values are pushed, removed and replaced.
-use super::{again, is_none};
+use super::{again, is_again, is_none};
+use crate::checks::check;
 use std::alloc::Global;
 use std::process::Abort;
 use wm_wire::{List, NotPushed, Text, Wire};
@@ -89,7 +90,10 @@ fn is_spelled(
     match again(rt, alloc, list, want) {
         Some(back) => {
             let shows = back.as_slice() == values;
-            shown && shows && back.into_vec().as_slice() == values
+            let given = back.into_vec();
+            let gives = given.as_slice() == values;
+            drop(given);
+            shown && shows && gives
         }
         None => false,
     }
@@ -106,22 +110,22 @@ fn removes(
 ) -> Option<u32> {
     let mut list = numbers(rt, alloc, values);
     if index >= list.len() {
+        drop(list);
         return None;
     }
     let value = list.remove(index);
-    if !is_spelled(rt, alloc, &list, left, bytes) {
-        return None;
-    }
-    Some(value)
+    let is_left = is_spelled(rt, alloc, &list, left, bytes);
+    drop(list);
+    if is_left { Some(value) } else { None }
 }
 
 // Whether 258 is put at the index of 7, 5, 9.
 fn replaces(rt: &impl Abort, alloc: Global, index: usize, want: &[u32], bytes: &[u8]) -> bool {
     let mut list = numbers(rt, alloc, &[7, 5, 9]);
-    if index >= list.len() || list.set(index, 258).is_err() {
-        return false;
-    }
-    is_spelled(rt, alloc, &list, want, bytes)
+    let is_set = index < list.len() && list.set(index, 258).is_ok();
+    let is_so = is_set && is_spelled(rt, alloc, &list, want, bytes);
+    drop(list);
+    is_so
 }
 
 // Whether the text is put in the place of the first of two, which leaves these bytes.
@@ -136,18 +140,26 @@ fn puts_first(
         return false;
     }
     let text = Text::new(alloc, value).expect(rt, "memory");
-    let is_set = list.set(0, text).is_ok();
-    is_set && again(rt, alloc, list, bytes).is_some()
+    let set = list.set(0, text);
+    let is_set = set.is_ok();
+    drop(set);
+    is_set && is_again(rt, alloc, list, bytes)
 }
 
 #[test]
 fn spells_lists(rt: HostRuntime) {
     for (values, want) in SPELLED {
         let list = numbers(&rt, rt.alloc(), values);
-        assert!(rt;
-            is_spelled(&rt, rt.alloc(), &list, values, want),
-            "{values:?}"
-        );
+        check!(rt; is_spelled(&rt, rt.alloc(), &list, values, want), values);
+        drop(list);
+    }
+}
+
+// Whether the list is of these two texts.
+fn is_of(list: &List<Text<3>, 2>, first: &str, second: &str) -> bool {
+    match list.as_slice() {
+        [one, other] => one.as_str() == first && other.as_str() == second,
+        _ => false,
     }
 }
 
@@ -156,50 +168,45 @@ fn spells_items_of_several_lengths(rt: HostRuntime) {
     let list = texts(&rt, rt.alloc(), "", "/r");
     let want = b"\0\0\0\x02\0\0\0\0\0\0\0\x02\x2f\x72";
     let back = again(&rt, rt.alloc(), &list, want).expect(&rt, "the same bytes");
-    match back.as_slice() {
-        [a, b] => assert!(rt; a.as_str() == "" && b.as_str() == "/r"),
-        _ => assert!(rt; false, "another number of texts"),
-    }
+    drop(list);
+    check!(rt; is_of(&back, "", "/r"));
+    drop(back);
 }
 
 #[test]
 fn refuses_one_too_many(rt: HostRuntime) {
     let mut list = numbers(&rt, rt.alloc(), &[1, 2, 3]);
-    assert!(rt; list.push(4) == Err(NotPushed::Full));
-    assert!(rt; list.as_slice() == [1, 2, 3].as_slice() && list.size() == 16);
+    check!(rt; list.push(4) == Err(NotPushed::Full));
+    check!(rt; list.as_slice() == [1, 2, 3].as_slice() && list.size() == 16);
+    drop(list);
     let mut nothing = List::<bool, 0>::new(rt.alloc());
-    assert!(rt; nothing.push(true) == Err(NotPushed::Full));
-    assert!(rt; nothing.as_slice().is_empty());
+    check!(rt; nothing.push(true) == Err(NotPushed::Full));
+    check!(rt; nothing.as_slice().is_empty());
+    drop(nothing);
 }
 
 #[test]
 fn takes_no_other_bytes(rt: HostRuntime) {
     for bytes in NO_LISTS {
-        assert!(rt;
-            is_none::<List<u32, 3>>(&rt, rt.alloc(), bytes),
-            "{bytes:?}"
-        );
+        check!(rt; is_none::<List<u32, 3>>(&rt, rt.alloc(), bytes), bytes);
     }
     // a second item that is no spelling
-    assert!(rt; is_none::<List<bool, 3>>(&rt, rt.alloc(), b"\0\0\0\x03\x01\x02\0"));
-    assert!(rt; is_none::<List<bool, 0>>(&rt, rt.alloc(), b"\0\0\0\x01\x01"));
+    check!(rt; is_none::<List<bool, 3>>(&rt, rt.alloc(), b"\0\0\0\x03\x01\x02\0"));
+    check!(rt; is_none::<List<bool, 0>>(&rt, rt.alloc(), b"\0\0\0\x01\x01"));
 }
 
 #[test]
 fn removes_values(rt: HostRuntime) {
     for (values, index, want, left, bytes) in REMOVED {
         let removed = removes(&rt, rt.alloc(), values, *index, left, bytes);
-        assert!(rt; removed == Some(*want), "at {index} of {values:?}");
+        check!(rt; removed == Some(*want), (index, values));
     }
 }
 
 #[test]
 fn puts_values_in_the_place_of_others(rt: HostRuntime) {
     for (index, want, bytes) in REPLACED {
-        assert!(rt;
-            replaces(&rt, rt.alloc(), *index, want, bytes),
-            "at {index}"
-        );
+        check!(rt; replaces(&rt, rt.alloc(), *index, want, bytes), index);
     }
 }
 
@@ -207,17 +214,13 @@ fn puts_values_in_the_place_of_others(rt: HostRuntime) {
 fn keeps_the_length_of_items_of_several_lengths(rt: HostRuntime) {
     let mut list = texts(&rt, rt.alloc(), "ab", "/r");
     for (value, bytes) in FIRST_TEXTS {
-        assert!(rt;
-            puts_first(&rt, rt.alloc(), &mut list, value, bytes),
-            "{value}"
-        );
+        check!(rt; puts_first(&rt, rt.alloc(), &mut list, value, bytes), value);
     }
-    assert!(rt; list.len() == 2, "another length");
+    assert!(rt; list.len() == 2);
     let text = list.remove(0);
-    assert!(rt; text.as_str() == "abc");
+    check!(rt; text.as_str() == "abc");
+    drop(text);
     let want = b"\0\0\0\x01\0\0\0\x02\x2f\x72";
-    assert!(rt;
-        again(&rt, rt.alloc(), &list, want).is_some(),
-        "other bytes"
-    );
+    check!(rt; is_again(&rt, rt.alloc(), &list, want));
+    drop(list);
 }

@@ -1,5 +1,6 @@
 //! A value that may be missing.
 use super::{again, is_none};
+use crate::checks::check;
 use std::alloc::Global;
 use std::process::Abort;
 use wm_wire::{List, Optional, Pair, Text};
@@ -38,11 +39,11 @@ fn nested(rt: &impl Abort, alloc: Global) -> Pair<List<bool, 2>, Text<3>> {
 #[test]
 fn spells_values(rt: HostRuntime) {
     let none = Optional::<u32>::none();
-    assert!(rt; none.as_option().is_none());
+    check!(rt; none.as_option().is_none());
     let back = again(&rt, rt.alloc(), &none, b"\0").expect(&rt, "the same bytes");
-    assert!(rt; back.as_option().is_none());
+    check!(rt; back.as_option().is_none());
     for (value, want) in SPELLED {
-        assert!(rt; is_spelled(&rt, rt.alloc(), *value, want), "at {value}");
+        check!(rt; is_spelled(&rt, rt.alloc(), *value, want), value);
     }
 }
 
@@ -53,18 +54,17 @@ fn spells_a_list_in_a_pair(rt: HostRuntime) {
         .expect(&rt, "a value");
     let want = b"\x01\0\0\0\x02\x01\0\0\0\0\x02\x2f\x72";
     let back = again(&rt, rt.alloc(), &some, want).expect(&rt, "the same bytes");
+    drop(some);
     let pair = back.as_option().expect(&rt, "a pair");
-    assert!(rt; pair.first().as_slice() == [true, false].as_slice());
-    assert!(rt; pair.second().as_str() == "/r");
+    check!(rt; pair.first().as_slice() == [true, false].as_slice());
+    check!(rt; pair.second().as_str() == "/r");
+    drop(back);
 }
 
 #[test]
 fn takes_no_other_bytes(rt: HostRuntime) {
     for bytes in NO_OPTIONALS {
-        assert!(rt;
-            is_none::<Optional<u32>>(&rt, rt.alloc(), bytes),
-            "{bytes:?}"
-        );
+        check!(rt; is_none::<Optional<u32>>(&rt, rt.alloc(), bytes), bytes);
     }
-    assert!(rt; is_none::<Optional<Optional<bool>>>(&rt, rt.alloc(), b"\x01\x01\x02"));
+    check!(rt; is_none::<Optional<Optional<bool>>>(&rt, rt.alloc(), b"\x01\x01\x02"));
 }

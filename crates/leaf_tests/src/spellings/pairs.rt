@@ -1,5 +1,6 @@
 //! Two values behind one another.
 use super::{again, is_none};
+use crate::checks::check;
 use std::alloc::Global;
 use std::process::Abort;
 use wm_wire::{Pair, Text};
@@ -35,16 +36,16 @@ fn is_spelled(rt: &impl Abort, alloc: Global, first: u32, second: bool, want: &[
 fn is_of(pair: Pair<Text<3>, Text<1>>, first: &str, second: &str) -> bool {
     let shown = pair.first().as_str() == first && pair.second().as_str() == second;
     let (one, other) = pair.into_parts();
-    shown && one.as_str() == first && other.as_str() == second
+    let is_so = shown && one.as_str() == first && other.as_str() == second;
+    drop(other);
+    drop(one);
+    is_so
 }
 
 #[test]
 fn spells_pairs(rt: HostRuntime) {
     for (first, second, want) in SPELLED {
-        assert!(rt;
-            is_spelled(&rt, rt.alloc(), *first, *second, want),
-            "{first}"
-        );
+        check!(rt; is_spelled(&rt, rt.alloc(), *first, *second, want), first);
     }
 }
 
@@ -55,15 +56,13 @@ fn spells_parts_of_several_lengths(rt: HostRuntime) {
     let pair = Pair::new(first, second).ok().expect(&rt, "a pair");
     let want = b"\0\0\0\x02\x2f\x72\0\0\0\x01\x61";
     let back = again(&rt, rt.alloc(), &pair, want).expect(&rt, "the same bytes");
-    assert!(rt; is_of(back, "/r", "a"));
+    drop(pair);
+    check!(rt; is_of(back, "/r", "a"));
 }
 
 #[test]
 fn takes_no_other_bytes(rt: HostRuntime) {
     for bytes in NO_PAIRS {
-        assert!(rt;
-            is_none::<Pair<bool, Text<3>>>(&rt, rt.alloc(), bytes),
-            "{bytes:?}"
-        );
+        check!(rt; is_none::<Pair<bool, Text<3>>>(&rt, rt.alloc(), bytes), bytes);
     }
 }

@@ -1,4 +1,5 @@
 //! Texts put and taken by themselves, copied and compared.
+use crate::checks::check;
 use std::alloc::Global;
 use std::process::Abort;
 use wm_wire::{Text, put_text, take_text};
@@ -21,16 +22,17 @@ fn compares(rt: &impl Abort, alloc: Global, first: &str, second: &str, want: boo
     let other = Text::<3>::new(alloc, second).expect(rt, "memory");
     let again = text.copy(alloc).expect(rt, "memory");
     let copied = again.as_str() == first && again == text;
-    copied && (text == other) == want && (other == text) == want
+    let is_so = copied && (text == other) == want && (other == text) == want;
+    drop(again);
+    drop(other);
+    drop(text);
+    is_so
 }
 
 #[test]
 fn copies_and_compares_texts(rt: HostRuntime) {
     for (first, second, want) in COMPARED {
-        assert!(rt;
-            compares(&rt, rt.alloc(), first, second, *want),
-            "{first} and {second}"
-        );
+        check!(rt; compares(&rt, rt.alloc(), first, second, *want), (first, second));
     }
 }
 
@@ -38,8 +40,9 @@ fn copies_and_compares_texts(rt: HostRuntime) {
 fn spells_a_text(rt: HostRuntime) {
     let mut out = vec![in rt.alloc(); 7u8].expect(&rt, "memory");
     put_text("/r", &mut out).expect(&rt, "memory");
-    assert!(rt; out.as_slice() == b"\x07\0\0\0\x02\x2f\x72".as_slice());
-    assert!(rt; take_text(b"\0\0\0\x02\x2f\x72\xff", 2) == Some(("/r", 6)));
-    assert!(rt; take_text(b"\0\0\0\x02\x2f\x72\xff", 1).is_none());
-    assert!(rt; take_text(b"\0\0\0\0", 0) == Some(("", 4)));
+    check!(rt; out.as_slice() == b"\x07\0\0\0\x02\x2f\x72".as_slice());
+    drop(out);
+    check!(rt; take_text(b"\0\0\0\x02\x2f\x72\xff", 2) == Some(("/r", 6)));
+    check!(rt; take_text(b"\0\0\0\x02\x2f\x72\xff", 1).is_none());
+    check!(rt; take_text(b"\0\0\0\0", 0) == Some(("", 4)));
 }

@@ -1,5 +1,6 @@
 //! Numbers, truth values and texts.
 use super::{again, is_none};
+use crate::checks::check;
 use std::alloc::Global;
 use std::process::Abort;
 use wm_wire::Text;
@@ -51,57 +52,52 @@ fn text_is_spelled(rt: &impl Abort, alloc: Global, value: &str, want: &[u8]) -> 
     }
     let text = Text::<3>::new(alloc, value).expect(rt, "memory");
     let shown = text.as_str() == value;
-    match again(rt, alloc, &text, want) {
+    let back = again(rt, alloc, &text, want);
+    drop(text);
+    let is_so = match &back {
         Some(back) => shown && back.as_str() == value,
         None => false,
-    }
+    };
+    drop(back);
+    is_so
 }
 
 #[test]
 fn spells_numbers(rt: HostRuntime) {
     for (value, want) in WORDS {
-        assert!(rt;
-            again(&rt, rt.alloc(), value, want) == Some(*value),
-            "at {value}"
-        );
+        check!(rt; again(&rt, rt.alloc(), value, want) == Some(*value), value);
     }
     for (value, want) in LONG_WORDS {
-        assert!(rt;
-            again(&rt, rt.alloc(), value, want) == Some(*value),
-            "at {value}"
-        );
+        check!(rt; again(&rt, rt.alloc(), value, want) == Some(*value), value);
     }
 }
 
 #[test]
 fn spells_truths_and_texts(rt: HostRuntime) {
     for (value, want) in TRUTHS {
-        assert!(rt;
-            again(&rt, rt.alloc(), value, want) == Some(*value),
-            "at {value}"
-        );
+        check!(rt; again(&rt, rt.alloc(), value, want) == Some(*value), value);
     }
     for (value, want) in TEXTS {
-        assert!(rt; text_is_spelled(&rt, rt.alloc(), value, want), "at {value}");
+        check!(rt; text_is_spelled(&rt, rt.alloc(), value, want), value);
     }
 }
 
 #[test]
 fn takes_no_other_numbers(rt: HostRuntime) {
     for bytes in NO_WORDS {
-        assert!(rt; is_none::<u32>(&rt, rt.alloc(), bytes), "{bytes:?}");
+        check!(rt; is_none::<u32>(&rt, rt.alloc(), bytes), bytes);
     }
     for bytes in NO_LONG_WORDS {
-        assert!(rt; is_none::<u64>(&rt, rt.alloc(), bytes), "{bytes:?}");
+        check!(rt; is_none::<u64>(&rt, rt.alloc(), bytes), bytes);
     }
 }
 
 #[test]
 fn takes_no_other_truths_and_texts(rt: HostRuntime) {
     for bytes in NO_TRUTHS {
-        assert!(rt; is_none::<bool>(&rt, rt.alloc(), bytes), "{bytes:?}");
+        check!(rt; is_none::<bool>(&rt, rt.alloc(), bytes), bytes);
     }
     for bytes in NO_TEXTS {
-        assert!(rt; is_none::<Text<3>>(&rt, rt.alloc(), bytes), "{bytes:?}");
+        check!(rt; is_none::<Text<3>>(&rt, rt.alloc(), bytes), bytes);
     }
 }

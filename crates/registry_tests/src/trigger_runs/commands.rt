@@ -1,4 +1,5 @@
 //! The command of a run, and what its program reads.
+use crate::checks::check;
 use crate::trigger_runs::making::{root, run_with, trigger};
 use std::alloc::Global;
 use std::process::{Abort, Command};
@@ -33,18 +34,24 @@ fn has_command(rt: &impl Abort, alloc: Global, trigger: &Trigger, words: &[&str]
     let run = run_with(rt, alloc, &["d/b.c", "a.c"]);
     let root = root(rt, alloc, "/r");
     let command = run_command(alloc, &root, trigger, &run).expect(rt, "memory");
-    has_words(&command, words)
+    let has_words = has_words(&command, words);
+    drop(command);
+    drop(root);
+    drop(run);
+    has_words
 }
 
 fn is_met(rt: &impl Abort, alloc: Global, row: &Row) -> bool {
     let trigger = trigger(rt, alloc, row.0, row.1, Stdin::DevNull);
-    has_command(rt, alloc, &trigger, row.2)
+    let is_met = has_command(rt, alloc, &trigger, row.2);
+    drop(trigger);
+    is_met
 }
 
 #[test]
 fn appends_the_files_to_the_words(rt: HostRuntime) {
     for (i, row) in ROWS.iter().enumerate() {
-        assert!(rt; is_met(&rt, rt.alloc(), row), "row {i}");
+        check!(rt; is_met(&rt, rt.alloc(), row), i);
     }
 }
 
@@ -52,19 +59,23 @@ fn appends_the_files_to_the_words(rt: HostRuntime) {
 fn reads_paths(rt: &impl Abort, alloc: Global, run: &Run) -> bool {
     let input = run_input(alloc, Stdin::NamePerLine, run).expect(rt, "memory");
     let input = input.expect(rt, "an input");
-    input.as_slice() == b"d/b.c\na\nb\na.c\n".as_slice()
+    let reads = input.as_slice() == b"d/b.c\na\nb\na.c\n".as_slice();
+    drop(input);
+    reads
 }
 
 /// Whether the program reads nothing where it isn't to read the files.
 fn reads_nothing(rt: &impl Abort, alloc: Global, run: &Run) -> bool {
-    run_input(alloc, Stdin::DevNull, run)
-        .expect(rt, "memory")
-        .is_none()
+    let input = run_input(alloc, Stdin::DevNull, run).expect(rt, "memory");
+    let reads_nothing = input.is_none();
+    drop(input);
+    reads_nothing
 }
 
 #[test]
 fn reads_a_path_a_line(rt: HostRuntime) {
     let run = run_with(&rt, rt.alloc(), &["d/b.c", "a\nb", "a.c"]);
-    assert!(rt; reads_paths(&rt, rt.alloc(), &run));
-    assert!(rt; reads_nothing(&rt, rt.alloc(), &run));
+    check!(rt; reads_paths(&rt, rt.alloc(), &run));
+    check!(rt; reads_nothing(&rt, rt.alloc(), &run));
+    drop(run);
 }

@@ -65,7 +65,9 @@ pub fn trigger_for(rt: &impl Abort, alloc: Global, expression: Option<&str>) -> 
 /// The runs of such a trigger, of which none was started yet.
 pub fn runs_for(rt: &impl Abort, alloc: Global, expression: Option<&str>) -> TriggerRun {
     let trigger = trigger_for(rt, alloc, expression);
-    TriggerRun::new(alloc, &trigger).expect(rt, "a trigger")
+    let runs = TriggerRun::new(alloc, &trigger).expect(rt, "a trigger");
+    drop(trigger);
+    runs
 }
 
 pub fn root(rt: &impl Abort, alloc: Global, path: &str) -> RootPath {
@@ -110,7 +112,9 @@ pub fn run_of(rt: &impl Abort, runs: &TriggerRun, answer: Answer) -> Run {
 /// The run with these files.
 pub fn run_with(rt: &impl Abort, alloc: Global, paths: &[&str]) -> Run {
     let runs = runs_for(rt, alloc, None);
-    run_of(rt, &runs, answer_with(rt, alloc, paths))
+    let run = run_of(rt, &runs, answer_with(rt, alloc, paths));
+    drop(runs);
+    run
 }
 
 /// Whether the run has these files.

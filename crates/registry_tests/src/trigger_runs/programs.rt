@@ -1,4 +1,5 @@
 //! Programs that are really started, in the folder of the tests.
+use crate::checks::check;
 use crate::trigger_runs::making::{root, run_with, trigger};
 use std::alloc::Global;
 use std::process::{Abort, Processes};
@@ -47,13 +48,19 @@ fn ran<R: Processes>(
     );
     let root = root(host, alloc, folder);
     let run = run_with(host, alloc, files);
-    started(alloc, processes, &root, &trigger, &run)
+    let started = started(alloc, processes, &root, &trigger, &run);
+    drop(run);
+    drop(root);
+    drop(trigger);
+    started
 }
 
 /// The folder of the tests.
 fn here(rt: &HostRuntime, host: &impl Abort) -> String {
     let folder = env::current_dir(rt).expect(host, "a folder");
-    String::from_str(rt.alloc(), folder.as_str()).expect(host, "memory")
+    let text = String::from_str(rt.alloc(), folder.as_str()).expect(host, "memory");
+    drop(folder);
+    text
 }
 
 /// Runs the program in the folder of the tests.
@@ -64,13 +71,17 @@ fn ran_here(
     files: &[&str],
 ) -> (u64, Option<Refusal>) {
     let folder = here(rt, host);
-    ran(host, rt.alloc(), rt, &folder, program, files)
+    let ran = ran(host, rt.alloc(), rt, &folder, program, files);
+    drop(folder);
+    ran
 }
 
 /// Whether the file has this text.
 fn has_text(rt: &HostRuntime, host: &impl Abort, path: &str, wanted: &str) -> bool {
     let text = fs::read_to_string(rt, path).expect(host, "a file");
-    text.as_str() == wanted
+    let has_text = text.as_str() == wanted;
+    drop(text);
+    has_text
 }
 
 /// Whether the program, for `d/b.c` and `a.c`, leaves this text in the file.
@@ -157,17 +168,22 @@ fn leaves_row(rt: &HostRuntime, host: &impl Abort, row: &Row) -> bool {
 #[test]
 fn programs_get_their_words_and_input(rt: HostRuntime) {
     // a file that is open here isn't open there
-    let _open = fs::File::open(&rt, "/dev/null").expect(&rt, "a file");
+    let open = fs::File::open(&rt, "/dev/null").expect(&rt, "a file");
     for row in ROWS {
-        assert!(rt; leaves_row(&rt, &rt, row), "{}", row.3);
+        check!(rt; leaves_row(&rt, &rt, row), row.3);
     }
+    drop(open);
 }
 
 /// Where this program writes its output and its errors.
 fn own_streams(rt: &HostRuntime, host: &impl Abort) -> String {
     let output = fs::read_link(rt, "/proc/self/fd/1").expect(host, "a file");
     let errors = fs::read_link(rt, "/proc/self/fd/2").expect(host, "a file");
-    format!(in rt.alloc(); "{}\n{}\n", output.as_str(), errors.as_str()).expect(host, "memory")
+    let both = format!(in rt.alloc(); "{}\n{}\n", output.as_str(), errors.as_str());
+    let both = both.expect(host, "memory");
+    drop(output);
+    drop(errors);
+    both
 }
 
 #[test]
@@ -182,13 +198,16 @@ fn programs_write_where_this_one_writes(rt: HostRuntime) {
         append_files: false,
         stdin: Stdin::DevNull,
     };
-    assert!(rt; leaves(&rt, &rt, &program, "trigger_streams", wanted.as_str()));
+    check!(rt; leaves(&rt, &rt, &program, "trigger_streams", wanted.as_str()));
+    drop(wanted);
 }
 
 /// Whether the file has this line.
 fn has_line(rt: &HostRuntime, host: &impl Abort, path: &str, line: &str) -> bool {
     let text = fs::read_to_string(rt, path).expect(host, "a file");
-    text.as_str().strip_suffix("\n") == Some(line)
+    let has_line = text.as_str().strip_suffix("\n") == Some(line);
+    drop(text);
+    has_line
 }
 
 /// Whether a program of the root `trigger_root` writes that it runs in this folder.
@@ -210,7 +229,8 @@ fn programs_run_in_the_root(rt: HostRuntime) {
     let _ = fs::create_dir(&rt, FOLDER);
     let mut folder = here(&rt, &rt);
     write!(folder, "/{FOLDER}").expect(&rt, "memory");
-    assert!(rt; runs_in(&rt, &rt, &folder));
+    check!(rt; runs_in(&rt, &rt, &folder));
+    drop(folder);
     fs::remove_dir(&rt, FOLDER).expect(&rt, "a folder");
 }
 
@@ -241,11 +261,8 @@ fn is_refused(rt: &HostRuntime, host: &impl Abort, bad: &Bad, stdin: Stdin) -> b
 #[test]
 fn starts_that_fail_are_counted(rt: HostRuntime) {
     for (i, bad) in BAD.iter().enumerate() {
-        assert!(rt; is_refused(&rt, &rt, bad, Stdin::DevNull), "row {i}");
-        assert!(rt;
-            is_refused(&rt, &rt, bad, Stdin::NamePerLine),
-            "row {i} with input"
-        );
+        check!(rt; is_refused(&rt, &rt, bad, Stdin::DevNull), i);
+        check!(rt; is_refused(&rt, &rt, bad, Stdin::NamePerLine), i);
     }
 }
 
@@ -281,7 +298,9 @@ fn ran_for(
         .map(|path| path.as_str())
         .collect(rt.alloc())
         .expect(host, "memory");
-    ran_here(rt, host, program, &paths)
+    let ran = ran_here(rt, host, program, &paths);
+    drop(paths);
+    ran
 }
 
 #[test]
@@ -294,17 +313,20 @@ fn a_program_may_end_as_it_likes(rt: HostRuntime) {
             stdin: Stdin::NamePerLine,
         };
         let (failures, refused) = ran_for(&rt, &rt, &program, &paths);
-        assert!(rt; failures == 0 && refused.is_none(), "row {i}");
+        check!(rt; failures == 0 && refused.is_none(), i);
     }
+    drop(paths);
 }
 
 /// Whether the file has the lines of 65,536 paths of six digits.
 fn has_numbers(rt: &HostRuntime, host: &impl Abort, path: &str) -> bool {
-    let text = fs::read_to_string(rt, path).expect(host, "a file");
-    let text = text.as_str();
+    let content = fs::read_to_string(rt, path).expect(host, "a file");
+    let text = content.as_str();
     let ends = text.starts_with("000000\n000001\n") && text.ends_with("\n065534\n065535\n");
     // lines of seven bytes
-    text.len() == 458_752 && ends
+    let has_numbers = text.len() == 458_752 && ends;
+    drop(content);
+    has_numbers
 }
 
 #[test]
@@ -314,9 +336,11 @@ fn reads_more_than_a_pipe_holds(rt: HostRuntime) {
         append_files: false,
         stdin: Stdin::NamePerLine,
     };
-    let (failures, refused) = ran_for(&rt, &rt, &program, &numbered(&rt, rt.alloc(), 65536));
-    assert!(rt; failures == 0 && refused.is_none());
-    assert!(rt; has_numbers(&rt, &rt, "trigger_many"));
+    let paths = numbered(&rt, rt.alloc(), 65536);
+    let (failures, refused) = ran_for(&rt, &rt, &program, &paths);
+    drop(paths);
+    check!(rt; failures == 0 && refused.is_none());
+    check!(rt; has_numbers(&rt, &rt, "trigger_many"));
     fs::remove_file(&rt, "trigger_many").expect(&rt, "a file");
 }
 
@@ -342,5 +366,7 @@ fn words_beyond_the_limit_of_the_system_are_refused(rt: HostRuntime) {
     let long = format!(in alloc; "{:01000}", 0).expect(&rt, "memory");
     let paths = repeated(&rt, alloc, &long, 8192);
     let (failures, refused) = ran_here(&rt, &rt, &program, &paths);
-    assert!(rt; failures == 1 && refused == Some(Refusal::DeviceFailed));
+    drop(paths);
+    drop(long);
+    check!(rt; failures == 1 && refused == Some(Refusal::DeviceFailed));
 }

@@ -1,4 +1,5 @@
 //! The starter in memory, and one over a launcher that starts nothing.
+use crate::checks::check;
 use crate::trigger_runs::making::{has_files, root, run_with, trigger_for};
 use std::alloc::Global;
 use std::io;
@@ -18,7 +19,11 @@ fn run<S: Starter>(
     let root = root(rt, alloc, path);
     let trigger = trigger_for(rt, alloc, None);
     let run = run_with(rt, alloc, &[file]);
-    starter.run(alloc, &root, &trigger, &run).err()
+    let refused = starter.run(alloc, &root, &trigger, &run).err();
+    drop(run);
+    drop(trigger);
+    drop(root);
+    refused
 }
 
 fn is_of(started: &StartedRun, path: &str, file: &str) -> bool {
@@ -27,19 +32,37 @@ fn is_of(started: &StartedRun, path: &str, file: &str) -> bool {
         && has_files(&started.run, &[file])
 }
 
-/// Asserts that the starter keeps its first run and its last one, and that those between them fail.
-fn fail_twice(rt: &impl Abort, alloc: Global, starter: &mut MemStarter) {
-    assert!(rt; run(rt, alloc, starter, "/r", "a.c").is_none());
+/// Whether these are the first run and the last one.
+fn are_kept(runs: &[StartedRun]) -> bool {
+    match runs {
+        [first, last] => is_of(first, "/r", "a.c") && is_of(last, "/s", "c.c"),
+        _ => false,
+    }
+}
+
+/// Asserts that two runs fail.
+fn fail_both(rt: &impl Abort, alloc: Global, starter: &mut MemStarter) {
     starter.fail(2);
     for _ in 0..2 {
         let refused = run(rt, alloc, starter, "/r", "b.c");
-        assert!(rt; refused == Some(Refusal::DeviceFailed));
+        check!(rt; refused == Some(Refusal::DeviceFailed));
     }
-    assert!(rt; run(rt, alloc, starter, "/s", "c.c").is_none());
-    assert!(rt; starter.failures() == 2);
+}
+
+/// Asserts that the starter counts the two, and keeps the others.
+fn see_runs(rt: &impl Abort, starter: &MemStarter) {
+    check!(rt; starter.failures() == 2);
     let runs = starter.runs();
-    assert!(rt; runs.len() == 2);
-    assert!(rt; is_of(&runs[0], "/r", "a.c") && is_of(&runs[1], "/s", "c.c"));
+    check!(rt; runs.len() == 2);
+    check!(rt; are_kept(runs));
+}
+
+/// Asserts that the starter keeps its first run and its last one, and that those between them fail.
+fn fail_twice(rt: &impl Abort, alloc: Global, starter: &mut MemStarter) {
+    check!(rt; run(rt, alloc, starter, "/r", "a.c").is_none());
+    fail_both(rt, alloc, starter);
+    check!(rt; run(rt, alloc, starter, "/s", "c.c").is_none());
+    see_runs(rt, starter);
 }
 
 #[test]
@@ -59,7 +82,9 @@ impl Launcher for Full {
 
     ghost has_failed = { λ old launch new. Unit {0} };
 
-    fn launch(&mut self, _command: Command, _input: Option<Vec<u8>>) -> io::Result<()> {
+    fn launch(&mut self, command: Command, input: Option<Vec<u8>>) -> io::Result<()> {
+        drop(command);
+        drop(input);
         if self.is_system {
             // ENOMEM
             Err(io::Error::from_raw_os_error(12))
@@ -84,9 +109,9 @@ fn refused_by_full(
 #[test]
 fn counts_failures_of_the_system_alone(rt: HostRuntime) {
     let (refused, failures, is_system) = refused_by_full(&rt, rt.alloc(), false);
-    assert!(rt; refused == Some(Refusal::NoMemory));
-    assert!(rt; failures == 0 && !is_system);
+    check!(rt; refused == Some(Refusal::NoMemory));
+    check!(rt; failures == 0 && !is_system);
     let (refused, failures, is_system) = refused_by_full(&rt, rt.alloc(), true);
-    assert!(rt; refused == Some(Refusal::DeviceFailed));
-    assert!(rt; failures == 1 && is_system);
+    check!(rt; refused == Some(Refusal::DeviceFailed));
+    check!(rt; failures == 1 && is_system);
 }

@@ -1,4 +1,5 @@
 //! What records ask for together.
+use crate::checks::check;
 use std::alloc::Global;
 use std::collections::BTreeSet;
 use std::process::Abort;
@@ -42,16 +43,16 @@ fn has_each_path_once(rt: HostRuntime) {
         .add(alloc, Told::Folder { folder: "e" })
         .expect(&rt, "memory");
     batch.add(alloc, Told::Nothing).expect(&rt, "memory");
-    assert!(rt; texts(&rt, alloc, batch.paths()).as_str() == "a d d/b d/n e ");
-    assert!(rt; texts(&rt, alloc, batch.folders()).as_str() == "d/n ");
-    assert!(rt; !batch.is_whole());
+    check!(rt; texts(&rt, alloc, batch.paths()).as_str() == "a d d/b d/n e ");
+    check!(rt; texts(&rt, alloc, batch.folders()).as_str() == "d/n ");
+    check!(rt; !batch.is_whole());
 }
 
 #[test]
 fn asks_for_the_whole_by_a_doubt(rt: HostRuntime) {
     let mut batch = Batch::new(rt.alloc());
     batch.add(rt.alloc(), Told::Doubt).expect(&rt, "memory");
-    assert!(rt; batch.is_whole() && batch.paths().is_empty());
+    check!(rt; batch.is_whole() && batch.paths().is_empty());
 }
 
 #[test]
@@ -63,6 +64,6 @@ fn leaves_out_what_is_too_long(rt: HostRuntime) {
     batch
         .add(alloc, entry("d", long, true))
         .expect(&rt, "memory");
-    assert!(rt; texts(&rt, alloc, batch.paths()).as_str() == "d ");
-    assert!(rt; batch.folders().is_empty() && !batch.is_whole());
+    check!(rt; texts(&rt, alloc, batch.paths()).as_str() == "d ");
+    check!(rt; batch.folders().is_empty() && !batch.is_whole());
 }

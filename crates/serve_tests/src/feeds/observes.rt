@@ -1,4 +1,5 @@
 //! The lines of observations.
+use crate::checks::check;
 use wm_feed::observe_line;
 use wm_names::{Kind, Meta, RelPath};
 
@@ -16,11 +17,11 @@ fn line_of_two_pairs(rt: HostRuntime) {
     let line = observe_line(alloc, "/r", &pairs).expect(&rt, "memory");
     let wanted =
         r#"["observe","/r",[["a \"b\"\n",{"mtime_ms":17,"size":4096,"type":"d"}],["d/e",null]]]"#;
-    assert!(rt; line.as_str() == wanted, "{line}");
+    check!(rt; line.as_str() == wanted, line);
 }
 
 #[test]
 fn line_of_no_pairs(rt: HostRuntime) {
     let line = observe_line(rt.alloc(), "/r", &[]).expect(&rt, "memory");
-    assert!(rt; line.as_str() == r#"["observe","/r",[]]"#, "{line}");
+    check!(rt; line.as_str() == r#"["observe","/r",[]]"#, line);
 }

@@ -1,4 +1,5 @@
 //! What records mean.
+use crate::checks::check;
 use std::alloc::{AllocError, Global};
 use wm_feed::{Told, read_record};
 
@@ -58,6 +59,6 @@ fn shown(alloc: Global, told: Told<'_>) -> Result<String, AllocError> {
 fn records_of_the_table(rt: HostRuntime) {
     for (record, wanted) in RECORDS {
         let told = shown(rt.alloc(), read_record("/r/oot", record)).expect(&rt, "memory");
-        assert!(rt; told.as_str() == *wanted, "{record:?}: {told}");
+        check!(rt; told.as_str() == *wanted, (record, told));
     }
 }

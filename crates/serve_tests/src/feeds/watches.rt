@@ -1,4 +1,5 @@
 //! What /proc tells to be watched.
+use crate::checks::check;
 use std::collections::BTreeSet;
 use wm_feed::add_watched;
 
@@ -11,7 +12,7 @@ eventfd-count:                0\n";
 #[test]
 fn numbers_of_two_folders(rt: HostRuntime) {
     let mut watched = BTreeSet::new(rt.alloc());
-    assert!(rt; add_watched(TOLD, &mut watched).is_ok());
-    assert!(rt; watched.len() == 2);
-    assert!(rt; watched.contains(&10_993_875) && watched.contains(&16));
+    check!(rt; add_watched(TOLD, &mut watched).is_ok());
+    check!(rt; watched.len() == 2);
+    check!(rt; watched.contains(&10_993_875) && watched.contains(&16));
 }

@@ -1,4 +1,5 @@
 //! What the command-line words ask of `wmfeed`.
+use crate::checks::check;
 use std::alloc::{AllocError, Global};
 use wm_client::FeedWords;
 
@@ -27,6 +28,6 @@ fn words_of_the_table(rt: HostRuntime) {
     for (words, wanted) in ASKED {
         let read = FeedWords::read(alloc, words).expect(&rt, "words");
         let told = asked(alloc, &read).expect(&rt, "memory");
-        assert!(rt; told.as_str() == *wanted, "{words:?}: {told}");
+        check!(rt; told.as_str() == *wanted, (words, told));
     }
 }

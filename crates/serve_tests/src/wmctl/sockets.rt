@@ -1,4 +1,5 @@
 //! The program against a socket that the test itself serves.
+use crate::checks::check;
 use std::alloc::Global;
 use std::io::{BufRead, BufReader, Write};
 use std::os::unix::net::{UnixListener, UnixStream};
@@ -56,9 +57,9 @@ fn ends_of_the_table(rt: HostRuntime) {
             || answer(&rt, alloc, &listener, lines),
             || wmctl(alloc, &rt, &all, &mut output, &mut faults),
         );
-        assert!(rt; ended == *status, "{words:?}: {ended}");
-        assert!(rt; output.as_slice() == printed.as_bytes(), "{words:?}");
-        assert!(rt; faults.as_slice() == told.as_bytes(), "{words:?}");
+        check!(rt; ended == *status, (words, ended));
+        check!(rt; output.as_slice() == printed.as_bytes(), words);
+        check!(rt; faults.as_slice() == told.as_bytes(), words);
     }
     fs::remove_file(&rt, PATH).expect(&rt, "a socket");
 }
@@ -76,15 +77,9 @@ fn shows_help_where_it_prints_and_faults_where_it_tells_them(rt: HostRuntime) {
         let mut output = Vec::new(rt.alloc());
         let mut faults = Vec::new(rt.alloc());
         let ended = wmctl(rt.alloc(), &rt, words, &mut output, &mut faults);
-        assert!(rt; ended == *status, "{words:?}: {ended}");
-        assert!(rt;
-            output.starts_with(printed.as_bytes()) && output.is_empty() == printed.is_empty(),
-            "{words:?}"
-        );
-        assert!(rt;
-            faults.starts_with(told.as_bytes()) && faults.is_empty() == told.is_empty(),
-            "{words:?}"
-        );
+        check!(rt; ended == *status, (words, ended));
+        check!(rt; output.starts_with(printed.as_bytes()) && output.is_empty() == printed.is_empty(), words);
+        check!(rt; faults.starts_with(told.as_bytes()) && faults.is_empty() == told.is_empty(), words);
     }
 }
 
@@ -94,9 +89,7 @@ fn tells_that_nobody_serves_a_socket(rt: HostRuntime) {
     let mut faults = Vec::new(rt.alloc());
     let words = ["wm_client_nowhere", "[]"];
     let status = wmctl(rt.alloc(), &rt, &words, &mut output, &mut faults);
-    assert!(rt; status == 3 && output.is_empty());
-    assert!(rt;
-        faults.as_slice()
-            == b"wmctl: the socket failed, or ended before a whole line had come\n".as_slice()
-    );
+    check!(rt; status == 3 && output.is_empty());
+    check!(rt; faults.as_slice()
+            == b"wmctl: the socket failed, or ended before a whole line had come\n".as_slice());
 }

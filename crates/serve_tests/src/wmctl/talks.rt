@@ -1,4 +1,5 @@
 //! Talks over bytes in memory.
+use crate::checks::check;
 use wm_client::{TalkEnd, talk};
 
 /// How many lines are to follow, what comes, how the talk ends, and what is printed.
@@ -38,9 +39,9 @@ fn talks_of_the_table(rt: HostRuntime) {
             &mut printed,
         )
         .expect(&rt, "memory");
-        assert!(rt; end == *wanted, "{input}: {end:?}");
-        assert!(rt; sent.as_slice() == b"[\"x\"]\n".as_slice(), "{input}");
-        assert!(rt; printed.as_slice() == wanted_text.as_bytes(), "{input}");
+        check!(rt; end == *wanted, (input, end));
+        check!(rt; sent.as_slice() == b"[\"x\"]\n".as_slice(), input);
+        check!(rt; printed.as_slice() == wanted_text.as_bytes(), input);
     }
 }
 
@@ -52,5 +53,5 @@ fn tells_a_printer_without_room(rt: HostRuntime) {
     let mut room = [0u8; 2];
     let mut printer = room.as_mut_slice();
     let end = talk(alloc, "[]", 0, &mut sent, &mut replies, &mut printer).expect(&rt, "memory");
-    assert!(rt; end == TalkEnd::Unprinted);
+    check!(rt; end == TalkEnd::Unprinted);
 }

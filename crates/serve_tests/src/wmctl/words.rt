@@ -1,4 +1,5 @@
 //! What the command-line words ask of `wmctl`.
+use crate::checks::check;
 use std::alloc::{AllocError, Global};
 use wm_client::Words;
 
@@ -39,6 +40,6 @@ fn words_of_the_table(rt: HostRuntime) {
     for (words, wanted) in ASKED {
         let read = Words::read(alloc, words).expect(&rt, "words");
         let told = asked(alloc, &read).expect(&rt, "memory");
-        assert!(rt; told.as_str() == *wanted, "{words:?}: {told}");
+        check!(rt; told.as_str() == *wanted, (words, told));
     }
 }

@@ -155,6 +155,8 @@ fn chooses_files(rt: HostRuntime) {
     let (mut input, mut output) = texts(&rt, rt.alloc(), &[FILES]);
     put_chosen(&rt, &mut input, &mut output);
     assert_answers(&rt, rt.alloc(), &input, &output, "expressions");
+    drop(input);
+    drop(output);
 }
 
 /// A question for each value, and its refusal.
@@ -172,4 +174,6 @@ fn refuses_what_is_no_expression(rt: HostRuntime) {
     let (mut input, mut output) = texts(&rt, rt.alloc(), &[FILES]);
     put_refused(&rt, &mut input, &mut output);
     assert_answers(&rt, rt.alloc(), &input, &output, "no expressions");
+    drop(input);
+    drop(output);
 }

@@ -1,4 +1,5 @@
 //! Damaged files, and devices, readers and writers that fail.
+use crate::checks::check;
 use crate::disks::{content_of, disk_of, journal, new_file};
 use crate::ends::{End, assert_ends, end_of, end_of_one_fault};
 use std::alloc::Global;
@@ -15,10 +16,9 @@ fn assert_refused(rt: &impl Abort, alloc: Global, content: &[u8], refusal: &str)
     let end = end_of(rt, alloc, disk_of(rt, alloc, content), &mut reader);
     let faults = format!(in alloc; "watchmand: {refusal}\n").expect(rt, "memory");
     assert_ends(rt, &end, (1, "", &faults, b""), refusal);
-    assert!(rt;
-        end.content.as_slice() == content,
-        "a refused file was changed"
-    );
+    check!(rt; end.content.as_slice() == content);
+    drop(end);
+    drop(faults);
 }
 
 /// A new file with another byte at a place.
@@ -28,6 +28,13 @@ fn changed_at(rt: &impl Abort, alloc: Global, place: usize) -> Vec<u8> {
         *byte = 0xa5;
     }
     content
+}
+
+/// As [`assert_refused`], of a new file with another byte at a place.
+fn assert_refused_at(rt: &impl Abort, alloc: Global, place: usize, refusal: &str) {
+    let content = changed_at(rt, alloc, place);
+    assert_refused(rt, alloc, &content, refusal);
+    drop(content);
 }
 
 /// Plain files of commands, and files that were never formatted.
@@ -41,9 +48,10 @@ fn refuses_other_files(rt: HostRuntime) {
     }
     let blank = vec![in alloc; 0u8; 2_625_536].expect(&rt, "memory");
     assert_refused(&rt, alloc, &blank, "14 Damaged");
+    drop(blank);
     // a header of another kind, and that of a retired file
-    assert_refused(&rt, alloc, &changed_at(&rt, alloc, 1), "14 Damaged");
-    assert_refused(&rt, alloc, &changed_at(&rt, alloc, 12), "20 Retired");
+    assert_refused_at(&rt, alloc, 1, "14 Damaged");
+    assert_refused_at(&rt, alloc, 12, "20 Retired");
 }
 
 const DEVICE_FAILED: &str = "watchmand: 13 DeviceFailed\n";
@@ -85,7 +93,15 @@ const OUTCOMES: &[(&str, &str, bool, &[&str])] = &[
 /// The roots that a start over a content finds, as it lists them.
 fn roots_found(rt: &impl Abort, alloc: Global, content: &[u8]) -> String {
     let mut reader = b"[\"watch-list\"]\n".as_slice();
-    end_of(rt, alloc, disk_of(rt, alloc, content), &mut reader).output
+    let End {
+        output,
+        status: _,
+        faults,
+        content,
+    } = end_of(rt, alloc, disk_of(rt, alloc, content), &mut reader);
+    drop(faults);
+    drop(content);
+    output
 }
 
 fn holds_one_of(found: &str, lists: &[&str]) -> bool {
@@ -131,26 +147,32 @@ fn end_after(rt: &impl Abort, alloc: Global, failing: Failing, calls: u64) -> En
 }
 
 /// The outcome of that session, whose file is then opened again.
-fn outcome_after(rt: &impl Abort, alloc: Global, failing: Failing, calls: u64) -> Option<usize> {
+fn outcome_after(rt: &impl Abort, alloc: Global, failing: Failing, calls: u64) -> usize {
     let end = end_after(rt, alloc, failing, calls);
     let found = roots_found(rt, alloc, &end.content);
-    place_of(&end, &found)
+    let place = place_of(&end, &found);
+    drop(end);
+    drop(found);
+    let Some(place) = place else {
+        panic!(rt; "after {calls} calls the session ends otherwise");
+    };
+    place
+}
+
+/// Whether an outcome is that of the call before, or the next.
+fn follows(reached: usize, place: usize) -> bool {
+    reached == place || place.checked_sub(1) == Some(reached)
 }
 
 fn assert_outcomes(rt: &impl Abort, alloc: Global, failing: Failing) {
     let mut reached = 0;
     for calls in 0..200 {
-        let Some(place) = outcome_after(rt, alloc, failing, calls) else {
-            panic!(rt; "after {calls} calls the session ends otherwise");
-        };
+        let place = outcome_after(rt, alloc, failing, calls);
         // The failing call comes later than before, and so does what it meets.
-        assert!(rt;
-            reached == place || place.checked_sub(1) == Some(reached),
-            "after {calls} calls"
-        );
+        check!(rt; follows(reached, place), calls);
         reached = place;
     }
-    assert!(rt; reached == 4);
+    check!(rt; reached == 4);
 }
 
 #[test]
@@ -200,9 +222,19 @@ fn tells_a_broken_reader(rt: HostRuntime) {
     let input = input.chain(failing_by(ErrorKind::Other));
     let mut reader = BufReader::new(alloc, input).expect(&rt, "memory");
     let end = end_of(&rt, alloc, new_file(&rt, alloc), &mut reader);
+    drop(reader);
     let output = "{\"version\":\"w1\",\"watch\":\"/a\"}\n";
     let wanted = (1, output, DEVICE_FAILED, WATCHES_A);
     assert_ends(&rt, &end, wanted, "a broken reader");
+    drop(end);
+}
+
+/// Whether the disk's journal begins with a start and a watch of `/a`.
+fn watches_a(rt: &impl Abort, alloc: Global, disk: MemDisk) -> bool {
+    let content = content_of(rt, alloc, disk);
+    let watches = journal(&content, WATCHES_A.len()) == WATCHES_A;
+    drop(content);
+    watches
 }
 
 /// The first command is accepted, and then its reply can't be written. Whether this is told so, and what was
@@ -214,9 +246,12 @@ fn ends_with(rt: &impl Abort, alloc: Global, kind: ErrorKind, told: &str) -> boo
     let mut writer = Output::new(failing_by(kind));
     let mut telling = Output::new(&mut faults);
     let (status, disk) = lines_on(alloc, disk, &mut reader, &mut writer, &mut telling);
+    drop(reader);
+    drop(writer);
+    drop(telling);
     let is_told = status == 1 && faults.as_slice() == told.as_bytes();
-    let content = content_of(rt, alloc, disk);
-    is_told && journal(&content, WATCHES_A.len()) == WATCHES_A
+    drop(faults);
+    is_told && watches_a(rt, alloc, disk)
 }
 
 /// The status of a session over a disk where nothing can be told.
@@ -224,15 +259,20 @@ fn status_untold(alloc: Global, disk: MemDisk) -> u8 {
     let mut reader = Input::new(LINES.as_bytes());
     let mut writer = Output::new(failing_by(ErrorKind::Other));
     let mut telling = Output::new(failing_by(ErrorKind::Other));
-    lines_on(alloc, disk, &mut reader, &mut writer, &mut telling).0
+    let (status, disk) = lines_on(alloc, disk, &mut reader, &mut writer, &mut telling);
+    drop(disk);
+    drop(reader);
+    drop(writer);
+    drop(telling);
+    status
 }
 
 #[test]
 fn tells_broken_writers(rt: HostRuntime) {
     let alloc = rt.alloc();
-    assert!(rt; ends_with(&rt, alloc, ErrorKind::Other, DEVICE_FAILED));
+    check!(rt; ends_with(&rt, alloc, ErrorKind::Other, DEVICE_FAILED));
     // nobody reads the replies any more
-    assert!(rt; ends_with(&rt, alloc, ErrorKind::BrokenPipe, ""));
+    check!(rt; ends_with(&rt, alloc, ErrorKind::BrokenPipe, ""));
     let damaged = disk_of(&rt, alloc, b"\x05");
-    assert!(rt; status_untold(alloc, damaged) == 1);
+    check!(rt; status_untold(alloc, damaged) == 1);
 }

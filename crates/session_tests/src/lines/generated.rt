@@ -67,20 +67,31 @@ impl Generated {
     fn observe(&mut self, rt: &impl Abort, alloc: Global) {
         let mut map = self.root.map_at(self.root.tick());
         let mut line = String::from_str(alloc, r#"["observe","/r",["#).expect(rt, "memory");
+        self.put_pairs(rt, &mut map, &mut line);
+        line.push_str("]]").expect(rt, "memory");
+        let reply = self.observed(rt, alloc, map);
+        self.row(rt, &line, &reply);
+        drop(line);
+        drop(reply);
+    }
+
+    /// One pair to three.
+    fn put_pairs(&mut self, rt: &impl Abort, map: &mut Map, line: &mut String) {
         for place in 0..self.below(3).saturating_add(1) {
             let path = self.below(PATHS.len());
             let state = self.state();
-            put_pair(rt, &mut line, place, path, state);
-            set(&mut map, path, state);
+            put_pair(rt, line, place, path, state);
+            set(map, path, state);
         }
-        line.push_str("]]").expect(rt, "memory");
+    }
+
+    /// What an observation is answered, after which the root's map is this.
+    fn observed(&mut self, rt: &impl Abort, alloc: Global, map: Map) -> String {
         if self.root.tick() == 0 {
-            self.row(rt, &line, NOT_READY);
-            return;
+            return String::from_str(alloc, NOT_READY).expect(rt, "memory");
         }
         self.root.publish(rt, self.moment, map);
-        let reply = self.clock(rt, alloc);
-        self.row(rt, &line, &reply);
+        self.clock(rt, alloc)
     }
 
     /// A listing of the whole root, or of what stands below `d`.
@@ -96,6 +107,16 @@ impl Generated {
         let top = if is_part { "d" } else { "" };
         let line = format!(in alloc; "[\"listing\",\"/r\",{begun_at},\"{top}\",[");
         let mut line = line.expect(rt, "memory");
+        let found = self.put_found(rt, is_part, &mut line);
+        line.push_str("]]").expect(rt, "memory");
+        let reply = self.listed(rt, alloc, is_part, begun_at, &found);
+        self.row(rt, &line, &reply);
+        drop(line);
+        drop(reply);
+    }
+
+    /// What a listing finds.
+    fn put_found(&mut self, rt: &impl Abort, is_part: bool, line: &mut String) -> Map {
         let mut found: Map = [None; 6];
         let mut count = 0;
         for path in 0..PATHS.len() {
@@ -104,14 +125,12 @@ impl Generated {
             }
             let state = self.state();
             if state.is_some() {
-                put_pair(rt, &mut line, count, path, state);
+                put_pair(rt, line, count, path, state);
                 count = 1;
             }
             set(&mut found, path, state);
         }
-        line.push_str("]]").expect(rt, "memory");
-        let reply = self.listed(rt, alloc, is_part, begun_at, &found);
-        self.row(rt, &line, &reply);
+        found
     }
 
     /// What a listing is answered.
@@ -130,30 +149,40 @@ impl Generated {
         if begun_at < self.root.floor() || tick < begun_at {
             return String::from_str(alloc, BAD_CLOCK).expect(rt, "memory");
         }
-        let mut map = self.root.map_at(tick);
+        let map = self.map_with(is_part, begun_at, found);
+        self.root.publish(rt, self.moment, map);
+        self.clock(rt, alloc)
+    }
+
+    /// The root's map, with what was found of each path that didn't change after the listing began.
+    fn map_with(&self, is_part: bool, begun_at: usize, found: &Map) -> Map {
+        let mut map = self.root.map_at(self.root.tick());
         for (path, state) in found.iter().enumerate() {
             let is_below = !is_part || BELOW.contains(&path);
             if is_below && self.root.last_change(path) <= begun_at {
                 set(&mut map, path, *state);
             }
         }
-        self.root.publish(rt, self.moment, map);
-        self.clock(rt, alloc)
+        map
     }
 
     fn age_out(&mut self, rt: &impl Abort, alloc: Global) {
         let age = self.below(12) as u64;
         let line = format!(in alloc; "[\"age-out\",\"/r\",{age}]").expect(rt, "memory");
+        let reply = self.aged_out(rt, alloc, age);
+        self.row(rt, &line, &reply);
+        drop(line);
+        drop(reply);
+    }
+
+    /// What an age-out of this age is answered.
+    fn aged_out(&mut self, rt: &impl Abort, alloc: Global, age: u64) -> String {
         if self.root.tick() == 0 {
-            self.row(rt, &line, NOT_READY);
-            return;
+            return String::from_str(alloc, NOT_READY).expect(rt, "memory");
         }
         self.root.age_out(self.moment, age);
-        let reply = format!(in alloc;
-            "{{\"floor\":{},\"version\":\"w1\"}}",
-            self.root.floor()
-        ).expect(rt, "memory");
-        self.row(rt, &line, &reply);
+        let floor = self.root.floor();
+        format!(in alloc; "{{\"floor\":{floor},\"version\":\"w1\"}}").expect(rt, "memory")
     }
 
     /// A question since a clock, of all files or of those below `d`.
@@ -169,13 +198,19 @@ impl Generated {
             format!(in alloc; "[\"since\",\"/r\",\"c:1:1:{tick}\"]")
         };
         let line = line.expect(rt, "memory");
+        let reply = self.answered(rt, alloc, tick, is_part);
+        self.row(rt, &line, &reply);
+        drop(line);
+        drop(reply);
+    }
+
+    /// What a question since this tick is answered.
+    fn answered(&self, rt: &impl Abort, alloc: Global, tick: usize, is_part: bool) -> String {
         if self.root.tick() == 0 {
-            self.row(rt, &line, NOT_READY);
-            return;
+            return String::from_str(alloc, NOT_READY).expect(rt, "memory");
         }
         let chosen: &[usize] = if is_part { &BELOW } else { &ALL };
-        let reply = self.root.reply(rt, alloc, tick, chosen);
-        self.row(rt, &line, &reply);
+        self.root.reply(rt, alloc, tick, chosen)
     }
 
     /// A question by the one cursor.
@@ -188,6 +223,7 @@ impl Generated {
         let reply = self.root.reply(rt, alloc, self.cursor, &ALL);
         self.cursor = self.root.tick();
         self.row(rt, line, &reply);
+        drop(reply);
     }
 
     /// A line of any kind, and its reply.
@@ -243,6 +279,7 @@ fn assert_seed(rt: &impl Abort, alloc: Global, seed: u64) {
     grow_by(rt, alloc, &mut session, 40);
     let input = session.input.as_str();
     assert_answers(rt, alloc, input, session.output.as_str(), input);
+    drop(session);
 }
 
 #[test]

@@ -338,6 +338,7 @@ fn put(rt: &impl Abort, alloc: Global, bytes: &[u8], number: u32, out: &mut Vec<
             let digits = format!(in alloc; "{number}").expect(rt, "memory");
             out.extend_from_slice(digits.as_bytes())
                 .expect(rt, "memory");
+            drop(digits);
         } else {
             out.push(*byte).expect(rt, "memory");
         }
@@ -357,12 +358,17 @@ fn written(rt: &impl Abort, alloc: Global, front: &str, parts: &[Part<'_>]) -> V
 
 fn assert_limit(rt: &impl Abort, alloc: Global, limit: &Limit<'_>) {
     let (about, rows, lines, replies, used) = *limit;
-    let (input, output) = texts(rt, alloc, &[rows]);
-    let input = written(rt, alloc, &input, lines);
-    let output = String::from_utf8(written(rt, alloc, &output, replies)).expect(rt, "a text");
+    let (line, reply) = texts(rt, alloc, &[rows]);
+    let input = written(rt, alloc, &line, lines);
+    let output = String::from_utf8(written(rt, alloc, &reply, replies)).expect(rt, "a text");
     let used = written(rt, alloc, "", used);
     let wanted = (0, output.as_str(), "", used.as_slice());
     assert_serves(rt, alloc, new_file(rt, alloc), &input, wanted, about);
+    drop(line);
+    drop(reply);
+    drop(input);
+    drop(output);
+    drop(used);
 }
 
 fn assert_limits(rt: &impl Abort, alloc: Global, limits: &[Limit<'_>]) {

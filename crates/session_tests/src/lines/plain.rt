@@ -135,8 +135,10 @@ impl Plain {
             }
         }
         let tick = self.tick();
-        format!(in alloc;
+        let reply = format!(in alloc;
             "{{\"clock\":\"c:1:1:{tick}\",\"files\":[{files}],\"is_fresh_instance\":{is_fresh},\"version\":\"w1\"}}"
-        ).expect(rt, "memory")
+        ).expect(rt, "memory");
+        drop(files);
+        reply
     }
 }

@@ -1,8 +1,8 @@
 //! Questions with fields, cursors and flags, with their lines and replies written out.
-use crate::ends::{ACCEPTED, Row, Told, assert_sessions};
+use crate::ends::{ACCEPTED, Row, assert_session};
 
 /// A root with two files, which came one after another.
-pub(super) const TWO_FILES: &[Row<'static>] = &[
+const TWO_FILES: &[Row<'static>] = &[
     (r#"["watch","/r"]"#, r#"{"version":"w1","watch":"/r"}"#),
     (
         r#"["listing","/r",0,"",[]]"#,
@@ -17,6 +17,10 @@ pub(super) const TWO_FILES: &[Row<'static>] = &[
         r#"{"clock":"c:1:1:3","version":"w1"}"#,
     ),
 ];
+
+pub(super) fn two_files() -> &'static [Row<'static>] {
+    TWO_FILES
+}
 
 const FRESH: &str =
     r#"{"clock":"c:1:1:3","files":[{"exists":true,"name":"b.c","new":true,"size":4},{"exists":true,"name":"a.c","new":true,"size":3}],"is_fresh_instance":true,"version":"w1"}"#;
@@ -33,6 +37,14 @@ const QUERIES: &[Row<'static>] = &[
         r#"["query","/r",{"expression":["allof",["suffix","C"],["not",["name","a.c"]]],"fields":["name","cclock","oclock"]}]"#,
         r#"{"clock":"c:1:1:3","files":[{"cclock":"c:1:1:3","name":"b.c","oclock":"c:1:1:3"}],"is_fresh_instance":true,"version":"w1"}"#,
     ),
+];
+
+fn queries() -> &'static [Row<'static>] {
+    QUERIES
+}
+
+/// Fields, in whatever order they are asked for.
+const FIELDS: &[Row<'static>] = &[
     // One field gives bare values.
     (
         r#"["query","/r",{"fields":["name"],"since":"c:1:1:1"}]"#,
@@ -59,6 +71,14 @@ const QUERIES: &[Row<'static>] = &[
         r#"["query","/r",{"fields":["oclock","cclock","mtime_ms","type","size","new","exists","name"],"since":"c:1:1:2"}]"#,
         r#"{"clock":"c:1:1:3","files":[{"cclock":"c:1:1:3","exists":true,"mtime_ms":0,"name":"b.c","new":true,"oclock":"c:1:1:3","size":4,"type":"f"}],"is_fresh_instance":false,"version":"w1"}"#,
     ),
+];
+
+fn fields() -> &'static [Row<'static>] {
+    FIELDS
+}
+
+/// Fresh answers without files, and then changes.
+const CHANGES: &[Row<'static>] = &[
     // A fresh answer without files; one that isn't fresh has them.
     (
         r#"["query","/r",{"empty_on_fresh_instance":true}]"#,
@@ -86,6 +106,10 @@ const QUERIES: &[Row<'static>] = &[
         r#"{"clock":"c:1:1:4","files":["a.c"],"is_fresh_instance":true,"version":"w1"}"#,
     ),
 ];
+
+fn changes() -> &'static [Row<'static>] {
+    CHANGES
+}
 
 /// A cursor begins fresh and moves with each answer by it, and with nothing else.
 const CURSORS: &[Row<'static>] = &[
@@ -148,6 +172,10 @@ const CURSORS: &[Row<'static>] = &[
     ),
 ];
 
+fn cursors() -> &'static [Row<'static>] {
+    CURSORS
+}
+
 /// A size that grew small: the answer leaves the file out, since the test reads more than paths.
 const SIZES: &[Row<'static>] = &[
     (r#"["watch","/r"]"#, r#"{"version":"w1","watch":"/r"}"#),
@@ -173,13 +201,12 @@ const SIZES: &[Row<'static>] = &[
     ),
 ];
 
-const SESSIONS: &[Told<'static>] = &[
-    ("queries", &[], &[TWO_FILES, QUERIES], ACCEPTED),
-    ("cursors", &[], &[TWO_FILES, CURSORS], ACCEPTED),
-    ("sizes", &[], &[SIZES], ACCEPTED),
-];
-
 #[test]
 fn answers_queries(rt: HostRuntime) {
-    assert_sessions(&rt, rt.alloc(), SESSIONS);
+    let alloc = rt.alloc();
+    let asked = [two_files(), queries(), fields(), changes()];
+    assert_session(&rt, alloc, &[], &asked, ACCEPTED, "queries");
+    let moved = [two_files(), cursors()];
+    assert_session(&rt, alloc, &[], &moved, ACCEPTED, "cursors");
+    assert_session(&rt, alloc, &[], &[SIZES], ACCEPTED, "sizes");
 }

@@ -1,6 +1,6 @@
 //! Sessions with recrawls and age-outs, with their lines and replies written out.
-use super::queries::TWO_FILES;
-use crate::ends::{ACCEPTED, Row, Told, assert_answers, assert_sessions, put_row};
+use super::queries::two_files;
+use crate::ends::{ACCEPTED, Row, assert_answers, assert_session, put_row};
 use std::process::Abort;
 
 /// A file that a whole recrawl doesn't list is deleted; one that changed since the reading began stays.
@@ -41,6 +41,10 @@ const UNLISTED: &[Row<'static>] = &[
     ),
 ];
 
+fn unlisted() -> &'static [Row<'static>] {
+    UNLISTED
+}
+
 /// A reading begins at tick 7, a file comes at tick 8, and isn't listed: it stays.
 const BEGUN_BEFORE: &[Row<'static>] = &[
     (
@@ -73,6 +77,10 @@ const BEGUN_BEFORE: &[Row<'static>] = &[
     ),
 ];
 
+fn begun_before() -> &'static [Row<'static>] {
+    BEGUN_BEFORE
+}
+
 /// A part of a root is listed again, and what was deleted in it is forgotten at once.
 const SUBTREE: &[Row<'static>] = &[
     (r#"["watch","/r"]"#, r#"{"version":"w1","watch":"/r"}"#),
@@ -98,6 +106,10 @@ const SUBTREE: &[Row<'static>] = &[
         r#"{"clock":"c:1:1:2","files":[],"is_fresh_instance":false,"version":"w1"}"#,
     ),
 ];
+
+fn subtree() -> &'static [Row<'static>] {
+    SUBTREE
+}
 
 /// Two deletions, of which only the first is old enough: the floor is its tick. The lines count the moments.
 const AGES: &[Row<'static>] = &[
@@ -156,21 +168,19 @@ const AGES: &[Row<'static>] = &[
     ),
 ];
 
-const SESSIONS: &[Told<'static>] = &[
-    ("unlisted files", &[], &[TWO_FILES, UNLISTED], ACCEPTED),
-    (
-        "an older reading",
-        &[],
-        &[TWO_FILES, BEGUN_BEFORE],
-        ACCEPTED,
-    ),
-    ("a subtree", &[], &[SUBTREE], ACCEPTED),
-    ("ages", &[], &[AGES], ACCEPTED),
-];
+fn ages() -> &'static [Row<'static>] {
+    AGES
+}
 
 #[test]
 fn answers_recrawls_and_age_outs(rt: HostRuntime) {
-    assert_sessions(&rt, rt.alloc(), SESSIONS);
+    let alloc = rt.alloc();
+    let missing = [two_files(), unlisted()];
+    assert_session(&rt, alloc, &[], &missing, ACCEPTED, "unlisted files");
+    let older = [two_files(), begun_before()];
+    assert_session(&rt, alloc, &[], &older, ACCEPTED, "an older reading");
+    assert_session(&rt, alloc, &[], &[subtree()], ACCEPTED, "a subtree");
+    assert_session(&rt, alloc, &[], &[ages()], ACCEPTED, "ages");
 }
 
 /// Lines at their moments: two deletions, at the ticks 5 and 9, of which an age-out forgets the first.
@@ -253,13 +263,18 @@ const MOMENTS: &[(u64, &str, &str)] = &[
     ),
 ];
 
+/// So many lines that only let time pass.
+fn put_idle(rt: &impl Abort, count: u64, input: &mut String, output: &mut String) {
+    for _ in 0..count {
+        put_row(rt, r#"["version"]"#, r#"{"version":"w1"}"#, input, output);
+    }
+}
+
 /// The rows at their moments, with lines between them that only let time pass.
 fn put_timed(rt: &impl Abort, input: &mut String, output: &mut String) {
     let mut moment = 1;
     for (at, line, reply) in MOMENTS {
-        for _ in moment..*at {
-            put_row(rt, r#"["version"]"#, r#"{"version":"w1"}"#, input, output);
-        }
+        put_idle(rt, at.saturating_sub(moment), input, output);
         put_row(rt, line, reply, input, output);
         moment = at.saturating_add(1);
     }
@@ -272,4 +287,6 @@ fn forgets_what_is_old_enough(rt: HostRuntime) {
     let mut output = String::new(alloc);
     put_timed(&rt, &mut input, &mut output);
     assert_answers(&rt, alloc, &input, &output, "moments");
+    drop(input);
+    drop(output);
 }

@@ -85,6 +85,9 @@ fn assert_refused(rt: &impl Abort, alloc: Global, around: Around<'_>, line: &[u8
     let wanted = (0, output.as_str(), "", used);
     let disk = new_file(rt, alloc);
     assert_serves(rt, alloc, disk, &input, wanted, &about);
+    drop(input);
+    drop(output);
+    drop(about);
 }
 
 /// A line that is answered comes after the refused one.

@@ -1,6 +1,6 @@
 //! Sessions with subscriptions, with their lines and all that is told written out.
-use super::queries::TWO_FILES;
-use crate::ends::{ACCEPTED, Row, Told, assert_sessions};
+use super::queries::two_files;
+use crate::ends::{ACCEPTED, Row, assert_session};
 
 /// A subscription is told what changed since its clock, after each reply and until its name is ended.
 const SUBSCRIBED: &[Row<'static>] = &[
@@ -29,6 +29,10 @@ const SUBSCRIBED: &[Row<'static>] = &[
         r#"{"clock":"c:1:1:5","version":"w1"}"#,
     ),
 ];
+
+fn subscribed() -> &'static [Row<'static>] {
+    SUBSCRIBED
+}
 
 /// The first answer is told even where it lists no file, and so is a fresh one; another without files isn't.
 const FRESH: &[Row<'static>] = &[
@@ -64,6 +68,10 @@ const FRESH: &[Row<'static>] = &[
     ),
 ];
 
+fn fresh() -> &'static [Row<'static>] {
+    FRESH
+}
+
 /// Several are told in the order of subscribing, and one that is replaced stands last.
 const IN_ORDER: &[Row<'static>] = &[
     (
@@ -95,6 +103,10 @@ const IN_ORDER: &[Row<'static>] = &[
     ),
 ];
 
+fn in_order() -> &'static [Row<'static>] {
+    IN_ORDER
+}
+
 /// A cursor stands for its clock at the line of the subscription, and one that isn't there for none; neither moves.
 const BY_CURSOR: &[Row<'static>] = &[
     (
@@ -124,6 +136,10 @@ const BY_CURSOR: &[Row<'static>] = &[
         r#"{"clock":"c:1:1:4","files":["e.c","b.c","a.c"],"is_fresh_instance":true,"version":"w1"}"#,
     ),
 ];
+
+fn by_cursor() -> &'static [Row<'static>] {
+    BY_CURSOR
+}
 
 /// Each root has its own, under one name too; those of a root end with its watch, and no line tells it.
 const OF_TWO_ROOTS: &[Row<'static>] = &[
@@ -176,6 +192,10 @@ const OF_TWO_ROOTS: &[Row<'static>] = &[
     ),
 ];
 
+fn of_two_roots() -> &'static [Row<'static>] {
+    OF_TWO_ROOTS
+}
+
 /// A root that isn't watched, or isn't ready.
 const REFUSED: &[Row<'static>] = &[
     (
@@ -207,63 +227,61 @@ const LATER: &[Row<'static>] = &[(
     r#"{"clock":"c:2:1:1","version":"w1"}"#,
 )];
 
-const ONE: &[Told<'static>] = &[
-    (
-        "what changed is told",
-        &[],
-        &[TWO_FILES, SUBSCRIBED],
-        ACCEPTED,
-    ),
-    ("a fresh answer is told", &[], &[TWO_FILES, FRESH], ACCEPTED),
-];
-
 #[test]
 fn tells_a_subscription(rt: HostRuntime) {
-    assert_sessions(&rt, rt.alloc(), ONE);
+    let alloc = rt.alloc();
+    let told = [two_files(), subscribed()];
+    assert_session(&rt, alloc, &[], &told, ACCEPTED, "what changed is told");
+    let afresh = [two_files(), fresh()];
+    assert_session(&rt, alloc, &[], &afresh, ACCEPTED, "a fresh answer is told");
 }
-
-const SEVERAL: &[Told<'static>] = &[
-    (
-        "several are told in order",
-        &[],
-        &[TWO_FILES, IN_ORDER],
-        ACCEPTED,
-    ),
-    (
-        "a cursor stands for its clock",
-        &[],
-        &[TWO_FILES, BY_CURSOR],
-        ACCEPTED,
-    ),
-];
 
 #[test]
 fn tells_several_subscriptions(rt: HostRuntime) {
-    assert_sessions(&rt, rt.alloc(), SEVERAL);
+    let alloc = rt.alloc();
+    let ordered = [two_files(), in_order()];
+    assert_session(
+        &rt,
+        alloc,
+        &[],
+        &ordered,
+        ACCEPTED,
+        "several are told in order",
+    );
+    let moved = [two_files(), by_cursor()];
+    assert_session(
+        &rt,
+        alloc,
+        &[],
+        &moved,
+        ACCEPTED,
+        "a cursor stands for its clock",
+    );
 }
 
-const ENDED: &[Told<'static>] = &[
-    (
-        "each root has its own",
-        &[],
-        &[TWO_FILES, OF_TWO_ROOTS],
-        ACCEPTED,
-    ),
-    (
-        "what can't be subscribed to is refused",
-        &[],
-        &[REFUSED],
-        ACCEPTED,
-    ),
-    (
-        "the next session begins without",
-        &["[\"watch\",\"/r\"]\n[\"listing\",\"/r\",0,\"\",[]]\n[\"subscribe\",\"/r\",\"s\",{}]\n"],
-        &[LATER],
-        ACCEPTED,
-    ),
-];
+/// The lines of the session before the last.
+const EARLIER: &str =
+    "[\"watch\",\"/r\"]\n[\"listing\",\"/r\",0,\"\",[]]\n[\"subscribe\",\"/r\",\"s\",{}]\n";
 
 #[test]
 fn ends_subscriptions(rt: HostRuntime) {
-    assert_sessions(&rt, rt.alloc(), ENDED);
+    let alloc = rt.alloc();
+    let each = [two_files(), of_two_roots()];
+    assert_session(&rt, alloc, &[], &each, ACCEPTED, "each root has its own");
+    assert_session(
+        &rt,
+        alloc,
+        &[],
+        &[REFUSED],
+        ACCEPTED,
+        "what can't be subscribed to is refused",
+    );
+    assert_session(
+        &rt,
+        alloc,
+        &[EARLIER],
+        &[LATER],
+        ACCEPTED,
+        "the next session begins without",
+    );
 }

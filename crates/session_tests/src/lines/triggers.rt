@@ -1,6 +1,6 @@
 //! Sessions with triggers, roots that are watched no longer, and a second start.
 use crate::disks::new_file;
-use crate::ends::{ACCEPTED, Row, Told, assert_serves, assert_sessions};
+use crate::ends::{ACCEPTED, Row, assert_serves, assert_session};
 use std::alloc::Global;
 use std::process::Abort;
 use wm_disk::MemDisk;
@@ -57,6 +57,10 @@ const TRIGGERS: &[Row<'static>] = &[
     ),
 ];
 
+fn triggers() -> &'static [Row<'static>] {
+    TRIGGERS
+}
+
 /// A trigger with an expression, which is kept as compact JSON and shown as JSON.
 const WITH_EXPRESSIONS: &[Row<'static>] = &[
     (r#"["watch","/r"]"#, r#"{"version":"w1","watch":"/r"}"#),
@@ -90,6 +94,10 @@ const WITH_EXPRESSIONS: &[Row<'static>] = &[
         r#"{"triggers":[{"append_files":false,"command":["true"],"expression":["true"],"name":"t","stdin":"/dev/null"}],"version":"w1"}"#,
     ),
 ];
+
+fn with_expressions() -> &'static [Row<'static>] {
+    WITH_EXPRESSIONS
+}
 
 /// A root that is watched again is another root, with a view of its own.
 const WATCHED_AGAIN: &[Row<'static>] = &[
@@ -143,24 +151,39 @@ const SECOND_START: &[Row<'static>] = &[
     (r#"["clock","/r"]"#, r#"{"clock":"c:2:1:1","version":"w1"}"#),
 ];
 
-const SESSIONS: &[Told<'static>] = &[
-    ("triggers", &[], &[TRIGGERS], ACCEPTED),
-    ("expressions", &[], &[WITH_EXPRESSIONS], ACCEPTED),
-    ("watched again", &[], &[WATCHED_AGAIN], ACCEPTED),
-    ("the first unwatched", &[], &[FIRST_UNWATCHED], ACCEPTED),
-    (
-        "a second start",
-        &[
-            "[\"watch\",\"/r\"]\n[\"trigger\",\"/r\",{\"command\":[\"true\"],\"expression\":[\"suffix\",\"c\"],\"name\":\"t\"}]\n",
-        ],
-        &[SECOND_START],
-        ACCEPTED,
-    ),
-];
+/// The lines of the session before a second start.
+const EARLIER: &str =
+    "[\"watch\",\"/r\"]\n[\"trigger\",\"/r\",{\"command\":[\"true\"],\"expression\":[\"suffix\",\"c\"],\"name\":\"t\"}]\n";
 
 #[test]
 fn answers_triggers_and_watches(rt: HostRuntime) {
-    assert_sessions(&rt, rt.alloc(), SESSIONS);
+    let alloc = rt.alloc();
+    assert_session(&rt, alloc, &[], &[triggers()], ACCEPTED, "triggers");
+    assert_session(
+        &rt,
+        alloc,
+        &[],
+        &[with_expressions()],
+        ACCEPTED,
+        "expressions",
+    );
+    assert_session(&rt, alloc, &[], &[WATCHED_AGAIN], ACCEPTED, "watched again");
+    assert_session(
+        &rt,
+        alloc,
+        &[],
+        &[FIRST_UNWATCHED],
+        ACCEPTED,
+        "the first unwatched",
+    );
+    assert_session(
+        &rt,
+        alloc,
+        &[EARLIER],
+        &[SECOND_START],
+        ACCEPTED,
+        "a second start",
+    );
 }
 
 /// A watch, and a trigger that keeps this text of an expression.
@@ -183,7 +206,8 @@ pub(super) fn store_with(rt: &impl Abort, alloc: Global, batch: Vec<Command>) ->
     let Ok(mut store) = Store::open(alloc, new_file(rt, alloc)) else {
         panic!(rt; "the file can't be opened");
     };
-    store.commit_batch(alloc, batch).expect(rt, "a commit");
+    let replies = store.commit_batch(alloc, batch).expect(rt, "a commit");
+    drop(replies);
     store
 }
 
@@ -194,9 +218,11 @@ fn file_of(rt: &impl Abort, alloc: Global, batch: Vec<Command>) -> MemDisk {
     store.into_disk()
 }
 
-/// Texts that a trigger keeps, and how a start with each ends: its status, its replies and what it tells
+/// A text that a trigger keeps, and how a start with it ends: its status, its replies and what it tells
 /// of faults.
-const KEPT: &[(&str, u8, &str, &str)] = &[
+type Kept<'a> = (&'a str, u8, &'a str, &'a str);
+
+const KEPT: &[Kept<'static>] = &[
     ("\"true\"", 0, "{\"version\":\"w1\"}\n", ""),
     (" [ \"true\" ] ", 0, "{\"version\":\"w1\"}\n", ""),
     ("true", 1, "", "watchmand: 14 Damaged\n"),
@@ -205,13 +231,18 @@ const KEPT: &[(&str, u8, &str, &str)] = &[
     ("", 1, "", "watchmand: 14 Damaged\n"),
 ];
 
+/// A start with the text ends so.
+fn assert_met(rt: &impl Abort, alloc: Global, kept: &Kept<'_>) {
+    let (text, status, output, faults) = *kept;
+    let disk = file_of(rt, alloc, commands_keeping(rt, alloc, text));
+    let wanted = (status, output, faults, ACCEPTED);
+    assert_serves(rt, alloc, disk, b"[\"version\"]\n", wanted, text);
+}
+
 /// A start refuses texts that are no expressions, and takes up those that are.
 #[test]
 fn refuses_kept_texts_that_are_no_expressions(rt: HostRuntime) {
-    let alloc = rt.alloc();
-    for (text, status, output, faults) in KEPT {
-        let disk = file_of(&rt, alloc, commands_keeping(&rt, alloc, text));
-        let wanted = (*status, *output, *faults, ACCEPTED);
-        assert_serves(&rt, alloc, disk, b"[\"version\"]\n", wanted, text);
+    for kept in KEPT {
+        assert_met(&rt, rt.alloc(), kept);
     }
 }

@@ -1,6 +1,6 @@
 //! Sessions with listings, observations and questions, with their lines and replies written out.
 use super::triggers::store_with;
-use crate::ends::{Row, Told, WATCHES_R, assert_rows, assert_sessions};
+use crate::ends::{Row, WATCHES_R, assert_rows, assert_session};
 use std::alloc::Global;
 use std::process::Abort;
 use wm_disk::{Crashed, MemDisk};
@@ -64,6 +64,14 @@ const FIRST_SESSION: &[Row<'static>] = &[
         r#"["since","/r","n:"]"#,
         r#"{"error":"7 BadClock","version":"w1"}"#,
     ),
+];
+
+fn first_session() -> &'static [Row<'static>] {
+    FIRST_SESSION
+}
+
+/// A cursor, and files that go and come back.
+const FIRST_CHANGES: &[Row<'static>] = &[
     // A cursor that isn't there yet, and the same again.
     (r#"["since","/r","n:x"]"#, FRESH),
     (
@@ -101,6 +109,10 @@ const FIRST_SESSION: &[Row<'static>] = &[
         r#"{"clock":"c:1:1:7","files":[],"is_fresh_instance":false,"version":"w1"}"#,
     ),
 ];
+
+fn first_changes() -> &'static [Row<'static>] {
+    FIRST_CHANGES
+}
 
 /// The fresh answer while `b.c` and `a.c` exist.
 const FRESH: &str =
@@ -141,19 +153,18 @@ const TWO_ROOTS: &[Row<'static>] = &[
     (r#"["clock","/r"]"#, r#"{"clock":"c:2:1:1","version":"w1"}"#),
 ];
 
-const SESSIONS: &[Told<'static>] = &[
-    ("the first session", &[], &[FIRST_SESSION], WATCHES_R),
-    (
-        "two roots",
-        &["[\"watch\",\"/r\"]\n"],
-        &[TWO_ROOTS],
-        b"\xa5\x00\xa5\x01\x00\x00\x00\x02/r\xa5\x00\xa5\x01\x00\x00\x00\x02/s\x00",
-    ),
-];
+fn two_roots() -> &'static [Row<'static>] {
+    TWO_ROOTS
+}
 
 #[test]
 fn answers_what_is_seen(rt: HostRuntime) {
-    assert_sessions(&rt, rt.alloc(), SESSIONS);
+    let alloc = rt.alloc();
+    let first = [first_session(), first_changes()];
+    assert_session(&rt, alloc, &[], &first, WATCHES_R, "the first session");
+    let earlier = ["[\"watch\",\"/r\"]\n"];
+    let used = b"\xa5\x00\xa5\x01\x00\x00\x00\x02/r\xa5\x00\xa5\x01\x00\x00\x00\x02/s\x00";
+    assert_session(&rt, alloc, &earlier, &[two_roots()], used, "two roots");
 }
 
 /// The file that a killed process leaves, which had watched a root and wasn't closed.

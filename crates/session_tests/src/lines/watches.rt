@@ -1,5 +1,6 @@
 //! Sessions that watch roots, with their lines, replies and the commands in their files written out byte
 //! by byte.
+use crate::checks::check;
 use crate::disks::{content_of, file_after, journal, new_file};
 use crate::ends::{BEGUN, WATCHES_R, assert_ends, end_of};
 use std::alloc::Global;
@@ -64,6 +65,7 @@ fn assert_served<R: BufRead>(
     let (earlier, input, output, used) = *sessions;
     let end = end_of(rt, alloc, file_after(rt, alloc, earlier), reader);
     assert_ends(rt, &end, (0, output, "", used), input);
+    drop(end);
 }
 
 /// The reader may hand out its bytes in pieces.
@@ -71,6 +73,7 @@ fn assert_served_in_pieces(rt: &impl Abort, alloc: Global, sessions: &Sessions<'
     let input = sessions.1.as_bytes();
     let mut pieces = BufReader::with_capacity(alloc, size, input).expect(rt, "memory");
     assert_served(rt, alloc, sessions, &mut pieces);
+    drop(pieces);
 }
 
 #[test]
@@ -90,7 +93,9 @@ fn answers_a_line(rt: &impl Abort, alloc: Global, session: &mut MemSession) -> b
         .line(alloc, 1, b"[\"watch\",\"/r\"]\n", &mut output)
         .expect(rt, "memory");
     let wanted = b"{\"version\":\"w1\",\"watch\":\"/r\"}\n".as_slice();
-    output.as_slice() == wanted
+    let holds = output.as_slice() == wanted;
+    drop(output);
+    holds
 }
 
 fn answers_a_reader(rt: &impl Abort, alloc: Global, session: &mut MemSession) -> bool {
@@ -101,7 +106,9 @@ fn answers_a_reader(rt: &impl Abort, alloc: Global, session: &mut MemSession) ->
     let faults = run(alloc, session, &mut moments, &mut reader, &mut writer).expect(rt, "a run");
     let wanted =
         b"{\"roots\":[\"/r\"],\"version\":\"w1\"}\n{\"error\":\"1 BadLine\",\"version\":\"w1\"}\n";
-    faults == 0 && output.as_slice() == wanted.as_slice()
+    let holds = faults == 0 && output.as_slice() == wanted.as_slice();
+    drop(output);
+    holds
 }
 
 /// A session over a new file.
@@ -122,13 +129,15 @@ fn closed(rt: &impl Abort, session: MemSession) -> MemDisk {
 /// Whether the disk's journal begins with a start and a watch of `/r`.
 fn watches_r(rt: &impl Abort, alloc: Global, disk: MemDisk) -> bool {
     let content = content_of(rt, alloc, disk);
-    journal(&content, WATCHES_R.len()) == WATCHES_R
+    let watches = journal(&content, WATCHES_R.len()) == WATCHES_R;
+    drop(content);
+    watches
 }
 
 /// Asserts that the session, which has answered no line yet, answers one, and then a reader's lines.
 fn answer_both(rt: &impl Abort, alloc: Global, session: &mut MemSession) {
-    assert!(rt; answers_a_line(rt, alloc, session));
-    assert!(rt; answers_a_reader(rt, alloc, session));
+    check!(rt; answers_a_line(rt, alloc, session));
+    check!(rt; answers_a_reader(rt, alloc, session));
 }
 
 #[test]
@@ -136,5 +145,5 @@ fn answers_by_its_parts(rt: HostRuntime) {
     let alloc = rt.alloc();
     let mut session = begun(&rt, alloc);
     answer_both(&rt, alloc, &mut session);
-    assert!(rt; watches_r(&rt, alloc, closed(&rt, session)));
+    check!(rt; watches_r(&rt, alloc, closed(&rt, session)));
 }

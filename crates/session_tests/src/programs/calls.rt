@@ -1,5 +1,6 @@
 //! Calls of the program over a real file.
 use super::read_only::ReadOnly;
+use crate::checks::check;
 use crate::disks::journal;
 use std::alloc::Global;
 use std::fs;
@@ -80,8 +81,11 @@ fn answers(
     call: &Call<'_>,
 ) -> bool {
     let (words, input, status, output, faults) = *call;
-    let told = called(rt, alloc, files, words, input);
-    told.0 == status && told.1.as_str() == output && told.2.as_str() == faults
+    let (told_status, told_output, told_faults) = called(rt, alloc, files, words, input);
+    let is_told = told_output.as_str() == output && told_faults.as_str() == faults;
+    drop(told_output);
+    drop(told_faults);
+    is_told && told_status == status
 }
 
 /// A start and a watch, and another start.
@@ -89,32 +93,31 @@ const USED: &[u8] = b"\xa5\x00\xa5\x01\x00\x00\x00\x02/r\xa5\x00\x00";
 
 #[test]
 fn calls_the_program(rt: HostRuntime) {
-    let _ = fs::remove_file(&rt, PATH);
+    drop(fs::remove_file(&rt, PATH));
     for call in CALLS {
-        assert!(rt;
-            answers(&rt, rt.alloc(), &rt, call),
-            "{:?} {}",
-            call.0,
-            call.1
-        );
+        check!(rt; answers(&rt, rt.alloc(), &rt, call), (call.0, call.1));
     }
     let content = fs::read(&rt, PATH).expect(&rt, "a file");
     fs::remove_file(&rt, PATH).expect(&rt, "a removal");
-    assert!(rt; journal(&content, USED.len()) == USED);
+    check!(rt; journal(&content, USED.len()) == USED);
+    drop(content);
 }
 
 /// A `format` that fails leaves nothing that it made, and all that was there before.
 #[test]
 fn takes_away_what_it_made(rt: HostRuntime) {
     const MADE: &str = "wm_server_program_unformatted";
-    let _ = fs::remove_file(&rt, MADE);
+    drop(fs::remove_file(&rt, MADE));
+    let files = ReadOnly(&rt);
     let call = (["format", MADE].as_slice(), "", 1, "", DEVICE_FAILED);
-    assert!(rt; answers(&rt, rt.alloc(), &ReadOnly(&rt), &call));
-    assert!(rt; fs::metadata(&rt, MADE).is_err());
+    check!(rt; answers(&rt, rt.alloc(), &files, &call));
+    check!(rt; fs::metadata(&rt, MADE).is_err());
     fs::write(&rt, MADE, b"abc".as_slice()).expect(&rt, "a write");
-    assert!(rt; answers(&rt, rt.alloc(), &ReadOnly(&rt), &call));
+    check!(rt; answers(&rt, rt.alloc(), &files, &call));
+    drop(files);
     let text = fs::read_to_string(&rt, MADE).expect(&rt, "a text");
-    assert!(rt; text.as_str() == "abc");
+    check!(rt; text.as_str() == "abc");
+    drop(text);
     fs::remove_file(&rt, MADE).expect(&rt, "a removal");
 }
 
@@ -124,11 +127,15 @@ const USAGE: &str = "Usage: watchmand <COMMAND>";
 #[test]
 fn shows_help(rt: HostRuntime) {
     let (status, output, faults) = called(&rt, rt.alloc(), &rt, &["--help"], "");
-    assert!(rt; output.contains(USAGE) && faults.is_empty() && status == 0);
+    check!(rt; output.contains(USAGE) && faults.is_empty() && status == 0);
+    drop(output);
+    drop(faults);
 }
 
 #[test]
 fn tells_a_fault_of_the_words(rt: HostRuntime) {
     let (status, output, faults) = called(&rt, rt.alloc(), &rt, &[], "");
-    assert!(rt; output.is_empty() && faults.contains(USAGE) && status == 2);
+    check!(rt; output.is_empty() && faults.contains(USAGE) && status == 2);
+    drop(output);
+    drop(faults);
 }

@@ -3,6 +3,7 @@ ghost use Rattle.std.specs.Prelude.{◌≡◌, ◌+◌, ◌≤◌, length, OnOk,
 ghost use Rattle.wm_disk.specs.Contents.{Rose};
 
 use super::read_only::ReadOnly;
+use crate::checks::check;
 use std::fs;
 use std::fs::{File, Files};
 use std::process::Abort;
@@ -51,17 +52,20 @@ fn gives_back<R: Files<File = File> + AllocGlobal + Abort>(
     let mut back = [0; 3];
     let found = write_back(disk, at, bytes, &mut back).expect(rt, "a length");
     let whole = fs::read_to_string(rt, path).expect(rt, "a text");
-    found == len && back == *bytes && whole.as_str() == text
+    let is_text = whole.as_str() == text;
+    drop(whole);
+    found == len && back == *bytes && is_text
 }
 
 #[test]
 fn gives_back_what_was_written(rt: HostRuntime) {
     const PATH: &str = "wm_server_file_written";
-    let _ = fs::remove_file(&rt, PATH);
+    drop(fs::remove_file(&rt, PATH));
     let mut disk = FileDisk::<Unknown>::create(&rt, PATH).expect(&rt, "a disk");
     for write in WRITES {
-        assert!(rt; gives_back(&rt, PATH, &mut disk, write), "at {}", write.0);
+        check!(rt; gives_back(&rt, PATH, &mut disk, write), write.0);
     }
+    drop(disk);
     fs::remove_file(&rt, PATH).expect(&rt, "a removal");
 }
 
@@ -82,14 +86,15 @@ fn fails_twice<D: Disk>(disk: &mut D, back: &mut [u8]) -> Result<u64, DeviceFail
 #[test]
 fn tells_a_read_past_the_end(rt: HostRuntime) {
     const PATH: &str = "wm_server_file_short";
-    let _ = fs::remove_file(&rt, PATH);
+    drop(fs::remove_file(&rt, PATH));
     let mut disk = FileDisk::<Unknown>::create(&rt, PATH).expect(&rt, "a disk");
     let mut back = [0; 4];
     write_back(&mut disk, 0, b"abcd", &mut back).expect(&rt, "a length");
     // Another writer cuts the file.
     fs::write(&rt, PATH, b"ab".as_slice()).expect(&rt, "a write");
     let len = fails_twice(&mut disk, &mut back).expect(&rt, "a length");
-    assert!(rt; len == 2);
+    drop(disk);
+    check!(rt; len == 2);
     fs::remove_file(&rt, PATH).expect(&rt, "a removal");
 }
 
@@ -108,10 +113,14 @@ fn tells_a_write_that_the_system_refuses(rt: HostRuntime) {
     const PATH: &str = "wm_server_file_refused";
     fs::write(&rt, PATH, b"abc".as_slice()).expect(&rt, "a write");
     // The system gives this handle no right to write.
-    let mut disk = FileDisk::<Unknown>::open(&ReadOnly(&rt), PATH).expect(&rt, "a disk");
-    assert!(rt; fails_to_write(&mut disk, b"XYZ"));
+    let files = ReadOnly(&rt);
+    let mut disk = FileDisk::<Unknown>::open(&files, PATH).expect(&rt, "a disk");
+    drop(files);
+    check!(rt; fails_to_write(&mut disk, b"XYZ"));
+    drop(disk);
     let text = fs::read_to_string(&rt, PATH).expect(&rt, "a text");
-    assert!(rt; text.as_str() == "abc");
+    check!(rt; text.as_str() == "abc");
+    drop(text);
     fs::remove_file(&rt, PATH).expect(&rt, "a removal");
 }
 
@@ -130,26 +139,32 @@ const PLACES: &[(&str, bool, bool)] = &[
 ];
 
 fn opens<R: Files<File = File>>(rt: &R, path: &str) -> bool {
-    FileDisk::<Unknown>::open(rt, path).is_ok()
+    let opened = FileDisk::<Unknown>::open(rt, path);
+    let is_opened = opened.is_ok();
+    drop(opened);
+    is_opened
 }
 
 fn makes<R: Files<File = File>>(rt: &R, path: &str) -> bool {
-    FileDisk::<Unknown>::create(rt, path).is_ok()
+    let made = FileDisk::<Unknown>::create(rt, path);
+    let is_made = made.is_ok();
+    drop(made);
+    is_made
 }
 
 #[test]
 fn opens_regular_files_alone(rt: HostRuntime) {
-    let _ = fs::remove_file(&rt, THERE);
-    let _ = fs::remove_dir(&rt, FOLDER);
+    drop(fs::remove_file(&rt, THERE));
+    drop(fs::remove_dir(&rt, FOLDER));
     fs::write(&rt, THERE, b"abc".as_slice()).expect(&rt, "a write");
     fs::create_dir(&rt, FOLDER).expect(&rt, "a folder");
     for (path, is_opened, is_made) in PLACES {
         let is_met = opens(&rt, path) == *is_opened && makes(&rt, path) == *is_made;
-        assert!(rt; is_met, "at {path}");
+        check!(rt; is_met, path);
     }
-    assert!(rt; !opens(&rt, "wm_server_file_missing"));
+    check!(rt; !opens(&rt, "wm_server_file_missing"));
     let mut disk = FileDisk::<Unknown>::open(&rt, THERE).expect(&rt, "a disk");
-    assert!(rt; disk.len().expect(&rt, "a length") == 3);
+    check!(rt; disk.len().expect(&rt, "a length") == 3);
     drop(disk);
     fs::remove_file(&rt, THERE).expect(&rt, "a removal");
     fs::remove_dir(&rt, FOLDER).expect(&rt, "a removal");

@@ -1,4 +1,5 @@
 //! A state file has one owner at a time.
+use crate::checks::check;
 use std::alloc::Global;
 use std::fs;
 use std::fs::{File, Files};
@@ -9,7 +10,10 @@ use wm_server::system::Host;
 use wm_server::{Input, Output};
 
 fn opens(files: &impl Files<File = File>, path: &str) -> bool {
-    FileDisk::<Unknown>::open(files, path).is_ok()
+    let opened = FileDisk::<Unknown>::open(files, path);
+    let is_opened = opened.is_ok();
+    drop(opened);
+    is_opened
 }
 
 /// What `lines` on a path ends with and tells of faults.
@@ -39,11 +43,13 @@ fn served(
 
 /// Asserts that a file that another has is neither opened nor served, and keeps its text.
 fn assert_owned<R: Files<File = File> + AllocGlobal + Abort>(rt: &R, path: &str, text: &str) {
-    assert!(rt; !opens(rt, path));
+    check!(rt; !opens(rt, path));
     let (status, faults) = served(rt, rt.alloc(), rt, path);
-    assert!(rt; status == 1 && faults.as_str() == "watchmand: 13 DeviceFailed\n");
+    check!(rt; status == 1 && faults.as_str() == "watchmand: 13 DeviceFailed\n");
+    drop(faults);
     let whole = fs::read_to_string(rt, path).expect(rt, "a text");
-    assert!(rt; whole.as_str() == text);
+    check!(rt; whole.as_str() == text);
+    drop(whole);
 }
 
 #[test]
@@ -53,17 +59,17 @@ fn opens_no_file_that_another_has(rt: HostRuntime) {
     let first = FileDisk::<Unknown>::open(&rt, PATH).expect(&rt, "a disk");
     assert_owned(&rt, PATH, "abc");
     drop(first);
-    assert!(rt; opens(&rt, PATH));
+    check!(rt; opens(&rt, PATH));
     fs::remove_file(&rt, PATH).expect(&rt, "a removal");
 }
 
 #[test]
 fn opens_no_file_that_another_makes(rt: HostRuntime) {
     const PATH: &str = "wm_server_owner_made";
-    let _ = fs::remove_file(&rt, PATH);
+    drop(fs::remove_file(&rt, PATH));
     let first = FileDisk::<Unknown>::create(&rt, PATH).expect(&rt, "a disk");
-    assert!(rt; !opens(&rt, PATH));
+    check!(rt; !opens(&rt, PATH));
     drop(first);
-    assert!(rt; opens(&rt, PATH));
+    check!(rt; opens(&rt, PATH));
     fs::remove_file(&rt, PATH).expect(&rt, "a removal");
 }

@@ -18,8 +18,10 @@ impl<R: Files> Files for ReadOnly<'_, R> {
     type Dir = R::Dir;
 
     fn open_file(&self, how: &OpenOptions, path: &str) -> io::Result<R::File> {
-        let _made = how.open(self.0, path)?;
-        OpenOptions::new().read(true).open(self.0, path)
+        let made = how.open(self.0, path)?;
+        let opened = OpenOptions::new().read(true).open(self.0, path);
+        drop(made);
+        opened
     }
 
     fn open_dir(&self, _path: &str) -> io::Result<R::Dir> {

@@ -1,4 +1,5 @@
 //! What the command-line words ask of `watchmand`.
+use crate::checks::check;
 use std::alloc::{AllocError, Global};
 use std::process::Abort;
 use wm_server::words::Words;
@@ -48,14 +49,17 @@ fn asked(alloc: Global, words: &Words) -> Result<String, AllocError> {
 /// What these words ask for, as the table tells it.
 fn told_of(rt: &impl Abort, alloc: Global, words: &'static [&'static str]) -> String {
     let words = Words::read(alloc, words).expect(rt, "memory");
-    asked(alloc, &words).expect(rt, "memory")
+    let told = asked(alloc, &words).expect(rt, "memory");
+    drop(words);
+    told
 }
 
 #[test]
 fn words_of_the_table(rt: HostRuntime) {
     for (words, wanted) in ASKED {
         let told = told_of(&rt, rt.alloc(), words);
-        assert!(rt; told.as_str() == *wanted, "{words:?}: {told}");
+        check!(rt; told.as_str() == *wanted, (words, told.as_str()));
+        drop(told);
     }
 }
 
@@ -99,6 +103,7 @@ fn text_of(rt: &impl Abort, alloc: Global, words: &'static [&'static str]) -> St
 fn shows_help_and_faults(rt: HostRuntime) {
     for (words, part) in SHOWN {
         let text = text_of(&rt, rt.alloc(), words);
-        assert!(rt; text.contains(*part), "{words:?}: {part}");
+        check!(rt; text.contains(*part), (words, part));
+        drop(text);
     }
 }

@@ -2,7 +2,7 @@
 use super::{ARGUMENTS, CLOCK, PATH};
 use crate::ends::Row;
 
-pub(super) const ROWS: &[Row<'static>] = &[
+const ROWS: &[Row<'static>] = &[
     (r#"["age-out","/r",0]"#, "age-out /r 0"),
     (
         r#"["age-out","/r",9223372036854775807]"#,
@@ -23,6 +23,13 @@ pub(super) const ROWS: &[Row<'static>] = &[
     (r#"["clock","/r",1]"#, ARGUMENTS),
     (r#"["clock","r",1]"#, ARGUMENTS),
     (r#"["clock","r"]"#, PATH),
+];
+
+pub(super) fn rows() -> &'static [Row<'static>] {
+    ROWS
+}
+
+const SINCE: &[Row<'static>] = &[
     (
         r#"["since","/r","c:7:2:105"]"#,
         "query /r 7 2 105 exists name new size",
@@ -59,3 +66,7 @@ pub(super) const ROWS: &[Row<'static>] = &[
     (r#"["since","/r","1:1:1"]"#, CLOCK),
     (r#"["since","/r","C:1:1:1"]"#, CLOCK),
 ];
+
+pub(super) fn since() -> &'static [Row<'static>] {
+    SINCE
+}

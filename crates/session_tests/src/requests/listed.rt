@@ -2,7 +2,7 @@
 use super::{ARGUMENTS, PATH};
 use crate::ends::Row;
 
-pub(super) const ROWS: &[Row<'static>] = &[
+const ROWS: &[Row<'static>] = &[
     (r#"["listing","/r",0,"",[]]"#, "listing /r 0 whole"),
     (
         r#"["listing","/r",9223372036854775807,"",[["b",{"type":"f","size":1,"mtime_ms":2}],["a/b",{"type":"d","size":3,"mtime_ms":4}]]]"#,
@@ -40,6 +40,13 @@ pub(super) const ROWS: &[Row<'static>] = &[
         r#"["listing","/r",0,"a",[["b",{"type":"f","size":1,"mtime_ms":2}],["b",{"type":"f","size":1,"mtime_ms":2}]]]"#,
         ARGUMENTS,
     ),
+];
+
+pub(super) fn rows() -> &'static [Row<'static>] {
+    ROWS
+}
+
+const BAD_PATHS: &[Row<'static>] = &[
     (r#"["listing","r",0,"",[]]"#, PATH),
     (r#"["listing","/r",0,"/",[]]"#, PATH),
     (r#"["listing","/r",0,"a/",[]]"#, PATH),
@@ -74,3 +81,7 @@ pub(super) const ROWS: &[Row<'static>] = &[
         ARGUMENTS,
     ),
 ];
+
+pub(super) fn bad_paths() -> &'static [Row<'static>] {
+    BAD_PATHS
+}

@@ -2,7 +2,7 @@
 use super::{ARGUMENTS, PATH};
 use crate::ends::Row;
 
-pub(super) const ROWS: &[Row<'static>] = &[
+const ROWS: &[Row<'static>] = &[
     (r#"["observe","/r",[]]"#, "observe /r"),
     (
         r#"["observe","/r",[["a",{"type":"f","size":5,"mtime_ms":7}],["b/c",null]]]"#,
@@ -37,6 +37,13 @@ pub(super) const ROWS: &[Row<'static>] = &[
     (r#"["observe","/r",[["a",1]]]"#, ARGUMENTS),
     (r#"["observe","/r",[["a",false]]]"#, ARGUMENTS),
     (r#"["observe","/r",[["a",{}]]]"#, ARGUMENTS),
+];
+
+pub(super) fn rows() -> &'static [Row<'static>] {
+    ROWS
+}
+
+const BAD_PAIRS: &[Row<'static>] = &[
     (
         r#"["observe","/r",[["a",{"type":"f","size":1}]]]"#,
         ARGUMENTS,
@@ -95,3 +102,7 @@ pub(super) const ROWS: &[Row<'static>] = &[
     (r#"["observe","/r",[["a/../b",null]]]"#, PATH),
     (r#"["observe","r",[["/a",null],["b",1]]]"#, ARGUMENTS),
 ];
+
+pub(super) fn bad_pairs() -> &'static [Row<'static>] {
+    BAD_PAIRS
+}

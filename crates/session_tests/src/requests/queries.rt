@@ -2,7 +2,7 @@
 use super::{ARGUMENTS, CLOCK, EXPRESSION, FIELD, PATH};
 use crate::ends::Row;
 
-pub(super) const ROWS: &[Row<'static>] = &[
+const ROWS: &[Row<'static>] = &[
     (r#"["query","/r",{}]"#, "query /r exists name new size"),
     (
         r#"["query","/r",{"since":"c:1:2:3"}]"#,
@@ -33,6 +33,13 @@ pub(super) const ROWS: &[Row<'static>] = &[
         r#"["query","/r",{"fields":["mode"],"fields":["type"]}]"#,
         "query /r type",
     ),
+];
+
+pub(super) fn rows() -> &'static [Row<'static>] {
+    ROWS
+}
+
+const REFUSED: &[Row<'static>] = &[
     (r#"["query"]"#, ARGUMENTS),
     (r#"["query","/r"]"#, ARGUMENTS),
     (r#"["query","/r",{},1]"#, ARGUMENTS),
@@ -99,3 +106,7 @@ pub(super) const ROWS: &[Row<'static>] = &[
         "query /r @nnnnnnnnnnnnnnnnnnnnnnnnnnnnnnnnnnnnnnnnnnnnnnnnnnnnnnnnnnnnnnnn new",
     ),
 ];
+
+pub(super) fn refused() -> &'static [Row<'static>] {
+    REFUSED
+}

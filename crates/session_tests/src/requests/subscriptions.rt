@@ -2,7 +2,7 @@
 use super::{ARGUMENTS, CLOCK, EXPRESSION, FIELD, PATH};
 use crate::ends::Row;
 
-pub(super) const ROWS: &[Row<'static>] = &[
+const ROWS: &[Row<'static>] = &[
     (
         r#"["subscribe","/r","s",{}]"#,
         "subscribe /r s exists name new size",
@@ -40,6 +40,13 @@ pub(super) const ROWS: &[Row<'static>] = &[
         ARGUMENTS,
     ),
     (r#"["subscribe","/r","s",{"sync_timeout":-1}]"#, ARGUMENTS),
+];
+
+pub(super) fn rows() -> &'static [Row<'static>] {
+    ROWS
+}
+
+const IN_ORDER: &[Row<'static>] = &[
     // bad arguments come before a bad path, and that before a bad clock, expression and field
     (r#"["subscribe","r","",{}]"#, ARGUMENTS),
     (r#"["subscribe","r","s",{"fields":1}]"#, ARGUMENTS),
@@ -75,3 +82,7 @@ pub(super) const ROWS: &[Row<'static>] = &[
     (r#"["unsubscribe","r",""]"#, ARGUMENTS),
     (r#"["unsubscribe","r","s"]"#, PATH),
 ];
+
+pub(super) fn in_order() -> &'static [Row<'static>] {
+    IN_ORDER
+}

@@ -4,7 +4,7 @@ use crate::ends::Row;
 
 const TRIGGER: &str = "10 BadTrigger";
 
-pub(super) const ENDED: &[Row<'static>] = &[
+const ENDED: &[Row<'static>] = &[
     (r#"["watch-del","/r"]"#, "watch-del /r"),
     (r#"["watch-del"]"#, ARGUMENTS),
     (r#"["watch-del","/r",1]"#, ARGUMENTS),
@@ -22,7 +22,11 @@ pub(super) const ENDED: &[Row<'static>] = &[
     (r#"["trigger-del","/r",""]"#, TRIGGER),
 ];
 
-pub(super) const DEFINED: &[Row<'static>] = &[
+pub(super) fn ended() -> &'static [Row<'static>] {
+    ENDED
+}
+
+const DEFINED: &[Row<'static>] = &[
     (
         r#"["trigger","/r",{"command":["true"],"name":"t"}]"#,
         "trigger /r t true",
@@ -43,6 +47,13 @@ pub(super) const DEFINED: &[Row<'static>] = &[
         r#"["trigger","/r",{"command":["a","a","a","a","a","a","a","a","a","a","a","a","a","a","a","a"],"name":"t"}]"#,
         "trigger /r t a|a|a|a|a|a|a|a|a|a|a|a|a|a|a|a",
     ),
+];
+
+pub(super) fn defined() -> &'static [Row<'static>] {
+    DEFINED
+}
+
+const REFUSED: &[Row<'static>] = &[
     (r#"["trigger"]"#, ARGUMENTS),
     (r#"["trigger","/r"]"#, ARGUMENTS),
     (r#"["trigger","/r",[]]"#, ARGUMENTS),
@@ -81,6 +92,13 @@ pub(super) const DEFINED: &[Row<'static>] = &[
         r#"["trigger","/r",{"command":["true"],"name":"t","expression":"true","chdir":"/r"}]"#,
         TRIGGER,
     ),
+];
+
+pub(super) fn refused() -> &'static [Row<'static>] {
+    REFUSED
+}
+
+const BAD_TRIGGERS: &[Row<'static>] = &[
     (r#"["trigger","/r",{}]"#, TRIGGER),
     (r#"["trigger","/r",{"command":["true"]}]"#, TRIGGER),
     (r#"["trigger","/r",{"name":"t"}]"#, TRIGGER),
@@ -129,3 +147,7 @@ pub(super) const DEFINED: &[Row<'static>] = &[
     ),
     (r#"["trigger","/r",{"command":"true","name":"t"}]"#, TRIGGER),
 ];
+
+pub(super) fn bad_triggers() -> &'static [Row<'static>] {
+    BAD_TRIGGERS
+}

@@ -1,5 +1,6 @@
 //! The worked rows: a batch that fails at its second sync, and then a stop or a crash.
 use super::{driven, found, is_shown, put, root, show, shown_after, watch, watch_all};
+use crate::checks::check;
 use std::alloc::Global;
 use std::process::Abort;
 use wm_disk::MemDisk;
@@ -29,15 +30,23 @@ fn holds_what_was_received(rt: HostRuntime) {
     let mut events = Vec::new(alloc);
     put_first(&rt, alloc, &mut events);
     let world = driven(alloc, MemDisk::new(alloc, 0), events).expect(&rt, "a world");
-    assert!(rt; is_received(&rt, alloc, &world));
+    check!(rt; is_received(&rt, alloc, &world));
+    drop(world);
+}
+
+fn put_end(rt: &impl Abort, is_crash: bool, events: &mut Vec<Event>) {
+    if is_crash {
+        put(rt, Event::Crash, events);
+    } else {
+        put(rt, Event::Stop, events);
+    }
 }
 
 /// A batch that fails at its second sync, a crash or a stop, and a start.
 fn put_restart(rt: &impl Abort, alloc: Global, is_crash: bool, events: &mut Vec<Event>) {
-    let end = if is_crash { Event::Crash } else { Event::Stop };
     put(rt, Event::Arm(3), events);
     put(rt, watch(rt, alloc, "/s"), events);
-    put(rt, end, events);
+    put_end(rt, is_crash, events);
     put(rt, Event::Open, events);
     put(rt, found(rt, alloc, 2, 0, &["b.c"]), events);
     put(rt, Event::Ask(0), events);
@@ -55,13 +64,25 @@ fn restarted(rt: &impl Abort, alloc: Global, is_crash: bool) -> String {
 #[test]
 fn finds_a_cut_batch_after_a_stop(rt: HostRuntime) {
     let text = restarted(&rt, rt.alloc(), false);
-    assert!(rt; text.as_str() == "2 /r /s; b.c at c:2:1:1");
+    check!(rt; text.as_str() == "2 /r /s; b.c at c:2:1:1");
+    drop(text);
 }
 
 #[test]
 fn finds_a_prefix_after_a_crash(rt: HostRuntime) {
     let text = restarted(&rt, rt.alloc(), true);
-    assert!(rt; text.as_str() == "2 /r; b.c at c:2:1:1");
+    check!(rt; text.as_str() == "2 /r; b.c at c:2:1:1");
+    drop(text);
+}
+
+/// The event that a plan lets fail.
+fn put_failing(rt: &impl Abort, alloc: Global, place: usize, events: &mut Vec<Event>) {
+    match place {
+        0 | 1 => put(rt, Event::Open, events),
+        2 => put(rt, Event::Crash, events),
+        3 => put(rt, Event::Stop, events),
+        _ => put(rt, watch(rt, alloc, "/r"), events),
+    }
 }
 
 /// Plans of failures, and what ends them: one call fails, or none.
@@ -71,13 +92,7 @@ fn put_planned(rt: &impl Abort, alloc: Global, place: usize, events: &mut Vec<Ev
     }
     let passing = if place == 5 { 9 } else { 0 };
     put(rt, Event::Arm(passing), events);
-    let failing = match place {
-        0 | 1 => Event::Open,
-        2 => Event::Crash,
-        3 => Event::Stop,
-        _ => watch(rt, alloc, "/r"),
-    };
-    put(rt, failing, events);
+    put_failing(rt, alloc, place, events);
     if place == 1 {
         put(rt, Event::Crash, events);
     }
@@ -96,7 +111,8 @@ fn plans_failures(rt: HostRuntime) {
         let mut events = Vec::new(alloc);
         put_planned(&rt, alloc, place, &mut events);
         let text = shown_after(&rt, alloc, 0, events);
-        assert!(rt; text.as_str() == *wanted, "{place}: {text}");
+        check!(rt; text.as_str() == *wanted, (place, text.as_str()));
+        drop(text);
     }
 }
 
@@ -116,7 +132,9 @@ fn after_cut_batch(rt: &impl Abort, alloc: Global, passing: u64) -> (String, usi
     let mut text = String::new(alloc);
     let world = driven(alloc, MemDisk::new(alloc, 0), events).expect(rt, "a world");
     show(rt, alloc, &world, &mut text);
-    (text, world.replies().len())
+    let answered = world.replies().len();
+    drop(world);
+    (text, answered)
 }
 
 /// What the start finds, and how many commands were answered, by the number of calls: a write and a sync, a gate for each
@@ -135,7 +153,8 @@ const CUT: &[(&str, usize)] = &[
 fn finds_what_the_gates_let_in(rt: HostRuntime) {
     for (passing, (wanted, answered)) in CUT.iter().enumerate() {
         let (text, replies) = after_cut_batch(&rt, rt.alloc(), passing as u64);
-        assert!(rt; text.as_str() == *wanted, "{passing}: {text}");
-        assert!(rt; replies == *answered, "{passing}");
+        check!(rt; text.as_str() == *wanted, (passing, text.as_str()));
+        drop(text);
+        check!(rt; replies == *answered, passing);
     }
 }

@@ -1,5 +1,6 @@
 //! Every prefix of a list of events of every kind, under choices of what a crash leaves.
 use super::{found, put, root, seen, shown_after, watch};
+use crate::checks::check;
 use std::alloc::Global;
 use std::process::Abort;
 use wm_expr::Expr;
@@ -92,8 +93,10 @@ fn stands_after_each_event(rt: HostRuntime) {
     for (choice, watches) in FOUND {
         for (count, after) in AFTER.iter().enumerate() {
             let text = swept(&rt, alloc, *choice, count);
-            let is_wanted = text == wanted(&rt, alloc, *after, watches);
-            assert!(rt; is_wanted, "{choice}: {count}: {text}");
+            let expected = wanted(&rt, alloc, *after, watches);
+            check!(rt; text == expected, (choice, count, text.as_str()));
+            drop(text);
+            drop(expected);
         }
     }
 }

@@ -1,5 +1,6 @@
 //! The cursors of a root.
 use super::{clock, clock_at, rendered_by};
+use crate::checks::check;
 use crate::making::{Observed, observe, observed};
 use std::alloc::Global;
 use std::process::Abort;
@@ -19,13 +20,18 @@ fn moves_to(
     let has_room = cursors.has_room(&name);
     if has_room {
         cursors.moved(name, clock);
+    } else {
+        drop(name);
     }
     has_room
 }
 
 /// The clock at which a cursor stands.
 fn clock_of(rt: &impl Abort, alloc: Global, cursors: &Cursors, name: &str) -> Option<ClockId> {
-    cursors.clock(&CursorName::read(alloc, name).expect(rt, "a name"))
+    let name = CursorName::read(alloc, name).expect(rt, "a name");
+    let clock = cursors.clock(&name);
+    drop(name);
+    clock
 }
 
 /// Whether each of these cursors stands at its tick, and is unknown where it has none.
@@ -62,7 +68,7 @@ fn moves_so(rt: &impl Abort, alloc: Global, cursors: &mut Cursors, row: &Move) -
 
 fn assert_moves(rt: &impl Abort, alloc: Global, cursors: &mut Cursors, rows: &[Move]) {
     for row in rows {
-        assert!(rt; moves_so(rt, alloc, cursors, row), "{} {}", row.0, row.1);
+        check!(rt; moves_so(rt, alloc, cursors, row), (row.0, row.1));
     }
 }
 
@@ -78,25 +84,31 @@ const MOVES: &[Move] = &[
 fn moves_cursors(rt: HostRuntime) {
     let mut cursors = Cursors::new(rt.alloc()).expect(&rt, "memory");
     assert_moves(&rt, rt.alloc(), &mut cursors, MOVES);
+    drop(cursors);
 }
 
 /// Whether there are no cursors, and there is room for one.
 fn are_new(rt: &impl Abort, alloc: Global, cursors: &Cursors) -> bool {
     let name = CursorName::read(alloc, "x").expect(rt, "a name");
-    cursors.len() == 0 && cursors.clock(&name).is_none() && cursors.has_room(&name)
+    let are_new = cursors.len() == 0 && cursors.clock(&name).is_none() && cursors.has_room(&name);
+    drop(name);
+    are_new
 }
 
 #[test]
 fn has_no_cursors_at_first(rt: HostRuntime) {
     let cursors = Cursors::new(rt.alloc()).expect(&rt, "memory");
-    assert!(rt; are_new(&rt, rt.alloc(), &cursors));
+    check!(rt; are_new(&rt, rt.alloc(), &cursors));
+    drop(cursors);
 }
 
 /// Whether there is room for a cursor that is named by a number. It is moved to the next tick.
 fn makes(rt: &impl Abort, alloc: Global, cursors: &mut Cursors, number: u16) -> bool {
     let name = format!(in alloc; "{number}").expect(rt, "memory");
     let next = clock(1, 1, u64::from(number) + 1);
-    moves_to(rt, alloc, cursors, &name, next)
+    let is_moved = moves_to(rt, alloc, cursors, &name, next);
+    drop(name);
+    is_moved
 }
 
 /// Makes cursors named by the numbers below 256, and tells the first for which there was no room.
@@ -144,8 +156,10 @@ const CROWDED: &[Move] = &[
 #[test]
 fn has_no_room_for_one_more(rt: HostRuntime) {
     let mut cursors = Cursors::new(rt.alloc()).expect(&rt, "memory");
-    assert_eq!(rt; fill(&rt, rt.alloc(), &mut cursors), None);
+    let refused = fill(&rt, rt.alloc(), &mut cursors);
+    check!(rt; refused.is_none(), refused);
     assert_moves(&rt, rt.alloc(), &mut cursors, CROWDED);
+    drop(cursors);
 }
 
 /// What is answered about every file since a clock.
@@ -170,7 +184,10 @@ fn is_answered(
     let answer = answer_since(rt, alloc, view, clock_of(rt, alloc, cursors, cursor));
     let is_moved = moves_to(rt, alloc, cursors, cursor, answer.clock);
     let told = rendered_by(rt, alloc, &answer, &["name"]);
-    is_moved && answer.fresh == fresh && told.as_str() == names
+    let is_so = is_moved && answer.fresh == fresh && told.as_str() == names;
+    drop(told);
+    drop(answer);
+    is_so
 }
 
 /// A cursor, and what is seen before it is asked; whether the answer is fresh, and its names.
@@ -189,7 +206,7 @@ const ASKED: &[Asked] = &[
 fn assert_answers(rt: &impl Abort, alloc: Global, view: &mut View, cursors: &mut Cursors) {
     for (i, row) in ASKED.iter().enumerate() {
         observe(rt, alloc, view, row.1);
-        assert!(rt; is_answered(rt, alloc, view, cursors, row), "row {i}");
+        check!(rt; is_answered(rt, alloc, view, cursors, row), i);
     }
 }
 
@@ -200,4 +217,6 @@ fn a_cursor_is_fresh_once(rt: HostRuntime) {
     let mut view = observed(&rt, rt.alloc(), &[], TWO);
     let mut cursors = Cursors::new(rt.alloc()).expect(&rt, "memory");
     assert_answers(&rt, rt.alloc(), &mut view, &mut cursors);
+    drop(cursors);
+    drop(view);
 }

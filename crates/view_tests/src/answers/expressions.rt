@@ -1,5 +1,6 @@
 //! Questions and mirrors with expressions.
 use super::{answer_since, ask, clock, names, read, rendered_by};
+use crate::checks::check;
 use crate::making::{Found, Observed, observed, ready_with};
 use std::alloc::Global;
 use std::process::Abort;
@@ -24,18 +25,18 @@ const COUNTS: &[(&str, usize)] = &[
 fn lists_so_many(rt: &impl Abort, alloc: Global, view: &View, text: &str, count: usize) -> bool {
     let answer = answer_since(rt, alloc, view, Some(2), read(rt, alloc, text));
     let is_at_3 = answer.clock == clock(1, 1, 3) && !answer.fresh;
-    is_at_3 && answer.files.as_slice().len() == count
+    let is_so = is_at_3 && answer.files.as_slice().len() == count;
+    drop(answer);
+    is_so
 }
 
 #[test]
 fn a_file_that_fails_the_expression_is_left_out(rt: HostRuntime) {
     let view = observed(&rt, rt.alloc(), &[], SHRUNK);
     for (text, count) in COUNTS {
-        assert!(rt;
-            lists_so_many(&rt, rt.alloc(), &view, text, *count),
-            "{text}"
-        );
+        check!(rt; lists_so_many(&rt, rt.alloc(), &view, text, *count), text);
     }
+    drop(view);
 }
 
 /// Whether an expression reads more than the path, and makes no mirror.
@@ -56,7 +57,10 @@ fn takes(
     files: &str,
 ) -> bool {
     mirror.apply(alloc, answer).expect(rt, "an answer");
-    names(rt, alloc, mirror).as_str() == files
+    let names = names(rt, alloc, mirror);
+    let is_so = names.as_str() == files;
+    drop(names);
+    is_so
 }
 
 /// Whether a mirror with no open question asks a view, and lists these files then.
@@ -70,7 +74,10 @@ fn mirrors(
     match ask(rt, alloc, mirror) {
         Some(query) => {
             let answer = answer(alloc, view, &query).expect(rt, "an answer");
-            takes(rt, alloc, mirror, &answer, files)
+            drop(query);
+            let is_so = takes(rt, alloc, mirror, &answer, files);
+            drop(answer);
+            is_so
         }
         None => false,
     }
@@ -83,13 +90,17 @@ const THREE: Found = &[("a.c", 1), ("b.h", 1), ("x.c", 1)];
 fn mirrors_by(rt: &impl Abort, alloc: Global, text: &str, files: &str) -> bool {
     let root = RootPath::read(alloc, "/r").expect(rt, "a root path");
     let mut mirror = Mirror::new(alloc, root, read(rt, alloc, text)).expect(rt, "a mirror");
-    mirrors(rt, alloc, &mut mirror, &ready_with(rt, alloc, THREE), files)
+    let view = ready_with(rt, alloc, THREE);
+    let is_so = mirrors(rt, alloc, &mut mirror, &view, files);
+    drop(view);
+    drop(mirror);
+    is_so
 }
 
 #[test]
 fn a_mirror_takes_expressions_of_paths_alone(rt: HostRuntime) {
-    assert!(rt; makes_no_mirror(&rt, rt.alloc(), "[\"size\",\"gt\",10]"));
-    assert!(rt; mirrors_by(&rt, rt.alloc(), "[\"suffix\",\"c\"]", "a.c x.c "));
+    check!(rt; makes_no_mirror(&rt, rt.alloc(), "[\"size\",\"gt\",10]"));
+    check!(rt; mirrors_by(&rt, rt.alloc(), "[\"suffix\",\"c\"]", "a.c x.c "));
 }
 
 /// `a.c` is of 3 bytes since tick 2, and `b.c` of 4 since tick 3.
@@ -126,13 +137,18 @@ fn is_answered(rt: &impl Abort, alloc: Global, view: &View, row: &Row) -> bool {
     let (since, text, fields, files) = *row;
     let answer = answer_since(rt, alloc, view, since, read(rt, alloc, text));
     let is_at_3 = answer.clock == clock(1, 1, 3) && answer.fresh == since.is_none();
-    is_at_3 && rendered_by(rt, alloc, &answer, fields).as_str() == files
+    let text = rendered_by(rt, alloc, &answer, fields);
+    drop(answer);
+    let is_so = is_at_3 && text.as_str() == files;
+    drop(text);
+    is_so
 }
 
 #[test]
 fn tells_the_chosen_fields_of_what_passes(rt: HostRuntime) {
     let view = observed(&rt, rt.alloc(), &[], GROWN);
     for row in QUESTIONS {
-        assert!(rt; is_answered(&rt, rt.alloc(), &view, row), "{}", row.3);
+        check!(rt; is_answered(&rt, rt.alloc(), &view, row), row.3);
     }
+    drop(view);
 }

@@ -1,5 +1,6 @@
 //! What a mirror makes of answers that are made by hand.
 use super::{Smaller, ask, clock, clock_at, names};
+use crate::checks::check;
 use crate::making::file;
 use std::alloc::Global;
 use std::process::Abort;
@@ -67,7 +68,9 @@ fn takes(rt: &impl Abort, alloc: Global, mirror: &mut Mirror<Every>, turn: &Turn
         }
         Turn::Gets(told, wanted) => {
             let answer = made(rt, alloc, *told);
-            mirror.apply(alloc, &answer) == *wanted
+            let is_so = mirror.apply(alloc, &answer) == *wanted;
+            drop(answer);
+            is_so
         }
     }
 }
@@ -79,7 +82,10 @@ type Shown = (Option<u64>, bool, &'static str);
 fn shows(rt: &impl Abort, alloc: Global, mirror: &Mirror<Every>, shown: &Shown) -> bool {
     let (tick, open, files) = *shown;
     let is_at = mirror.root().as_str() == "/r" && mirror.clock() == clock_at(tick);
-    is_at && mirror.open() == open && names(rt, alloc, mirror).as_str() == files
+    let names = names(rt, alloc, mirror);
+    let is_so = is_at && mirror.open() == open && names.as_str() == files;
+    drop(names);
+    is_so
 }
 
 // A fresh answer is taken as it is, whatever it tells.
@@ -121,7 +127,7 @@ fn goes_so(
 
 fn assert_turns(rt: &impl Abort, alloc: Global, mirror: &mut Mirror<Every>) {
     for (i, (turn, shown)) in TURNS.iter().enumerate() {
-        assert!(rt; goes_so(rt, alloc, mirror, turn, shown), "turn {i}");
+        check!(rt; goes_so(rt, alloc, mirror, turn, shown), i);
     }
 }
 
@@ -129,13 +135,14 @@ fn assert_turns(rt: &impl Abort, alloc: Global, mirror: &mut Mirror<Every>) {
 fn mirrors_answers(rt: HostRuntime) {
     let root = RootPath::read(rt.alloc(), "/r").expect(&rt, "a root path");
     let mut mirror = Mirror::new(rt.alloc(), root, Every).expect(&rt, "a mirror");
-    assert!(rt; shows(&rt, rt.alloc(), &mirror, &NEW), "new");
+    check!(rt; shows(&rt, rt.alloc(), &mirror, &NEW));
     assert_turns(&rt, rt.alloc(), &mut mirror);
+    drop(mirror);
 }
 
 #[test]
 fn refuses_tests_of_more_than_the_path(rt: HostRuntime) {
     let root = RootPath::read(rt.alloc(), "/r").expect(&rt, "a root path");
     let refused = Mirror::new(rt.alloc(), root, Smaller { size: 5 }).err();
-    assert!(rt; refused == Some(Refusal::BadExpression));
+    check!(rt; refused == Some(Refusal::BadExpression));
 }

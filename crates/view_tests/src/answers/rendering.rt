@@ -1,5 +1,6 @@
 //! Answers as JSON, field by field.
 use super::{answer_since, clock, rendered_by};
+use crate::checks::check;
 use crate::making::{Observed, observed};
 use std::alloc::Global;
 use std::process::Abort;
@@ -87,13 +88,17 @@ const RENDERED: &[Row] = &[
 fn renders_so(rt: &impl Abort, alloc: Global, row: &Row) -> bool {
     let (kinds, names, wanted) = *row;
     let answer = told(rt, alloc, kinds);
-    rendered_by(rt, alloc, &answer, names).as_str() == wanted
+    let text = rendered_by(rt, alloc, &answer, names);
+    drop(answer);
+    let is_so = text.as_str() == wanted;
+    drop(text);
+    is_so
 }
 
 #[test]
 fn renders_fields_of_files(rt: HostRuntime) {
     for (i, row) in RENDERED.iter().enumerate() {
-        assert!(rt; renders_so(&rt, rt.alloc(), row), "row {i}");
+        check!(rt; renders_so(&rt, rt.alloc(), row), i);
     }
 }
 
@@ -104,14 +109,17 @@ const GROWN: Observed = &[(10, &[("a.c", Some(3))]), (10, &[("a.c", Some(4))])];
 fn clocks(rt: &impl Abort, alloc: Global) -> String {
     let view = observed(rt, alloc, &[], GROWN);
     let answer = answer_since(rt, alloc, &view, Some(1), Every);
-    rendered_by(rt, alloc, &answer, &["oclock", "name", "cclock"])
+    drop(view);
+    let text = rendered_by(rt, alloc, &answer, &["oclock", "name", "cclock"]);
+    drop(answer);
+    text
 }
 
 const CLOCKS: &str = "[{\"cclock\":\"c:1:1:2\",\"name\":\"a.c\",\"oclock\":\"c:1:1:3\"}]";
 
 #[test]
 fn renders_the_clocks_of_a_view(rt: HostRuntime) {
-    assert!(rt; clocks(&rt, rt.alloc()).as_str() == CLOCKS);
+    check!(rt; clocks(&rt, rt.alloc()).as_str() == CLOCKS);
 }
 
 const DEFAULT: &[Field] = &[Field::Exists, Field::Name, Field::New, Field::Size];
@@ -119,7 +127,8 @@ const DEFAULT: &[Field] = &[Field::Exists, Field::Name, Field::New, Field::Size]
 #[test]
 fn has_default_fields(rt: HostRuntime) {
     let fields = Fields::default_fields(rt.alloc()).expect(&rt, "memory");
-    assert!(rt; fields.as_slice() == DEFAULT);
+    check!(rt; fields.as_slice() == DEFAULT);
+    drop(fields);
 }
 
 const REFUSED: &[&[&str]] = &[
@@ -141,6 +150,6 @@ fn is_refused(alloc: Global, names: &[&str]) -> bool {
 #[test]
 fn refuses_lists_of_fields(rt: HostRuntime) {
     for (i, names) in REFUSED.iter().enumerate() {
-        assert!(rt; is_refused(rt.alloc(), names), "row {i}");
+        check!(rt; is_refused(rt.alloc(), names), i);
     }
 }

@@ -1,5 +1,6 @@
 //! What is answered since a clock.
 use super::{Smaller, clock, rendered};
+use crate::checks::check;
 use crate::making::{Observed, observe, observed, ready_with};
 use std::alloc::Global;
 use std::process::Abort;
@@ -12,8 +13,12 @@ fn shown(rt: &impl Abort, alloc: Global, answer: &Answer) -> String {
     let clock = answer.clock.text(alloc).expect(rt, "memory");
     let fields = Fields::default_fields(alloc).expect(rt, "memory");
     let files = rendered(rt, alloc, answer, &fields);
+    drop(fields);
     let fresh = if answer.fresh { " fresh" } else { "" };
-    format!(in alloc; "{clock}{fresh} {files}").expect(rt, "memory")
+    let text = format!(in alloc; "{clock}{fresh} {files}").expect(rt, "memory");
+    drop(files);
+    drop(clock);
+    text
 }
 
 /// A clock to ask from, in numbers: its incarnation, its root and its tick.
@@ -41,7 +46,11 @@ fn answers<T: Test>(
     wanted: &str,
 ) -> bool {
     let answer = answer(alloc, view, query).expect(rt, "an answer");
-    shown(rt, alloc, &answer).as_str() == wanted
+    let text = shown(rt, alloc, &answer);
+    drop(answer);
+    let is_so = text.as_str() == wanted;
+    drop(text);
+    is_so
 }
 
 /// What is observed, and what is then told of the changes since a tick.
@@ -74,21 +83,17 @@ const SESSION: &[Told] = &[
 fn tells(rt: &impl Abort, alloc: Global, view: &mut View, row: &Told) -> bool {
     let (seen, since, wanted) = *row;
     observe(rt, alloc, view, seen);
-    answers(
-        rt,
-        alloc,
-        view,
-        &query(Some((1, 1, since)), Every, false),
-        wanted,
-    )
+    let query = query(Some((1, 1, since)), Every, false);
+    answers(rt, alloc, view, &query, wanted)
 }
 
 #[test]
 fn tells_what_changed(rt: HostRuntime) {
     let mut view = ready_with(&rt, rt.alloc(), &[]);
     for row in SESSION {
-        assert!(rt; tells(&rt, rt.alloc(), &mut view, row), "{}", row.2);
+        check!(rt; tells(&rt, rt.alloc(), &mut view, row), row.2);
     }
+    drop(view);
 }
 
 /// Such a session, up to tick 7.
@@ -107,7 +112,7 @@ type Row = (Since, bool, &'static str);
 fn assert_tells(rt: &impl Abort, alloc: Global, view: &View, rows: &[Row]) {
     for (i, row) in rows.iter().enumerate() {
         let query = query(row.0, Every, row.1);
-        assert!(rt; answers(rt, alloc, view, &query, row.2), "row {i}");
+        check!(rt; answers(rt, alloc, view, &query, row.2), i);
     }
 }
 
@@ -132,6 +137,7 @@ fn answers_afresh(rt: HostRuntime) {
     let alloc = rt.alloc();
     let view = observed(&rt, alloc, &[], WORKED);
     assert_tells(&rt, alloc, &view, AFTER_ALL);
+    drop(view);
 }
 
 /// What is told once `t`, which was deleted at tick 6, is forgotten, so that nothing before is known for
@@ -145,9 +151,11 @@ const ONCE_FORGOTTEN: &[Row] = &[
 fn answers_afresh_once_some_is_forgotten(rt: HostRuntime) {
     let alloc = rt.alloc();
     let mut view = observed(&rt, alloc, &[], WORKED);
-    view.perform(alloc, &Op::AgeOut(30, 20))
-        .expect(&rt, "an operation");
+    let op = Op::AgeOut(30, 20);
+    view.perform(alloc, &op).expect(&rt, "an operation");
+    drop(op);
     assert_tells(&rt, alloc, &view, ONCE_FORGOTTEN);
+    drop(view);
 }
 
 /// What is told of the files of fewer than 5 bytes.
@@ -159,7 +167,8 @@ fn answers_with_what_passes(rt: HostRuntime) {
     let alloc = rt.alloc();
     let view = observed(&rt, alloc, &[], WORKED);
     let query = query(Some((1, 1, 1)), Smaller { size: 5 }, false);
-    assert!(rt; answers(&rt, alloc, &view, &query, SMALLER));
+    check!(rt; answers(&rt, alloc, &view, &query, SMALLER));
+    drop(view);
 }
 
 #[test]
@@ -167,5 +176,6 @@ fn refuses_before_the_first_listing(rt: HostRuntime) {
     let alloc = rt.alloc();
     let view = View::new(alloc, 1, 1);
     let refused = answer(alloc, &view, &query(None, Every, false)).err();
-    assert!(rt; refused == Some(Refusal::NotReady));
+    drop(view);
+    check!(rt; refused == Some(Refusal::NotReady));
 }

@@ -1,5 +1,6 @@
 //! Of which files an expression holds, and whether it reads their paths alone.
 use super::{entry, read};
+use crate::checks::check;
 use std::alloc::Global;
 use std::process::Abort;
 use wm_expr::{Expr, every_expression, worked_rows};
@@ -19,22 +20,28 @@ fn digits(rt: &impl Abort, alloc: Global, expr: &Expr) -> String {
     let mut digits = String::new(alloc);
     for (path, exists, kind, size) in FILES {
         let entry = entry(rt, alloc, path, *exists, *kind, *size);
-        digits
-            .push(if expr.holds(&entry) { '1' } else { '0' })
-            .expect(rt, "memory");
+        let digit = if expr.holds(&entry) { '1' } else { '0' };
+        drop(entry);
+        digits.push(digit).expect(rt, "memory");
     }
     digits
 }
 
 /// Whether the copy of an expression holds of just the files whose digit is 1.
 fn holds_so(rt: &impl Abort, alloc: Global, text: &str, want: &str) -> bool {
-    let copy = read(rt, alloc, text).copy(alloc).expect(rt, "memory");
-    digits(rt, alloc, &copy).as_str() == want
+    let expr = read(rt, alloc, text);
+    let copy = expr.copy(alloc).expect(rt, "memory");
+    drop(expr);
+    let digits = digits(rt, alloc, &copy);
+    drop(copy);
+    let is_so = digits.as_str() == want;
+    drop(digits);
+    is_so
 }
 
 fn assert_holds(rt: &impl Abort, alloc: Global, rows: &[(&str, &str)]) {
     for (text, want) in rows {
-        assert!(rt; holds_so(rt, alloc, text, want), "{text}");
+        check!(rt; holds_so(rt, alloc, text, want), text);
     }
 }
 
@@ -123,14 +130,18 @@ const EMPTY: &[(bool, Kind, u64, bool)] = &[
 /// Whether such a file is empty.
 fn is_empty(rt: &impl Abort, alloc: Global, exists: bool, kind: Kind, size: u64) -> bool {
     let empty = read(rt, alloc, "\"empty\"");
-    empty.holds(&entry(rt, alloc, "a", exists, kind, size))
+    let file = entry(rt, alloc, "a", exists, kind, size);
+    let is_empty = empty.holds(&file);
+    drop(file);
+    drop(empty);
+    is_empty
 }
 
 #[test]
 fn tells_what_is_empty(rt: HostRuntime) {
     for (exists, kind, size, want) in EMPTY {
         let empty = is_empty(&rt, rt.alloc(), *exists, *kind, *size);
-        assert!(rt; empty == *want, "{kind:?} of {size}");
+        check!(rt; empty == *want, (kind, size));
     }
 }
 
@@ -156,7 +167,10 @@ const PATH_ONLY: &[(&str, bool)] = &[
 fn is_path_only_so(rt: &impl Abort, alloc: Global, text: &str, want: bool) -> bool {
     let expr = read(rt, alloc, text);
     let copy = expr.copy(alloc).expect(rt, "memory");
-    expr.is_path_only() == want && copy.is_path_only() == want
+    let is_so = expr.is_path_only() == want && copy.is_path_only() == want;
+    drop(copy);
+    drop(expr);
+    is_so
 }
 
 /// The laws are functions with no work: that they may be called is all that a run shows.
@@ -169,6 +183,6 @@ fn call_the_laws() {
 fn tells_what_reads_paths_alone(rt: HostRuntime) {
     call_the_laws();
     for (text, want) in PATH_ONLY {
-        assert!(rt; is_path_only_so(&rt, rt.alloc(), text, *want), "{text}");
+        check!(rt; is_path_only_so(&rt, rt.alloc(), text, *want), text);
     }
 }

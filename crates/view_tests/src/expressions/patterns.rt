@@ -1,5 +1,6 @@
 //! Which paths a pattern matches.
 use super::{entry, read, repeated};
+use crate::checks::check;
 use std::alloc::Global;
 use std::process::Abort;
 use wm_names::Kind;
@@ -8,8 +9,12 @@ use wm_names::Kind;
 fn matches(rt: &impl Abort, alloc: Global, pattern: &str, scope: &str, path: &str) -> bool {
     let text = format!(in alloc; "[\"match\",\"{pattern}\",\"{scope}\"]").expect(rt, "memory");
     let expr = read(rt, alloc, &text);
+    drop(text);
     let file = entry(rt, alloc, path, true, Kind::File, 1);
-    expr.holds(&file)
+    let is_matched = expr.holds(&file);
+    drop(file);
+    drop(expr);
+    is_matched
 }
 
 /// A pattern, a path, and whether the one matches the other.
@@ -18,7 +23,7 @@ type Row = (&'static str, &'static str, bool);
 fn assert_matches(rt: &impl Abort, alloc: Global, scope: &str, rows: &[Row]) {
     for (pattern, path, want) in rows {
         let is_matched = matches(rt, alloc, pattern, scope, path);
-        assert!(rt; is_matched == *want, "{pattern} on {path}");
+        check!(rt; is_matched == *want, (pattern, path));
     }
 }
 
@@ -86,6 +91,6 @@ fn matches_deep_path(rt: &impl Abort, alloc: Global) -> bool {
 // Tried one by one, the runs of these stars would take longer than the world has stood.
 #[test]
 fn answers_hostile_patterns_at_once(rt: HostRuntime) {
-    assert!(rt; !matches_long_name(&rt, rt.alloc()));
-    assert!(rt; !matches_deep_path(&rt, rt.alloc()));
+    check!(rt; !matches_long_name(&rt, rt.alloc()));
+    check!(rt; !matches_deep_path(&rt, rt.alloc()));
 }

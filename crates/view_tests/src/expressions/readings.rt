@@ -1,5 +1,6 @@
 //! Which JSON texts are expressions.
 use super::repeated;
+use crate::checks::check;
 use serde_json::Value;
 use std::alloc::Global;
 use std::process::Abort;
@@ -9,10 +10,9 @@ use wm_expr::{Expr, texts_of};
 /// Why a JSON text is no expression; nothing where it is one.
 fn refusal(rt: &impl Abort, alloc: Global, text: &str) -> Option<Refusal> {
     let value = Value::from_str(alloc, text).expect(rt, "JSON");
-    match Expr::read(alloc, &value) {
-        Ok(_) => None,
-        Err(refusal) => Some(refusal),
-    }
+    let refusal = Expr::read(alloc, &value).err();
+    drop(value);
+    refusal
 }
 
 /// Whether a JSON text is an expression, or is refused as a bad one, as wanted.
@@ -27,7 +27,7 @@ fn is_refused_so(rt: &impl Abort, alloc: Global, text: &str, refused: bool) -> b
 
 fn assert_refused(rt: &impl Abort, alloc: Global, texts: &[&str]) {
     for text in texts {
-        assert!(rt; is_refused_so(rt, alloc, text, true), "{text}");
+        check!(rt; is_refused_so(rt, alloc, text, true), text);
     }
 }
 
@@ -135,12 +135,7 @@ fn is_length_taken_so(rt: &impl Abort, alloc: Global, row: &Length) -> bool {
 #[test]
 fn takes_so_long_patterns_and_so_many_terms(rt: HostRuntime) {
     for row in LENGTHS {
-        assert!(rt;
-            is_length_taken_so(&rt, rt.alloc(), row),
-            "{} {}",
-            row.0,
-            row.2
-        );
+        check!(rt; is_length_taken_so(&rt, rt.alloc(), row), (row.0, row.2));
     }
 }
 
@@ -158,7 +153,7 @@ fn is_depth_taken_so(rt: &impl Abort, alloc: Global, levels: u16, refused: bool)
 fn takes_terms_of_bounded_depth(rt: HostRuntime) {
     for (levels, refused) in DEPTHS {
         let is_so = is_depth_taken_so(&rt, rt.alloc(), *levels, *refused);
-        assert!(rt; is_so, "{levels} levels");
+        check!(rt; is_so, levels);
     }
 }
 
@@ -167,17 +162,27 @@ fn are_same(texts: &[&str], want: &[&str]) -> bool {
     texts.len() == want.len() && texts.iter().zip(want).all(|(text, other)| *text == *other)
 }
 
-/// Whether the texts of the JSON array are as wanted; nothing where an item is no text.
-fn are_texts(rt: &impl Abort, alloc: Global, array: &str, want: Option<&[&str]>) -> bool {
-    let value = Value::from_str(alloc, array).expect(rt, "JSON");
-    let Some(items) = value.as_array() else {
-        return false;
-    };
-    match (texts_of(alloc, items, Refusal::BadField), want) {
-        (Ok(texts), Some(want)) => are_same(&texts, want),
+/// Whether the texts of these items are as wanted; nothing where an item is no text.
+fn are_texts_of(alloc: Global, items: &[Value], want: Option<&[&str]>) -> bool {
+    let texts = texts_of(alloc, items, Refusal::BadField);
+    let are_so = match (&texts, want) {
+        (Ok(texts), Some(want)) => are_same(texts, want),
         (Err(Refusal::BadField), None) => true,
         _ => false,
-    }
+    };
+    drop(texts);
+    are_so
+}
+
+/// Whether the texts of the JSON array are as wanted.
+fn are_texts(rt: &impl Abort, alloc: Global, array: &str, want: Option<&[&str]>) -> bool {
+    let value = Value::from_str(alloc, array).expect(rt, "JSON");
+    let are_so = match value.as_array() {
+        Some(items) => are_texts_of(alloc, items, want),
+        None => false,
+    };
+    drop(value);
+    are_so
 }
 
 const ARRAYS: &[(&str, Option<&[&str]>)] = &[
@@ -190,6 +195,6 @@ const ARRAYS: &[(&str, Option<&[&str]>)] = &[
 #[test]
 fn reads_the_texts_of_an_array(rt: HostRuntime) {
     for (array, want) in ARRAYS {
-        assert!(rt; are_texts(&rt, rt.alloc(), array, *want), "{array}");
+        check!(rt; are_texts(&rt, rt.alloc(), array, *want), array);
     }
 }

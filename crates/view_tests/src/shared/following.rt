@@ -1,6 +1,7 @@
 //! A subscription that follows a viewer.
 ghost use Rattle.std.specs.Prelude.{◌≡◌};
 
+use crate::checks::check;
 use crate::shared::making::{Handed, Keeper, every, hand, share, shown};
 use std::alloc::Global;
 use std::marker::Brand;
@@ -29,7 +30,11 @@ fn told<J: Naming>(
     viewer: &mut Viewer<J>,
 ) -> String {
     match subscription.next(alloc, viewer).expect(rt, "an answer") {
-        Some(answer) => shown(rt, alloc, &answer),
+        Some(answer) => {
+            let text = shown(rt, alloc, &answer);
+            drop(answer);
+            text
+        }
         None => String::from_str(alloc, "none").expect(rt, "memory"),
     }
 }
@@ -55,7 +60,9 @@ fn holds<J: Naming, R: Wait + Abort>(
     row: &(Handed, &str, &str),
 ) -> bool {
     hand(rt, alloc, keeper, row.0).expect(rt, "an operation");
-    viewer.learn(&keeper.publish().expect(rt, "a publish"));
+    let published = keeper.publish().expect(rt, "a publish");
+    viewer.learn(&published);
+    drop(published);
     let first = tells(rt, alloc, subscription, viewer, row.1);
     first && tells(rt, alloc, subscription, viewer, row.2)
 }
@@ -69,8 +76,9 @@ fn assert_follows<J: Naming, R: Wait + Abort>(
     let name = SubscriptionName::read(alloc, "all").expect(rt, "a name");
     let mut subscription = Subscription::new(name, every());
     for row in ROWS {
-        assert!(rt; holds(rt, alloc, keeper, &mut subscription, viewer, row));
+        check!(rt; holds(rt, alloc, keeper, &mut subscription, viewer, row));
     }
+    drop(subscription);
 }
 
 fn followed<J: Naming, R: Wait + Abort>(rt: &R, alloc: Global, opened: Opened)
@@ -79,6 +87,9 @@ fn followed<J: Naming, R: Wait + Abort>(rt: &R, alloc: Global, opened: Opened)
     let (mut keeper, mut pool) = share::<J, R>(rt, alloc, opened, 1, 1);
     let mut viewer = pool.take().expect(rt, "a viewer");
     assert_follows(rt, alloc, &mut keeper, &mut viewer);
+    drop(viewer);
+    drop(pool);
+    drop(keeper);
 }
 
 #[test]

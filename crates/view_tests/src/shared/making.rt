@@ -25,9 +25,11 @@ pub fn share<'a, J: Naming, R: Wait + Abort>(
     requires { opened.seen.book ≡ J.book }
 {
     let mut shares: Shares<J> = Shares::new(opened);
-    shares
+    let first = shares
         .share(rt, alloc, incarnation, root)
-        .expect(rt, "a share")
+        .expect(rt, "a share");
+    drop(shares);
+    first
 }
 
 /// What is handed in.
@@ -115,7 +117,11 @@ pub fn shown(rt: &impl Abort, alloc: Global, answer: &Answer) -> String {
 /// What a viewer answers of every file since no clock, or why it doesn't.
 fn answered<J: Naming>(rt: &impl Abort, alloc: Global, viewer: &mut Viewer<J>) -> String {
     match viewer.answer(alloc, &every()) {
-        Ok(answer) => shown(rt, alloc, &answer),
+        Ok(answer) => {
+            let text = shown(rt, alloc, &answer);
+            drop(answer);
+            text
+        }
         Err(refusal) => String::from_str(alloc, refusal.text()).expect(rt, "memory"),
     }
 }

@@ -1,6 +1,7 @@
 //! A pool gives each of its viewers out once.
 ghost use Rattle.std.specs.Prelude.{◌≡◌};
 
+use crate::checks::check;
 use std::alloc::Global;
 use std::marker::Brand;
 use std::process::Abort;
@@ -20,12 +21,20 @@ fn take_all<J: Naming>(rt: &impl Abort, pool: &mut Pool<J>, viewers: &mut Vec<Vi
 
 /// Whether the pool has no viewer to give out.
 fn is_empty<J: Naming>(pool: &mut Pool<J>) -> bool {
-    matches!(pool.take(), Err(Refusal::NoPlace))
+    let taken = pool.take();
+    let is_empty = matches!(taken, Err(Refusal::NoPlace));
+    drop(taken);
+    is_empty
 }
 
 /// Whether it has just one, which is let go.
 fn has_one<J: Naming>(pool: &mut Pool<J>) -> bool {
-    pool.take().is_ok() && pool.take().is_err()
+    let first = pool.take();
+    let second = pool.take();
+    let is_one = first.is_ok() && second.is_err();
+    drop(second);
+    drop(first);
+    is_one
 }
 
 /// Takes all the viewers out of a pool, which then lets go one of another share, and takes back one of its own.
@@ -36,12 +45,12 @@ fn assert_takes_and_gives<J: Naming>(
     viewers: &mut Vec<Viewer<J>>,
 ) {
     take_all(rt, pool, viewers);
-    assert_eq!(rt; viewers.len(), 32);
-    assert!(rt; is_empty(pool));
+    check!(rt; viewers.len() == 32, viewers.len());
+    check!(rt; is_empty(pool));
     pool.give(other_pool.take().expect(rt, "a viewer"));
-    assert!(rt; is_empty(pool));
+    check!(rt; is_empty(pool));
     pool.give(viewers.pop().expect(rt, "a viewer"));
-    assert!(rt; has_one(pool));
+    check!(rt; has_one(pool));
 }
 
 /// Does so beside the pool of another share.
@@ -51,16 +60,23 @@ fn assert_beside_another<J: Naming, R: Wait + Abort>(
     shares: &mut Shares<J>,
     pool: &mut Pool<J>,
 ) {
-    let (_other_keeper, mut other_pool) = shares.share(rt, alloc, 1, 2).expect(rt, "a share");
-    assert_takes_and_gives(rt, pool, &mut other_pool, &mut Vec::new(alloc));
+    let (other_keeper, mut other_pool) = shares.share(rt, alloc, 1, 2).expect(rt, "a share");
+    let mut viewers = Vec::new(alloc);
+    assert_takes_and_gives(rt, pool, &mut other_pool, &mut viewers);
+    drop(viewers);
+    drop(other_pool);
+    drop(other_keeper);
 }
 
 fn taken_and_given<J: Naming, R: Wait + Abort>(rt: &R, alloc: Global, opened: Opened)
     requires { opened.seen.book ≡ J.book }
 {
     let mut shares: Shares<J> = Shares::new(opened);
-    let (_keeper, mut pool) = shares.share(rt, alloc, 1, 1).expect(rt, "a share");
+    let (keeper, mut pool) = shares.share(rt, alloc, 1, 1).expect(rt, "a share");
     assert_beside_another(rt, alloc, &mut shares, &mut pool);
+    drop(pool);
+    drop(keeper);
+    drop(shares);
 }
 
 #[test]

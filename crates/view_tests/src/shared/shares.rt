@@ -1,6 +1,7 @@
 //! What a publish tells and what a viewer answers, after one operation and the next.
 ghost use Rattle.std.specs.Prelude.{◌≡◌};
 
+use crate::checks::check;
 use crate::shared::making::{Handed, Keeper, answers, hand, share};
 use std::alloc::Global;
 use std::marker::Brand;
@@ -78,7 +79,9 @@ fn tells<J: Naming, R: Wait + Abort>(
 ) -> bool {
     let told = keeper.publish().expect(rt, "a publish");
     viewer.learn(&told);
-    is_told(&told, row)
+    let is_so = is_told(&told, row);
+    drop(told);
+    is_so
 }
 
 /// Whether the row is so, from the state that the rows before left.
@@ -100,10 +103,11 @@ fn assert_publishes<J: Naming, R: Wait + Abort>(
     pool: &mut Pool<J>,
 ) {
     let mut viewer = pool.take().expect(rt, "a viewer");
-    assert!(rt; pool.share() == SHARE && viewer.share() == SHARE);
+    check!(rt; pool.share() == SHARE && viewer.share() == SHARE);
     for row in ROWS {
-        assert!(rt; holds(rt, alloc, keeper, &mut viewer, row));
+        check!(rt; holds(rt, alloc, keeper, &mut viewer, row));
     }
+    drop(viewer);
 }
 
 fn published_one_by_one<J: Naming, R: Wait + Abort>(rt: &R, alloc: Global, opened: Opened)
@@ -111,6 +115,8 @@ fn published_one_by_one<J: Naming, R: Wait + Abort>(rt: &R, alloc: Global, opene
 {
     let (mut keeper, mut pool) = share::<J, R>(rt, alloc, opened, 3, 7);
     assert_publishes(rt, alloc, &mut keeper, &mut pool);
+    drop(pool);
+    drop(keeper);
 }
 
 #[test]
@@ -128,7 +134,9 @@ fn are_seen_at_once<J: Naming, R: Wait + Abort>(
     hand(rt, alloc, keeper, Handed::Lists(0, &["b"])).expect(rt, "an operation");
     hand(rt, alloc, keeper, Handed::Is("a", 5)).expect(rt, "an operation");
     let saw_nothing = answers(rt, alloc, viewer, "6 NotReady");
-    let told_two = keeper.publish().expect(rt, "a publish").number() == 2;
+    let told = keeper.publish().expect(rt, "a publish");
+    let told_two = told.number() == 2;
+    drop(told);
     saw_nothing && told_two && answers(rt, alloc, viewer, "c:3:7:2 fresh a b")
 }
 
@@ -139,7 +147,9 @@ fn are_seen_before_it_goes<J: Naming, R: Wait + Abort>(
     mut keeper: Keeper<'_, J, R>,
     viewer: &mut Viewer<J>,
 ) -> bool {
-    are_seen_at_once(rt, alloc, &mut keeper, viewer)
+    let are_seen = are_seen_at_once(rt, alloc, &mut keeper, viewer);
+    drop(keeper);
+    are_seen
 }
 
 fn assert_seen_at_once<J: Naming, R: Wait + Abort>(
@@ -148,8 +158,8 @@ fn assert_seen_at_once<J: Naming, R: Wait + Abort>(
     keeper: Keeper<'_, J, R>,
     viewer: &mut Viewer<J>,
 ) {
-    assert!(rt; are_seen_before_it_goes(rt, alloc, keeper, viewer));
-    assert!(rt; answers(rt, alloc, viewer, "18 NoPlace"));
+    check!(rt; are_seen_before_it_goes(rt, alloc, keeper, viewer));
+    check!(rt; answers(rt, alloc, viewer, "18 NoPlace"));
 }
 
 fn published_at_once<J: Naming, R: Wait + Abort>(rt: &R, alloc: Global, opened: Opened)
@@ -158,6 +168,8 @@ fn published_at_once<J: Naming, R: Wait + Abort>(rt: &R, alloc: Global, opened: 
     let (keeper, mut pool) = share::<J, R>(rt, alloc, opened, 3, 7);
     let mut viewer = pool.take().expect(rt, "a viewer");
     assert_seen_at_once(rt, alloc, keeper, &mut viewer);
+    drop(viewer);
+    drop(pool);
 }
 
 #[test]
@@ -173,7 +185,9 @@ fn tell<J: Naming, R: Wait + Abort>(
 ) -> u64 {
     let told = keeper.publish().expect(rt, "a publish");
     viewer.learn(&told);
-    told.share().number
+    let number = told.share().number;
+    drop(told);
+    number
 }
 
 /// What is published on one root is told to a viewer of another, which learns nothing of it.
@@ -185,8 +199,9 @@ fn assert_no_concern<J: Naming, R: Wait + Abort>(
 ) {
     hand(rt, alloc, keeper, Handed::Lists(0, &["b"])).expect(rt, "an operation");
     let mut other = other_pool.take().expect(rt, "a viewer");
-    assert!(rt; tell(rt, keeper, &mut other) == 0 && other.share().number == 1);
-    assert!(rt; answers(rt, alloc, &mut other, "6 NotReady"));
+    check!(rt; tell(rt, keeper, &mut other) == 0 && other.share().number == 1);
+    check!(rt; answers(rt, alloc, &mut other, "6 NotReady"));
+    drop(other);
 }
 
 /// Publishes on the first share, beside a second one.
@@ -196,16 +211,21 @@ fn publish_beside_another<J: Naming, R: Wait + Abort>(
     shares: &mut Shares<J>,
     keeper: &mut Keeper<'_, J, R>,
 ) {
-    let (_other_keeper, mut other_pool) = shares.share(rt, alloc, 3, 8).expect(rt, "a share");
+    let (other_keeper, mut other_pool) = shares.share(rt, alloc, 3, 8).expect(rt, "a share");
     assert_no_concern(rt, alloc, keeper, &mut other_pool);
+    drop(other_pool);
+    drop(other_keeper);
 }
 
 fn published_on_one<J: Naming, R: Wait + Abort>(rt: &R, alloc: Global, opened: Opened)
     requires { opened.seen.book ≡ J.book }
 {
     let mut shares: Shares<J> = Shares::new(opened);
-    let (mut keeper, _pool) = shares.share(rt, alloc, 3, 7).expect(rt, "a share");
+    let (mut keeper, pool) = shares.share(rt, alloc, 3, 7).expect(rt, "a share");
     publish_beside_another(rt, alloc, &mut shares, &mut keeper);
+    drop(pool);
+    drop(keeper);
+    drop(shares);
 }
 
 #[test]

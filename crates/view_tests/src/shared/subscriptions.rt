@@ -70,8 +70,9 @@ fn op_of(rt: &impl Abort, alloc: Global, event: &Event) -> Op {
 /// Lets these events happen, one after the other.
 fn happen(rt: &impl Abort, alloc: Global, view: &mut View, events: &[Event]) {
     for event in events {
-        view.perform(alloc, &op_of(rt, alloc, event))
-            .expect(rt, "an operation");
+        let op = op_of(rt, alloc, event);
+        view.perform(alloc, &op).expect(rt, "an operation");
+        drop(op);
     }
 }
 

@@ -1,6 +1,7 @@
 //! One thread publishes and hands on what it was told, and a viewer on another thread reads no less.
 ghost use Rattle.std.specs.Prelude.{◌≡◌};
 
+use crate::checks::check;
 use crate::shared::making::{Handed, Keeper, answers, every, hand, share};
 use crossbeam_channel::{Receiver, Sender};
 use std::alloc::Global;
@@ -10,6 +11,13 @@ use std::sync::Wait;
 use std::thread::{Threads, join};
 use wm_share::{Naming, Opened, Told, Viewer};
 
+/// What is handed in, one after the other.
+const HANDED: &[Handed] = &[
+    Handed::Lists(0, &["b"]),
+    Handed::Is("a", 5),
+    Handed::Gone("b"),
+];
+
 /// Publishes each of these, and hands on what was told.
 fn publish_each<J: Naming, R: Wait + Abort>(
     rt: &R,
@@ -17,18 +25,17 @@ fn publish_each<J: Naming, R: Wait + Abort>(
     keeper: &mut Keeper<'_, J, R>,
     to: &Sender<Told<J>>,
 ) -> bool {
-    for handed in [
-        Handed::Lists(0, &["b"]),
-        Handed::Is("a", 5),
-        Handed::Gone("b"),
-    ] {
-        if hand(rt, alloc, keeper, handed).is_err() {
+    for handed in HANDED {
+        if hand(rt, alloc, keeper, *handed).is_err() {
             return false;
         }
         let Ok(told) = keeper.publish() else {
             return false;
         };
-        if to.send(rt, told).is_err() {
+        let sent = to.send(rt, told);
+        let is_lost = sent.is_err();
+        drop(sent);
+        if is_lost {
             return false;
         }
     }
@@ -43,13 +50,17 @@ fn learn<J: Naming, R: Wait>(
 ) -> Option<u64> {
     let told = from.recv(rt).ok()?;
     viewer.learn(&told);
-    Some(told.clock()?.tick)
+    let clock = told.clock();
+    drop(told);
+    Some(clock?.tick)
 }
 
 /// The tick of what the viewer answers.
 fn answer<J: Naming>(alloc: Global, viewer: &mut Viewer<J>) -> Option<u64> {
     let answer = viewer.answer(alloc, &every()).ok()?;
-    Some(answer.clock.tick)
+    let tick = answer.clock.tick;
+    drop(answer);
+    Some(tick)
 }
 
 /// The tick of the next that was told, and of what the viewer answers once it has learnt that.
@@ -92,6 +103,8 @@ fn are_read<J: Naming + Send + Sync, R: Threads + Wait + Abort + Sync>(
         || publish_each(rt, alloc, keeper, &to),
         || read_each(rt, alloc, viewer, &from),
     );
+    drop(from);
+    drop(to);
     published && read
 }
 
@@ -101,8 +114,8 @@ fn assert_read<J: Naming + Send + Sync, R: Threads + Wait + Abort + Sync>(
     keeper: &mut Keeper<'_, J, R>,
     viewer: &mut Viewer<J>,
 ) {
-    assert!(rt; are_read(rt, alloc, keeper, viewer));
-    assert!(rt; answers(rt, alloc, viewer, "c:1:1:3 fresh a"));
+    check!(rt; are_read(rt, alloc, keeper, viewer));
+    check!(rt; answers(rt, alloc, viewer, "c:1:1:3 fresh a"));
 }
 
 fn read_what_was_told<J: Naming + Send + Sync, R: Threads + Wait + Abort + Sync>(
@@ -115,6 +128,9 @@ fn read_what_was_told<J: Naming + Send + Sync, R: Threads + Wait + Abort + Sync>
     let (mut keeper, mut pool) = share::<J, R>(rt, alloc, opened, 1, 1);
     let mut viewer = pool.take().expect(rt, "a viewer");
     assert_read(rt, alloc, &mut keeper, &mut viewer);
+    drop(viewer);
+    drop(pool);
+    drop(keeper);
 }
 
 #[test]

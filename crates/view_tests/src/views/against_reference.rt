@@ -1,6 +1,7 @@
 //! Views through generated sessions, compared after each operation with what the whole history gives.
 use super::generated::{Dice, Mix};
 use super::reference::{Listed, Reference};
+use crate::checks::check;
 use std::alloc::Global;
 use std::process::Abort;
 use wm_disk::Refusal;
@@ -92,21 +93,32 @@ fn stay_alike(
 ) -> bool {
     for _ in 0..OPERATIONS {
         let op = dice.op(rt, alloc, mix, reference);
-        if !go_alike(rt, alloc, view, reference, &op) {
+        let is_alike = go_alike(rt, alloc, view, reference, &op);
+        drop(op);
+        if !is_alike {
             return false;
         }
     }
     true
 }
 
+/// Whether both go alike through the session of this seed.
+fn stay_alike_from(rt: &impl Abort, alloc: Global, seed: u64, mix: Mix) -> bool {
+    let mut view = View::new(alloc, 1, 1);
+    let mut reference = Reference::new(alloc);
+    let mut dice = Dice::new(seed);
+    let are_alike = stay_alike(rt, alloc, &mut dice, mix, &mut view, &mut reference);
+    drop(dice);
+    drop(reference);
+    drop(view);
+    are_alike
+}
+
 /// The seed of the first session in which the view parts from the reference.
 fn parting(rt: &impl Abort, alloc: Global, sessions: &Sessions) -> Option<u64> {
     let (first, last, mix) = *sessions;
     for seed in first..=last {
-        let mut view = View::new(alloc, 1, 1);
-        let mut reference = Reference::new(alloc);
-        let mut dice = Dice::new(seed);
-        if !stay_alike(rt, alloc, &mut dice, mix, &mut view, &mut reference) {
+        if !stay_alike_from(rt, alloc, seed, mix) {
             return Some(seed);
         }
     }
@@ -116,7 +128,8 @@ fn parting(rt: &impl Abort, alloc: Global, sessions: &Sessions) -> Option<u64> {
 #[test]
 fn agrees_with_the_whole_history(rt: HostRuntime) {
     for sessions in SESSIONS {
-        assert_eq!(rt; parting(&rt, rt.alloc(), sessions), None);
+        let parted = parting(&rt, rt.alloc(), sessions);
+        check!(rt; parted.is_none(), parted);
     }
 }
 
@@ -143,6 +156,7 @@ fn count_of_session(
         if reference.perform(&op) == wanted {
             count = count.saturating_add(1);
         }
+        drop(op);
     }
     count
 }
@@ -177,6 +191,6 @@ fn come_to(rt: &impl Abort, alloc: Global, wanted: Result<(), Refusal>, least: u
 #[test]
 fn sessions_come_to_each_result(rt: HostRuntime) {
     for (result, least) in RESULTS {
-        assert!(rt; come_to(&rt, rt.alloc(), *result, *least));
+        check!(rt; come_to(&rt, rt.alloc(), *result, *least));
     }
 }

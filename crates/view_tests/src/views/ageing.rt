@@ -1,6 +1,7 @@
 //! What is gone for long enough is forgotten.
 use super::walking::{Deed, Step, assert_walks};
 use super::{Shown, exists_so, stands};
+use crate::checks::check;
 use crate::making::{Observed, observed};
 use std::alloc::Global;
 use std::process::Abort;
@@ -46,18 +47,15 @@ fn forgets_so(rt: &impl Abort, alloc: Global, row: &AgeOut) -> bool {
     view.age_out(alloc, time, age).expect(rt, "an age-out");
     let forgot = stands(rt, alloc, &view, (9, floor), 0, left) && exists_so(rt, alloc, &view, &[B]);
     view.age_out(alloc, 0, 0).expect(rt, "an age-out");
-    forgot && stands(rt, alloc, &view, (9, floor), 0, left)
+    let is_so = forgot && stands(rt, alloc, &view, (9, floor), 0, left);
+    drop(view);
+    is_so
 }
 
 #[test]
 fn forgets_what_is_gone_for_long_enough(rt: HostRuntime) {
     for row in AGE_OUTS {
-        assert!(rt;
-            forgets_so(&rt, rt.alloc(), row),
-            "{} before {}",
-            row.1,
-            row.0
-        );
+        check!(rt; forgets_so(&rt, rt.alloc(), row), (row.1, row.0));
     }
 }
 
@@ -70,14 +68,16 @@ const LAST_MOMENT: &[(u64, u64, u64)] = &[(u64::MAX, 1, 0), (9, 10, 0), (u64::MA
 fn floor_after(rt: &impl Abort, alloc: Global, time: u64, age: u64) -> u64 {
     let mut view = observed(rt, alloc, &[("a", 1)], GONE_LAST);
     view.age_out(alloc, time, age).expect(rt, "an age-out");
-    view.floor()
+    let floor = view.floor();
+    drop(view);
+    floor
 }
 
 #[test]
 fn forgets_at_the_last_moment(rt: HostRuntime) {
     for (time, age, floor) in LAST_MOMENT {
         let is_so = floor_after(&rt, rt.alloc(), *time, *age) == *floor;
-        assert!(rt; is_so, "{age} before {time}");
+        check!(rt; is_so, (age, time));
     }
 }
 
@@ -112,4 +112,5 @@ fn knows_again_what_comes_back(rt: HostRuntime) {
     let alloc = rt.alloc();
     let mut view = observed(&rt, alloc, &[], TWO_GONE);
     assert_walks(&rt, alloc, &mut view, COMES_BACK, false);
+    drop(view);
 }

@@ -112,6 +112,8 @@ impl Dice {
                 && listing.subtree().covers(&path)
             {
                 listing.add(path, meta).expect(rt, "an entry");
+            } else {
+                drop(path);
             }
         }
         listing

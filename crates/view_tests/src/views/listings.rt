@@ -1,4 +1,5 @@
 //! Listings by themselves, before a view takes them in.
+use crate::checks::check;
 use crate::making::{file, part_of};
 use std::alloc::Global;
 use std::process::Abort;
@@ -53,19 +54,23 @@ fn finds(files: &[(RelPath, Meta)], wanted: &[(&str, u64)]) -> bool {
 /// Whether the part that is listed covers a path and isn't the whole root.
 fn is_part_with(rt: &impl Abort, alloc: Global, listing: &Listing, path: &str) -> bool {
     let path = RelPath::read(alloc, path).expect(rt, "a path");
-    !listing.subtree().is_whole() && listing.subtree().covers(&path)
+    let is_part = !listing.subtree().is_whole() && listing.subtree().covers(&path);
+    drop(path);
+    is_part
 }
 
 fn assert_lists(rt: &impl Abort, alloc: Global, listing: &mut Listing) {
     for (path, size, result) in ADDED {
-        assert!(rt; adds(rt, alloc, listing, path, *size, *result), "{path}");
+        check!(rt; adds(rt, alloc, listing, path, *size, *result), path);
     }
-    assert!(rt; finds(listing.files(), FOUND));
-    assert!(rt; is_part_with(rt, alloc, listing, "x/z"));
+    check!(rt; finds(listing.files(), FOUND));
+    check!(rt; is_part_with(rt, alloc, listing, "x/z"));
 }
 
 #[test]
 fn lists_each_path_once(rt: HostRuntime) {
     let part = part_of(&rt, rt.alloc(), Some("x"));
-    assert_lists(&rt, rt.alloc(), &mut Listing::new(rt.alloc(), part));
+    let mut listing = Listing::new(rt.alloc(), part);
+    assert_lists(&rt, rt.alloc(), &mut listing);
+    drop(listing);
 }

@@ -1,5 +1,6 @@
 //! A view with many paths and many ticks.
 use super::stands;
+use crate::checks::check;
 use crate::making::file;
 use std::alloc::Global;
 use std::process::Abort;
@@ -12,7 +13,9 @@ const COUNT: u64 = 65_536;
 /// A path of the listing.
 fn numbered(rt: &impl Abort, alloc: Global, number: u64) -> RelPath {
     let text = format!(in alloc; "f{number:05}").expect(rt, "memory");
-    RelPath::read(alloc, &text).expect(rt, "a path")
+    let path = RelPath::read(alloc, &text).expect(rt, "a path");
+    drop(text);
+    path
 }
 
 /// The first listing, of empty files.
@@ -27,8 +30,9 @@ fn empty_files(rt: &impl Abort, alloc: Global) -> Listing {
 
 fn ready_with_empty_files(rt: &impl Abort, alloc: Global) -> View {
     let mut view = View::new(alloc, 1, 1);
-    view.recrawl(alloc, 10, 0, &empty_files(rt, alloc))
-        .expect(rt, "a recrawl");
+    let listing = empty_files(rt, alloc);
+    view.recrawl(alloc, 10, 0, &listing).expect(rt, "a recrawl");
+    drop(listing);
     view
 }
 
@@ -37,7 +41,10 @@ fn takes_size(rt: &impl Abort, alloc: Global, view: &mut View, number: u64) -> b
     let mut pairs = Vec::new(alloc);
     let path = numbered(rt, alloc, number);
     pairs.push((path, Some(file(3)))).expect(rt, "memory");
-    view.observe(alloc, 20, &Pairs::new(pairs)).is_ok()
+    let pairs = Pairs::new(pairs);
+    let is_taken = view.observe(alloc, 20, &pairs).is_ok();
+    drop(pairs);
+    is_taken
 }
 
 /// Whether it takes in a new size of each path, one after the other.
@@ -54,9 +61,8 @@ fn takes_each_size(rt: &impl Abort, alloc: Global, view: &mut View) -> bool {
 fn takes_many_observations(rt: HostRuntime) {
     let alloc = rt.alloc();
     let mut view = ready_with_empty_files(&rt, alloc);
-    assert!(rt; takes_each_size(&rt, alloc, &mut view));
-    assert!(rt;
-        stands(
+    check!(rt; takes_each_size(&rt, alloc, &mut view));
+    check!(rt; stands(
             &rt,
             alloc,
             &view,
@@ -66,6 +72,6 @@ fn takes_many_observations(rt: HostRuntime) {
                 ("f65535", true, 3, 1, 65_537, 20),
                 ("f65534", true, 3, 1, 65_536, 20),
             ]
-        )
-    );
+        ));
+    drop(view);
 }

@@ -1,5 +1,6 @@
 //! What an observation makes of a view, and how many pairs one may have.
 use super::{Shown, exists_so, stands};
+use crate::checks::check;
 use crate::making::{Told, file, observe_at, pair, ready_with};
 use std::alloc::Global;
 use std::process::Abort;
@@ -56,13 +57,15 @@ fn takes_so(rt: &impl Abort, alloc: Global, row: &Observation) -> bool {
     let (told, tick, shown) = *row;
     let mut view = ready_with(rt, alloc, &[("a", 2), ("k", 1)]);
     observe_at(rt, alloc, &mut view, 20, told);
-    stands(rt, alloc, &view, (tick, 0), 1, shown)
+    let is_so = stands(rt, alloc, &view, (tick, 0), 1, shown);
+    drop(view);
+    is_so
 }
 
 #[test]
 fn takes_many_pairs_at_once(rt: HostRuntime) {
     for (i, row) in OBSERVATIONS.iter().enumerate() {
-        assert!(rt; takes_so(&rt, rt.alloc(), row), "observation {i}");
+        check!(rt; takes_so(&rt, rt.alloc(), row), i);
     }
 }
 
@@ -77,8 +80,9 @@ const METADATA: &[(Kind, u64, u64, u64)] = &[
 /// What an observation of `a` alone makes of a view with it.
 fn with_metadata(rt: &impl Abort, alloc: Global, meta: Meta) -> View {
     let mut view = ready_with(rt, alloc, &[("a", 1)]);
-    view.observe(alloc, 20, &pair(rt, alloc, "a", Some(meta)))
-        .expect(rt, "an observation");
+    let pairs = pair(rt, alloc, "a", Some(meta));
+    view.observe(alloc, 20, &pairs).expect(rt, "an observation");
+    drop(pairs);
     view
 }
 
@@ -93,7 +97,11 @@ fn has_one(listed: &[(RelPath, Known)], meta: Meta) -> bool {
 /// Whether such an observation leads to this tick, and what it told is there then.
 fn changes_so(rt: &impl Abort, alloc: Global, meta: Meta, tick: u64) -> bool {
     let view = with_metadata(rt, alloc, meta);
-    view.tick() == tick && has_one(&view.existing(alloc).expect(rt, "memory"), meta)
+    let existing = view.existing(alloc).expect(rt, "memory");
+    let is_so = view.tick() == tick && has_one(&existing, meta);
+    drop(existing);
+    drop(view);
+    is_so
 }
 
 #[test]
@@ -104,7 +112,7 @@ fn changes_by_each_part_of_the_metadata(rt: HostRuntime) {
             size: *size,
             mtime_ms: *mtime_ms,
         };
-        assert!(rt; changes_so(&rt, rt.alloc(), meta, *tick), "{meta:?}");
+        check!(rt; changes_so(&rt, rt.alloc(), meta, *tick), meta);
     }
 }
 
@@ -135,21 +143,21 @@ fn takes_count(
 ) -> bool {
     let pairs = pairs_of_one_path(rt, alloc, count);
     let is_so_long = pairs.as_slice().len() == count as usize;
-    is_so_long && view.observe(alloc, 20, &pairs) == wanted && view.tick() == tick
+    let is_so = is_so_long && view.observe(alloc, 20, &pairs) == wanted && view.tick() == tick;
+    drop(pairs);
+    is_so
 }
 
 fn assert_counts(rt: &impl Abort, alloc: Global, view: &mut View) {
     for (count, result, tick) in COUNTS {
-        assert!(rt;
-            takes_count(rt, alloc, view, *count, *result, *tick),
-            "{count}"
-        );
+        check!(rt; takes_count(rt, alloc, view, *count, *result, *tick), count);
     }
-    assert!(rt; exists_so(rt, alloc, view, &[("a", true, 1, 2, 2, 20)]));
+    check!(rt; exists_so(rt, alloc, view, &[("a", true, 1, 2, 2, 20)]));
 }
 
 #[test]
 fn takes_so_many_pairs(rt: HostRuntime) {
     let mut view = ready_with(&rt, rt.alloc(), &[]);
     assert_counts(&rt, rt.alloc(), &mut view);
+    drop(view);
 }

@@ -1,5 +1,6 @@
 //! Listings that a view takes in after the first one.
 use super::{Shown, stands};
+use crate::checks::check;
 use crate::making::{Found, Observed, listing_of, observed};
 use std::alloc::Global;
 use std::process::Abort;
@@ -84,20 +85,24 @@ const THEN: Observed = &[(20, &[("x/n", Some(1))]), (30, &[("x/a", Some(2))])];
 /// Whether a recrawl makes this of a view.
 fn makes(rt: &impl Abort, alloc: Global, view: &mut View, row: &Crawl) -> bool {
     let (top, begun_at, found, tick, shown) = *row;
-    view.recrawl(alloc, 40, begun_at, &listing_of(rt, alloc, top, found))
+    let listing = listing_of(rt, alloc, top, found);
+    view.recrawl(alloc, 40, begun_at, &listing)
         .expect(rt, "a recrawl");
+    drop(listing);
     stands(rt, alloc, view, (tick, 0), 3, shown)
 }
 
 /// Whether it makes that of such a view.
 fn recrawls_so(rt: &impl Abort, alloc: Global, row: &Crawl) -> bool {
     let mut view = observed(rt, alloc, FIRST, THEN);
-    makes(rt, alloc, &mut view, row)
+    let is_so = makes(rt, alloc, &mut view, row);
+    drop(view);
+    is_so
 }
 
 #[test]
 fn recrawls_what_did_not_change_since(rt: HostRuntime) {
     for (i, row) in RECRAWLS.iter().enumerate() {
-        assert!(rt; recrawls_so(&rt, rt.alloc(), row), "recrawl {i}");
+        check!(rt; recrawls_so(&rt, rt.alloc(), row), i);
     }
 }

@@ -1,6 +1,7 @@
 //! Views through sessions, step by step.
 use super::walking::{Deed, Step, assert_walks};
 use super::{Shown, exists_so, stands};
+use crate::checks::check;
 use std::alloc::Global;
 use std::process::Abort;
 use wm_disk::Refusal;
@@ -70,15 +71,16 @@ const LEFT: &[Shown] = &[("a.c", true, 5, 7, 7, 70), ("b.c", true, 4, 3, 3, 30)]
 
 fn assert_session(rt: &impl Abort, alloc: Global, view: &mut View) {
     assert_walks(rt, alloc, view, OBSERVED, false);
-    assert!(rt; view.ready());
-    assert!(rt; exists_so(rt, alloc, view, LEFT));
-    assert!(rt; stands(rt, alloc, view, (7, 0), u64::MAX, &[]));
+    check!(rt; view.ready());
+    check!(rt; exists_so(rt, alloc, view, LEFT));
+    check!(rt; stands(rt, alloc, view, (7, 0), u64::MAX, &[]));
 }
 
 #[test]
 fn follows_a_session(rt: HostRuntime) {
     let mut view = View::new(rt.alloc(), 1, 1);
     assert_session(&rt, rt.alloc(), &mut view);
+    drop(view);
 }
 
 /// What a view refuses before a whole listing that began at tick 0.
@@ -128,18 +130,19 @@ fn is_of_root_5(view: &View, ready: bool) -> bool {
 }
 
 fn assert_waits(rt: &impl Abort, alloc: Global, view: &mut View) {
-    assert!(rt; is_of_root_5(view, false));
+    check!(rt; is_of_root_5(view, false));
     assert_walks(rt, alloc, view, TOO_EARLY, false);
-    assert!(rt; is_of_root_5(view, false));
-    assert!(rt; exists_so(rt, alloc, view, &[]));
+    check!(rt; is_of_root_5(view, false));
+    check!(rt; exists_so(rt, alloc, view, &[]));
     assert_walks(rt, alloc, view, FIRST_LISTING, false);
-    assert!(rt; is_of_root_5(view, true));
+    check!(rt; is_of_root_5(view, true));
 }
 
 #[test]
 fn waits_for_a_whole_listing(rt: HostRuntime) {
     let mut view = View::new(rt.alloc(), 3, 5);
     assert_waits(&rt, rt.alloc(), &mut view);
+    drop(view);
 }
 
 /// `a` is deleted at tick 2 and forgotten, and recrawls that find nothing begin at some tick.
@@ -218,6 +221,7 @@ fn recrawls_between_the_floor_and_the_tick(rt: HostRuntime) {
     let alloc = rt.alloc();
     let mut view = View::new(alloc, 1, 1);
     assert_walks(&rt, alloc, &mut view, RECRAWLED, false);
+    drop(view);
 }
 
 /// Each operation, with what it shows after it.
@@ -265,4 +269,5 @@ fn performs_each_operation(rt: HostRuntime) {
     let alloc = rt.alloc();
     let mut view = View::new(alloc, 1, 1);
     assert_walks(&rt, alloc, &mut view, PERFORMED, true);
+    drop(view);
 }

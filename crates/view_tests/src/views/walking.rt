@@ -1,5 +1,6 @@
 //! What is done to a view, step by step.
 use super::{Shown, stands};
+use crate::checks::check;
 use crate::making::{Found, Told, listing_of, pairs_of};
 use std::alloc::Global;
 use std::process::Abort;
@@ -40,7 +41,9 @@ fn performs(
     wanted: Result<(), Refusal>,
 ) -> bool {
     let op = op_of(rt, alloc, deed);
-    view.perform(alloc, &op) == wanted
+    let is_so = view.perform(alloc, &op) == wanted;
+    drop(op);
+    is_so
 }
 
 /// Whether the deed, done by the method for it, has this result.
@@ -52,14 +55,17 @@ fn does(
     wanted: Result<(), Refusal>,
 ) -> bool {
     let result = match deed {
-        Deed::Observe(moment, told) => view.observe(alloc, *moment, &pairs_of(rt, alloc, told)),
+        Deed::Observe(moment, told) => {
+            let pairs = pairs_of(rt, alloc, told);
+            let result = view.observe(alloc, *moment, &pairs);
+            drop(pairs);
+            result
+        }
         Deed::Recrawl(moment, begun_at, top, found) => {
-            view.recrawl(
-                alloc,
-                *moment,
-                *begun_at,
-                &listing_of(rt, alloc, *top, found),
-            )
+            let listing = listing_of(rt, alloc, *top, found);
+            let result = view.recrawl(alloc, *moment, *begun_at, &listing);
+            drop(listing);
+            result
         }
         Deed::AgeOut(time, age) => view.age_out(alloc, *time, *age),
     };
@@ -86,6 +92,6 @@ pub fn assert_walks(
     as_value: bool,
 ) {
     for (i, step) in steps.iter().enumerate() {
-        assert!(rt; goes_so(rt, alloc, view, step, as_value), "step {i}");
+        check!(rt; goes_so(rt, alloc, view, step, as_value), i);
     }
 }

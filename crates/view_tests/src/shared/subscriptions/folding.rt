@@ -1,6 +1,7 @@
 //! What a client makes of all that it is told.
 use super::Event::{Begins, Forgets, Gone, Is};
 use super::{Event, happen, subscription};
+use crate::checks::check;
 use std::alloc::Global;
 use std::process::Abort;
 use wm_names::RootPath;
@@ -18,9 +19,10 @@ fn follow(
 ) {
     if let Some(answer) = subscription.next_on(alloc, view).expect(rt, "an answer") {
         if !client.open() {
-            client.ask(alloc).expect(rt, "memory");
+            drop(client.ask(alloc).expect(rt, "memory"));
         }
         client.apply(alloc, &answer).expect(rt, "an answer");
+        drop(answer);
     }
 }
 
@@ -57,7 +59,7 @@ fn assert_keeps(
     for (i, row) in ROWS.iter().enumerate() {
         happen(rt, alloc, view, row.0);
         follow(rt, alloc, view, subscription, client);
-        assert!(rt; lists(client, row.1), "row {i}");
+        check!(rt; lists(client, row.1), i);
     }
 }
 
@@ -69,4 +71,7 @@ fn keeps_the_files_of_a_client(rt: HostRuntime) {
     let mut client = Mirror::new(alloc, root, Every).expect(&rt, "a mirror");
     let mut view = View::new(alloc, 1, 1);
     assert_keeps(&rt, alloc, &mut view, &mut subscription, &mut client);
+    drop(view);
+    drop(client);
+    drop(subscription);
 }

@@ -1,6 +1,7 @@
 //! The subscriptions of a session.
 use super::Event::Begins;
 use super::{clock, happen, subscription, told};
+use crate::checks::check;
 use std::alloc::Global;
 use std::process::Abort;
 use wm_names::RootPath;
@@ -36,6 +37,8 @@ fn puts(
     let has_room = all.has_room(&subscribed.root, subscribed.subscription.name());
     if has_room {
         all.put(subscribed).expect(rt, "memory");
+    } else {
+        drop(subscribed);
     }
     has_room
 }
@@ -49,7 +52,10 @@ fn removes(
 ) -> bool {
     let root = RootPath::read(alloc, root).expect(rt, "a root path");
     let name = SubscriptionName::read(alloc, name).expect(rt, "a name");
-    all.remove(&root, &name)
+    let is_removed = all.remove(&root, &name);
+    drop(name);
+    drop(root);
+    is_removed
 }
 
 fn holds(
@@ -61,7 +67,10 @@ fn holds(
 ) -> bool {
     let root = RootPath::read(alloc, root).expect(rt, "a root path");
     let name = SubscriptionName::read(alloc, name).expect(rt, "a name");
-    all.holds(&root, &name)
+    let is_held = all.holds(&root, &name);
+    drop(name);
+    drop(root);
+    is_held
 }
 
 /// The subscriptions as a text: the root, the name and the first field of each.
@@ -84,24 +93,38 @@ fn stand_so(rt: &impl Abort, alloc: Global, all: &Subscriptions<Every>, wanted: 
     shown(rt, alloc, all).as_str() == wanted
 }
 
-fn assert_order(rt: &impl Abort, alloc: Global, all: &mut Subscriptions<Every>) {
-    for (root, name) in [("/r", "s"), ("/q", "s"), ("/r", "t"), ("/q", "u")] {
-        assert!(rt; puts(rt, alloc, all, root, name, "name"));
+fn remove_root(rt: &impl Abort, alloc: Global, all: &mut Subscriptions<Every>, root: &str) {
+    let root = RootPath::read(alloc, root).expect(rt, "a root path");
+    all.remove_root(&root);
+    drop(root);
+}
+
+/// The root and the name of each that is put.
+const PUT: &[(&str, &str)] = &[("/r", "s"), ("/q", "s"), ("/r", "t"), ("/q", "u")];
+
+fn assert_order_of_puts(rt: &impl Abort, alloc: Global, all: &mut Subscriptions<Every>) {
+    for (root, name) in PUT {
+        check!(rt; puts(rt, alloc, all, root, name, "name"));
     }
-    assert!(rt; puts(rt, alloc, all, "/r", "s", "size"));
-    assert!(rt; stand_so(rt, alloc, all, "/qsname /rtname /quname /rssize "));
-    assert!(rt; removes(rt, alloc, all, "/r", "t"));
-    assert!(rt; !removes(rt, alloc, all, "/r", "t"));
-    assert!(rt; !removes(rt, alloc, all, "/r", "u"));
-    assert!(rt; stand_so(rt, alloc, all, "/qsname /quname /rssize "));
-    all.remove_root(&RootPath::read(alloc, "/q").expect(rt, "a root path"));
-    assert!(rt; stand_so(rt, alloc, all, "/rssize "));
+    check!(rt; puts(rt, alloc, all, "/r", "s", "size"));
+    check!(rt; stand_so(rt, alloc, all, "/qsname /rtname /quname /rssize "));
+}
+
+fn assert_order_of_the_rest(rt: &impl Abort, alloc: Global, all: &mut Subscriptions<Every>) {
+    check!(rt; removes(rt, alloc, all, "/r", "t"));
+    check!(rt; !removes(rt, alloc, all, "/r", "t"));
+    check!(rt; !removes(rt, alloc, all, "/r", "u"));
+    check!(rt; stand_so(rt, alloc, all, "/qsname /quname /rssize "));
+    remove_root(rt, alloc, all, "/q");
+    check!(rt; stand_so(rt, alloc, all, "/rssize "));
 }
 
 #[test]
 fn stand_in_the_order_of_subscribing(rt: HostRuntime) {
     let mut all = Subscriptions::new(rt.alloc());
-    assert_order(&rt, rt.alloc(), &mut all);
+    assert_order_of_puts(&rt, rt.alloc(), &mut all);
+    assert_order_of_the_rest(&rt, rt.alloc(), &mut all);
+    drop(all);
 }
 
 /// Puts one that is named by a number, and tells whether there was room.
@@ -117,19 +140,21 @@ fn puts_number(
 
 fn assert_room(rt: &impl Abort, alloc: Global, all: &mut Subscriptions<Every>) {
     for i in 0..MAX_SUBSCRIPTIONS {
-        assert!(rt; puts_number(rt, alloc, all, i));
+        check!(rt; puts_number(rt, alloc, all, i));
     }
-    assert!(rt; !puts(rt, alloc, all, "/r", "another", "name"));
-    assert!(rt; puts(rt, alloc, all, "/r", "7", "name"));
-    assert!(rt; all.as_slice().len() == 32);
-    assert!(rt; holds(rt, alloc, all, "/r", "7"));
-    assert!(rt; !holds(rt, alloc, all, "/q", "7") && !holds(rt, alloc, all, "/r", "another"));
+    check!(rt; !puts(rt, alloc, all, "/r", "another", "name"));
+    check!(rt; puts(rt, alloc, all, "/r", "7", "name"));
+    check!(rt; all.as_slice().len() == 32);
+    check!(rt; holds(rt, alloc, all, "/r", "7"));
+    check!(rt; !holds(rt, alloc, all, "/q", "7"));
+    check!(rt; !holds(rt, alloc, all, "/r", "another"));
 }
 
 #[test]
 fn has_room_for_32(rt: HostRuntime) {
     let mut all = Subscriptions::new(rt.alloc());
     assert_room(&rt, rt.alloc(), &mut all);
+    drop(all);
 }
 
 /// Tells the one at a place of the first tick, where there is one.
@@ -151,8 +176,10 @@ fn add_due(
         .subscription
         .due_on(alloc, view)
         .expect(rt, "an answer");
-    text.push_str(told(rt, alloc, &answer).as_str())
-        .expect(rt, "memory");
+    let due = told(rt, alloc, &answer);
+    drop(answer);
+    text.push_str(due.as_str()).expect(rt, "memory");
+    drop(due);
     text.push(' ').expect(rt, "memory");
 }
 
@@ -165,12 +192,23 @@ fn due(rt: &impl Abort, alloc: Global, view: &View, all: &Subscriptions<Every>) 
     text
 }
 
+/// Whether that is due to each.
+fn is_due(
+    rt: &impl Abort,
+    alloc: Global,
+    view: &View,
+    all: &Subscriptions<Every>,
+    wanted: &str,
+) -> bool {
+    due(rt, alloc, view, all).as_str() == wanted
+}
+
 fn assert_told(rt: &impl Abort, alloc: Global, view: &View, all: &mut Subscriptions<Every>) {
-    for name in ["s", "t", "u"] {
-        assert!(rt; puts(rt, alloc, all, "/r", name, "name"));
+    for name in &["s", "t", "u"] {
+        check!(rt; puts(rt, alloc, all, "/r", name, "name"));
     }
     tell(all, 1);
-    assert!(rt; due(rt, alloc, view, all).as_str() == "c:1:1:1 fresh none c:1:1:1 fresh ");
+    check!(rt; is_due(rt, alloc, view, all, "c:1:1:1 fresh none c:1:1:1 fresh "));
 }
 
 #[test]
@@ -178,5 +216,8 @@ fn are_told_one_by_one(rt: HostRuntime) {
     let alloc = rt.alloc();
     let mut view = View::new(alloc, 1, 1);
     happen(&rt, alloc, &mut view, &[Begins]);
-    assert_told(&rt, alloc, &view, &mut Subscriptions::new(alloc));
+    let mut all = Subscriptions::new(alloc);
+    assert_told(&rt, alloc, &view, &mut all);
+    drop(all);
+    drop(view);
 }

@@ -1,6 +1,7 @@
 //! What a subscription is told of a view.
 use super::Event::{Begins, Forgets, Gone, Is};
 use super::{Event, clock, happen, subscription, told};
+use crate::checks::check;
 use std::alloc::Global;
 use std::process::Abort;
 use wm_since::Every;
@@ -19,7 +20,11 @@ fn is_due(
     wanted: &str,
 ) -> bool {
     let due = subscription.due_on(alloc, view).expect(rt, "an answer");
-    told(rt, alloc, &due).as_str() == wanted
+    let text = told(rt, alloc, &due);
+    drop(due);
+    let is_so = text.as_str() == wanted;
+    drop(text);
+    is_so
 }
 
 /// Whether this is told next.
@@ -31,7 +36,11 @@ fn tells_next(
     wanted: &str,
 ) -> bool {
     let next = subscription.next_on(alloc, view).expect(rt, "an answer");
-    told(rt, alloc, &next).as_str() == wanted
+    let text = told(rt, alloc, &next);
+    drop(next);
+    let is_so = text.as_str() == wanted;
+    drop(text);
+    is_so
 }
 
 /// Whether the events are followed by this answer. What is due is so until it is told.
@@ -54,9 +63,9 @@ fn assert_tells_each(
     subscription: &mut Subscription<Every>,
     rows: &[Row],
 ) {
-    assert!(rt; subscription.name().as_str() == "s");
+    check!(rt; subscription.name().as_str() == "s");
     for (i, row) in rows.iter().enumerate() {
-        assert!(rt; tells(rt, alloc, view, subscription, row), "row {i}");
+        check!(rt; tells(rt, alloc, view, subscription, row), i);
     }
 }
 
@@ -65,6 +74,8 @@ fn assert_tells(rt: &impl Abort, alloc: Global, since: Option<u64>, rows: &[Row]
     let mut subscription = subscription(rt, alloc, "s", since);
     let mut view = View::new(alloc, 1, 1);
     assert_tells_each(rt, alloc, &mut view, &mut subscription, rows);
+    drop(view);
+    drop(subscription);
 }
 
 /// A subscription since tick 2 is told of the third, and then of what is deleted.
@@ -129,14 +140,9 @@ fn assert_told_up_to_a_clock(
 ) {
     happen(rt, alloc, view, &[Begins, Is("a.c", 3), Is("b.c", 4)]);
     subscription.told(clock(2));
-    assert!(rt; is_due(rt, alloc, view, subscription, "c:1:1:3 b.c"));
+    check!(rt; is_due(rt, alloc, view, subscription, "c:1:1:3 b.c"));
     subscription.told(clock(3));
-    assert!(rt;
-        subscription
-            .due_on(alloc, view)
-            .expect(rt, "an answer")
-            .is_none()
-    );
+    check!(rt; is_due(rt, alloc, view, subscription, "none"));
 }
 
 #[test]
@@ -145,4 +151,6 @@ fn is_told_up_to_a_clock(rt: HostRuntime) {
     let mut subscription = subscription(&rt, alloc, "s", None);
     let mut view = View::new(alloc, 1, 1);
     assert_told_up_to_a_clock(&rt, alloc, &mut view, &mut subscription);
+    drop(view);
+    drop(subscription);
 }
