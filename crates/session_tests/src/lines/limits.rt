@@ -338,7 +338,6 @@ fn put(rt: &impl Abort, alloc: Global, bytes: &[u8], number: u32, out: &mut Vec<
             let digits = format!(in alloc; "{number}").expect(rt, "memory");
             out.extend_from_slice(digits.as_bytes())
                 .expect(rt, "memory");
-            drop(digits);
         } else {
             out.push(*byte).expect(rt, "memory");
         }
@@ -364,11 +363,6 @@ fn assert_limit(rt: &impl Abort, alloc: Global, limit: &Limit<'_>) {
     let used = written(rt, alloc, "", used);
     let wanted = (0, output.as_str(), "", used.as_slice());
     assert_serves(rt, alloc, new_file(rt, alloc), &input, wanted, about);
-    drop(line);
-    drop(reply);
-    drop(input);
-    drop(output);
-    drop(used);
 }
 
 fn assert_limits(rt: &impl Abort, alloc: Global, limits: &[Limit<'_>]) {
