@@ -1,5 +1,4 @@
-# `make test` is the gate: every proof, the edits that must be refused, the tests, the programs, each growth of memory refused in thirteen calls. What an earlier run
-# on this machine passed, by the checksums of all that it read, isn't proved again; `tools/gate.sh --anew` proves all from nothing.
+# `make test` is the gate: every proof from nothing, the edits that must be refused, the tests, the programs, each growth of memory refused in three sessions.
 # `make run` serves ./watchmand.socket over ./watchmand.state, which it makes where it isn't there.
 PREFIX ?= $(HOME)/.local
 STATE ?= watchmand.state
@@ -7,8 +6,7 @@ SOCKET ?= watchmand.socket
 PROGRAM := crates/watchmand/out/watchmand
 CLIENT := crates/wmctl/out/wmctl
 FEED := crates/wmfeed/out/wmfeed
-BENCH := crates/bench/out/bench
-GROWTHS := crates/growths/out/growths
+ASK := bench/out/ask
 FILES ?= 100000
 # The version, where the programs have it.
 VERSION := $(shell sed -n 's/^pub const VERSION: &str = "\(.*\)";$$/\1/p' crates/wm_lines/src/reply.rt)
@@ -19,11 +17,11 @@ PAGES := GUIDE.md QUERIES.md FORMATS.md PROMISES.md DEFINITIONS.md ARCHITECTURE.
 EXAMPLES := build.sh compile_trigger.sh follow.py test_runner.sh
 SOURCES := crates.txt $(shell find crates -name out -prune -o -type f \( -name '*.rt' -o -name '*.antt' \) -print)
 
-.PHONY: help clean uninstall test lint build run lines serve-use feed-use install bench bench-journal bench-store bench-desk idle-desk bench-crawl bench-view bench-share bench-match bench-peer bench-plots clients crawl-tree session examples examples-use dist dist-use kill faults growths fuzz hostile state-file file-calls
+.PHONY: help clean uninstall test lint build run lines serve-use feed-use install bench bench-commands bench-crawl bench-view bench-share bench-match bench-peer bench-plots clients crawl-tree session examples examples-use dist dist-use kill faults growths fuzz hostile state-file file-calls
 
 help:
-	@echo "make test          the whole gate: each proof that no run here passed yet, edits that must be refused, tests, programs, and each growth of"
-	@echo "                   memory refused in thirteen calls (rt, python3, cc; on a new machine more than two hours on two cores)"
+	@echo "make test          the whole gate: each proof from nothing, edits that must be refused, tests, programs, and each growth of"
+	@echo "                   memory refused in three sessions (rt, python3, cc; some two hours on two cores)"
 	@echo "make lint          what the gate doesn't see: no definition's name in the specs of two crates, and no use of another crate's proofs/ (sh, awk; at once)"
 	@echo "make build         builds watchmand (rt; some 45 minutes the first time, since it proves it)"
 	@echo "make run           serves SOCKET=$(SOCKET) over STATE=$(STATE), which it makes where it isn't there, and tells what to try next"
@@ -41,17 +39,16 @@ help:
 	@echo "                   make bench-plots: the same in three runs, and the plots and the table of bench/README.md"
 	@echo "make feed-use      a feed beside a server: its views against fresh crawls, its latency, its ends (python3, git, inotify-tools)"
 	@echo "make kill          kills the built program again and again, and looks for what it answered (python3); make faults: each call"
-	@echo "                   that it makes of its state file fails once (python3, strace); make growths: each growth of memory in thirteen"
-	@echo "                   calls is refused once (rt, python3, cc)"
+	@echo "                   that it makes of its state file fails once (python3, strace); make growths: each growth of memory in three"
+	@echo "                   sessions is refused once (python3, cc)"
 	@echo "make fuzz          random lines, state files and clients, each reply beside a model's in Python (python3; some two minutes;"
 	@echo "                   tools/fuzz/fuzz.py --count 3000 for an hour, --seed for other ones)"
 	@echo "make hostile       the memory of a server beside 31 clients that ask for as much as they can (python3; some two minutes, 4 GB)"
 	@echo "make bench         a million lines beside Python's json (python3, GNU time)"
-	@echo "make bench-journal, bench-store, bench-desk, bench-view, bench-share, bench-match   times by the program bench (rt; bench-store also sqlite3,"
-	@echo "                   if installed; bench-desk python3)"
-	@echo "make idle-desk     that a desk with nothing to do takes no processor (cc)"
-	@echo "make bench-crawl   crawls of 20,000 and 100,000 entries beside find (find, python3); make crawl-tree: rough trees, and whether a crawl"
-	@echo "                   finds what was made there (python3; setpriv, if root)"
+	@echo "make bench-commands   commands by lines and by 1, 8 and 31 clients, beside SQLite (python3, cc)"
+	@echo "make bench-crawl, bench-view, bench-share, bench-match   a first crawl beside find; what is asked of many files; clients while"
+	@echo "                   files change; hard patterns: all by the built program (python3; bench-share also cc)"
+	@echo "make crawl-tree    rough trees, and whether a server's crawl finds what was made there (python3; setpriv, if root)"
 	@echo "make clean         removes what was built and proved"
 
 test: lint
@@ -133,7 +130,7 @@ dist-use: dist
 	tools/dist_use.sh dist/$(ARCHIVE).tar.gz
 
 clean:
-	rm -rf $(wildcard crates/*/out)
+	rm -rf $(wildcard crates/*/out) bench/out
 
 # A session from the first watch of a root to a deleted file that comes back, by the built program.
 session: $(PROGRAM)
@@ -154,13 +151,9 @@ examples-use: $(PROGRAM) $(CLIENT)
 faults: $(PROGRAM)
 	tools/faults.py $(PROGRAM)
 
-$(GROWTHS): $(SOURCES)
-	cd crates/growths && rt run -- open >&2
-	@touch $@
-
-# Each growth of memory that thirteen calls ask for is refused once: the answer is 16 or 13, or right, and what stands after it is as answered.
-growths: $(GROWTHS)
-	tools/growths.py $(GROWTHS)
+# Each growth of memory that the built program asks for in three sessions is refused once: the answer is right, or 16 and right when asked again.
+growths: $(PROGRAM)
+	tools/growths.py $(PROGRAM)
 
 # Kills the built program in the midst of commands, again and again, and looks for what it answered.
 kill: $(PROGRAM)
@@ -185,39 +178,29 @@ file-calls: $(PROGRAM)
 bench: $(PROGRAM)
 	bench/watch_list.sh $(PROGRAM)
 
-$(BENCH): $(SOURCES)
-	cd crates/bench && rt run -- match 3 </dev/null >&2
-	@touch $@
+$(ASK): bench/ask.c
+	@mkdir -p $(@D)
+	cc -O2 -pthread -o $@ $<
 
-bench-journal: $(BENCH)
-	bench/journal.sh $(BENCH)
+# Commands one after another and by 1, 8 and 31 clients, and SQLite beside them.
+bench-commands: $(PROGRAM) $(ASK)
+	bench/commands.py $(PROGRAM) $(ASK)
 
-bench-store: $(BENCH)
-	bench/store.sh $(BENCH)
-
-# Commands from many threads through a desk, and through SQLite beside it.
-bench-desk: $(BENCH)
-	bench/desk.sh $(BENCH)
-
-# A desk with nothing to do for 10 seconds takes no processor.
-idle-desk: $(BENCH)
-	bench/desk_idle.sh $(BENCH)
-
-# Crawls of trees that it makes, by 1, 2 and 4 workers, and `find` beside them.
-bench-crawl: $(BENCH)
-	bench/crawl.sh $(BENCH)
+# First crawls of trees that it makes, by 1, 2 and 4 workers, and `find` beside them.
+bench-crawl: $(PROGRAM)
+	bench/crawl.py $(PROGRAM)
 
 # What a crawl finds in trees that hold each thing that a file system has.
-crawl-tree: $(BENCH)
-	tools/crawl_tree.sh $(BENCH)
+crawl-tree: $(PROGRAM)
+	tools/crawl_tree.sh $(PROGRAM)
 
-# How long a view of FILES files takes for what is done to it and asked of it, and its memory; also of a tenth.
-bench-view: $(BENCH)
-	bench/view.sh $(BENCH) $(FILES)
+# How long lines about FILES files take, and the memory; also of a tenth.
+bench-view: $(PROGRAM)
+	bench/view.py $(PROGRAM) $(FILES)
 
-# How fast 1, 8 and 31 viewers of a root of FILES files answer while its keeper publishes nothing, and a change each millisecond.
-bench-share: $(BENCH)
-	$(BENCH) share $(FILES) 3000
+# How fast 1, 8 and 31 clients are answered about a root of FILES files while nothing changes, and a change each millisecond.
+bench-share: $(PROGRAM) $(ASK)
+	bench/share.py $(PROGRAM) $(ASK) $(FILES)
 
 # A server beside Watchman 4.9.0, which is installed from Debian's packages where it isn't there.
 bench-peer: $(PROGRAM) $(FEED)
@@ -233,5 +216,5 @@ clients: $(PROGRAM)
 	examples/clients.sh $(PROGRAM)
 
 # How long `match` takes for patterns that are hard to refuse, of 64 to 1,024 bytes.
-bench-match: $(BENCH)
-	$(BENCH) match 200
+bench-match: $(PROGRAM)
+	bench/match.py $(PROGRAM)

@@ -1,5 +1,7 @@
-// So many clients of a Unix socket ask one line again and again, each waiting for its reply, for so many milliseconds; prints how
-// many replies all of them were given. Usage: ask SOCKET CLIENTS MILLISECONDS, with the line on standard input.
+// So many clients of a Unix socket send the lines of standard input in turn, again and again, each waiting for its reply, for so
+// many milliseconds; a # in a line stands for the client's number in two digits. Prints how many replies all of them were given
+// behind each one's first. Status 1 where a socket failed, or a reply is a refusal or doesn't begin as is asked for its line.
+// Usage: ask SOCKET CLIENTS MILLISECONDS [BEGINNING..], with the lines on standard input; a BEGINNING for each line, or none at all.
 #include <pthread.h>
 #include <signal.h>
 #include <stdio.h>
@@ -10,11 +12,23 @@
 #include <time.h>
 #include <unistd.h>
 
-static char line[1 << 16];
-static size_t line_size;
+enum { TEXT = 1 << 16, ROOM = 1 << 20, CLIENTS = 64 };
+
+static char text[TEXT];
+static size_t text_size;
+static char **beginnings;  // of the replies to the lines, up to a null
 static const char *path;
 static long milliseconds;
 static pthread_barrier_t ready;
+
+struct client {
+    long number, count;
+    int has_failed, fd;
+    char lines[2 * TEXT];  // the text, with the client's number
+    size_t size, at, next; // how long that is, where the line begins whose turn it is, and where the one behind it
+    size_t line;           // the number of that line
+    char reply[ROOM];
+};
 
 static double now(void) {
     struct timespec t;
@@ -22,42 +36,85 @@ static double now(void) {
     return t.tv_sec * 1e3 + t.tv_nsec / 1e6;
 }
 
-// One question and its whole reply; 0 where the socket failed.
-static int ask(int fd, char *buffer, size_t room) {
-    if (write(fd, line, line_size) != (ssize_t)line_size) return 0;
-    for (;;) {
-        ssize_t n = read(fd, buffer, room);
+static int begins(const char *reply, const char *with) { return strncmp(reply, with, strlen(with)) == 0; }
+
+// Sends the next line and reads its whole reply, of which the beginning is kept; 0 where the socket failed.
+static int ask(struct client *it) {
+    const char *line = it->lines + it->at, *end = memchr(line, '\n', it->size - it->at);
+    it->next = end ? (size_t)(end + 1 - it->lines) : it->size;
+    (void)!write(it->fd, line, it->next - it->at);  // who has no room for us may have answered and left before
+    for (size_t have = 0;;) {
+        if (have == ROOM) have = ROOM / 2;
+        ssize_t n = read(it->fd, it->reply + have, ROOM - have);
         if (n <= 0) return 0;
-        if (buffer[n - 1] == '\n') return 1;
+        have += n;
+        if (it->reply[have - 1] == '\n') return 1;
     }
 }
 
-static void *client(void *count) {
+// Whether the last reply is what was wanted; then the next line's turn comes.
+static int is_answered(struct client *it) {
+    const char *wanted = beginnings[0] ? beginnings[it->line] : "";
+    if (begins(it->reply, "{\"error\"") || !begins(it->reply, wanted)) return 0;
+    it->at = it->next;
+    it->line++;
+    if (it->at == it->size) it->at = it->line = 0;
+    return 1;
+}
+
+// Connects and asks once. A server that has too many sessions is tried again for a second, since some may have ended just now.
+static int connect_and_ask(struct client *it) {
     struct sockaddr_un address = {.sun_family = AF_UNIX};
     strncpy(address.sun_path, path, sizeof address.sun_path - 1);
-    int fd = socket(AF_UNIX, SOCK_STREAM, 0);
-    char *buffer = malloc(1 << 20);
-    int is_there = connect(fd, (struct sockaddr *)&address, sizeof address) == 0 && ask(fd, buffer, 1 << 20);
+    for (int tries = 0; tries < 50; tries++) {
+        it->fd = socket(AF_UNIX, SOCK_STREAM, 0);
+        if (connect(it->fd, (struct sockaddr *)&address, sizeof address) != 0 || !ask(it)) return 0;
+        if (!begins(it->reply, "{\"error\":\"17 ")) break;
+        close(it->fd);
+        usleep(20000);
+    }
+    return is_answered(it);
+}
+
+static void *run(void *client) {
+    struct client *it = client;
+    int is_good = connect_and_ask(it);
     pthread_barrier_wait(&ready);
-    for (double end = now() + milliseconds; is_there && now() < end; ++*(long *)count)
-        if (!ask(fd, buffer, 1 << 20)) break;
-    close(fd);
-    free(buffer);
+    for (double end = now() + milliseconds; is_good && now() < end;) {
+        is_good = ask(it) && is_answered(it);
+        it->count += is_good;
+    }
+    if (!is_good) fprintf(stderr, "client %ld failed; its last reply: %.200s\n", it->number, it->reply);
+    it->has_failed = !is_good;
+    close(it->fd);
     return NULL;
 }
 
 int main(int argc, char **argv) {
-    if (argc != 4) return 2;
+    if (argc < 4) return 2;
     signal(SIGPIPE, SIG_IGN);
     path = argv[1];
-    long clients = atol(argv[2]), counts[64] = {0}, all = 0;
+    long clients = atol(argv[2]), all = 0;
     milliseconds = atol(argv[3]);
-    if (clients < 1 || clients > 64) return 2;
-    line_size = fread(line, 1, sizeof line, stdin);
-    pthread_t threads[64];
+    beginnings = argv + 4;
+    if (clients < 1 || clients > CLIENTS) return 2;
+    text_size = fread(text, 1, sizeof text, stdin);
+    long lines = 0;
+    for (size_t k = 0; k < text_size; k++) lines += text[k] == '\n' || k + 1 == text_size;
+    if (lines == 0 || (argc > 4 && argc - 4 != lines)) return 2;
+    pthread_t threads[CLIENTS];
+    struct client *them = calloc(clients, sizeof *them);
     pthread_barrier_init(&ready, NULL, clients);
-    for (long i = 0; i < clients; i++) pthread_create(&threads[i], NULL, client, &counts[i]);
-    for (long i = 0; i < clients; i++) pthread_join(threads[i], NULL), all += counts[i];
+    for (long i = 0; i < clients; i++) {
+        them[i].number = i;
+        for (size_t k = 0; k < text_size; k++) {
+            if (text[k] == '#') them[i].size += sprintf(them[i].lines + them[i].size, "%02ld", i);
+            else them[i].lines[them[i].size++] = text[k];
+        }
+    }
+    for (long i = 0; i < clients; i++) pthread_create(&threads[i], NULL, run, &them[i]);
+    int has_failed = 0;
+    for (long i = 0; i < clients; i++) pthread_join(threads[i], NULL), all += them[i].count, has_failed |= them[i].has_failed;
     printf("%ld\n", all);
-    return 0;
+    return has_failed;
 }

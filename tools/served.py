@@ -36,11 +36,11 @@ class Session:
 
 
 @contextlib.contextmanager
-def serving(program, folder):
-    """A server over a new state file in the folder, which is killed at the end; its socket's path."""
+def serving(program, folder, *words):
+    """A server over a new state file in the folder, with these words more, which is killed at the end; its socket's path."""
     path = f"{folder}/socket"
     subprocess.run([program, "format", f"{folder}/state"], check=True, stdout=subprocess.DEVNULL)
-    server = subprocess.Popen([program, "serve", f"{folder}/state", path], stdout=subprocess.PIPE)
+    server = subprocess.Popen([program, "serve", f"{folder}/state", path, *words], stdout=subprocess.PIPE)
     try:
         server.stdout.readline()
         yield path

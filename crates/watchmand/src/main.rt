@@ -1,29 +1,34 @@
 //! The file watch server's program.
 #![tactic(auto)]
 
-use std::io::BufReader;
+use std::fs::{File, Files};
+use std::io::{BufReader, ErrorKind};
+use std::net::Net;
 use std::process::ExitCode;
+use std::sync::Wait;
+use std::thread::Threads;
+use std::time::Clock;
 use std::{env, io};
 use wm_crawler::SystemFolders;
 use wm_program::watchmand;
 use wm_triggers::SystemPrograms;
 
-fn main(rt: HostRuntime) -> io::Result<ExitCode> {
+/// Meets the words; threads are the host's. An error is that of memory, or of a word that isn't UTF-8.
+fn run<H: Threads + Wait + Clock + Net + Files<File = File> + Sync>(
+    rt: &HostRuntime,
+    host: &H,
+) -> io::Result<u8> {
     let alloc = rt.alloc();
-    let Ok(args) = env::args(&rt) else {
-        rt.eprintln("watchmand: a word isn't UTF-8")?;
-        return Ok(ExitCode::from(2));
-    };
-    let args: Vec<String> = args.skip(1).collect(alloc)?;
+    let args: Vec<String> = env::args(rt)?.skip(1).collect(alloc)?;
     let words: Vec<&str> = args.iter().map(|word| word.as_str()).collect(alloc)?;
     let reader = BufReader::new(alloc, rt.reader())?;
-    let mut writer = io::writer(&rt);
+    let mut writer = io::writer(rt);
     let errors = rt.stderr();
     let mut faults = io::writer(&errors);
     let folders = SystemFolders::new(rt.clone()?);
     let programs = SystemPrograms::new(rt.clone()?);
-    let status = watchmand(
-        &rt,
+    Ok(watchmand(
+        host,
         alloc,
         &words,
         &folders,
@@ -31,6 +36,15 @@ fn main(rt: HostRuntime) -> io::Result<ExitCode> {
         reader,
         &mut writer,
         &mut faults,
-    );
+    ))
+}
+
+fn main(rt: HostRuntime) -> io::Result<ExitCode> {
+    let (status, told) = match run(&rt, &rt) {
+        Ok(status) => return Ok(ExitCode::from(status)),
+        Err(error) if error.kind() == ErrorKind::OutOfMemory => (1, "watchmand: 16 NoMemory"),
+        Err(_) => (2, "watchmand: a word isn't UTF-8"),
+    };
+    rt.eprintln(told)?;
     Ok(ExitCode::from(status))
 }

@@ -1,4 +1,5 @@
 pub mod ClientWords
+pub mod Ends
 pub mod FeedWords
 pub mod ReplyLaws
 pub mod Statuses

@@ -4,19 +4,22 @@
 //! [`Words`] is what the words of `wmctl` ask for (specs/ClientWords.antt), [`talk`] sends a request and
 //! prints the reply (specs/Talks.antt), and [`wmctl`] is all of the program, with the status that it may end with
 //! (specs/Statuses.antt). [`every_reply`] says what is taken for a refusal (specs/ReplyLaws.antt). [`FeedWords`] is what the words of
-//! `wmfeed` ask for (specs/FeedWords.antt); [`show`] and [`tell`] serve both programs.
+//! `wmfeed` ask for (specs/FeedWords.antt), and [`wmfeed`] all of that program over a [`Feeder`], with its status (specs/Ends.antt).
 #![tactic(auto)]
 
 mod feed_words;
+mod feeding;
 mod laws;
 mod program;
 mod showing;
+mod stop;
 mod talking;
 mod words;
 
 pub use feed_words::FeedWords;
+pub use feeding::{Feeder, wmfeed};
 pub use laws::every_reply;
 pub use program::wmctl;
-pub use showing::{show, tell};
+pub use stop::Stop;
 pub use talking::{TalkEnd, talk};
 pub use words::Words;

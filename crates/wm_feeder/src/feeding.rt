@@ -3,7 +3,6 @@
 use crate::folders::Seen;
 use crate::sending::{is_wide, recrawl, send};
 use crate::server::{Asked, Server};
-use crate::stop::Stop;
 use crate::watch::{Got, Watch};
 use serde_json::json;
 use std::alloc::Global;
@@ -12,6 +11,7 @@ use std::net::Net;
 use std::process::Processes;
 use std::thread;
 use std::time::{Clock, Duration};
+use wm_client::Stop;
 use wm_feed::{Batch, Told, read_record};
 use wm_names::{RootPath, Subtree};
 

@@ -4,13 +4,13 @@
 
 use crate::sending::hand_over;
 use crate::server::Server;
-use crate::stop::Stop;
 use serde_json::{Value, json};
 use std::alloc::Global;
 use std::collections::BTreeSet;
 use std::fs;
 use std::fs::Files;
 use std::os::unix::fs::MetadataExt;
+use wm_client::Stop;
 use wm_feed::add_watched;
 
 /// The members of a query that asks for the names of all folders.

@@ -1,8 +1,8 @@
 //! What stands at paths of a folder now, as a crawl would tell it. Tests: tools/feed_use.py.
 
-use crate::stop::Stop;
 use std::alloc::Global;
 use std::fs::Files;
+use wm_client::Stop;
 use wm_crawler::{FolderTree, Tree};
 use wm_disk::Refusal;
 use wm_names::{Kind, Meta, RelPath, RootPath};

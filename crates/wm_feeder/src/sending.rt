@@ -2,10 +2,10 @@
 
 use crate::looking::Looking;
 use crate::server::{Asked, Server};
-use crate::stop::Stop;
 use serde_json::json;
 use std::alloc::Global;
 use std::fs::Files;
+use wm_client::Stop;
 use wm_feed::{Batch, observe_line};
 use wm_lines::MAX_LINE;
 use wm_names::{Meta, RelPath, RootPath, Subtree};

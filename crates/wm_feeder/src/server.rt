@@ -5,12 +5,11 @@ ghost use Rattle.wm_disk.specs.declared.refusal.Refusal.TheVariants as refusals;
 ghost use Rattle.wm_client.specs.Talks.{is_refusal_line};
 ghost use Rattle.wm_feeder.specs.Asks.{is_refused_by};
 
-use crate::stop::Stop;
 use std::alloc::Global;
 use std::io::BufReader;
 use std::net::Net;
 use std::os::unix::net::UnixStream;
-use wm_client::{TalkEnd, talk};
+use wm_client::{Stop, TalkEnd, talk};
 
 /// What a request was answered.
 #[derive(Clone, Copy, Debug, PartialEq, Eq)]

@@ -2,7 +2,6 @@
 //! Both of its streams come through one socket, since a socket can be read for so long and no longer.
 //! Tests: tools/feed_use.py.
 
-use crate::stop::Stop;
 use std::alloc::Global;
 use std::io;
 use std::io::{ErrorKind, Read};
@@ -11,6 +10,7 @@ use std::os::fd::OwnedFd;
 use std::os::unix::net::UnixStream;
 use std::process::{Child, Command, Processes, Stdio};
 use std::time::Duration;
+use wm_client::Stop;
 use wm_feed::Flow;
 
 /// How a record is written: the folder, the events, and the name with a slash in front, a zero byte

@@ -100,7 +100,7 @@ fn answer<R: Wait + Clock, T: Registrar, J: Naming, K: Wait + Copy + Drop>(
     alloc: Global,
     shared: &Shared<T, J, K>,
     chair: &Chair<J>,
-    place: &mut Option<Place<'_, T>>,
+    place: &mut Place<'_, T>,
     stream: &UnixStream,
     request: Request,
 ) -> io::Result<()> {
@@ -136,7 +136,7 @@ fn serve_line<R: Wait + Clock, T: Registrar, J: Naming, K: Wait + Copy + Drop>(
     alloc: Global,
     shared: &Shared<T, J, K>,
     chair: &Chair<J>,
-    place: &mut Option<Place<'_, T>>,
+    place: &mut Place<'_, T>,
     stream: &UnixStream,
     line: &[u8],
 ) -> io::Result<()> {
@@ -168,7 +168,7 @@ fn serve_lines_of<R: Wait + Clock, T: Registrar, J: Naming, K: Wait + Copy + Dro
     alloc: Global,
     shared: &Shared<T, J, K>,
     chair: &Chair<J>,
-    place: &mut Option<Place<'_, T>>,
+    place: &mut Place<'_, T>,
     stream: &UnixStream,
     reader: &mut BufReader<&UnixStream>,
     line: &mut Vec<u8>,
@@ -189,7 +189,7 @@ fn serve_lines<R: Wait + Clock, T: Registrar, J: Naming, K: Wait + Copy + Drop>(
     alloc: Global,
     shared: &Shared<T, J, K>,
     chair: &Chair<J>,
-    place: &mut Option<Place<'_, T>>,
+    place: &mut Place<'_, T>,
     stream: &UnixStream,
 ) -> io::Result<()> {
     let mut reader = BufReader::new(alloc, stream)?;
@@ -230,7 +230,7 @@ fn attend<R: Wait + Clock, T: Registrar, J: Naming, K: Wait + Copy + Drop>(
     alloc: Global,
     shared: &Shared<T, J, K>,
     chair: &Chair<J>,
-    place: &mut Option<Place<'_, T>>,
+    place: &mut Place<'_, T>,
     stream: UnixStream,
 ) {
     let _timed = stream.set_write_timeout(Some(Duration::from_secs(WRITE_SECONDS)));
@@ -258,8 +258,7 @@ pub fn sit_on<R: Wait + Clock, T: Registrar, J: Naming, K: Wait + Copy + Drop>(
     shared: &Shared<T, J, K>,
     chair: &Chair<J>,
 ) {
-    // Without a seat the commands of these sessions are refused 16.
-    let mut place = Place::take(rt, &shared.desk).ok();
+    let mut place = Place::new(&shared.desk);
     for _ in rt.forever() {
         let Some(stream) = shared.door.next(rt) else {
             drop(place);

@@ -68,35 +68,20 @@ fn tell<R: Wait, T: Registrar, J: Naming, K: Wait + Copy + Drop>(
     Ok(())
 }
 
-/// How a command was met at a session's seat. `NoMemory` where the session has none.
-fn submit<R: Wait, T: Registrar>(
-    rt: &R,
-    place: &mut Option<Place<'_, T>>,
-    command: Command,
-) -> Reply {
-    match place {
-        Some(place) => place.submit(rt, command),
-        None => {
-            drop(command);
-            Reply::Refused(Refusal::NoMemory)
-        }
-    }
-}
-
 /// Submits a command. Each reply that it may have is made first, with its room, so that an accepted command has its reply.
-/// `NoMemory` where that finds no room, for a session without a seat and for a `Begin`: then nothing is submitted. Else it is
-/// refused as [`Place::submit`] is. A refusal appends nothing.
+/// `NoMemory` where that finds no room, and for a `Begin`: then nothing is submitted. Else it is refused as
+/// [`Place::submit`] is. A refusal appends nothing.
 pub fn command<R: Wait, T: Registrar, J: Naming, K: Wait + Copy + Drop>(
     rt: &R,
     alloc: Global,
     shared: &Shared<T, J, K>,
-    place: &mut Option<Place<'_, T>>,
+    place: &mut Place<'_, T>,
     command: Command,
     out: &mut Vec<u8>,
 ) -> Result<(), Refusal> {
     match prepare(alloc, &command, out) {
         Ok(prepared) => {
-            let reply = submit(rt, place, command);
+            let reply = place.submit(rt, command);
             let told = tell(rt, alloc, shared, &prepared, reply, out);
             drop(prepared);
             told

@@ -112,7 +112,7 @@ pub fn meet<R: Wait + Clock, T: Registrar, J: Naming, K: Wait + Copy + Drop>(
     alloc: Global,
     shared: &Shared<T, J, K>,
     chair: &Chair<J>,
-    place: &mut Option<Place<'_, T>>,
+    place: &mut Place<'_, T>,
     request: Request,
     out: &mut Vec<u8>,
 ) -> Result<(), Refusal> {

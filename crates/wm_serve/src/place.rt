@@ -1,5 +1,5 @@
 //! A session's seat at the desk.
-//! Tests: serve_tests/src/sessions.rt.
+//! Tests: serve_tests/src/sessions.rt; of one that finds no memory at first tools/growths.py.
 use crate::registrar::Registrar;
 use std::sync::Wait;
 use wm_disk::Refusal;
@@ -8,21 +8,49 @@ use wm_registry::{Command, Reply};
 
 /// A seat with the desk that gave it.
 #[derive(Drop)]
-pub struct Place<'a, T: Registrar> {
+struct Given<'a, T: Registrar> {
     desk: &'a T,
     seat: Seat,
     ghost given: { T.gave desk.now seat } by { T.sole desk.now seat },
 }
 
-impl<'a, T: Registrar> Place<'a, T> {
+impl<'a, T: Registrar> Given<'a, T> {
     /// A new seat of the desk; it is refused as `Desk::seat` is.
-    pub fn take<R: Wait>(rt: &R, desk: &'a T) -> Result<Place<'a, T>, Refusal> {
+    fn take<R: Wait>(rt: &R, desk: &'a T) -> Result<Given<'a, T>, Refusal> {
         let seat = desk.seat(rt)?;
-        Ok(Place { desk, seat })
+        Ok(Given { desk, seat })
     }
 
     /// How a command was met: it is refused as `Desk::submit` refuses it.
-    pub fn submit<R: Wait>(&mut self, rt: &R, command: Command) -> Reply {
+    fn submit<R: Wait>(&mut self, rt: &R, command: Command) -> Reply {
         self.desk.submit(rt, &mut self.seat, command)
+    }
+}
+
+/// Where commands are submitted from: a seat of the desk, which is taken for the first of them that finds memory for it.
+#[derive(Drop)]
+pub struct Place<'a, T: Registrar> {
+    desk: &'a T,
+    given: Option<Given<'a, T>>,
+}
+
+impl<'a, T: Registrar> Place<'a, T> {
+    /// A place at the desk, with no seat yet.
+    pub fn new(desk: &'a T) -> Place<'a, T> {
+        Place { desk, given: None }
+    }
+
+    /// How a command was met: it is refused as `Desk::submit` refuses it, and `NoMemory` without a seat.
+    pub fn submit<R: Wait>(&mut self, rt: &R, command: Command) -> Reply {
+        if self.given.is_none() {
+            self.given = Given::take(rt, self.desk).ok();
+        }
+        match &mut self.given {
+            Some(given) => given.submit(rt, command),
+            None => {
+                drop(command);
+                Reply::Refused(Refusal::NoMemory)
+            }
+        }
     }
 }

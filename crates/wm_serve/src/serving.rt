@@ -1,7 +1,6 @@
 //! `serve`: the whole server, from its state file and its socket to the close of the file.
 //! Tests: serve_tests/src/restarts.rt.
-ghost use Rattle.std.specs.Prelude.{◌≡◌, ◌⊎◌, true, IfErr, IfOk};
-ghost use Rattle.wm_disk.specs.declared.refusal.Refusal.TheVariants.{Damaged as damaged, DeviceFailed as device_failed, Exhausted as exhausted, NoMemory as no_memory, Retired as retired};
+ghost use Rattle.std.specs.Prelude.{◌≡◌, true};
 ghost use Rattle.wm_lines.specs.KeptExpressions.{have_expressions as have_expressions_lem};
 
 use crate::admitting::serve_on;
@@ -23,7 +22,7 @@ use wm_disk::{Disk, NoMemory, Refusal};
 use wm_file::{FileDisk, Unknown};
 use wm_groupcommit::Desk;
 use wm_hall::Forgetting;
-use wm_server::open_store;
+use wm_server::open_file;
 use wm_share::{Naming, Opened, Shares};
 use wm_store::Store;
 use wm_triggers::Programs;
@@ -39,27 +38,6 @@ pub struct Settings {
     pub gc_interval: u64,
     /// After so many sessions it ends.
     pub sessions: u64,
-}
-
-/// Opens the store of a state file. `Damaged` too where a trigger in it keeps a text that is no expression.
-fn open<R: Files<File = File>>(
-    rt: &R,
-    alloc: Global,
-    file: &str,
-) -> Result<Store<FileDisk<Unknown>>, Refusal>
-    ensures expressions { IfOk result (λ store. have_expressions_lem store.registry ≡ true) }
-    ensures refused { IfErr result (λ e. (e ≡ device_failed) ⊎ (e ≡ no_memory) ⊎ (e ≡ exhausted) ⊎ (e ≡ damaged) ⊎ (e ≡ retired)) }
-{
-    let Ok(disk) = FileDisk::<Unknown>::open(rt, file) else {
-        return Err(Refusal::DeviceFailed);
-    };
-    match open_store(alloc, disk) {
-        Ok(store) => Ok(store),
-        Err((refusal, disk)) => {
-            drop(disk);
-            Err(refusal)
-        }
-    }
 }
 
 /// Serves a state file on a socket until so many sessions have ended. The socket is removed then.
@@ -85,7 +63,7 @@ pub fn serve<
     settings: Settings,
     writer: &mut W,
 ) -> Result<(), Refusal> {
-    let store = open(rt, alloc, file)?;
+    let store = open_file(rt, alloc, file)?;
     let Ok(listener) = listen(rt, socket) else {
         drop(store);
         return Err(Refusal::DeviceFailed);

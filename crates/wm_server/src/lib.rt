@@ -17,7 +17,7 @@ pub mod program;
 mod session;
 
 pub use laws::{every_line, every_part, every_restart};
-pub use local::{LocalFront, RegistryFront, RootView, open_store};
+pub use local::{LocalFront, RegistryFront, RootView, open_file, open_store};
 pub use program::{lines, system, words};
 pub use session::{Front, Input, Output, Session, input, run};
 pub use wm_file::file;

@@ -8,6 +8,6 @@ mod registry_front;
 mod root_views;
 
 pub use local_front::LocalFront;
-pub use opening::open_store;
+pub use opening::{open_file, open_store};
 pub use registry_front::RegistryFront;
 pub use root_views::RootView;

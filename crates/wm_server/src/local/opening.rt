@@ -8,7 +8,9 @@ ghost use Rattle.wm_store.specs.Calls.{IsWorking};
 ghost use Rattle.wm_store.specs.Openings.{IsBegun};
 
 use std::alloc::Global;
+use std::fs::{File, Files};
 use wm_disk::{Disk, Refusal};
+use wm_file::{FileDisk, Unknown};
 use wm_lines::have_expressions;
 use wm_registry::Registry;
 use wm_store::Store;
@@ -33,6 +35,29 @@ pub fn open_store<D: Disk + Drop>(alloc: Global, disk: D) -> Result<Store<D>, (R
     match ask_for_expressions(alloc, store.registry()) {
         Ok(()) => Ok(store),
         Err(refusal) => Err((refusal, store.into_disk())),
+    }
+}
+
+/// Opens the store of a state file, as [`open_store`] over the open file. Where that refuses it the file is let go.
+/// `DeviceFailed` too where the file isn't there, there is no right to it, another program has it, or it can't
+/// be opened else.
+pub fn open_file<R: Files<File = File>>(
+    rt: &R,
+    alloc: Global,
+    path: &str,
+) -> Result<Store<FileDisk<Unknown>>, Refusal>
+    ensures expressions { IfOk result (λ store. have_expressions_lem store.registry ≡ true) }
+    ensures kinds { IfErr result (λ e. (e ≡ device_failed) ⊎ (e ≡ no_memory) ⊎ (e ≡ exhausted) ⊎ (e ≡ damaged) ⊎ (e ≡ retired)) }
+{
+    let Ok(disk) = FileDisk::<Unknown>::open(rt, path) else {
+        return Err(Refusal::DeviceFailed);
+    };
+    match open_store(alloc, disk) {
+        Ok(store) => Ok(store),
+        Err((refusal, disk)) => {
+            drop(disk);
+            Err(refusal)
+        }
     }
 }
 

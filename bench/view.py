@@ -1,0 +1,118 @@
+#!/usr/bin/env python3
+"""What a root of many files costs: view.py PROGRAM [FILES]
+
+A root of FILES / 10 and one of FILES files (default 100,000, a multiple of 10,000), each told to a `watchmand lines` of its own and asked
+there: a table of microseconds from the write of a request to the end of its reply, medians where it is repeated, and of the
+process's memory. Paths have 40 bytes, folders 100 files; each answer is looked at. Where it waited for a processor, times are too long."""
+import statistics, sys
+from asked import ensure, lines
+
+ROOT, FOLDER, MANY, ROUNDS = "/r", 100, 1000, 11
+
+
+def path(number, beside=None):
+    """The path of the file of this number, in its own folder or in that of another file."""
+    return f"srv/project/source/d{(number if beside is None else beside) // FOLDER:07}/f{number:011}"
+
+
+def meta(size):
+    return {"mtime_ms": 0, "size": size, "type": "f"}
+
+
+class Root:
+    """A root with its files, whose listing is timed."""
+
+    def __init__(self, asked, files):
+        self.asked, self.files, self.rows, self.size = asked, files, {}, 0
+        asked.ask("watch", ROOT)
+        took = self.told("listing", 0, "", [])
+        for first in range(0, files, FOLDER):
+            took += self.list_folder(first)
+        self.rows["the first listing, folder by folder"] = 1e6 * took
+        self.rows["memory at most behind it, MB"] = asked.memory("VmHWM") / 1e6
+        self.resident = asked.memory("VmRSS")
+        _, answer = asked.timed("query", ROOT, {"fields": ["name"]})
+        ensure(len(answer["files"]) == files, f"{len(answer['files'])} files were listed")
+
+    def told(self, command, *arguments):
+        """How long an operation takes. Its clock is kept."""
+        took, reply = self.asked.timed(command, ROOT, *arguments)
+        self.front, tick = reply["clock"].rsplit(":", 1)
+        self.tick = int(tick)
+        return took
+
+    def list_folder(self, first):
+        files = [[path(number), meta(0)] for number in range(first, first + FOLDER)]
+        return self.told("listing", self.tick, path(first).rsplit("/", 1)[0], files)
+
+    def observe(self, pairs):
+        """An operation that has to change something."""
+        before = self.tick
+        took = self.told("observe", pairs)
+        ensure(self.tick == before + 1, f"an observation went from tick {before} to {self.tick}")
+        return took
+
+    def change(self, numbers):
+        self.size += 1
+        return self.observe([[path(number), meta(self.size)] for number in numbers])
+
+    def answer(self, count, query):
+        took, answer = self.asked.timed("query", ROOT, query)
+        ensure(len(answer["files"]) == count, f"{len(answer['files'])} files in place of {count}")
+        return took
+
+    def age_out(self, floor):
+        took, answer = self.asked.timed("age-out", ROOT, 0)
+        ensure(answer["floor"] == floor, f"{answer} in place of the floor {floor}")
+        return took
+
+    def row(self, what, times):
+        self.rows[what] = 1e6 * statistics.median(times)
+
+
+def measured(asked, files):
+    """The rows of a root of so many files, and what its process has in memory behind its listing."""
+    root = Root(asked, files)
+    spread = range(0, files, files // MANY)  # a thousand files that lie far apart
+    root.row("a folder of 100 files listed again, nothing new", [root.list_folder(3 * FOLDER) for _ in range(101)])
+    root.row("an observation of one file", [root.change([number]) for number in spread])
+    for count in (0, 1, 10, MANY):
+        since = {"since": f"{root.front}:{root.tick - count}"}
+        root.row(f"`since`, {count:,} files changed", [root.answer(count, since) for _ in range(101 if count < MANY else ROUNDS)])
+    root.row("an observation of 1,000 files, changed", [root.change(spread) for _ in range(ROUNDS)])
+    ten = {"expression": ["name", [path(number) for number in spread[:10]], "wholename"]}
+    root.row("a query that finds 10 files by their names", [root.answer(10, ten) for _ in range(ROUNDS)])
+    root.row("a query that answers all files", [root.answer(files, {}) for _ in range(ROUNDS)])
+    added, gone, aged = [], [], []
+    for _ in range(ROUNDS):
+        beside = [path(files + at, number) for at, number in enumerate(spread)]
+        added.append(root.observe([[each, meta(0)] for each in beside]))
+        gone.append(root.observe([[each, None] for each in beside]))
+        aged.append(root.age_out(root.tick))
+    root.row("an observation of 1,000 files, new", added)
+    root.row("an observation of 1,000 files, gone", gone)
+    root.row("an age-out of 1,000 deleted files", aged)
+    root.row("an age-out of none", [root.age_out(root.tick) for _ in range(101)])
+    root.rows["memory at most in the end, MB"] = asked.memory("VmHWM") / 1e6
+    root.rows["all in all, waiting for a processor"] = 1e6 * asked.waited()
+    return root.rows, root.resident
+
+
+def main():
+    if len(sys.argv) not in (2, 3):
+        sys.exit(__doc__)
+    files, found = int(sys.argv[2]) if len(sys.argv) == 3 else 100000, []
+    ensure(files >= 10 * MANY and files % (10 * MANY) == 0, "FILES has to be a multiple of 10,000")
+    counts = (files // 10, files)
+    for count in counts:
+        with lines(sys.argv[1]) as asked:
+            found.append(measured(asked, count))
+    (few, less), (many, more) = found
+    print(f"| µs | {counts[0]:,} files | {counts[1]:,} files |\n|---|---|---|")
+    for what in few:
+        print(f"| {what} | {few[what]:,.1f} | {many[what]:,.1f} |")
+    print(f"Each further file took {(more - less) / (counts[1] - counts[0]):.0f} bytes of memory behind the listing.")
+
+
+if __name__ == "__main__":
+    main()

@@ -1,0 +1,45 @@
+//! Why a feed stops.
+//! The status of each: specs/Ends. Tests: tools/feed_use.py.
+
+use std::alloc::{AllocError, AllocFailed};
+use wm_disk::NoMemory;
+
+/// Why a feed stops, or has to begin anew.
+#[derive(Clone, Copy, Debug, PartialEq, Eq)]
+pub enum Stop {
+    /// More may have changed than was told: the watch is made anew and the root crawled.
+    Doubt,
+    /// The root isn't watched any longer.
+    WatchGone,
+    /// The server ended, or its socket failed.
+    ServerGone,
+    /// The server refused a request that it should have met, or its reply can't be read.
+    Refused,
+    /// inotifywait ended, as it does where a folder goes while it begins: it is started anew.
+    Ended,
+    /// inotifywait couldn't be started, or no time could be set for reading what it tells.
+    Unwatched,
+    /// Ten watches in a row ended before each folder was seen to be watched: inotifywait ended, folders stay
+    /// without a watch, or a request failed each time that may be met later.
+    Unwatchable,
+    /// Memory ran out.
+    NoMemory,
+}
+
+impl From<NoMemory> for Stop {
+    fn from(_error: NoMemory) -> Stop {
+        Stop::NoMemory
+    }
+}
+
+impl From<AllocError> for Stop {
+    fn from(_error: AllocError) -> Stop {
+        Stop::NoMemory
+    }
+}
+
+impl<T: Drop> From<AllocFailed<T>> for Stop {
+    fn from(_error: AllocFailed<T>) -> Stop {
+        Stop::NoMemory
+    }
+}
