@@ -21,7 +21,7 @@ SOURCES := crates.txt $(shell find crates -name out -prune -o -type f \( -name '
 
 help:
 	@echo "make test          the whole gate: each proof from nothing, edits that must be refused, tests, programs, and each growth of"
-	@echo "                   memory refused in three sessions (rt, python3, cc; some two hours on two cores)"
+	@echo "                   memory refused in three sessions (rt, python3, cc; some two hours on two processors)"
 	@echo "make lint          what the gate doesn't see: no definition's name in the specs of two crates, and no use of another crate's proofs/ (sh, awk; at once)"
 	@echo "make build         builds watchmand (rt; some 45 minutes the first time, since it proves it)"
 	@echo "make run           serves SOCKET=$(SOCKET) over STATE=$(STATE), which it makes where it isn't there, and tells what to try next"
@@ -45,9 +45,9 @@ help:
 	@echo "                   tools/fuzz/fuzz.py --count 3000 for an hour, --seed for other ones)"
 	@echo "make hostile       the memory of a server beside 31 clients that ask for as much as they can (python3; some two minutes, 4 GB)"
 	@echo "make bench         a million lines beside Python's json (python3, GNU time)"
-	@echo "make bench-commands   commands by lines and by 1, 8 and 31 clients, beside SQLite (python3, cc)"
+	@echo "make bench-commands   commands through lines and from 1, 8 and 31 clients, beside SQLite (python3, cc)"
 	@echo "make bench-crawl, bench-view, bench-share, bench-match   a first crawl beside find; what is asked of many files; clients while"
-	@echo "                   files change; hard patterns: all by the built program (python3; bench-share also cc)"
+	@echo "                   files change; hard patterns: all by the built program (python3; bench-share also cc; FILES=$(FILES))"
 	@echo "make crawl-tree    rough trees, and whether a server's crawl finds what was made there (python3; setpriv, if root)"
 	@echo "make clean         removes what was built and proved"
 
@@ -61,7 +61,7 @@ lint:
 
 build: $(PROGRAM)
 
-# `rt run` proves what has changed, builds the program and runs it once.
+# `rt run` proves what has changed since it last did, builds the program and runs it once.
 $(PROGRAM): $(SOURCES)
 	cd crates/watchmand && rt run -- --help </dev/null >&2
 	@touch $@
@@ -198,7 +198,7 @@ crawl-tree: $(PROGRAM)
 bench-view: $(PROGRAM)
 	bench/view.py $(PROGRAM) $(FILES)
 
-# How fast 1, 8 and 31 clients are answered about a root of FILES files while nothing changes, and a change each millisecond.
+# How fast 1, 8 and 30 clients are answered about a root of FILES files, with and without a change each millisecond; 31 without.
 bench-share: $(PROGRAM) $(ASK)
 	bench/share.py $(PROGRAM) $(ASK) $(FILES)
 

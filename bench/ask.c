@@ -1,6 +1,6 @@
 // So many clients of a Unix socket send the lines of standard input in turn, again and again, each waiting for its reply, for so
-// many milliseconds; a # in a line stands for the client's number in two digits. Prints how many replies all of them were given
-// behind each one's first. Status 1 where a socket failed, or a reply is a refusal or doesn't begin as is asked for its line.
+// many milliseconds; a # in a line stands for the client's number in two digits. Prints how many replies they were given in all,
+// without each one's first. Status 1 where a socket failed, or a reply is a refusal or doesn't begin as is asked for its line.
 // Usage: ask SOCKET CLIENTS MILLISECONDS [BEGINNING..], with the lines on standard input; a BEGINNING for each line, or none at all.
 #include <pthread.h>
 #include <signal.h>

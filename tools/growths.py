@@ -2,8 +2,8 @@
 """Refuses each growth of memory in turn that the built program asks for in a session (cc): tools/growths.py WATCHMAND
 
 The sessions are one of `lines`, one of `lines` in which a checkpoint comes, and one at the socket of `serve`. Each is played with ample memory, which tells what is
-right and how many growths there are, and then once for each growth, which is refused. What is answered `16 NoMemory`, or not at all since the program or the session
-ended by it, is asked again. Each answer, what is due to a subscription, and what the next start lists must then be right. The status is 1 where one isn't, or no
+right and how many growths there are, and then once for each growth, which is refused. What is answered `16 NoMemory` or `17 TooMany`, or not at all since the program or the
+session ended by it, is asked again. Each answer, what is due to a subscription, and what the next start lists must then be right. The status is 1 where one isn't, or no
 growth was refused."""
 import collections, json, os, re, shutil, socket, subprocess, sys, tempfile
 

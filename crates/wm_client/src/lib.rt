@@ -1,5 +1,5 @@
-//! What `wmctl` does: it sends one request to a server's socket and prints what is replied; and what a client's words
-//! ask for.
+//! What `wmctl` does: it sends one request to a server's socket and prints what is replied; and all that `wmfeed` does
+//! but the feed itself.
 //!
 //! [`Words`] is what the words of `wmctl` ask for (specs/ClientWords.antt), [`talk`] sends a request and
 //! prints the reply (specs/Talks.antt), and [`wmctl`] is all of the program, with the status that it may end with

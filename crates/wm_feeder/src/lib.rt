@@ -1,6 +1,6 @@
-//! What `wmfeed` does: it tells a server what inotifywait tells of a folder.
+//! The feed of `wmfeed`: it tells a server what inotifywait tells of a folder.
 //!
-//! [`Inotify`] is the feeder that `wm_client`'s `wmfeed` asks for, which is all of the program but that. What a record means, what a
+//! [`Inotify`] is the `Feeder`; the rest of the program is `wmfeed` of `wm_client`. What a record means, what a
 //! few ask for together and the line that tells it stand in `wm_feed`, with their contracts. What a reply is taken for has
 //! private clauses (specs/Asks.antt); what asks the system has none.
 #![tactic(auto)]

@@ -1,5 +1,5 @@
 //! One watched root, shared by sessions and workers: its keeper, its viewers, its cursors and its triggers, each under a lock of
-//! its own. Tests: serve_tests/src/halls.rt and sessions.rt, growths/src/halls.rt.
+//! its own. Tests: serve_tests/src/halls.rt and sessions.rt; without memory tools/growths.py.
 ghost use Rattle.std.specs.Prelude.{◌≡◌, IfErr};
 
 use crate::asking::{clock, tell, tell_by};

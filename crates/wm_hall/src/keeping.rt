@@ -1,5 +1,5 @@
 //! The operations on a root's view: each is published at once, and old deletions are forgotten before one.
-//! Definitions: specs/Readings.antt, specs/Forgetting.antt; `with_operations` and `outcome` of wm_share. Tests: serve_tests/src/halls.rt and sessions.rt, growths/src/halls.rt.
+//! Definitions: specs/Readings.antt, specs/Forgetting.antt; `with_operations` and `outcome` of wm_share. Tests: serve_tests/src/halls.rt and sessions.rt; without memory tools/growths.py.
 ghost use Rattle.std.specs.Prelude.{◌≡◌, ◌≢◌, ℕ, ◌⊎◌, ◌++◌, ◌∷◌, [], true, false, cond, is_some, Some, None, IfOk, IfErr, IsErrOf, MatchResult};
 ghost use Rattle.wm_hall.specs.Forgetting.{HasForgotten, MayWait, due_age_out, moment_of as moment_of_lem};
 ghost use Rattle.wm_hall.specs.Readings.{is_begun_before, tick_shown};

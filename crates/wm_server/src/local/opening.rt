@@ -1,5 +1,5 @@
 //! The store that a front, or a server of many sessions, starts over. Its definitions are in specs/local: Stores.
-//! Tests: session_tests/src/lines/triggers.rt.
+//! Tests: session_tests/src/lines/triggers.rt; of a file's serve_tests/src/restarts.rt.
 ghost use Rattle.std.specs.Prelude.{◌≡◌, ◌⊎◌, true, false, IfOk, IfErr, MatchResult, OnOk};
 ghost use Rattle.wm_disk.specs.declared.refusal.Refusal.TheVariants.{Damaged as damaged, DeviceFailed as device_failed, Exhausted as exhausted, NoMemory as no_memory, Retired as retired};
 ghost use Rattle.wm_lines.specs.KeptExpressions.{have_expressions as have_expressions_lem};
