@@ -1,10 +1,9 @@
 #!/usr/bin/env python3
 """Refuses each growth of memory in turn that the built program asks for in a session (cc): tools/growths.py WATCHMAND
 
-The sessions are one of `lines`, one of `lines` in which a checkpoint comes, and one at the socket of `serve`. Each is played with ample memory, which tells what is
-right and how many growths there are, and then once for each growth, which is refused. What is answered `16 NoMemory` or `17 TooMany`, or not at all since the program or the
-session ended by it, is asked again. Each answer, what is due to a subscription, and what the next start lists must then be right. The status is 1 where one isn't, or no
-growth was refused."""
+The sessions are one of `lines`, one of `lines` in which a checkpoint comes, and one at the socket of `serve`. Each is played with ample memory, which tells how many growths
+there are, and then once for each growth, which is refused. What is answered `16 NoMemory` or `17 TooMany`, or not at all since the program or the session ended by it, is asked
+again. Each answer, what is due to a subscription, and what the next start lists must be what stands here. The status is 1 where one isn't, or no growth was refused."""
 import collections, json, os, re, shutil, socket, subprocess, sys, tempfile
 
 sys.dont_write_bytecode = True
@@ -14,27 +13,79 @@ HERE = os.path.dirname(os.path.abspath(__file__))
 REFUSED = b'{"error":"16 NoMemory","version":"w1"}\n'
 TOO_MANY = b'{"error":"17 TooMany","version":"w1"}\n'
 ENDED = (1, "watchmand: 16 NoMemory\n")
+SLOT_B = 1314816  # its gate is open once a checkpoint came (docs/FORMATS.md)
 META = {"mtime_ms": 0, "size": 3, "type": "f"}
 ASKED = {"expression": ["anyof", ["suffix", "c"], ["match", "b*", "basename"]], "fields": ["name", "exists", "size"], "since": "n:build"}
-NEVER = {"name": "build", "command": ["true", "-c"], "expression": ["suffix", "x"], "append_files": True}
+BUILD = {"append_files": True, "command": ["true", "-c"], "expression": ["suffix", "x"], "name": "build"}
+SHOWN = {**BUILD, "stdin": "/dev/null"}
+DONE = {}  # a reply with a clock alone, which is left out of each
 
 
-def of_root(root, first):
-    """Requests of a root, the first of which make it ready."""
+def file(name, exists, size, **more):
+    return {"exists": exists, "name": name, "size": size, **more}
+
+
+def answer(files, is_fresh):
+    return {"files": files, "is_fresh_instance": is_fresh}
+
+
+def due(files, is_fresh):
+    return {**answer(files, is_fresh), "root": "/r", "subscription": "s", "unilateral": True}
+
+
+def of_root(root, size, first, told):
+    """Requests of a root in which a.c and lib/b.h are, of this size, with the lines that answer each by the definitions. The first make it ready, and what changes
+    is told so."""
+    changed = [file("a.c", False, size), file("d.c", True, 3)]
     return [
-        ["watch", root], ["trigger", root, NEVER], ["trigger-list", root], *first, ["query", root, ASKED], ["observe", root, [["d.c", META], ["a.c", None]]],
-        ["since", root, "CLOCK"], ["query", root, ASKED], ["trigger-del", root, "build"], ["watch-list"],
+        (["watch", root], [{"watch": root}]),
+        (["trigger", root, BUILD], [{"disposition": "created", "triggerid": "build"}]),
+        (["trigger-list", root], [{"triggers": [SHOWN]}]),
+        *first,
+        (["query", root, ASKED], [answer([file("a.c", True, size), file("lib/b.h", True, size)], True)]),
+        (["observe", root, [["d.c", META], ["a.c", None]]], [DONE, *told]),
+        (["since", root, "CLOCK"], [answer([file("a.c", False, size, new=False), file("d.c", True, 3, new=True)], False)]),
+        (["query", root, ASKED], [answer(changed, False)]),
+        (["trigger-del", root, "build"], [{"deleted": True, "trigger": "build"}]),
+        (["watch-list"], [{"roots": [root]}]),
     ]
 
 
-LISTING = ["listing", "/r", 0, "", [["a.c", META], ["lib/b.h", META]]]
-SUBSCRIBE = ["subscribe", "/r", "s", {"expression": ["suffix", "c"], "fields": ["name"]}]
-LINES = of_root("/r", [LISTING, SUBSCRIBE]) + [["age-out", "/r", 0], ["unsubscribe", "/r", "s"], ["query", "/r", {"fields": ["name"]}]]
+LISTED = [(["listing", "/r", 0, "", [["a.c", META], ["lib/b.h", META]]], [DONE])]
+SUBSCRIBED = [(["subscribe", "/r", "s", {"expression": ["suffix", "c"], "fields": ["name"]}], [{"subscribe": "s"}, due(["a.c"], True)])]
+LINES = of_root("/r", 3, LISTED + SUBSCRIBED, [due(["a.c", "d.c"], False)]) + [
+    (["age-out", "/r", 0], [{"floor": 2}]),
+    (["unsubscribe", "/r", "s"], [{"deleted": True, "unsubscribe": "s"}]),
+    (["query", "/r", {"fields": ["name"]}], [answer(["d.c", "lib/b.h"], True)]),
+]
 
 
-def filling(n):
+class Once(list):
+    """A request that isn't asked again where it is refused, and whose reply isn't looked at: what it left undone may be owed."""
+
+
+def served(root):
+    """At a server, whose roots are folders. Behind an observation of what isn't there a crawl finds what is: memory that runs out for the first mustn't spoil the second."""
+    crawled = (["recrawl", root], [DONE])
+    there = (["query", root, {"expression": ["type", "f"], "fields": ["name"]}], [answer(["a.c", "lib/b.h"], True)])
+    return [*of_root(root, 0, [crawled], []), (Once(["observe", root, [["b.c", META]]]), []), crawled, there]
+
+
+def big(n):
     """A trigger whose record takes a sixteenth of the journal."""
-    return ["trigger", "/r", {"name": "big", "command": [chr(97 + n) * 1000] * 16}]
+    return {"append_files": False, "command": [chr(97 + n) * 1000] * 16, "name": "big"}
+
+
+def set_big(n):
+    return (["trigger", "/r", big(n)], [{"disposition": "replaced", "triggerid": "big"}])
+
+
+def listed(*triggers):
+    return [{"triggers": [{**it, "stdin": "/dev/null"} for it in triggers]}]
+
+
+# The second of these finds no room in the journal that main() filled.
+FILLED = [set_big(20), (["trigger-list", "/r"], listed(big(20))), set_big(21)]
 
 
 class Wrong(Exception):
@@ -88,6 +139,8 @@ class Session:
                 reply = b""
             if reply == REFUSED:
                 self.refused(reply)
+                if isinstance(request, Once):
+                    return reply
             elif reply == TOO_MANY or reply == b"" and self.path:
                 self.refused(reply)
                 self.connect()
@@ -97,21 +150,22 @@ class Session:
                 return reply
 
     def met(self, request):
-        """The reply and what is due behind it, clocks left out, since a start or a crawl more moves them."""
-        due, nothing = [], []
-        reply = self.ask(request, nothing)
+        """The reply and what is due behind it, clocks and versions left out, since a start or a crawl more moves clocks."""
+        due = []
+        reply = self.ask(request, due)
         for _ in range(2):
             self.ask(["version"], due)
-        clocks = re.findall(rb"c:\d+:\d+:\d+", reply)
-        self.clock = clocks[0].decode() if clocks else self.clock
-        return [re.sub(rb"c:\d+:\d+:\d+", b"CLOCK", it).decode() for it in [reply, *nothing, *due]]
+        told = [] if isinstance(request, Once) else [json.loads(it) for it in [reply, *due]]
+        if request[0] == "query":
+            self.clock = told[0].get("clock", "")
+        return [{key: value for key, value in it.items() if key not in ("clock", "version")} for it in told]
 
 
 class Case:
     """A kind of session over copies of a state file."""
 
-    def __init__(self, program, folder, state, requests, is_served):
-        self.program, self.folder, self.first, self.requests, self.is_served = program, folder, state, requests, is_served
+    def __init__(self, program, folder, state, met, left, is_served=False):
+        self.program, self.folder, self.first, self.met, self.left, self.is_served = program, folder, state, met, left, is_served
         self.state, self.count = folder + "/state", folder + "/count"
 
     def begin(self, number):
@@ -124,42 +178,52 @@ class Case:
             return subprocess.Popen([self.program, "lines", self.state], stdin=theirs, stdout=theirs, stderr=subprocess.PIPE, env=settings, text=True), None, ours
 
     def play(self, number):
-        """What the session told, and how often it was refused."""
+        """How often the session was refused; what is wrong is an error."""
         shutil.copyfile(self.first, self.state)
         session = Session(self.begin, number)
         try:
-            told = [session.met(request) for request in self.requests]
+            for request, wanted in self.met:
+                told = session.met(request)
+                if told != wanted:
+                    raise Wrong(f"{json.dumps(request)[:80]}: {told!r} in place of {wanted!r}"[:600])
         finally:
             session.process.kill()
             session.process.wait()
-        listed = subprocess.run([self.program, "lines", self.state], input=b'["watch-list"]\n["trigger-list","/r"]\n', capture_output=True)
-        return [*told, listed.stdout, listed.stderr], session.refusals
+        lines = "".join(json.dumps(request) + "\n" for request, _ in self.left)
+        ran = subprocess.run([self.program, "lines", self.state], input=lines, capture_output=True, text=True)
+        if ran.stderr or [json.loads(it) for it in ran.stdout.splitlines()] != [{**wanted[0], "version": "w1"} for _, wanted in self.left]:
+            raise Wrong(f"the next start: {ran.stdout[:300]!r}, {ran.stderr!r}")
+        return session.refusals
 
     def growths(self):
         with open(self.count, "rb") as count:
             return int.from_bytes(count.read(8), "little")
 
-    def answer(self, number, right):
+    def answer(self, number):
         try:
-            told, refusals = self.play(number)
-        except (Wrong, OSError, subprocess.TimeoutExpired) as error:
+            return "16, then right" if self.play(number) else "right"
+        except (Wrong, OSError, ValueError, subprocess.TimeoutExpired) as error:
             return f"{type(error).__name__}: {error}"
-        wrong = next((it for it in zip(told, right) if it[0] != it[1]), None)
-        return f"{wrong[0]!r} in place of {wrong[1]!r}" if wrong else "16, then right" if refusals else "right"
 
     def sweep(self, name):
-        right, _ = self.play(0)
+        check(f"{name}: right with ample memory", self.answer(0) == "right", self.answer(0))
         told = collections.defaultdict(list)
         for number in range(1, self.growths() + 1):
-            told[self.answer(number, right)].append(number)
+            told[self.answer(number)].append(number)
         wrong = {answer: numbers for answer, numbers in told.items() if answer not in ("right", "16, then right")}
         check(f"{name}: {len(told['right'])} growths without which all is right, {len(told['16, then right'])} that are answered 16", not wrong and told["16, then right"], wrong)
 
 
-def filled(program, state):
-    """Fills the journal of a state file until one more record has a checkpoint come."""
-    lines = [["watch", "/r"], *(filling(n) for n in range(15))]
+def fill(program, state):
+    """Fills the journal of a state file but for the room of one more such record."""
+    lines = [["watch", "/r"], *(["trigger", "/r", big(n)] for n in range(15))]
     subprocess.run([program, "lines", state], input="".join(json.dumps(it) + "\n" for it in lines), text=True, check=True, stdout=subprocess.DEVNULL)
+
+
+def has_slot_b(state):
+    with open(state, "rb") as it:
+        it.seek(SLOT_B)
+        return it.read(1) == b"\xa5"
 
 
 def main():
@@ -168,14 +232,17 @@ def main():
         subprocess.run(["cc", "-O1", "-shared", "-fPIC", "-o", folder + "/refuse.so", HERE + "/refuse_growth.c"], check=True)
         for name in ("new", "full"):
             subprocess.run([program, "format", f"{folder}/{name}"], check=True, stdout=subprocess.DEVNULL)
-        filled(program, folder + "/full")
+        fill(program, folder + "/full")
         root = folder + "/root"
         os.makedirs(root + "/lib")
         for name in ("a.c", "lib/b.h"):
             open(f"{root}/{name}", "w").close()
-        Case(program, folder, folder + "/new", LINES, False).sweep("lines")
-        Case(program, folder, folder + "/full", [filling(20), ["trigger-list", "/r"], filling(21)], False).sweep("a checkpoint")
-        Case(program, folder, folder + "/new", of_root(root, [["recrawl", root]]), True).sweep("a server")
+        roots = lambda path: (["watch-list"], [{"roots": [path]}])
+        Case(program, folder, folder + "/new", LINES, [roots("/r"), (["trigger-list", "/r"], listed())]).sweep("lines")
+        full = Case(program, folder, folder + "/full", FILLED, [(["trigger-list", "/r"], listed(big(21)))])
+        full.sweep("a checkpoint")
+        check("a checkpoint: it came", not has_slot_b(folder + "/full") and has_slot_b(full.state))
+        Case(program, folder, folder + "/new", served(root), [roots(root), (["trigger-list", root], listed())], True).sweep("a server")
     sys.exit(1 if failed else 0)
 
 

@@ -2,6 +2,7 @@
 //! Tests: session_tests/src/lines/triggers.rt; of a file's serve_tests/src/restarts.rt.
 ghost use Rattle.std.specs.Prelude.{◌≡◌, ◌⊎◌, true, false, IfOk, IfErr, MatchResult, OnOk};
 ghost use Rattle.wm_disk.specs.declared.refusal.Refusal.TheVariants.{Damaged as damaged, DeviceFailed as device_failed, Exhausted as exhausted, NoMemory as no_memory, Retired as retired};
+ghost use Rattle.wm_file.specs.FileDisks.{IsJustOpened};
 ghost use Rattle.wm_lines.specs.KeptExpressions.{have_expressions as have_expressions_lem};
 ghost use Rattle.wm_server.specs.local.Stores.{Later, StartCut, StartRefused};
 ghost use Rattle.wm_store.specs.Calls.{IsWorking};
@@ -46,6 +47,8 @@ pub fn open_file<R: Files<File = File>>(
     alloc: Global,
     path: &str,
 ) -> Result<Store<FileDisk<Unknown>>, Refusal>
+    ensures begun { IfOk result (λ store. (disk : _) × IsJustOpened disk × (⟦<FileDisk<Unknown> as Disk>⟧.honest store.disk → IsBegun ⟦<FileDisk<Unknown> as Disk>⟧ disk store)) }
+    ensures works { IfOk result (λ store. IsWorking ⟦<FileDisk<Unknown> as Disk>⟧ store) }
     ensures expressions { IfOk result (λ store. have_expressions_lem store.registry ≡ true) }
     ensures kinds { IfErr result (λ e. (e ≡ device_failed) ⊎ (e ≡ no_memory) ⊎ (e ≡ exhausted) ⊎ (e ≡ damaged) ⊎ (e ≡ retired)) }
 {
