@@ -3,104 +3,18 @@
 
 Each case starts a server of its own under a temporary folder, and tells for each thing it looks at whether it is so.
 The status is 1 where one isn't. Some 60 seconds for all."""
-import contextlib, json, os, random, resource, shutil, signal, socket, stat, subprocess, sys, tempfile, threading, time
+import contextlib, functools, json, os, random, shutil, signal, socket, stat, subprocess, sys, threading, time
 
 sys.dont_write_bytecode = True
-from served import Session, check, failed, until
+import served
+from served import check, failed, folder, names, tree, until
 
 PROGRAM = os.path.abspath(sys.argv[1])
 VERSION = b'{"version":"w1"}\n'
 TOO_MANY = b'{"error":"17 TooMany","version":"w1"}\n'
 
 
-class Client(Session):
-    def send(self, request):
-        self.socket.sendall((request if isinstance(request, bytes) else json.dumps(request).encode()) + b"\n")
-
-    def line(self):
-        return self.lines.readline()
-
-    def ask(self, request):
-        self.send(request)
-        return self.line()
-
-    def tell(self, request):
-        return json.loads(self.ask(request))
-
-
-class Server:
-    """A server over a new state file, or that of a folder where one ran before."""
-
-    def __init__(self, folder, *words, before=(), limits=None, socket_name="socket"):
-        self.folder, self.state, self.path = folder, folder + "/state", f"{folder}/{socket_name}"
-        if not os.path.exists(self.state):
-            made = subprocess.run([*before, PROGRAM, "format", self.state], capture_output=True)
-            assert made.returncode == 0, made
-        self.process = subprocess.Popen([*before, PROGRAM, "serve", self.state, self.path, *words], stdout=subprocess.PIPE, stderr=subprocess.PIPE,
-                                        preexec_fn=(lambda: resource.setrlimit(resource.RLIMIT_NOFILE, limits)) if limits else None)
-        self.ready = self.process.stdout.readline()
-
-    def client(self, **kept):
-        return Client(self.path, **kept)
-
-    def end(self, how=signal.SIGKILL):
-        self.process.send_signal(how)
-        return self.process.wait(30)
-
-    def wait(self):
-        status = self.process.wait(60)
-        return status, self.process.stderr.read()
-
-    def memory(self):
-        with open(f"/proc/{self.process.pid}/status") as text:
-            return next(int(line.split()[1]) for line in text if line.startswith("VmRSS"))
-
-
-@contextlib.contextmanager
-def folder():
-    made = tempfile.mkdtemp(prefix="watchmand-")
-    try:
-        yield made
-    finally:
-        shutil.rmtree(made, ignore_errors=True)
-
-
-@contextlib.contextmanager
-def server(*words, **kept):
-    with folder() as made:
-        served = Server(made, *words, **kept)
-        try:
-            yield served
-        finally:
-            served.process.kill()
-            served.process.wait()
-
-
-def tree(top, **files):
-    os.makedirs(top + "/d", exist_ok=True)
-    for name, text in {"a": "abc", "d/b": "b", **files}.items():
-        with open(f"{top}/{name}", "w") as file:
-            file.write(text)
-    return top
-
-
-def names(client, root, **asked):
-    """The answer to a query by names, once the root is ready."""
-    def look():
-        told = client.tell(["query", root, {"fields": ["name"], **asked}])
-        return None if str(told.get("error", "")).startswith("6") else told
-    return until(look)
-
-
-@contextlib.contextmanager
-def watched(**files):
-    """A server whose one root, a tree with these files, was crawled; the root, and two clients, the first of which watched it."""
-    with server() as s:
-        top = tree(s.folder + "/T", **files)
-        a, b = s.client(), s.client()
-        a.ask(["watch", top])
-        names(a, top)
-        yield s, top, a, b
+Server, server, watched = (functools.partial(made, PROGRAM) for made in (served.Server, served.server, served.watched))
 
 
 def sessions_and_rows():
