@@ -1,0 +1,226 @@
+"""Sessions beside each other, clients that are refused, and sockets, for tools/quick_use.py."""
+import json, os, socket, subprocess, threading, time
+
+from served import Server, check, folder, names, server, tree, watched
+
+VERSION = b'{"version":"w1"}\n'
+TOO_MANY = b'{"error":"17 TooMany","version":"w1"}\n'
+FILE = {"mtime_ms": 0, "size": 1, "type": "f"}
+SESSIONS, SUBSCRIPTIONS = 31, 32
+
+
+def is_watched(command, told, root):
+    """Whether the reply says that the root is watched, or was until then and isn't any more."""
+    if command == "watch-list":
+        return root in told["roots"]
+    return command != "watch-del" and not told.get("error", "").startswith("5 ")
+
+
+def pair(client, command, root):
+    """A line about the root and a question, in one write: whether each says that the root is watched."""
+    words = {"watch-list": [], "trigger": [root, {"name": "t", "command": ["true"], "expression": "false"}], "trigger-del": [root, "none"]}
+    client.socket.sendall(b"".join(json.dumps(line).encode() + b"\n" for line in ([command, *words.get(command, [root])], ["clock", root])))
+    told, question = json.loads(client.line()), json.loads(client.line())
+    return is_watched(command, told, root), not question.get("error", "").startswith("5 "), (command, told, question)
+
+
+def contradictions(client, command, root, wanted):
+    """Asks until the root is watched or isn't, as wanted, and some times more: the pairs of which the first says so, and the second doesn't."""
+    end, left, wrong = time.monotonic() + 10, 4, []
+    while left and time.monotonic() < end:
+        first, second, seen = pair(client, command, root)
+        if first is wanted:
+            left -= 1
+            wrong += [seen] if second is not wanted else []
+    return wrong + (["never told"] if left else [])
+
+
+def watch_list_and_questions_agree(programs):
+    """What a session is told of a root that another one watches, or stops watching, and what it is answered right behind. `6 NotReady` speaks of a watched root."""
+    with server(programs.watchmand) as s:
+        top, other, asks = tree(s.folder + "/T"), s.client(), s.client()
+        for commands in (["watch-list"] * 2, ["trigger-list"] * 2, ["trigger"] * 2, ["trigger-del"] * 2, ["watch-list", "watch-del"]):
+            wrong = []
+            for _ in range(20):
+                for command, request in zip(commands, ("watch", "watch-del")):
+                    other.send([request, top])
+                    wrong += contradictions(asks, command, top, request == "watch")
+                    other.line()
+            check(f"{commands[0]} and a question behind it, while it is watched; {commands[1]}, while it isn't any more", not wrong, (len(wrong), wrong[:2]))
+
+
+def run(*line):
+    ran = subprocess.run(line, capture_output=True, stdin=subprocess.DEVNULL, timeout=60)
+    return ran.returncode, ran.stdout, ran.stderr
+
+
+def ended_socket(path, read):
+    """A socket whose one connection is closed without a reply, after so many bytes were read."""
+    listener = socket.socket(socket.AF_UNIX)
+    listener.bind(path)
+    listener.listen()
+
+    def end():
+        session, _ = listener.accept()
+        session.recv(read) if read else None
+        session.close()
+        listener.close()
+    threading.Thread(target=end).start()
+
+
+def refusal_17_reaches_the_client(programs):
+    with server(programs.watchmand) as s:
+        held = [s.client() for _ in range(SESSIONS)]
+        check("31 sessions", all(client.ask(["version"]) == VERSION for client in held))
+        told = [run(programs.wmctl, s.path, '["version"]') for _ in range(60)]
+        wrong = [it for it in told if it != (1, TOO_MANY, b"")]
+        check("wmctl prints the refusal of the 32nd, each time", not wrong, (len(wrong), wrong[:1]))
+        if programs.wmfeed:
+            told = [run(programs.wmfeed, s.path, tree(s.folder + "/T")) for _ in range(10)]
+            wrong = [it for it in told if it != (1, b"", b"wmfeed: 17 TooMany\n")]
+            check("and wmfeed says it", not wrong, (len(wrong), wrong[:1]))
+        else:
+            print("skip   wmfeed isn't given")
+        for number, read in enumerate((0, 100)):
+            path = f"{s.folder}/ended{number}"
+            ended_socket(path, read)
+            told = run(programs.wmctl, path, '["version"]')
+            check(f"wmctl at a socket that ends after {read} bytes", told == (3, b"", b"wmctl: no reply\n"), told)
+
+
+def great_root(client, top):
+    """A root of 100,000 files that nobody looks for."""
+    client.ask(["watch", top])
+    names(client, top)
+    for number in range(20):
+        listed = [[f"d{number}/a-name-of-twenty-bytes-{file}", FILE] for file in range(5000)]
+        client.ask(["listing", top, 1, f"d{number}", listed])
+
+
+ALL = {"fields": ["name", "exists", "new", "size", "mtime_ms", "type", "cclock", "oclock"]}
+
+
+def long_question(client, top):
+    """A question that takes at least half a second on this machine, and has a short answer."""
+    patterns, took = 16, 0
+    while took < 0.5 and patterns < 1000:
+        patterns, began = 2 * patterns, time.monotonic()
+        asked = ["query", top, {"fields": ["name"], "expression": ["anyof", *(["match", f"*a*{number}*b*"] for number in range(patterns))]}]
+        client.ask(asked)
+        took = time.monotonic() - began
+    return asked
+
+
+def longest_command(client, top, is_over):
+    """The longest that a command of another root took until it is over."""
+    longest, commands = 0, 0
+    while not is_over() or commands < 2:
+        began = time.monotonic()
+        client.ask(["watch", top] if commands % 2 == 0 else ["watch-del", top])
+        longest, commands = max(longest, time.monotonic() - began), commands + 1
+    return longest
+
+
+def for_seconds(seconds):
+    end = time.monotonic() + seconds
+    return lambda: time.monotonic() > end
+
+
+def least_delay(measure, alone):
+    """By how much commands took longer than alone, in the best of three tries: a busy machine may hold one up."""
+    delays = []
+    while len(delays) < 3 and min(delays, default=1) > 0.1:
+        delays.append(measure() - alone)
+    return min(delays)
+
+
+def long_question_delays_no_command(programs):
+    with server(programs.watchmand) as s:
+        asks, other, top, path = s.client(), s.client(), s.folder + "/none", s.folder + "/other"
+        great_root(asks, top)
+        alone, hard = longest_command(other, path, for_seconds(1)), long_question(asks, top)
+
+        def beside_a_question():
+            answered = threading.Event()
+            asks.send(hard)
+            threading.Thread(target=lambda: (asks.line(), answered.set())).start()
+            return longest_command(other, path, answered.is_set)
+
+        def beside_one_who_never_reads():
+            deaf = s.client()
+            for _ in range(4):
+                deaf.send(["query", top, ALL])
+            longest = longest_command(other, path, for_seconds(2))
+            deaf.close()
+            return longest
+        delay = least_delay(beside_a_question, alone)
+        check("while a question takes long, a command takes less than 100 ms more", delay < 0.1, (delay, alone))
+        delay = least_delay(beside_one_who_never_reads, alone)
+        check("and while a client doesn't read long answers", delay < 0.1, (delay, alone))
+
+
+def processor_seconds(process):
+    """What all threads of a process took."""
+    return time.clock_gettime((~process.pid << 3) | 2)
+
+
+def observing_takes(s, client, root):
+    """The least that 2,000 observations took of the processor, of three times."""
+    taken = []
+    for _ in range(3):
+        began = processor_seconds(s.process)
+        for number in range(2000):
+            client.ask(["observe", root, [["x", {**FILE, "size": number % 7}]]])
+        taken.append(processor_seconds(s.process) - began)
+    return min(taken)
+
+
+def observations_wake_only_their_subscribers(programs):
+    with watched(programs.watchmand) as (s, top, a, b):
+        other = tree(s.folder + "/other")
+        a.ask(["watch", other])
+        names(a, other)
+        sessions = [a, *(s.client() for _ in range(SESSIONS - 2))]
+        alone = observing_takes(s, b, other)
+        for client in sessions:
+            for number in range(SUBSCRIPTIONS):
+                client.ask(["subscribe", top, f"s{number}", {"fields": ["name"], "expression": ["suffix", "none"], "since": "c:1:1:1"}])
+        beside = observing_takes(s, b, other)
+        check("observations of one root beside 960 subscriptions of another", beside < 1.1 * alone + 0.02, (beside, alone))
+
+
+def commands_leave_no_memory(programs):
+    """A trigger of 16 KB that is replaced again and again."""
+    with watched(programs.watchmand) as (s, top, a, _):
+        def replace(times):
+            for number in range(times):
+                a.ask(["trigger", top, {"name": "t", "command": ["true", *["w" * 1000] * 15], "expression": ["size", "eq", number]}])
+            return s.memory()
+        before, after = replace(50), replace(300)
+        check("300 commands of 16 KB that replace each other", after - before < 2000, (before, after))
+
+
+def socket_of_another_server_stays(programs):
+    with folder() as made:
+        os.mkdir(made + "/B")
+        one = Server(programs.watchmand, made, "--sessions", "1", socket_name="t")
+        a = one.client()
+        a.ask(["version"])
+        os.remove(one.path)
+        other = Server(programs.watchmand, made + "/B", "--sessions", "2", socket_name="../t")
+        try:
+            a.close()
+            check("a server whose socket was removed ends well", one.wait() == (0, b""))
+            is_there = os.path.exists(one.path)
+            check("and leaves the socket that another has made there", is_there and other.client().ask(["version"]) == VERSION, is_there)
+            if is_there:
+                other.client().close()
+                check("which that one removes", other.wait() == (0, b"") and not os.path.exists(one.path))
+        finally:
+            one.process.kill()
+            other.process.kill()
+            other.process.wait()
+
+
+CASES = [watch_list_and_questions_agree, refusal_17_reaches_the_client, long_question_delays_no_command, observations_wake_only_their_subscribers,
+         commands_leave_no_memory, socket_of_another_server_stays]

@@ -1,0 +1,34 @@
+#!/usr/bin/env python3
+"""What rough use of a server has found wrong, one case each: tools/quick_use.py WATCHMAND WMCTL [WMFEED] [--only CASE ..]
+
+Each case starts a server of its own under a temporary folder, and tells for each thing it looks at whether it is so. What has to fall into a short
+time is tried until it did. The status is 1 where something isn't so. Some 45 seconds for all."""
+import argparse, sys
+
+sys.dont_write_bytecode = True
+import quick_crawls, quick_sessions, quick_triggers
+from served import failed
+
+CASES = [*quick_crawls.CASES, *quick_triggers.CASES, *quick_sessions.CASES]
+
+
+def words():
+    reader = argparse.ArgumentParser(description="Tries what rough use of a server has found wrong.")
+    reader.add_argument("watchmand")
+    reader.add_argument("wmctl")
+    reader.add_argument("wmfeed", nargs="?")
+    reader.add_argument("--only", nargs="+", choices=[case.__name__ for case in CASES], metavar="CASE", help="these cases alone")
+    return reader.parse_args()
+
+
+def main():
+    programs = words()
+    for case in CASES:
+        if not programs.only or case.__name__ in programs.only:
+            print("--", case.__name__, flush=True)
+            case(programs)
+    print(f"{len(failed)} failed")
+    return 1 if failed else 0
+
+
+sys.exit(main())
