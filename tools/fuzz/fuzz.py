@@ -1,8 +1,8 @@
 #!/usr/bin/env python3
-"""Compares the built program with a model of its definitions, for random input: tools/fuzz/fuzz.py [--seed N] [--count N] [--only lines|files|sockets|together] PROGRAM
+"""Compares the built program with a model of its definitions, for random input: tools/fuzz/fuzz.py [--seed N] [--count N] [--minutes M] [--only lines|files|sockets|together] PROGRAM
 
 One seed is one run of each kind, which `--seed N --count 1` repeats; each difference is printed, shortened, and the status is then 1. The
-model is that of fuzz_model.py, fuzz_state.py and what they use. An hour takes some `--count 3000`."""
+model is that of fuzz_model.py, fuzz_state.py and what they use. An hour takes some `--count 3000`, or `--minutes 60`."""
 import argparse, contextlib, os, random, shutil, signal, string, subprocess, sys, time
 
 sys.dont_write_bytecode = True
@@ -18,9 +18,13 @@ def words():
     reader.add_argument("--seed", type=int, default=1, help="the first seed (1)")
     reader.add_argument("--count", type=int, default=100, help="how many seeds (100)")
     reader.add_argument("--seconds", type=int, default=10**9, help="begin no run after so many seconds")
+    reader.add_argument("--minutes", type=float, help="run seeds until so many minutes have passed, however many these are")
     reader.add_argument("--only", choices=sorted(KINDS), help="one kind of run alone")
     reader.add_argument("program")
-    return reader.parse_args()
+    asked = reader.parse_args()
+    if asked.minutes is not None:
+        asked.count, asked.seconds = 10**9, asked.minutes * 60
+    return asked
 
 
 def differs(runs, program, folder, case):

@@ -1,8 +1,11 @@
 """Several clients of one `watchmand serve` at once, each on a root of its own, for tools/fuzz/fuzz.py: lines whole, split and joined, and early ends.
 
 A client is its lines and how it ends. Each whole reply is the model's, each line of a subscription is an answer of the root's history,
-and the watched roots and triggers, asked by a fresh client and read from the file behind a kill, are those that were acknowledged."""
-import contextlib, json, os, random, shutil, signal, socket, stat, struct, threading
+and the watched roots and triggers, asked by a fresh client and read from the file behind a kill, are those that were acknowledged.
+
+After a kill the server is started again over its file, and each client asks it since the clocks that it was told before, and then goes on with the lines that
+weren't answered: each such clock is fresh, and none is told again."""
+import contextlib, json, os, random, re, shutil, signal, socket, stat, struct, threading
 import fuzz_files, fuzz_lines, fuzz_state
 from fuzz_history import History, Refused
 from fuzz_json import written
@@ -20,6 +23,9 @@ OF_REGISTRY = ("watch", "watch-del", "trigger", "trigger-del", "trigger-list")
 SECONDS = 30
 # How a client ends that kills the server once half of its lines are answered.
 KILLS = "kills the server"
+# How often the server is started at most in a run, and of how many clocks a client asks after a start.
+LIVES, OLD_CLOCKS = 3, 20
+CLOCK = re.compile(b'"clock":"(c:[0-9]+:[0-9]+:[0-9]+)"')
 
 
 class Cut(Exception):
@@ -49,15 +55,15 @@ def crawled(root, top=""):
 
 
 class Server(Model):
-    """The model of a session that is alone on its root, which a server has crawled."""
+    """The model of a session that is alone on its root, which a server has crawled; the root has this number, and the server was started so often. Where it was
+    started again these are the root and those below it, with their triggers."""
 
-    def __init__(self, root, number, files):
+    def __init__(self, root, number, files, life=1, roots=None):
         super().__init__()
-        self.state = with_watch((1, number, {}), root)
+        self.state = (life, number + 1 + len(roots), roots) if roots else with_watch((life, number, {}), root)
         self.root, self.commands, self.floors, self.asked = root, SERVED, {0}, []
-        history = History(1, number)
-        history.listing(0, 0, "", files.items())
-        self.histories, self.cursors = {root: history}, {root: {}}
+        self.histories, self.cursors = {path: History(life, number) for path in self.state[2]}, {path: {} for path in self.state[2]}
+        self.histories[root].listing(0, 0, "", files.items())
 
     def recrawl(self, root, top):
         history = self.history(root)
@@ -84,7 +90,7 @@ class Server(Model):
         for told in asked if 1 <= tick <= history.tick() else []:
             answers = [history.answer(told.since, told.expression, told.empty, tick, floor) for floor in self.floors]
             if line in [told.told(answer) for answer in answers if told.is_due(answer)]:
-                told.since, told.is_first = (1, history.number, tick), False
+                told.since, told.is_first = (history.incarnation, history.number, tick), False
                 return
         raise Difference(f"a line of a subscription that is asked since {[told.since for told in asked]}: {line[:1000]!r}")
 
@@ -130,12 +136,13 @@ def run_by(rng):
 class Client(threading.Thread):
     """One client: a thread that writes, another that reads and compares. Of all clients of a run one knows whether the server was killed."""
 
-    def __init__(self, path, root, number, killed, lines, end):
+    def __init__(self, path, root, number, life, killed, lines, end, roots=None, older=frozenset()):
         super().__init__()
-        self.session, self.killed, self.sure = Session(path, SECONDS), killed, 0
-        self.model, self.end, self.problem = Server(root, number, crawled(root)), end, None
+        self.session, self.killed, self.sure, self.clocks, self.older = Session(path, SECONDS), killed, 0, set(), older
+        self.fresh = lambda: Server(root, number, crawled(root), life, roots)
+        self.model, self.end, self.problem = self.fresh(), end, None
         self.lines = [line for line in lines_of(b"".join(lines)) if line.endswith(b"\n")]
-        self.states = [self.model.state]
+        self.states, self.sent = [self.model.state], []
 
     def run(self):
         try:
@@ -164,6 +171,7 @@ class Client(threading.Thread):
 
     def talk(self):
         judged, read = self.judged()
+        self.sent = judged
         writer = threading.Thread(target=self.write, args=(b"".join(judged) + (b'["ver' if self.end == "cut in a line" else b""),))
         writer.start()
         try:
@@ -180,7 +188,7 @@ class Client(threading.Thread):
 
     def judged(self):
         """The lines whose replies the model knows, and how many of these are read; of all of them the states that they lead to."""
-        going, judged = Server(self.model.root, self.model.histories[self.model.root].number, self.model.histories[self.model.root].maps[1]), []
+        going, judged = self.fresh(), []
         for line in self.lines:
             if is_judged(line, going):
                 going.met(line)
@@ -192,6 +200,7 @@ class Client(threading.Thread):
         line = self.session.lines.readline()
         if not line.endswith(b"\n"):
             raise Cut(f"a reply was cut: {line[:500]!r}")
+        self.clocks.update(clock.decode() for clock in CLOCK.findall(line))
         return line
 
     def reply(self, line):
@@ -210,23 +219,45 @@ def ask(session, *request):
     return json.loads(session.lines.readline())
 
 
+def await_ready(session, roots, life):
+    """Waits until each root is ready; its first clock is of this life."""
+    for number, root in enumerate(roots, 1):
+        clock = until(lambda: ask(session, "clock", root).get("clock"), SECONDS)
+        if clock != f"c:{life}:{number}:1":
+            raise Difference(f"the first clock of root {number} in life {life} is {clock}")
+
+
 def watched_first(path, roots):
     """Watches the clients' roots in order, and waits until each is ready."""
     session = Session(path, SECONDS)
     for number, root in enumerate(roots, 1):
         make_tree(root)
         ask(session, "watch", root)
-        clock = until(lambda: ask(session, "clock", root).get("clock"), SECONDS)
-        if clock != f"c:1:{number}:1":
-            raise Difference(f"the first clock of root {number} is {clock}")
+        await_ready(session, roots[:number], 1)
+    session.close()
+
+
+def started_again(path, roots, life, wanted):
+    """The watched roots and triggers after a start, and waits until the clients' roots are ready."""
+    session = Session(path, SECONDS)
+    told = registry(session)
+    if told != wanted:
+        raise Difference(f"life {life} begins with {told!r}, expected {wanted!r}")
+    await_ready(session, roots, life)
     session.close()
 
 
 def kept(client, roots):
-    """Whether the roots below a client's, with their triggers, are those after some line from the last that was answered for sure."""
+    """The state after some line from the last that was answered for sure on, in which the roots below a client's have just these triggers; None: there is none."""
     own = [(root, triggers) for root, triggers in roots if root.startswith(client.model.root)]
-    return any(own == [(root, [trigger_shown(*trigger) for trigger in triggers.items()]) for root, (_, triggers) in state[2].items()]
-               for state in client.states[client.sure:])
+    states = [state for state in client.states[client.sure:]
+              if own == [(root, [trigger_shown(*trigger) for trigger in triggers.items()]) for root, (_, triggers) in state[2].items()]]
+    return states[0] if states else None
+
+
+def registry(session):
+    """What a client is told of the watched roots and their triggers."""
+    return [(root, ask(session, "trigger-list", root).get("triggers")) for root in ask(session, "watch-list")["roots"]]
 
 
 def found(content):
@@ -241,17 +272,17 @@ def run_all(threads):
         thread.join()
 
 
-def talked(path, place, clients):
-    """Runs all clients at once; then what a fresh one is told of the registry, unless the server was killed."""
+def talked(path, place, life, clients, before):
+    """Runs all clients at once; then what a fresh one is told of the registry, unless the server was killed. Before a later life the registry was as told."""
     roots = [f"{place}/{NAMES[number]}" for number in range(len(clients))]
-    watched_first(path, roots)
+    watched_first(path, roots) if life == 1 else started_again(path, roots, life, before)
     killed = threading.Event()
-    talks = [Client(path, root, number, killed, *client) for number, (root, client) in enumerate(zip(roots, clients), 1)]
+    talks = [Client(path, root, number, life, killed, *client) for number, (root, client) in enumerate(zip(roots, clients), 1)]
     run_all(talks)
     if killed.is_set():
         return talks, None
     session = Session(path, SECONDS)
-    told = [(root, ask(session, "trigger-list", root).get("triggers")) for root in ask(session, "watch-list")["roots"]]
+    told = registry(session)
     session.close()
     return talks, told
 
@@ -260,8 +291,18 @@ def judge(talks, told, content):
     for number, talk in enumerate(talks, 1):
         if talk.problem:
             raise Difference(f"client {number}: {talk.problem if isinstance(talk.problem, Difference) else repr(talk.problem)}")
-        if not kept(talk, found(content)) or told is not None and not kept(talk, told):
+        if talk.clocks & talk.older:
+            raise Difference(f"client {number}: clocks of an earlier life are told again: {sorted(talk.clocks & talk.older)[:5]}")
+        if kept(talk, found(content)) is None or told is not None and kept(talk, told) is None:
             raise Difference(f"client {number}: a fresh client is told {told!r}, the file means {found(content)!r}, expected {talk.states[talk.sure:]}")
+
+
+def goes_on(talk, content, life):
+    """A client after the kill that ended this life: it asks since clocks that it was told, and goes on with what wasn't answered."""
+    older = talk.older | talk.clocks
+    asked = [(written(["since", talk.model.root, clock]) + "\n").encode() for clock in sorted(older)[-OLD_CLOCKS:]]
+    end = "read to its end" if talk.end == KILLS and life + 1 == LIVES else talk.end
+    return asked + talk.sent[talk.sure:], end, kept(talk, found(content))[2], older
 
 
 @contextlib.contextmanager
@@ -273,15 +314,25 @@ def new_folder(place):
         shutil.rmtree(place)
 
 
+def lived(program, clients):
+    """The lives of a server, each but the last ended by a kill; what its file holds then."""
+    content = None
+    for life in range(1, LIVES + 1):
+        with serving(program, PLACE) as path:
+            talks, told = talked(path, PLACE, life, clients, content and found(content))
+        with open(PLACE + "/state", "rb") as file:
+            content = file.read()
+        judge(talks, told, content)
+        if told is not None:
+            return content
+        clients = [goes_on(talk, content, life) for talk in talks]
+    return content
+
+
 def difference(program, folder, clients):
     try:
         with new_folder(PLACE):
-            with serving(program, PLACE) as path:
-                talks, told = talked(path, PLACE, clients)
-            with open(PLACE + "/state", "rb") as file:
-                content = file.read()
-            judge(talks, told, content)
-            fuzz_files.opened(program, PLACE + "/again", content)
+            fuzz_files.opened(program, PLACE + "/again", lived(program, clients))
     except Difference as problem:
         return str(problem)
     return None
@@ -292,4 +343,4 @@ def shown(clients):
 
 
 def counts(clients):
-    return {"clients": len(clients), "lines of clients": sum(len(lines) for lines, _ in clients)}
+    return {"clients": len(clients), "lines of clients": sum(len(lines) for lines, _ in clients), "runs with kills": sum(end == KILLS for _, end in clients)}
