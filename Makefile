@@ -17,7 +17,7 @@ PAGES := GUIDE.md QUERIES.md FORMATS.md PROMISES.md DEFINITIONS.md ARCHITECTURE.
 EXAMPLES := build.sh compile_trigger.sh follow.py test_runner.sh
 SOURCES := crates.txt $(shell find crates -name out -prune -o -type f \( -name '*.rt' -o -name '*.antt' \) -print)
 
-.PHONY: help clean uninstall test lint build run lines serve-use feed-use install bench bench-commands bench-crawl bench-view bench-share bench-match bench-peer bench-plots clients crawl-tree session examples examples-use dist dist-use kill faults growths fuzz hostile state-file file-calls
+.PHONY: help clean uninstall test lint build run lines serve-use quick-use feed-use install bench bench-commands bench-crawl bench-view bench-share bench-match bench-peer bench-plots clients crawl-tree session examples examples-use dist dist-use kill faults growths fuzz hostile state-file file-calls
 
 help:
 	@echo "make test          the whole gate: each proof from nothing, edits that must be refused, tests, programs, and each growth of"
@@ -37,12 +37,14 @@ help:
 	@echo "make serve-use     rough use of a server by the built program (python3; setpriv, if root); make clients: Watchman's own clients talk"
 	@echo "                   to it; make bench-peer: it beside Watchman 4.9.0 (both python3; apt-get, where Watchman isn't installed; cc);"
 	@echo "                   make bench-plots: the same in three runs, and the plots and the table of bench/README.md"
+	@echo "make quick-use     what rough use has found wrong, and the quick part of serve-use, kill, faults and feed-use, in some three minutes"
+	@echo "                   (python3; strace and inotify-tools for what needs them)"
 	@echo "make feed-use      a feed beside a server: its views against fresh crawls, its latency, its ends (python3, git, inotify-tools)"
 	@echo "make kill          kills the built program again and again, and looks for what it answered (python3); make faults: each call"
 	@echo "                   that it makes of its state file fails once (python3, strace); make growths: each growth of memory in three"
 	@echo "                   sessions is refused once (python3, cc)"
 	@echo "make fuzz          random lines, state files and clients, each reply beside a model's in Python (python3; some two minutes;"
-	@echo "                   tools/fuzz/fuzz.py --count 3000 for an hour, --seed for other ones)"
+	@echo "                   tools/fuzz/fuzz.py --minutes 60 for an hour, --seed for other ones)"
 	@echo "make hostile       the memory of a server beside 31 clients that ask for as much as they can (python3; some two minutes, 4 GB)"
 	@echo "make bench         a million lines beside Python's json (python3, GNU time)"
 	@echo "make bench-commands   commands through lines and from 1, 8 and 31 clients, beside SQLite (python3, cc)"
@@ -91,6 +93,10 @@ lines: $(PROGRAM)
 # What clients and folders may do to a server, by the built program.
 serve-use: $(PROGRAM)
 	tools/rough_use.py $(PROGRAM)
+
+# What rough use of a server has found wrong, one case each, and the quick part of serve-use, kill, faults and feed-use.
+quick-use: $(PROGRAM) $(CLIENT) $(FEED)
+	tools/quick.py $(PROGRAM) $(CLIENT) $(FEED)
 
 # A feed beside a server: random changes, checkouts of 10,000 files, lost events, ends and starts.
 feed-use: $(PROGRAM) $(CLIENT) $(FEED)

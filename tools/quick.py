@@ -1,0 +1,40 @@
+#!/usr/bin/env python3
+"""The quick part of what tries the built programs: tools/quick.py WATCHMAND WMCTL WMFEED
+
+It runs what rough use of a server has found wrong (quick_use.py), the quick cases of rough_use.py, 40 kills, the state file's calls that fail, and
+the quick cases of a feed, if inotifywait is there; a failing call wants strace. It prints how long each took; the status is 1 if one of them fails. Some
+three minutes on two processors."""
+import os, shutil, subprocess, sys, time
+
+HERE = os.path.dirname(os.path.abspath(__file__))
+ROUGH = ["sessions_and_rows", "subscribers", "many_sessions", "lines_that_are_wrong", "roots_that_are_odd", "triggers_that_are_odd", "sockets_that_are_there",
+         "words_and_ends", "kills"]
+FEED = ["--rounds", "3", "--seed", "1", "random_changes", "changes_by_many", "ends", "starts_again"]
+
+
+def parts(watchmand, wmctl, wmfeed):
+    """What is run: the words of each."""
+    found = [["quick_use.py", watchmand, wmctl, wmfeed], ["rough_use.py", watchmand, *ROUGH], ["kill_loop.py", watchmand, "40"], ["faults.py", watchmand]]
+    if shutil.which("inotifywait"):
+        found.append(["feed_use.py", watchmand, wmctl, wmfeed, *FEED])
+    else:
+        print("inotifywait isn't installed: no feed is tried", flush=True)
+    return found
+
+
+def is_well(words):
+    began = time.monotonic()
+    status = subprocess.run([sys.executable, f"{HERE}/{words[0]}", *words[1:]]).returncode
+    print(f"==== {words[0]}: {'well' if status == 0 else f'status {status}'}, {time.monotonic() - began:.0f} s", flush=True)
+    return status == 0
+
+
+def main():
+    if len(sys.argv) != 4:
+        sys.exit(__doc__)
+    wrong = [words[0] for words in parts(*map(os.path.abspath, sys.argv[1:])) if not is_well(words)]
+    print(f"quick use: {' '.join(wrong)} failed" if wrong else "quick use: all well")
+    return 1 if wrong else 0
+
+
+sys.exit(main())
