@@ -164,15 +164,25 @@ def processor_seconds(process):
     return time.clock_gettime((~process.pid << 3) | 2)
 
 
+def waits(process):
+    """How often its threads waited and were woken."""
+    found = 0
+    for task in os.listdir(f"/proc/{process.pid}/task"):
+        with open(f"/proc/{process.pid}/task/{task}/status") as text:
+            found += next(int(line.split()[1]) for line in text if line.startswith("voluntary_ctxt_switches"))
+    return found
+
+
 def observing_takes(s, client, root):
-    """The least that 2,000 observations took of the processor, of three times."""
-    taken = []
+    """The least that 2,000 observations took of the processor, and how often threads were woken by them, of three times."""
+    taken, woken = [], []
     for _ in range(3):
-        began = processor_seconds(s.process)
+        began, before = processor_seconds(s.process), waits(s.process)
         for number in range(2000):
             client.ask(["observe", root, [["x", {**FILE, "size": number % 7}]]])
         taken.append(processor_seconds(s.process) - began)
-    return min(taken)
+        woken.append(waits(s.process) - before)
+    return min(taken), min(woken)
 
 
 def observations_wake_only_their_subscribers(programs):
@@ -181,12 +191,13 @@ def observations_wake_only_their_subscribers(programs):
         a.ask(["watch", other])
         names(a, other)
         sessions = [a, *(s.client() for _ in range(SESSIONS - 2))]
-        alone = observing_takes(s, b, other)
+        alone, woken_alone = observing_takes(s, b, other)
         for client in sessions:
             for number in range(SUBSCRIPTIONS):
                 client.ask(["subscribe", top, f"s{number}", {"fields": ["name"], "expression": ["suffix", "none"], "since": "c:1:1:1"}])
-        beside = observing_takes(s, b, other)
-        check("observations of one root beside 960 subscriptions of another", beside < 1.1 * alone + 0.02, (beside, alone))
+        beside, woken = observing_takes(s, b, other)
+        check("observations wake no thread for 960 subscriptions of another root", woken < 1.1 * woken_alone + 200, (woken, woken_alone))
+        check("and take no more of the processor", beside < 1.1 * alone + 0.05, (beside, alone))
 
 
 def commands_leave_no_memory(programs):
