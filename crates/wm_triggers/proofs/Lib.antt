@@ -1,1 +1,4 @@
 pub mod Applied
+pub mod Gone
+pub mod Naming
+pub mod Placing

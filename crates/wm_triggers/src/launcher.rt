@@ -3,8 +3,9 @@
 ghost use Rattle.std.specs.Prelude.{OnErr, OnOk, option_map};
 ghost use Rattle.wm_triggers.specs.Starting.{Launch, launch_by};
 
+use crate::permit::{Permit, Unasked};
 use std::io;
-use std::io::Write;
+use std::io::{ErrorKind, Write};
 use std::process::{Child, Command, OpenProcess, Processes, Stdio};
 
 /// Starts programs. No contract can say what a program of the system does, so the system's launcher tells
@@ -23,17 +24,29 @@ pub trait Launcher {
         ensures failed { OnErr result (has_failed self.old (launch_by command (option_map (λ i. i.items) input)) self.new) };
 }
 
-/// Starts programs by the system. Their standard output and error are those of this process, and
+/// Starts programs by the system, each as its permit says. Their standard output and error are those of this process, and
 /// they have none of its other open files.
 #[derive(Drop)]
-pub struct SystemLauncher<R> {
+pub struct SystemLauncher<R, P> {
     processes: R,
+    permit: P,
 }
 
-impl<R: Processes> SystemLauncher<R> {
-    /// A launcher by these processes of the system.
-    pub fn new(processes: R) -> SystemLauncher<R> {
-        SystemLauncher { processes }
+impl<R: Processes> SystemLauncher<R, Unasked> {
+    /// A launcher by these processes of the system, whose starts nobody takes back.
+    pub fn new(processes: R) -> SystemLauncher<R, Unasked> {
+        SystemLauncher {
+            processes,
+            permit: Unasked,
+        }
+    }
+}
+
+impl<R: Processes, P: Permit> SystemLauncher<R, P> {
+    /// A launcher by these processes of the system, which asks the permit right before each start and tells it right after.
+    /// A start that it refuses is an `Err` as that of a program that can't be started.
+    pub fn permitted(processes: R, permit: P) -> SystemLauncher<R, P> {
+        SystemLauncher { processes, permit }
     }
 }
 
@@ -46,7 +59,7 @@ fn finish<P: OpenProcess + Drop>(mut child: Child<P>, input: Option<Vec<u8>>) {
     let _ended = child.wait();
 }
 
-impl<R: Processes> Launcher for SystemLauncher<R> {
+impl<R: Processes, P: Permit> Launcher for SystemLauncher<R, P> {
     ghost has_ended = { λ old launch new. Unit {0} };
 
     ghost has_failed = { λ old launch new. Unit {0} };
@@ -58,8 +71,12 @@ impl<R: Processes> Launcher for SystemLauncher<R> {
             Stdio::null()
         };
         command.stdin(stdin);
-        let child = command.spawn(&self.processes)?;
-        finish(child, input);
+        if !self.permit.begin() {
+            return Err(io::Error::from(ErrorKind::PermissionDenied));
+        }
+        let spawned = command.spawn(&self.processes);
+        self.permit.end();
+        finish(spawned?, input);
         Ok(())
     }
 }

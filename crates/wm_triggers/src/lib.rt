@@ -9,20 +9,34 @@
 //! Tests: registry_tests/src/trigger_runs.
 #![tactic(auto)]
 
+mod defined_trigger;
+mod defined_triggers;
+mod definition_runs;
 mod launcher;
+mod laws;
 mod mem_starter;
+mod permit;
 mod program_starter;
 mod programs;
 mod run;
 mod starter;
 mod starting;
 mod trigger_run;
+mod trigger_runs;
+mod trigger_table;
 
+pub use defined_trigger::DefinedTrigger;
+pub use defined_triggers::DefinedTriggers;
+pub use definition_runs::DefinitionRuns;
 pub use launcher::{Launcher, SystemLauncher};
+pub use laws::every_table;
 pub use mem_starter::{MemStarter, StartedRun};
+pub use permit::{Permit, Unasked};
 pub use program_starter::ProgramStarter;
 pub use programs::{Programs, SystemPrograms};
 pub use run::Run;
 pub use starter::Starter;
 pub use starting::{run_command, run_input};
 pub use trigger_run::TriggerRun;
+pub use trigger_runs::TriggerRuns;
+pub use trigger_table::TriggerTable;

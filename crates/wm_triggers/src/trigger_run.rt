@@ -15,7 +15,7 @@ use crate::run::Run;
 use serde_json::Value;
 use std::alloc::Global;
 use wm_clock::ClockId;
-use wm_disk::Refusal;
+use wm_disk::{NoMemory, Refusal};
 use wm_expr::Expr;
 use wm_registry::Trigger;
 use wm_since::{Answer, Query, answer, every_client};
@@ -68,6 +68,18 @@ impl TriggerRun {
     {
         let expr = expression_in(alloc, trigger.expression())?;
         Ok(TriggerRun { expr, since: None })
+    }
+
+    /// The same runs again. `NoMemory`.
+    pub(crate) fn copy(&self, alloc: Global) -> Result<TriggerRun, NoMemory>
+        ensures clock { IfOk result (λ runs. last_started runs ≡ last_started self.now) }
+        ensures test { IfOk result (λ runs. chosen_term runs ≡ chosen_term self.now) }
+    {
+        let expr = self.expr.copy(alloc)?;
+        Ok(TriggerRun {
+            expr,
+            since: self.since,
+        })
     }
 
     /// The question whose answer says which run is due: what changed since the last run that was
