@@ -6,6 +6,10 @@
 //! by a [`Launcher`], as that of the system, with the words and the input that specs/Starting.antt
 //! has, and [`MemStarter`] in memory, for tests. [`Programs`] are what many threads start.
 //!
+//! A [`TriggerTable`] has the definitions of a root, each with its command's number, and says which
+//! of them may begin ([`every_table`]); a [`Permit`] asks it right before a start. [`TriggerRuns`]
+//! are the runs of a root's triggers from round to round.
+//!
 //! Tests: registry_tests/src/trigger_runs.
 #![tactic(auto)]
 
