@@ -5,7 +5,7 @@ use wm_clock::ClockId;
 use wm_names::{Entry, Kind, Meta, RelPath, RootPath, Subtree};
 use wm_registry::{Stdin, Trigger};
 use wm_since::{Answer, Listed, ListedFiles};
-use wm_triggers::{Run, TriggerRun};
+use wm_triggers::{DefinedTriggers, Run, TriggerRun};
 use wm_view::{Listing, Pairs, View};
 
 /// A path with the size of the file that is there, or with `None`.
@@ -62,7 +62,28 @@ pub fn trigger_for(rt: &impl Abort, alloc: Global, expression: Option<&str>) -> 
     Trigger::new(alloc, "t", &["true"], expression, false, Stdin::DevNull).expect(rt, "a trigger")
 }
 
-/// The runs of such a trigger, of which none was started yet.
+/// A trigger of this name and of the program `true`, for each file.
+pub fn named(rt: &impl Abort, alloc: Global, name: &str) -> Trigger {
+    Trigger::new(alloc, name, &["true"], None, false, Stdin::DevNull).expect(rt, "a trigger")
+}
+
+/// Such a trigger with this text of an expression.
+pub fn named_for(rt: &impl Abort, alloc: Global, name: &str, expression: &str) -> Trigger {
+    let expression = Some(expression);
+    Trigger::new(alloc, name, &["true"], expression, false, Stdin::DevNull).expect(rt, "a trigger")
+}
+
+/// Definitions of these names by the commands of these numbers.
+pub fn defined(rt: &impl Abort, alloc: Global, plan: &[(&'static str, u64)]) -> DefinedTriggers {
+    let mut all = DefinedTriggers::new(alloc).expect(rt, "memory");
+    for (name, number) in plan {
+        let trigger = named(rt, alloc, name);
+        all.define(*number, trigger).expect(rt, "memory");
+    }
+    all
+}
+
+/// The runs of a trigger with this text of an expression, of which none was started yet.
 pub fn runs_for(rt: &impl Abort, alloc: Global, expression: Option<&str>) -> TriggerRun {
     let trigger = trigger_for(rt, alloc, expression);
     let runs = TriggerRun::new(alloc, &trigger).expect(rt, "a trigger");
