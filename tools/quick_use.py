@@ -1,8 +1,8 @@
 #!/usr/bin/env python3
 """What rough use of a server has found wrong, one case each: tools/quick_use.py WATCHMAND WMCTL [WMFEED] [--only CASE ..]
 
-Each case starts a server of its own under a temporary folder, and tells for each thing it looks at whether it is so. What has to fall into a short
-time is tried until it did. The status is 1 where something isn't so. Some 45 seconds for all."""
+Each case starts a server of its own under a temporary folder, and prints for each thing that it checks whether it holds. What has to fall into a short
+time is tried until it did. The status is 1 if something doesn't hold. Some 45 seconds for all, 80 beside a dozen proofs."""
 import argparse, sys
 
 sys.dont_write_bytecode = True

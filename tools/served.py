@@ -37,7 +37,7 @@ class Session:
 
 @contextlib.contextmanager
 def serving(program, folder, *words):
-    """A server over the folder's state file, which is made where there is none, with these words more, which is killed at the end; its socket's path."""
+    """A server over the folder's state file, which is made if there is none, with these words more, which is killed at the end; its socket's path."""
     path = f"{folder}/socket"
     if not os.path.exists(f"{folder}/state"):
         subprocess.run([program, "format", f"{folder}/state"], check=True, stdout=subprocess.DEVNULL)

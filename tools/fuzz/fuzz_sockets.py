@@ -3,8 +3,8 @@
 A client is its lines and how it ends. Each whole reply is the model's, each line of a subscription is an answer of the root's history,
 and the watched roots and triggers, asked by a fresh client and read from the file behind a kill, are those that were acknowledged.
 
-After a kill the server is started again over its file, and each client asks it since the clocks that it was told before, and then goes on with the lines that
-weren't answered: each such clock is fresh, and none is told again."""
+After a kill the server is started again over its file. Each client asks it since the clocks of its earlier answers, and then goes on with the lines that
+weren't answered: each such clock is fresh, and none comes again."""
 import contextlib, json, os, random, re, shutil, signal, socket, stat, struct, threading
 import fuzz_files, fuzz_lines, fuzz_state
 from fuzz_history import History, Refused
@@ -55,8 +55,8 @@ def crawled(root, top=""):
 
 
 class Server(Model):
-    """The model of a session that is alone on its root, which a server has crawled; the root has this number, and the server was started so often. Where it was
-    started again these are the root and those below it, with their triggers."""
+    """The model of a session that is alone on its root, which a server has crawled; the root has this number, and the server was started so often. After a
+    second start `roots` are the root and those below it, with their triggers."""
 
     def __init__(self, root, number, files, life=1, roots=None):
         super().__init__()
@@ -273,7 +273,7 @@ def run_all(threads):
 
 
 def talked(path, place, life, clients, before):
-    """Runs all clients at once; then what a fresh one is told of the registry, unless the server was killed. Before a later life the registry was as told."""
+    """Runs all clients at once; then what a fresh one is told of the registry, unless the server was killed. A later life has to begin with the registry `before`."""
     roots = [f"{place}/{NAMES[number]}" for number in range(len(clients))]
     watched_first(path, roots) if life == 1 else started_again(path, roots, life, before)
     killed = threading.Event()
