@@ -1,5 +1,5 @@
 -- The list of the operations that were published on one root so far, and what it makes.
-use Rattle.std.specs.Prelude.{◌≡◌, ◌<◌, List, [], ◌∷◌, ◌++◌, length, cond, Option, Some, None}
+use Rattle.std.specs.Prelude.{◌≡◌, ◌<◌, Bool, true, List, [], ◌∷◌, ◌++◌, length, cond, Option, Some, None}
 use mathlib.Core.List.{IsPrefix}
 use Rattle.wm_disk.specs.declared.refusal.Refusal.{Refusal}
 use Rattle.wm_clock.specs.declared.clock_id.ClockId.{ClockId}
@@ -30,6 +30,15 @@ IsLonger xs ys = Begins xs ys × (length xs.operations < length ys.operations)
 -- the list ends with the operation
 abbrev pub EndsWith : List Op → Op → Type 0
 EndsWith ops op = (before : List Op) × (ops ≡ before ++ op ∷ [])
+
+-- ---- what a viewer has of it
+
+pub record ViewerState : Type 0 where
+  pub list : PublishedList  -- the longest one that it has seen or learnt
+  pub is_disconnected : Bool  -- its last question found no published list that begins with that one: the keeper is gone
+
+abbrev pub disconnected : ViewerState → ViewerState
+disconnected v = record v { is_disconnected = true }
 
 -- ---- what the list makes
 

@@ -1,11 +1,11 @@
 //! The keeper of a root, which alone changes its view.
 //! Definitions: specs/PublishedLists.antt, specs/Operations.antt. Tests: view_tests/src/shared/shares.rt.
-ghost use Rattle.std.specs.Prelude.{◌≡◌, ◌≤◌, ◌⊎◌, ◌++◌, ◌∷◌, [], length, Some, None, MatchResult};
+ghost use Rattle.std.specs.Prelude.{◌≡◌, ◌≤◌, ◌⊎◌, ◌++◌, ◌∷◌, [], length, Some, None, IfOk, MatchResult};
 ghost use Rattle.left_right.specs.Handles.{published as shown_by, pending as waiting};
 ghost use Rattle.wm_disk.specs.Counters.{max_counter};
 ghost use Rattle.wm_view.specs.declared.op.Op.{Op};
 ghost use Rattle.wm_view.specs.declared.op.Op.TheVariants.{Observe, Recrawl, AgeOut};
-ghost use Rattle.wm_share.specs.Operations.{MayRefuse, Operations, held_list};
+ghost use Rattle.wm_share.specs.Operations.{MayRefuse, Operations, handed_in, held_list};
 ghost use Rattle.wm_share.specs.PublishedLists.{PublishedList, with_operations};
 
 use crate::book::Naming;
@@ -92,7 +92,8 @@ fn lengthened<J: Naming>(
     entry: &Entry,
 ) -> Result<Front<J>, Refusal>
     requires { (head.now.number ≡ front.now.share.number) × (entry.now.share ≡ front.now.share.number) }
-    ensures { MatchResult result (λ f. f ≡ with_operations front.now (entry.now.op ∷ [])) (λ e. (e ≡ Refusal.NoMemory) ⊎ ((e ≡ Refusal.Exhausted) × (max_counter ≤ length front.now.operations))) }
+    ensures room { IfOk result (λ f. length f.operations ≤ max_counter) }
+    ensures lengthened { MatchResult result (λ f. f ≡ with_operations front.now (entry.now.op ∷ [])) (λ e. (e ≡ Refusal.NoMemory) ⊎ ((e ≡ Refusal.Exhausted) × (max_counter ≤ length front.now.operations))) }
 {
     if front.len() >= MAX_COUNTER {
         return Err(Refusal::Exhausted);
@@ -106,10 +107,12 @@ fn lengthened<J: Naming>(
 }
 
 impl<J: Naming, T: Listed<J> + Drop, R: Wait + Drop> RootKeeper<J, T, R> {
-    /// Adds an operation to those that wait. `NoMemory`, and `Exhausted` where the list has 2^63 - 1
-    /// operations; a refusal changes nothing.
-    fn append(&mut self, op: Op) -> Result<(), Refusal>
+    /// Adds an operation to those that wait. `NoMemory`, and `Exhausted` if the list has 2^63 - 1
+    /// operations; a refusal changes nothing. An operation for which the writer had no room is `Ok`: it is
+    /// kept, and waits with the others.
+    pub fn append(&mut self, op: Op) -> Result<(), Refusal>
         ensures published { self.new.published ≡ self.old.published }
+        ensures room { IfOk result (λ _. length (handed_in self.new) ≤ max_counter) }
         ensures appended { MatchResult result (λ _. self.new.pending ≡ self.old.pending ++ op ∷ []) (λ e. MayRefuse self.new e × (self.new.pending ≡ self.old.pending)) }
     {
         send_held(&mut self.desk, &mut self.held)?;
@@ -124,27 +127,28 @@ impl<J: Naming, T: Listed<J> + Drop, R: Wait + Drop> RootKeeper<J, T, R> {
         Ok(())
     }
 
-    /// Hands in what was observed at a moment, as `View::observe`. `NoMemory`, and `Exhausted` where the list
-    /// has 2^63 - 1 operations; a refusal changes nothing. An operation for which the writer had no room is
-    /// `Ok`: it is kept, and waits with the others.
+    /// Hands in what was observed at a moment, as `View::observe`. Refused as `append` is.
     pub fn observe(&mut self, moment: u64, pairs: Pairs) -> Result<(), Refusal>
         ensures published { self.new.published ≡ self.old.published }
+        ensures room { IfOk result (λ _. length (handed_in self.new) ≤ max_counter) }
         ensures appended { MatchResult result (λ _. self.new.pending ≡ self.old.pending ++ Observe moment pairs ∷ []) (λ e. MayRefuse self.new e × (self.new.pending ≡ self.old.pending)) }
     {
         self.append(Op::Observe(moment, pairs))
     }
 
-    /// Hands in a listing that was read since the tick `begun_at`, as `View::recrawl`. Refused as `observe` is.
+    /// Hands in a listing that was read since the tick `begun_at`, as `View::recrawl`. Refused as `append` is.
     pub fn recrawl(&mut self, moment: u64, begun_at: u64, listing: Listing) -> Result<(), Refusal>
         ensures published { self.new.published ≡ self.old.published }
+        ensures room { IfOk result (λ _. length (handed_in self.new) ≤ max_counter) }
         ensures appended { MatchResult result (λ _. self.new.pending ≡ self.old.pending ++ Recrawl moment begun_at listing ∷ []) (λ e. MayRefuse self.new e × (self.new.pending ≡ self.old.pending)) }
     {
         self.append(Op::Recrawl(moment, begun_at, listing))
     }
 
-    /// Hands in that what was deleted so long ago may be forgotten, as `View::age_out`. Refused as `observe` is.
+    /// Hands in that what was deleted so long ago may be forgotten, as `View::age_out`. Refused as `append` is.
     pub fn age_out(&mut self, time: u64, age: u64) -> Result<(), Refusal>
         ensures published { self.new.published ≡ self.old.published }
+        ensures room { IfOk result (λ _. length (handed_in self.new) ≤ max_counter) }
         ensures appended { MatchResult result (λ _. self.new.pending ≡ self.old.pending ++ AgeOut time age ∷ []) (λ e. MayRefuse self.new e × (self.new.pending ≡ self.old.pending)) }
     {
         self.append(Op::AgeOut(time, age))

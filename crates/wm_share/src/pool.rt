@@ -28,7 +28,7 @@ impl<J: Naming> Model for Pool<J> {
 
     ghost view = { λ p. record { share = p.share; viewers = length p.viewers.items } };
 
-    ghost invariant = { λ p. (length p.viewers.items ≤ max_viewers) × (max_viewers ≤ vec_capacity p.viewers) × All (λ v. v.share ≡ p.share) p.viewers.items };
+    ghost invariant = { λ p. (length p.viewers.items ≤ max_viewers) × (max_viewers ≤ vec_capacity p.viewers) × All (λ v. v.list.share ≡ p.share) p.viewers.items };
 }
 
 impl<J: Naming> Pool<J> {
@@ -52,7 +52,7 @@ impl<J: Naming> Pool<J> {
     /// Takes out a viewer of this share. `NoPlace` exactly where there is none.
     pub fn take(&mut self) -> Result<Viewer<J>, Refusal>
         ensures share { self.new.share ≡ self.old.share }
-        ensures taken { MatchResult result (λ v. (self.new.viewers + 1 ≡ self.old.viewers) × (v.share ≡ self.old.share)) (λ e. (e ≡ Refusal.NoPlace) × (self.old.viewers ≡ 0) × (self.new.viewers ≡ 0)) }
+        ensures taken { MatchResult result (λ v. (self.new.viewers + 1 ≡ self.old.viewers) × (v.list.share ≡ self.old.share)) (λ e. (e ≡ Refusal.NoPlace) × (self.old.viewers ≡ 0) × (self.new.viewers ≡ 0)) }
     {
         match self.viewers.pop() {
             Some(viewer) => Ok(viewer),
@@ -64,9 +64,9 @@ impl<J: Naming> Pool<J> {
     /// and each pool lets go a viewer of another share.
     pub fn give(&mut self, viewer: Viewer<J>)
         ensures share { self.new.share ≡ self.old.share }
-        ensures given { viewer.share ≡ self.old.share → self.old.viewers < max_viewers → self.new.viewers ≡ self.old.viewers + 1 }
+        ensures given { viewer.list.share ≡ self.old.share → self.old.viewers < max_viewers → self.new.viewers ≡ self.old.viewers + 1 }
         ensures full { max_viewers ≤ self.old.viewers → self.new.viewers ≡ self.old.viewers }
-        ensures other { viewer.share ≢ self.old.share → self.new.viewers ≡ self.old.viewers }
+        ensures other { viewer.list.share ≢ self.old.share → self.new.viewers ≡ self.old.viewers }
     {
         if self.viewers.len() < MAX_VIEWERS && viewer.share().same(&self.share) {
             self.viewers.push_reserved(viewer);

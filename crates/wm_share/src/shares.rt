@@ -1,6 +1,6 @@
 //! What makes the shares of a process.
 //! Definitions: specs/PublishedLists.antt, specs/Rules.antt. Tests: view_tests/src/shared/shares.rt.
-ghost use Rattle.std.specs.Prelude.{◌≡◌, ◌≤◌, ◌+◌, ◌-◌, [], IfOk, IfErr, ◌⊎◌};
+ghost use Rattle.std.specs.Prelude.{◌≡◌, ◌+◌, ◌-◌, [], IfOk, IfErr, ◌⊎◌};
 ghost use Rattle.left_right.specs.Handles.{published, pending};
 ghost use Rattle.wm_share.specs.Logs.{max_shares};
 ghost use Rattle.wm_share.specs.PublishedLists.{empty_list};
@@ -104,8 +104,8 @@ impl<J: Naming> Shares<J> {
     }
 
     /// A keeper and its viewers, over two new views of the root; where memory is short, fewer viewers than
-    /// [`MAX_VIEWERS`]. `NoMemory`, which may use up a share's number, and `Exhausted` where 2^63 - 1 of these
-    /// are used up.
+    /// [`MAX_VIEWERS`]. `NoMemory`, which uses up a share's number, and `Exhausted` if 2^63 - 1 of these are
+    /// used up.
     pub fn share<R: Wait + Drop>(
         &mut self,
         rt: R,
@@ -115,9 +115,8 @@ impl<J: Naming> Shares<J> {
     ) -> Result<(RootKeeper<J, Shown<J>, R>, Pool<J>), Refusal>
         ensures published { IfOk result (λ s. (s.0.published ≡ empty_list (record { number = self.old; incarnation = incarnation; root = root })) × (s.0.pending ≡ [])) }
         ensures viewers { IfOk result (λ s. s.1.share ≡ s.0.published.share) }
-        ensures refused { IfErr result (λ e. (e ≡ Refusal.NoMemory) ⊎ ((e ≡ Refusal.Exhausted) × (self.old ≡ max_shares))) }
+        ensures refused { IfErr result (λ e. ((e ≡ Refusal.NoMemory) × (self.new ≡ self.old + 1)) ⊎ ((e ≡ Refusal.Exhausted) × (self.old ≡ max_shares) × (self.new ≡ self.old))) }
         ensures made { IfOk result (λ _. self.new ≡ self.old + 1) }
-        ensures rises { self.old ≤ self.new }
     {
         let (front, head) = self.next(incarnation, root)?;
         let mut pool = Pool::with_room(alloc, front.share())?;

@@ -1,11 +1,11 @@
 //! What viewers read: a view, and the list of operations that made it.
 //! Definitions: specs/PublishedLists.antt. Tests: view_tests/src/shared/shares.rt.
-ghost use Rattle.std.specs.Prelude.{◌≡◌, ◌⊎◌, ◌∷◌, [], true, false, IfOk, IfErr};
+ghost use Rattle.std.specs.Prelude.{◌≡◌, ◌≢◌, ◌⊎◌, ◌∷◌, [], true, false, IfOk, IfErr};
 ghost use Rattle.wm_view.specs.Histories.{is_ready};
 ghost use Rattle.wm_view.specs.Summaries.{summary};
 ghost use Rattle.wm_view.specs.Views.{Performs};
 ghost use Rattle.wm_since.specs.Answers.{answer_to, question};
-ghost use Rattle.wm_share.specs.PublishedLists.{Begins, PublishedList, history, with_operations};
+ghost use Rattle.wm_share.specs.PublishedLists.{Begins, IsLonger, PublishedList, history, with_operations};
 
 use crate::book::Naming;
 use crate::front::Front;
@@ -56,8 +56,8 @@ impl<J: Naming> Shown<J> {
         }
     }
 
-    /// Answers a caller who has seen `front`, which has then seen this list. `NoPlace` where this list isn't
-    /// one that begins with it.
+    /// Answers a caller who has seen `front`, which has then seen this list. `NoPlace` if this list doesn't begin
+    /// with it: it is of another share, or shorter.
     pub(crate) fn answer_after<T: Test>(
         &self,
         alloc: Global,
@@ -68,6 +68,7 @@ impl<J: Naming> Shown<J> {
         ensures ready { IfOk result (λ _. is_ready (history front.new) ≡ true) }
         ensures answered { IfOk result (λ a. (front.new ≡ self.now) × (a ≡ answer_to (T.passes query.now.test) (history front.new) (question query.now))) }
         ensures refused { IfErr result (λ e. (e ≡ Refusal.NoMemory) ⊎ ((e ≡ Refusal.NoPlace) × (front.new ≡ front.old)) ⊎ ((e ≡ Refusal.NotReady) × (front.new ≡ self.now) × (is_ready (history front.new) ≡ false))) }
+        ensures no_place { IfErr result (λ e. e ≡ Refusal.NoPlace → (front.old.share ≢ self.now.share) ⊎ IsLonger self.now front.old) }
     {
         if !front.begins(&self.front) {
             return Err(Refusal::NoPlace);

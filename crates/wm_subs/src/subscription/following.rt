@@ -1,7 +1,7 @@
 //! A subscription that follows a viewer, while the root's keeper goes on.
 //! Definitions: specs/Subscribers.antt, specs/Folds.antt. Tests: view_tests/src/shared/following.rt.
 ghost use Rattle.std.specs.Prelude.{◌≡◌, ◌⊎◌, IfOk, IfErr, OnErr};
-ghost use Rattle.wm_share.specs.PublishedLists.{Begins, history};
+ghost use Rattle.wm_share.specs.PublishedLists.{Begins, disconnected, history};
 ghost use Rattle.wm_subs.specs.Subscribers.{after_due, due_answer};
 ghost use Rattle.wm_subs.specs.Folds.{FoldsOn};
 
@@ -13,16 +13,16 @@ use wm_since::{Answer, Test, every_client};
 
 impl<T: Test> Subscription<T> {
     /// What is to be told on a published list that begins with all that the viewer had seen or learnt, and
-    /// that it has then seen: `None` as `next` has it. `NoPlace` where the keeper is gone, and `NoMemory`.
+    /// that it has then seen: `None` as `next` has it. `NoPlace` if the keeper is gone, and `NoMemory`.
     /// Whoever tells it takes note of that with `told`.
     pub fn due_of<J: Naming>(
         &self,
         alloc: Global,
         viewer: &mut Viewer<J>,
     ) -> Result<Option<Answer>, Refusal>
-        ensures seen { Begins viewer.old viewer.new }
-        ensures due { IfOk result (λ o. o ≡ due_answer (T.passes self.now.query.test) (history viewer.new) self.now) }
-        ensures refused { IfErr result (λ e. (e ≡ Refusal.NoMemory) ⊎ (e ≡ Refusal.NoPlace)) }
+        ensures seen { Begins viewer.old.list viewer.new.list }
+        ensures due { IfOk result (λ o. o ≡ due_answer (T.passes self.now.query.test) (history viewer.new.list) self.now) }
+        ensures refused { IfErr result (λ e. (e ≡ Refusal.NoMemory) ⊎ ((e ≡ Refusal.NoPlace) × (viewer.new ≡ disconnected viewer.old))) }
     {
         let answer = match viewer.answer(alloc, &self.query) {
             Ok(answer) => answer,
@@ -41,10 +41,10 @@ impl<T: Test> Subscription<T> {
         alloc: Global,
         viewer: &mut Viewer<J>,
     ) -> Result<Option<Answer>, Refusal>
-        ensures seen { Begins viewer.old viewer.new }
-        ensures due { IfOk result (λ o. o ≡ due_answer (T.passes self.old.query.test) (history viewer.new) self.old) }
+        ensures seen { Begins viewer.old.list viewer.new.list }
+        ensures due { IfOk result (λ o. o ≡ due_answer (T.passes self.old.query.test) (history viewer.new.list) self.old) }
         ensures moved { IfOk result (λ o. self.new ≡ after_due self.old o) }
-        ensures refused { IfErr result (λ e. (e ≡ Refusal.NoMemory) ⊎ (e ≡ Refusal.NoPlace)) }
+        ensures refused { IfErr result (λ e. (e ≡ Refusal.NoMemory) ⊎ ((e ≡ Refusal.NoPlace) × (viewer.new ≡ disconnected viewer.old))) }
         ensures err { OnErr result (self.new ≡ self.old) }
     {
         let due = self.due_of(alloc, viewer)?;
@@ -57,18 +57,18 @@ impl<T: Test> Subscription<T> {
     /// What is to be told on a published list that begins with all that the viewer had seen or learnt, and
     /// that it has then seen. `None` where the view isn't ready after that list, or the answer since the last
     /// clock is neither the first nor fresh and lists no file. An answer is taken as told: the next is since
-    /// its clock. `None` changes nothing, nor does a refusal: `NoPlace` where the keeper is gone, and
+    /// its clock. `None` changes nothing, nor does a refusal: `NoPlace` if the keeper is gone, and
     /// `NoMemory`.
     pub fn next<J: Naming>(
         &mut self,
         alloc: Global,
         viewer: &mut Viewer<J>,
     ) -> Result<Option<Answer>, Refusal>
-        ensures seen { Begins viewer.old viewer.new }
-        ensures due { IfOk result (λ o. o ≡ due_answer (T.passes self.old.query.test) (history viewer.new) self.old) }
+        ensures seen { Begins viewer.old.list viewer.new.list }
+        ensures due { IfOk result (λ o. o ≡ due_answer (T.passes self.old.query.test) (history viewer.new.list) self.old) }
         ensures moved { IfOk result (λ o. self.new ≡ after_due self.old o) }
-        ensures folds { IfOk result (λ o. FoldsOn (T.passes self.old.query.test) (history viewer.new) self.old o self.new) }
-        ensures refused { IfErr result (λ e. (e ≡ Refusal.NoMemory) ⊎ (e ≡ Refusal.NoPlace)) }
+        ensures folds { IfOk result (λ o. FoldsOn (T.passes self.old.query.test) (history viewer.new.list) self.old o self.new) }
+        ensures refused { IfErr result (λ e. (e ≡ Refusal.NoMemory) ⊎ ((e ≡ Refusal.NoPlace) × (viewer.new ≡ disconnected viewer.old))) }
         ensures err { OnErr result (self.new ≡ self.old) }
     {
         every_client();
