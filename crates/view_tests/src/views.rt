@@ -12,6 +12,7 @@ mod generated;
 mod listings;
 mod many;
 mod observing;
+mod overlays;
 mod recrawling;
 mod reference;
 mod sessions;
