@@ -65,11 +65,19 @@ impl<D: Disk + Drop> Book<D> {
         Snapshot::of(&self.history)
     }
 
-    /// The registry after all of the list. `NoMemory`.
-    pub fn registry(&self, alloc: Global) -> Result<Registry, NoMemory>
-        ensures { IfOk result (λ r. r ≡ self.now.store.registry) }
+    /// How many commands the list has.
+    pub fn accepted(&self) -> u64
+        ensures { result ≡ length self.now.list }
     {
-        self.store.registry().copy(alloc)
+        self.history.entries.len() as u64
+    }
+
+    /// The registry after all of the list, and how many commands the list has. `NoMemory`.
+    pub fn registry(&self, alloc: Global) -> Result<(Registry, u64), NoMemory>
+        ensures { IfOk result (λ r. (r.0 ≡ self.now.store.registry) × (r.1 ≡ length self.now.list)) }
+    {
+        let registry = self.store.registry().copy(alloc)?;
+        Ok((registry, self.accepted()))
     }
 
     /// The receipt's command, where it stands at its number. `NoMemory` where its copy finds no room.

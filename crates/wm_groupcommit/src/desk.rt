@@ -187,9 +187,15 @@ impl<D: Disk + Drop> Desk<D> {
         }
     }
 
-    /// A copy of the registry, as the last flush left it. It waits for a flush that runs. `NoMemory`.
-    pub fn registry<R: Wait>(&self, rt: &R) -> Result<Registry, NoMemory> {
+    /// A copy of the registry, as the last flush left it, and how many commands had been accepted by then. It
+    /// waits for a flush that runs. `NoMemory` changes nothing.
+    pub fn registry<R: Wait>(&self, rt: &R) -> Result<(Registry, u64), NoMemory> {
         self.locked.lock(rt).registry(self.alloc)
+    }
+
+    /// How many commands were accepted, as the last flush left it. It waits for a flush that runs.
+    pub fn accepted<R: Wait>(&self, rt: &R) -> u64 {
+        self.locked.lock(rt).accepted()
     }
 
     /// The receipt's command, found at its number in the list; none for one that changed nothing. `NoMemory`

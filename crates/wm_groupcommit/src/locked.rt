@@ -107,9 +107,16 @@ impl<D: Disk + Drop> LockedDesk<D> {
         Ok(())
     }
 
-    /// The registry after all of the list. `NoMemory`.
-    pub fn registry(&self, alloc: Global) -> Result<Registry, NoMemory>
-        ensures { IfOk result (λ r. r ≡ self.now.book.store.registry) }
+    /// How many commands were accepted.
+    pub fn accepted(&self) -> u64
+        ensures { result ≡ length self.now.book.list }
+    {
+        self.book.accepted()
+    }
+
+    /// The registry after all of the list, and how many commands the list has. `NoMemory`.
+    pub fn registry(&self, alloc: Global) -> Result<(Registry, u64), NoMemory>
+        ensures { IfOk result (λ r. (r.0 ≡ self.now.book.store.registry) × (r.1 ≡ length self.now.book.list)) }
     {
         self.book.registry(alloc)
     }

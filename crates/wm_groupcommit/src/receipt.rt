@@ -30,4 +30,16 @@ impl Receipt {
     {
         &self.standing
     }
+
+    /// Where the command stands, with the command itself.
+    pub fn into_standing(self) -> Standing
+        ensures { result ≡ shown self }
+    {
+        let Receipt {
+            standing,
+            seat: _,
+            count: _,
+        } = self;
+        standing
+    }
 }

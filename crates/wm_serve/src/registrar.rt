@@ -71,7 +71,8 @@ impl<D: Disk + Drop> Registrar for Desk<D> {
     ghost sole = { λ desk seat. Prim.hlevel (codes, ℕ_set) };
 
     fn registry<R: Wait>(&self, rt: &R) -> Result<Registry, NoMemory> {
-        Desk::registry(self, rt)
+        let (registry, _) = Desk::registry(self, rt)?;
+        Ok(registry)
     }
 
     fn seat<R: Wait>(&self, rt: &R) -> Result<Seat, Refusal> {
