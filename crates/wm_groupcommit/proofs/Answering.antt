@@ -203,6 +203,13 @@ at_next_most n Replaced = omega arith
 at_next_most n Unchanged = omega arith
 at_next_most n (Refused e) = omega arith
 
+-- a call adds itself if it was accepted
+pub at_kept : (n : ℕ) (c : Call) (r : Reply) → at_next n r ≡ n + length (kept_if c r)
+at_kept n c Changed = refl
+at_kept n c Replaced = refl
+at_kept n c Unchanged = omega arith
+at_kept n c (Refused e) = omega arith
+
 pub few_answers : (n : ℕ) (cs : List Call) (rs : List Reply) → length (answers_from n cs rs) ≤ length cs
 few_answers n [] rs = omega arith
 few_answers n (c ∷ cs) [] = omega arith

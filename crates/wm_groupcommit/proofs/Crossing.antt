@@ -1,5 +1,5 @@
--- A desk may be shared by threads, where its disk may be sent to another. Rattle finds this for a struct by itself, but not where a
--- `Snapshot` stands below it.
+-- A desk may be shared by threads, where its disk may be sent to another, and a receipt may be sent. Rattle finds this for a struct by
+-- itself, but not where a `Snapshot` stands below it.
 use Rattle.crossbeam_queue.below.atomic_table.proofs.shared.Seat.TheSendSync as SeatSent
 use Rattle.crossbeam_queue.proofs.array_queue.Slotted.TheSendSync as SlottedSent
 use Rattle.crossbeam_queue.specs.contracts.array_queue.Doing
@@ -24,15 +24,24 @@ use Rattle.std.specs.contracts.alloc.Global
 use Rattle.std.specs.contracts.impls.GlobalAllocator.TheImpl as GlobalImpl
 use Rattle.std.specs.contracts.option.Option
 use Rattle.std.specs.contracts.snapshot.Snapshot
-use Rattle.wm_groupcommit.proofs.book.Book.TheSendSync as BookSent
+use Rattle.wm_store.proofs.store.Store.TheSendSync as StoreSent
+use Rattle.wm_registry.specs.contracts.registry.Registry
 use Rattle.wm_groupcommit.proofs.queued.Answer.TheSendSync as AnswerSent
 use Rattle.wm_groupcommit.proofs.queued.Call.TheSendSync as CallSent
+use Rattle.wm_groupcommit.specs.contracts.book.Book
+use Rattle.wm_groupcommit.specs.contracts.book.Book.TheInside as BookInside
 use Rattle.wm_groupcommit.specs.contracts.history.History
+use Rattle.wm_groupcommit.specs.contracts.history.History.TheInside as HistoryInside
+use Rattle.wm_groupcommit.specs.contracts.history.Past
 use Rattle.wm_groupcommit.specs.contracts.locked.LockedDesk
 use Rattle.wm_groupcommit.specs.contracts.locked.LockedDesk.TheInside as LockedInside
 use Rattle.wm_groupcommit.specs.contracts.queued.Call
 use Rattle.wm_groupcommit.specs.contracts.desk.Desk
+use Rattle.wm_groupcommit.specs.contracts.locked.reply_ends.ReplyReceiver
 use Rattle.wm_groupcommit.specs.contracts.locked.reply_ends.ReplySender
+use Rattle.wm_groupcommit.specs.contracts.receipt.Receipt
+use Rattle.wm_groupcommit.specs.contracts.receipt.Receipt.TheInside as ReceiptInside
+use Rattle.wm_groupcommit.proofs.receipt.Standing.TheSendSync as StandingSent
 use Rattle.wm_groupcommit.specs.contracts.locked.reply_ends.ReplySender.TheInside as SenderInside
 use Rattle.wm_groupcommit.specs.contracts.locked.call_rule.Merges
 use Rattle.wm_groupcommit.specs.contracts.locked.call_rule.MergesProtocolCallCallView.TheImpl as MergesImpl
@@ -50,6 +59,18 @@ use Rattle.std.proofs.Common.{rules}
 
 pub snapshot_send : (Y : RattleType.RattleType) → IsSend (Snapshot.the_row Y)
 snapshot_send Y = record { owned = λ d vs. ((λ vss. (tt, ((λ uss. (tt, tt)), tt))), tt); leaving = λ k f vs. tt }
+
+pub history_send : IsSend History.the_row
+history_send =
+    view_send HistoryInside.the_row _ _ _ _
+    (recorded_send (HistoryInside.the_field).row _ _ (HistoryInside.the_type).to_one
+    (struct_send (Declared.shape HistoryInside.the_type) (snapshot_send Registry.the_row, (OptionSent.the_field_send (Snapshot.the_row Past.the_row) (snapshot_send Past.the_row), tt))))
+
+pub receipt_send : IsSend Receipt.the_row
+receipt_send =
+    view_send ReceiptInside.the_row _ _ _ _
+    (recorded_send (ReceiptInside.the_field).row _ _ (ReceiptInside.the_type).to_one
+    (struct_send (Declared.shape ReceiptInside.the_type) (StandingSent.the_field_send, (plain_send _ _ _ _ _, (plain_send _ _ _ _ _, (snapshot_send ReplyReceiver.the_row, tt))))))
 
 pub delivery_send : IsSend Delivery.the_row
 delivery_send = recorded_send (Delivery.the_field).row _ _ (Delivery.the_type).to_one (struct_send (Declared.shape Delivery.the_type) (AnswerSent.the_field_send, (snapshot_send History.the_row, tt)))
@@ -85,12 +106,18 @@ count_send : IsSend Builtin.u64
 count_send = search rules
 
 module _ (T : RattleType.RattleType) (g : disks.Ghosts T.Denot) where
+  pub book_send : IsSend T → IsSend (Book.the_row T g)
+  book_send s =
+      view_send (BookInside.the_row T g) _ _ _ _
+      (recorded_send (BookInside.the_field T g).row _ _ (BookInside.the_type T g).to_one
+      (struct_send (Declared.shape (BookInside.the_type T g)) (StoreSent.the_send T g s, (plain_send _ _ _ _ _, (history_send, tt)))))
+
   pub locked_send : IsSend T → IsSend (LockedDesk.the_row T g)
   locked_send s =
       view_send (LockedInside.the_row T g) _ _ _ _
       (recorded_send (LockedInside.the_field T g).row _ _ (LockedInside.the_type T g).to_one
       (struct_send (Declared.shape (LockedInside.the_type T g)) (
-        BookSent.the_send T g s,
+        book_send s,
         (
           VecSent.the_send ReplySender.the_row Global.the_row GlobalImpl.ghosts sender_send GlobalSent.the_send FreesSent.the_frees,
           (VecSent.the_send Builtin.u64 Global.the_row GlobalImpl.ghosts count_send GlobalSent.the_send FreesSent.the_frees, (plain_send _ _ _ _ _, tt)),

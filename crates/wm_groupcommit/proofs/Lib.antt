@@ -4,6 +4,7 @@ pub mod Merging
 pub mod Delivering
 pub mod Locking
 pub mod Settling
+pub mod Lasting
 pub mod Comparing
 pub mod Refusing
 pub mod Submitting

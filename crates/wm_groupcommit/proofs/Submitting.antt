@@ -9,14 +9,14 @@ use Rattle.wm_registry.specs.Registry.{is_change}
 use Rattle.wm_registry.specs.Roots.{State}
 use Rattle.wm_store.specs.Batches.{in_batch, is_begin}
 use Rattle.wm_groupcommit.specs.declared.queued.Answer.{Answer}
-use Rattle.wm_groupcommit.specs.declared.receipt.Receipt.{Receipt}
 use Rattle.wm_groupcommit.specs.declared.seat.Seat.{Seat}
 use Rattle.wm_groupcommit.specs.Books.{IsFailure, IsFailed, RightReply, state_at}
 use Rattle.wm_groupcommit.specs.Seats.{IsAnswered, IsOfRegistry, IsRefusedAfter, IsTurned, call_from, known_list}
-use Rattle.wm_groupcommit.specs.Submits.{Declined, IsRefusal, Misfits, Submitted, TookOne, standing_for}
+use Rattle.wm_groupcommit.specs.Receipts.{ReceiptState, standing_for}
+use Rattle.wm_groupcommit.specs.Submits.{Declined, IsRefusal, Misfits, Submitted, TookOne}
 use Rattle.wm_groupcommit.proofs.Refusing.{begin_alone, not_failure, refused_by, three_is_none, unrefused}
 
-pub answered : (old new : Seat) (command : Command) (reply : Reply) (receipt : Receipt) → new.calls ≡ old.calls + 1 → Submitted old.replies new.replies old.seen new.seen (call_from old command) reply receipt
+pub answered : (old new : Seat) (command : Command) (reply : Reply) (receipt : ReceiptState) → new.calls ≡ old.calls + 1 → Submitted old.replies new.replies old.seen new.seen (call_from old command) reply receipt
     → IsAnswered old new command reply receipt
 answered old new command reply receipt calls h =
     let a = h.0 in
@@ -35,6 +35,7 @@ answered old new command reply receipt calls h =
       stands = λ e. right.2 (ap is_change (sym settled.reply_is) ∙ e) ∙ ap (λ k. Some k) settled.call_is;
       standing = settled.standing ∙ ap (λ r. standing_for r a.at command) (sym settled.reply_is);
       call = (settled.seat, settled.count);
+      list = settled.known;
       seen = settled.mark;
       calls = calls;
       taken = took.1 ∙ ap (λ (x : Answer). old.replies.got ++ x ∷ []) (λ i. record { call = settled.call_is i; at = a.at; reply = sym settled.reply_is i });

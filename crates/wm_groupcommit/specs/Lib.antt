@@ -5,5 +5,7 @@ pub mod Counting
 pub mod CallQueues
 pub mod ReplyQueues
 pub mod LockedState
+pub mod Histories
+pub mod Receipts
 pub mod Submits
 pub mod Seats

@@ -39,7 +39,7 @@ abbrev pub base_of : Delivery → Option State
 base_of x = Some x.seen.value.base
 
 abbrev pub list_of : Delivery → List Call
-list_of x = x.seen.value.entries.items
+list_of x = x.seen.value.list
 
 abbrev pub FitsEnd : ℕ → Option State → List Call → ℕ → ReplyView → Type 0
 FitsEnd writer base list port v = (v.writes ≡ true → (port ≡ writer) × (v.base ≡ base) × (v.list ≡ list)) × IsLater v base list × RightFor v.base v.list v.got

@@ -11,12 +11,12 @@ use Rattle.wm_registry.specs.Roots.{State}
 use Rattle.wm_groupcommit.specs.declared.desk.Desk.{Desk}
 use Rattle.wm_groupcommit.specs.declared.desk.Flusher.{Flusher}
 use Rattle.wm_groupcommit.specs.declared.queued.Call.{Call}
-use Rattle.wm_groupcommit.specs.declared.receipt.Receipt.{Receipt}
 use Rattle.wm_groupcommit.specs.declared.seat.Seat.{Seat}
 use Rattle.wm_groupcommit.specs.Books.{answer, state_at}
 use Rattle.wm_groupcommit.specs.CallQueues.{call_view}
 use Rattle.wm_groupcommit.specs.ReplyQueues.{newcomer, IsLater}
-use Rattle.wm_groupcommit.specs.Submits.{Turned, shown, standing_for, mark_of}
+use Rattle.wm_groupcommit.specs.Receipts.{ReceiptState, shown, standing_for, mark_of}
+use Rattle.wm_groupcommit.specs.Submits.{Turned}
 
 module _ {D : Type 0} where
   -- the seat is one of this desk
@@ -63,8 +63,8 @@ pub record IsSameSeat (old new : Seat) : Type 0 where
   pub number : new.number ≡ old.number
   pub later : IsLater old.replies new.replies.base new.replies.list
 
--- The reply is the registry's after the first `at` commands of the list that the seat then knows, and the receipt tells so.
-pub record IsAnswered (old new : Seat) (command : Command) (reply : Reply) (receipt : Receipt) : Type 0 where
+-- The reply is the registry's after the first `at` commands of the list that the seat then knows, and the receipt tells so and is right for it.
+pub record IsAnswered (old new : Seat) (command : Command) (reply : Reply) (receipt : ReceiptState) : Type 0 where
   pub base : State
   pub at : ℕ
   pub found : new.replies.base ≡ Some base
@@ -73,6 +73,7 @@ pub record IsAnswered (old new : Seat) (command : Command) (reply : Reply) (rece
   pub stands : is_change reply ≡ true → slice_get (known_list new) at ≡ Some (call_from old command)
   pub standing : shown receipt ≡ standing_for reply at command
   pub call : (receipt.seat ≡ old.number) × (receipt.count ≡ old.calls + 1)
+  pub list : receipt.list ≡ known_list new
   pub seen : new.seen ≡ mark_of (shown receipt)
   pub calls : new.calls ≡ old.calls + 1
   pub taken : new.replies.got ≡ old.replies.got ++ answer (call_from old command) at reply ∷ []

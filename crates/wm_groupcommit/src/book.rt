@@ -1,18 +1,19 @@
-//! The book: the store beside the list of what it accepted.
+//! The book: the store, how many commands it accepted, and the list of these, which stands in proofs alone.
 //! Definitions: specs/BookState.antt, specs/Books.antt. Tests: file_tests/src/desk/rows.rt.
-ghost use Rattle.std.specs.Prelude.{◌≡◌, ◌⊎◌, ◌≤◌, ◌<◌, ◌+◌, [], ◌++◌, length, vec_capacity, vec_len, IfOk, IfErr, IfSome, OnErr, OnOk, true};
+ghost use Rattle.std.specs.Prelude.{◌≡◌, ◌⊎◌, ◌≤◌, ◌<◌, ◌+◌, [], ◌++◌, length, vec_capacity, IfOk, IfErr, IfSome, OnErr, OnOk, true};
 ghost use Rattle.wm_disk.specs.declared.refusal.Refusal.TheVariants.{DeviceFailed as device_failed, NoMemory as no_memory, StoreFailed as store_failed};
 ghost use Rattle.wm_registry.specs.Limits.{max_batch};
 ghost use Rattle.wm_store.specs.Batches.{IsCommitted};
 ghost use Rattle.wm_store.specs.Calls.{CallsStore};
-ghost use Rattle.wm_groupcommit.specs.Submits.{StandsInBook};
+ghost use Rattle.wm_groupcommit.specs.Receipts.{StandsInBook, accepted_command};
 ghost use Rattle.wm_groupcommit.specs.Books.{commands_of, AllRight, accepted_calls, kept_if, answers_from, all_refused, at_next};
 ghost use Rattle.wm_groupcommit.specs.Commits.{IsCommit};
+ghost use Rattle.wm_groupcommit.specs.ReplyQueues.{StartsWith};
 
 use crate::history::History;
 use crate::queued::{Answer, Call};
-use crate::receipt::{Receipt, Standing};
-use crate::same_commands::{called_again, copied, is_same};
+use crate::receipt::Receipt;
+use crate::same_commands::copied;
 use std::alloc::Global;
 use std::marker::Model;
 use std::snapshot::Snapshot;
@@ -20,16 +21,17 @@ use wm_disk::{Disk, NoMemory, Refusal};
 use wm_registry::{Command, Registry, Reply};
 use wm_store::Store;
 
-/// The store, the registry that the desk found, and the commands accepted since, each with its seat and
-/// that seat's count of calls.
+/// The store, and how many commands were accepted at the desk. Clauses see these commands, each with its seat and
+/// that seat's count of calls, and the registry that the desk found.
 #[derive(Drop)]
 pub struct Book<D: Disk + Drop> {
     store: Store<D>,
+    accepted: u64,
     history: History,
 }
 
 impl<D: Disk + Drop> Model for Book<D> {
-    ghost use Rattle.std.specs.Prelude.{◌≡◌};
+    ghost use Rattle.std.specs.Prelude.{◌≡◌, length};
     ghost use Rattle.wm_checkpoint.specs.Machines.{replay_on};
     ghost use Rattle.wm_registry.specs.MachineLaws.{watches};
     ghost use Rattle.wm_groupcommit.specs.BookState.{BookState};
@@ -37,30 +39,27 @@ impl<D: Disk + Drop> Model for Book<D> {
 
     ghost Value = { BookState D };
 
-    ghost view = { λ b. record { base = b.history.base; list = b.history.entries.items; store = b.store } };
+    ghost view = { λ b. record { base = b.history.base; list = b.history.list; store = b.store } };
 
-    ghost invariant = { λ b. b.store.registry ≡ replay_on watches b.history.base (commands_of b.history.entries.items) };
+    ghost invariant = { λ b. (b.store.registry ≡ replay_on watches b.history.base (commands_of b.history.list)) × (b.accepted ≡ length b.history.list) };
 }
 
 impl<D: Disk + Drop> Book<D> {
-    /// The book of a store that has accepted nothing at the desk yet. `NoMemory` hands the store back.
-    pub fn open(alloc: Global, store: Store<D>) -> Result<Book<D>, (Refusal, Store<D>)>
-        ensures ok { IfOk result (λ b. (b.base ≡ store.registry) × (b.list ≡ []) × (b.store ≡ store)) }
-        ensures err { IfErr result (λ e. (e.0 ≡ no_memory) × (e.1 ≡ store)) }
+    /// The book of a store that has accepted nothing at the desk yet.
+    pub fn open(store: Store<D>) -> Book<D>
+        ensures { (result.base ≡ store.registry) × (result.list ≡ []) × (result.store ≡ store) }
     {
-        let Ok(base) = store.registry().copy(alloc) else {
-            return Err((Refusal::NoMemory, store));
-        };
-        let history = History {
-            base,
-            entries: Vec::new(alloc),
-        };
-        Ok(Book { store, history })
+        let history = History::of(store.registry());
+        Book {
+            store,
+            accepted: 0,
+            history,
+        }
     }
 
     /// The book as it is.
     pub fn seen(&self) -> Snapshot<History>
-        ensures { (result.value.base ≡ self.now.base) × (result.value.entries.items ≡ self.now.list) }
+        ensures { (result.value.base ≡ self.now.base) × (result.value.list ≡ self.now.list) }
     {
         Snapshot::of(&self.history)
     }
@@ -69,7 +68,7 @@ impl<D: Disk + Drop> Book<D> {
     pub fn accepted(&self) -> u64
         ensures { result ≡ length self.now.list }
     {
-        self.history.entries.len() as u64
+        self.accepted
     }
 
     /// The registry after all of the list, and how many commands the list has. `NoMemory`.
@@ -77,30 +76,18 @@ impl<D: Disk + Drop> Book<D> {
         ensures { IfOk result (λ r. (r.0 ≡ self.now.store.registry) × (r.1 ≡ length self.now.list)) }
     {
         let registry = self.store.registry().copy(alloc)?;
-        Ok((registry, self.accepted()))
+        Ok((registry, self.accepted))
     }
 
-    /// The receipt's command, where it stands at its number. `NoMemory` where its copy finds no room.
+    /// The receipt's command, which stands at its number in the list that the receipt is right for: the book's, as far
+    /// as that went, if the receipt is of this desk. None for one that changed nothing. `NoMemory` if the allocation
+    /// of the copy failed.
     pub fn find(&self, alloc: Global, receipt: &Receipt) -> Result<Option<Command>, NoMemory>
-        ensures { IfOk result (λ r. IfSome r (λ c. StandsInBook receipt.now self.now.list c)) }
+        ensures command { IfOk result (λ r. r ≡ accepted_command receipt.now.standing) }
+        ensures stands { IfOk result (λ r. IfSome r (λ c. StandsInBook receipt.now receipt.now.list c)) }
+        ensures book { StartsWith self.now.list receipt.now.list → IfOk result (λ r. IfSome r (λ c. StandsInBook receipt.now self.now.list c)) }
     {
-        let Standing::Stands { number, command } = &receipt.standing else {
-            return Ok(None);
-        };
-        if *number == 0 {
-            return Ok(None);
-        }
-        let Some(entry) = self.history.entries.get(*number as usize - 1) else {
-            return Ok(None);
-        };
-        if entry.seat != receipt.seat || entry.count != receipt.count {
-            return Ok(None);
-        }
-        if !is_same(&entry.command, command) {
-            return Ok(None);
-        }
-        let command = copied(alloc, command)?;
-        Ok(Some(command))
+        receipt.command(alloc)
     }
 
     /// Closes the store, and is refused as [`Store::close`] is.
@@ -116,7 +103,11 @@ impl<D: Disk + Drop> Book<D> {
     pub fn into_store(self) -> Store<D>
         ensures { result ≡ self.store }
     {
-        let Book { store, history: _ } = self;
+        let Book {
+            store,
+            accepted: _,
+            history: _,
+        } = self;
         store
     }
 
@@ -127,23 +118,18 @@ impl<D: Disk + Drop> Book<D> {
         ensures commits { IsCommit D.Disk self.old self.new calls.items answers.new.items }
         ensures right { AllRight self.new.base self.new.list answers.new.items }
     {
-        let at = self.history.entries.len() as u64;
+        let at = self.accepted;
+        if at.checked_add(calls.len() as u64).is_none() {
+            refuse_all(at, Refusal::NoMemory, calls, answers);
+            return;
+        }
         let Ok(commands) = commands_in(alloc, &calls) else {
             refuse_all(at, Refusal::NoMemory, calls, answers);
             return;
         };
-        let Ok(copies) = called_anew(alloc, &calls) else {
-            refuse_all(at, Refusal::NoMemory, calls, answers);
-            return;
-        };
-        if self.history.entries.reserve(calls.len()).is_err() {
-            refuse_all(at, Refusal::NoMemory, calls, answers);
-            return;
-        }
         match replies_of(&mut self.store, alloc, commands) {
             Ok(replies) => {
-                answer_all(at, calls, &replies, answers);
-                record_all(&mut self.history.entries, copies, &replies);
+                self.accepted = answer_all(&mut self.history, at, calls, &replies, answers);
             }
             Err(refusal) => refuse_all(at, refusal, calls, answers),
         }
@@ -177,18 +163,6 @@ fn commands_in(alloc: Global, calls: &Vec<Call>) -> Result<Vec<Command>, NoMemor
     Ok(commands)
 }
 
-/// The calls again.
-fn called_anew(alloc: Global, calls: &Vec<Call>) -> Result<Vec<Call>, NoMemory>
-    ensures { IfOk result (λ v. v.items ≡ calls.now.items) }
-{
-    let mut copies = Vec::with_capacity(alloc, calls.len())?;
-    for call in calls {
-        let copy = called_again(alloc, call)?;
-        copies.push(copy)?;
-    }
-    Ok(copies)
-}
-
 /// Answers each of the calls with the refusal.
 fn refuse_all(at: u64, refusal: Refusal, calls: Vec<Call>, answers: &mut Vec<Answer>)
     requires room { (answers.old.items ≡ []) × (length calls.items ≤ vec_capacity answers.old) }
@@ -203,21 +177,33 @@ fn refuse_all(at: u64, refusal: Refusal, calls: Vec<Call>, answers: &mut Vec<Ans
     }
 }
 
-/// Answers the calls, the first of them after `at` commands.
-fn answer_all(at: u64, calls: Vec<Call>, replies: &Vec<Reply>, answers: &mut Vec<Answer>)
+/// Answers the calls, the first of them after `at` commands, and records those that were accepted. Tells how many
+/// commands stand then.
+fn answer_all(
+    history: &mut History,
+    at: u64,
+    calls: Vec<Call>,
+    replies: &Vec<Reply>,
+    answers: &mut Vec<Answer>,
+) -> u64
     requires same { length replies.now.items ≡ length calls.items }
     requires small { at + length calls.items ≤ 18446744073709551615 }
     requires room { (answers.old.items ≡ []) × (length calls.items ≤ vec_capacity answers.old) }
-    ensures { answers.new.items ≡ answers_from at calls.items replies.now.items }
+    ensures answers { answers.new.items ≡ answers_from at calls.items replies.now.items }
+    ensures list { history.new.list ≡ history.old.list ++ accepted_calls calls.items replies.now.items }
+    ensures base { history.new.base ≡ history.old.base }
+    ensures count { result ≡ at + length (accepted_calls calls.items replies.now.items) }
 {
     let mut at = at;
     let mut next = 0;
     for call in calls {
         let reply = replies[next];
+        record(history, &call, reply);
         answers.push_reserved(Answer { call, at, reply });
         next += 1;
         at = next_at(at, reply);
     }
+    at
 }
 
 /// How many commands stand after one with this reply.
@@ -228,26 +214,12 @@ fn next_at(at: u64, reply: Reply) -> u64
     if reply.is_change() { at + 1 } else { at }
 }
 
-/// Appends those of the calls that were accepted.
-fn record_all(entries: &mut Vec<Call>, calls: Vec<Call>, replies: &Vec<Reply>)
-    requires same { length replies.now.items ≡ length calls.items }
-    requires space { length entries.old.items + length calls.items ≤ vec_capacity entries.old }
-    ensures { entries.new.items ≡ entries.old.items ++ accepted_calls calls.items replies.now.items }
-{
-    let mut next = 0;
-    for call in calls {
-        record(entries, call, replies[next]);
-        next += 1;
-    }
-}
-
-/// Appends the call, where it was accepted.
-fn record(entries: &mut Vec<Call>, call: Call, reply: Reply)
-    requires { length entries.old.items + 1 ≤ vec_capacity entries.old }
-    ensures list { entries.new.items ≡ entries.old.items ++ kept_if call reply }
-    ensures space { (vec_capacity entries.new ≡ vec_capacity entries.old) × (vec_len entries.new ≤ vec_len entries.old + 1) }
+/// Records the call if it was accepted.
+fn record(history: &mut History, call: &Call, reply: Reply)
+    ensures list { history.new.list ≡ history.old.list ++ kept_if call.now reply }
+    ensures base { history.new.base ≡ history.old.base }
 {
     if reply.is_change() {
-        entries.push_reserved(call);
+        history.push(call);
     }
 }

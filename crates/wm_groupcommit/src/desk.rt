@@ -49,7 +49,7 @@ impl<D: Disk + Drop> Desk<D> {
     pub fn new(alloc: Global, store: Store<D>) -> Result<Desk<D>, (Refusal, Store<D>)>
         ensures { IfErr result (λ e. (e.0 ≡ no_memory) × (e.1 ≡ store)) }
     {
-        let book = Book::open(alloc, store)?;
+        let book = Book::open(store);
         let Ok((queue, pass)) = CallQueue::with_rule(alloc) else {
             return Err((Refusal::NoMemory, book.into_store()));
         };
@@ -198,8 +198,9 @@ impl<D: Disk + Drop> Desk<D> {
         self.locked.lock(rt).accepted()
     }
 
-    /// The receipt's command, found at its number in the list; none for one that changed nothing. `NoMemory`
-    /// where its copy finds no room.
+    /// The receipt's command, which stands at its number in the list; none for one that changed nothing. The receipt
+    /// is one of this desk: of another one it tells where the command stands there. `NoMemory` if the allocation of
+    /// the copy failed; the desk stays as it is, and may be asked again.
     pub fn stands<R: Wait>(&self, rt: &R, receipt: &Receipt) -> Result<Option<Command>, NoMemory> {
         self.locked.lock(rt).find(self.alloc, receipt)
     }
@@ -229,7 +230,7 @@ fn receive<R: Wait>(
     ensures err { IfErr result (λ e. (seen.new ≡ seen.old) × Turned replies.old replies.new seen.old call e) }
 {
     let delivery = wait_for(rt, replies, is_alone);
-    settle(seen, call, delivery.answer())
+    settle(seen, replies, call, delivery.answer())
 }
 
 /// Waits for an answer.

@@ -6,8 +6,8 @@ ghost use Rattle.wm_store.specs.Calls.{CallsStore};
 ghost use Rattle.wm_groupcommit.specs.Books.{Right, AllRight};
 ghost use Rattle.wm_groupcommit.specs.Commits.{IsCommit};
 ghost use Rattle.wm_groupcommit.specs.Counting.{newer_of, kept_newer, counts_after, counts_with};
-ghost use Rattle.wm_groupcommit.specs.Submits.{StandsInBook};
-ghost use Rattle.wm_groupcommit.specs.ReplyQueues.{reply_view, newcomer};
+ghost use Rattle.wm_groupcommit.specs.Receipts.{StandsInBook, accepted_command};
+ghost use Rattle.wm_groupcommit.specs.ReplyQueues.{reply_view, newcomer, StartsWith};
 ghost use Rattle.wm_registry.specs.Limits.{max_batch};
 ghost use Rattle.wm_groupcommit.specs.LockedState.{AllLater, seats};
 
@@ -121,9 +121,13 @@ impl<D: Disk + Drop> LockedDesk<D> {
         self.book.registry(alloc)
     }
 
-    /// The receipt's command, found at its number in the book. `NoMemory` where its copy finds no room.
+    /// The receipt's command, which stands at its number in the list that the receipt is right for: the book's, as far
+    /// as that went, if the receipt is of this desk. None for one that changed nothing. `NoMemory` if the allocation
+    /// of the copy failed.
     pub fn find(&self, alloc: Global, receipt: &Receipt) -> Result<Option<Command>, NoMemory>
-        ensures { IfOk result (λ r. IfSome r (λ c. StandsInBook receipt.now self.now.book.list c)) }
+        ensures command { IfOk result (λ r. r ≡ accepted_command receipt.now.standing) }
+        ensures stands { IfOk result (λ r. IfSome r (λ c. StandsInBook receipt.now receipt.now.list c)) }
+        ensures book { StartsWith self.now.book.list receipt.now.list → IfOk result (λ r. IfSome r (λ c. StandsInBook receipt.now self.now.book.list c)) }
     {
         self.book.find(alloc, receipt)
     }

@@ -35,18 +35,6 @@ pub fn copied(alloc: Global, command: &Command) -> Result<Command, NoMemory>
     }
 }
 
-/// The same call again. `NoMemory`.
-pub fn called_again(alloc: Global, call: &Call) -> Result<Call, NoMemory>
-    ensures { IfOk result (λ c. c ≡ call.now) }
-{
-    let command = copied(alloc, &call.command)?;
-    Ok(Call {
-        seat: call.seat,
-        count: call.count,
-        command,
-    })
-}
-
 fn same_stdin(one: Stdin, other: Stdin) -> bool
     ensures { MatchBool result (one ≡ other) (one ≢ other) }
 {
@@ -86,7 +74,7 @@ fn same_trigger(one: &Trigger, other: &Trigger) -> bool
 }
 
 /// Whether the two commands are one.
-pub fn is_same(one: &Command, other: &Command) -> bool
+fn is_same(one: &Command, other: &Command) -> bool
     ensures { MatchBool result (one.now ≡ other.now) (one.now ≢ other.now) }
 {
     match (one, other) {

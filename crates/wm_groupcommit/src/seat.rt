@@ -2,7 +2,10 @@
 //! Definitions: specs/Seats.antt, specs/Submits.antt. Tests: file_tests/src/desk.
 ghost use Rattle.std.specs.Prelude.{◌≡◌, ◌<◌, IfOk, IfErr};
 ghost use Rattle.wm_groupcommit.specs.Seats.{HasLearnt};
-ghost use Rattle.wm_groupcommit.specs.Submits.{Settled, Declined, mark_of, shown, standing_for};
+ghost use Rattle.wm_groupcommit.specs.Books.{Right};
+ghost use Rattle.wm_groupcommit.specs.Receipts.{mark_of, shown};
+ghost use Rattle.wm_groupcommit.specs.Submits.{Settled, Declined};
+ghost use Rattle.wm_registry.specs.Roots.{State};
 
 use crate::locked::{CallPass, ReplyReceiver};
 use crate::queued::{Answer, Call};
@@ -23,32 +26,6 @@ pub struct Seat {
     pub(crate) replies: ReplyReceiver,
 }
 
-/// The receipt for a reply after so many accepted commands.
-fn receipt_for(call: Call, at: u64, reply: Reply) -> Receipt
-    requires { at < 18446744073709551615 }
-    ensures standing { shown result ≡ standing_for reply at call.command }
-    ensures call { (result.seat ≡ call.seat) × (result.count ≡ call.count) }
-{
-    let Call {
-        seat,
-        count,
-        command,
-    } = call;
-    let standing = if reply.is_change() {
-        Standing::Stands {
-            number: at + 1,
-            command,
-        }
-    } else {
-        Standing::Unchanged { after: at }
-    };
-    Receipt {
-        standing,
-        seat,
-        count,
-    }
-}
-
 /// How many accepted commands the standing tells of.
 fn mark(standing: &Standing) -> u64
     ensures { result ≡ mark_of standing.now }
@@ -62,10 +39,12 @@ fn mark(standing: &Standing) -> u64
 /// What a seat that has seen or learnt of so many commands makes of an answer to its call.
 pub(crate) fn settle(
     seen: &mut u64,
+    replies: &ReplyReceiver,
     call: Call,
     answer: Answer,
 ) -> Result<(Reply, Receipt), Refusal>
-    ensures ok { IfOk result (λ r. Settled seen.old seen.new call answer r.0 r.1) }
+    requires right { (base : State) × Right base replies.now.list answer }
+    ensures ok { IfOk result (λ r. Settled seen.old seen.new replies.now.list call answer r.0 r.1) }
     ensures err { IfErr result (λ e. (seen.new ≡ seen.old) × Declined seen.old call answer e) }
 {
     let at = answer.at;
@@ -76,8 +55,8 @@ pub(crate) fn settle(
     if let Reply::Refused(refusal) = reply {
         return Err(refusal);
     }
-    let receipt = receipt_for(call, at, reply);
-    *seen = mark(&receipt.standing);
+    let receipt = Receipt::new(call, at, reply, replies);
+    *seen = mark(receipt.standing());
     Ok((reply, receipt))
 }
 
@@ -86,7 +65,7 @@ impl Seat {
     pub fn learn(&mut self, receipt: &Receipt)
         ensures { HasLearnt self.old self.new (mark_of (shown receipt.now)) }
     {
-        let mark = mark(&receipt.standing);
+        let mark = mark(receipt.standing());
         if mark > self.seen {
             self.seen = mark;
         }

@@ -1,5 +1,5 @@
-use Rattle.std.proofs.Common.{◌≡◌, ◌+◌, ◌≤◌, length, vec_capacity, vec_len}
-use Rattle.wm_groupcommit.specs.Books.{answers_from}
+use Rattle.std.proofs.Common.{◌≡◌, ◌+◌, ◌≤◌, ◌++◌, length, vec_capacity, vec_len}
+use Rattle.wm_groupcommit.specs.Books.{accepted_calls, answers_from}
 use Rattle.wm_groupcommit.proofs.Answering.{at_after}
 use Rattle.wm_groupcommit.proofs.book.answer_all.Given as goal
 
@@ -11,4 +11,7 @@ invariant-loop-call l = record {
   next : l.next ≡ length l.yielded;
   len : vec_len l.answers ≡ length l.yielded;
   room : vec_capacity l.answers ≡ vec_capacity l.initial.answers;
+  list : l.history.list ≡ l.initial.history.list ++ accepted_calls l.yielded l.replies.items;
+  base : l.history.base ≡ l.initial.history.base;
+  count : l.at ≡ l.fn.at + length (accepted_calls l.yielded l.replies.items);
 }

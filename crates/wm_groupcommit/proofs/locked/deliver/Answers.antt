@@ -17,6 +17,6 @@ returns-then-at-len g c =
     let list = c.args.book.now.list in
     let e = AllLater-get c.args.ends.now.items c.args.answer.call.seat v (Some base) list (omega (arith, c.if-at-len.true, c.len.ensures, c.args.ends.now.ok)) c.requires.later in
     let was = subst (λ u. IsLater u (Some base) list) (sym c.index_mut-end.ensures.value) e in
-    let is : IsLater (reply_view true (Some t.value.base) t.value.entries.items v.got) (Some base) list = (ap (λ b. Some b) (sym c.seen-seen.ensures.0), ([], sym c.seen-seen.ensures.1 ∙ sym (append-nil t.value.entries.items))) in
-    let now = ⊎_elim (λ (s : c.hand.new.self ≡ v). subst (λ u. IsLater u (Some base) list) (sym s) was) (λ (s : c.hand.new.self ≡ reply_view true (Some t.value.base) t.value.entries.items v.got). subst (λ u. IsLater u (Some base) list) (sym s) is) c.hand.ensures in
+    let is : IsLater (reply_view true (Some t.value.base) t.value.list v.got) (Some base) list = (ap (λ b. Some b) (sym c.seen-seen.ensures.0), ([], sym c.seen-seen.ensures.1 ∙ sym (append-nil t.value.list))) in
+    let now = ⊎_elim (λ (s : c.hand.new.self ≡ v). subst (λ u. IsLater u (Some base) list) (sym s) was) (λ (s : c.hand.new.self ≡ reply_view true (Some t.value.base) t.value.list v.got). subst (λ u. IsLater u (Some base) list) (sym s) is) c.hand.ensures in
     AllLater-set c.args.ends.now.items c.args.answer.call.seat c.hand.new.self (Some base) list now c.requires.later

@@ -1,4 +1,4 @@
-use Rattle.std.proofs.Common.{◌≡◌, ◌++◌, length, refl, sym, ap, ◌∙◌, subst, inl, inr, ⊎_elim, arith}
+use Rattle.std.proofs.Common.{◌≡◌, ◌++◌, length, refl, sym, ap, ◌∙◌, subst, inl, inr, ⊎_elim, arith, length-append, ◌+◌}
 use Rattle.wm_disk.specs.declared.refusal.Refusal.TheVariants.{NoMemory}
 use Rattle.wm_checkpoint.specs.Machines.{replay_on}
 use Rattle.wm_registry.specs.MachineLaws.{watches}
@@ -7,41 +7,22 @@ use Rattle.wm_groupcommit.specs.Books.{commands_of, accepted_calls, answers_from
 use Rattle.wm_groupcommit.proofs.Answering.{AllFair, all_fair, answers_right, state_after, refused_right, length-fair}
 use Rattle.wm_groupcommit.proofs.book.Book.commit.Goals as goal
 
+pub returns-then-is_none-clause-commits : goal.returns-then-is_none-clause-commits
+returns-then-is_none-clause-commits g c =
+    (refl, inr (NoMemory, refl, c.refuse_all.ensures ∙ ap (λ n. all_refused n NoMemory c.args.calls.items) (c.self.invariant.1 ∙ ap (λ b. length b.list) c.self.view_is), inr (inr (refl, refl))))
+
+pub returns-then-is_none-clause-right : goal.returns-then-is_none-clause-right
+returns-then-is_none-clause-right g c = rw c.refuse_all.ensures (refused_right _ _ _ _ _ (inr (inr (inr refl))))
+
 pub returns-in_default-clause-commits : goal.returns-in_default-clause-commits
 returns-in_default-clause-commits g c =
-    let at : c.len-at.result ≡ length c.self.inside.history.entries.items = omega (arith, c.len-at.ensures, c.self.inside.history.entries.ok) in
-    (refl, inr (NoMemory, refl, c.refuse_all.ensures ∙ ap (λ n. all_refused n NoMemory c.args.calls.items) (at ∙ ap (λ b. length b.list) c.self.view_is), inr (inr (refl, refl))))
+    (refl, inr (NoMemory, refl, c.refuse_all-in_default.ensures ∙ ap (λ n. all_refused n NoMemory c.args.calls.items) (c.self.invariant.1 ∙ ap (λ b. length b.list) c.self.view_is), inr (inr (refl, refl))))
 
 pub returns-in_default-clause-right : goal.returns-in_default-clause-right
-returns-in_default-clause-right g c = rw c.refuse_all.ensures (refused_right _ _ _ _ _ (inr (inr (inr refl))))
+returns-in_default-clause-right g c = rw c.refuse_all-in_default.ensures (refused_right _ _ _ _ _ (inr (inr (inr refl))))
 
-pub returns-in_default-called_anew-clause-commits : goal.returns-in_default-called_anew-clause-commits
-returns-in_default-called_anew-clause-commits g c =
-    let at : c.len-at.result ≡ length c.self.inside.history.entries.items = omega (arith, c.len-at.ensures, c.self.inside.history.entries.ok) in
-    (refl, inr (NoMemory, refl, c.refuse_all-in_default-called_anew.ensures ∙ ap (λ n. all_refused n NoMemory c.args.calls.items) (at ∙ ap (λ b. length b.list) c.self.view_is), inr (inr (refl, refl))))
-
-pub returns-in_default-called_anew-clause-right : goal.returns-in_default-called_anew-clause-right
-returns-in_default-called_anew-clause-right g c = rw c.refuse_all-in_default-called_anew.ensures (refused_right _ _ _ _ _ (inr (inr (inr refl))))
-
-pub returns-then-is_err-clause-commits : goal.returns-then-is_err-clause-commits
-returns-then-is_err-clause-commits g c =
-    let at : c.len-at.result ≡ length c.self.inside.history.entries.items = omega (arith, c.len-at.ensures, c.self.inside.history.entries.ok) in
-    let kept = c.reserve.ensures.items in
-    let b = c.self.inside in (
-      ap (λ s. s.base) c.self.view_is,
-      inr (
-        NoMemory,
-        kept ∙ ap (λ s. s.list) c.self.view_is,
-        c.refuse_all-then-is_err.ensures ∙ ap (λ n. all_refused n NoMemory c.args.calls.items) (at ∙ ap (λ s. length s.list) c.self.view_is),
-        inr (inr (refl, (λ i. record { base = b.history.base; list = kept i; store = b.store }) ∙ c.self.view_is)),
-      ),
-    )
-
-pub returns-then-is_err-clause-right : goal.returns-then-is_err-clause-right
-returns-then-is_err-clause-right g c = rw c.refuse_all-then-is_err.ensures (refused_right _ _ _ _ _ (inr (inr (inr refl))))
-
-pub answer_all-requires-clause-same : goal.answer_all-requires-clause-same
-answer_all-requires-clause-same g c =
+pub answer_all-self-inside-requires-clause-same : goal.answer_all-self-inside-requires-clause-same
+answer_all-self-inside-requires-clause-same g c =
     let rs = c.in-Ok-replies_of.replies.items in
     let s = c.self.inside.store.registry in
     let n = c.replies_of.new.store.number in
@@ -50,42 +31,35 @@ answer_all-requires-clause-same g c =
     let answered = subst (λ l. AreAnswered n room s l rs) c.in-Ok.ensures c.in-Ok-replies_of.ensures.committed.batch.answered in
     length-fair s cs rs (all_fair n room s (commands_of cs) rs answered)
 
-pub record_all-requires-clause-same : goal.record_all-requires-clause-same
-record_all-requires-clause-same g c =
-    let rs = c.in-Ok-replies_of.replies.items in
-    let s = c.self.inside.store.registry in
-    let n = c.replies_of.new.store.number in
-    let room = c.replies_of.new.store.room in
-    let cs = c.args.calls.items in
-    let answered = subst (λ l. AreAnswered n room s l rs) c.in-Ok.ensures c.in-Ok-replies_of.ensures.committed.batch.answered in
-    length-fair s cs rs (all_fair n room s (commands_of cs) rs answered) ∙ ap length (sym c.in-Ok-called_anew.ensures)
-
-pub invariant_of-self-in-Ok-replies_of : goal.invariant_of-self-in-Ok-replies_of
-invariant_of-self-in-Ok-replies_of g c =
+pub invariant_of-self : goal.invariant_of-self
+invariant_of-self g c =
     let base = c.self.inside.history.base in
-    let h = c.self.inside.history.entries.items in
+    let h = c.self.inside.history.list in
     let cs = c.args.calls.items in
     let rs = c.in-Ok-replies_of.replies.items in
     let s = c.self.inside.store.registry in
-    let list = c.record_all.ensures ∙ ap (λ l. l ++ accepted_calls c.in-Ok-called_anew.copies.items rs) c.reserve.ensures.items ∙ ap (λ k. h ++ accepted_calls k rs) c.in-Ok-called_anew.ensures in
-    c.in-Ok-replies_of.ensures.committed.registry ∙ ap (λ l. replay_on watches s (accepted_of l rs)) c.in-Ok.ensures ∙ ap (λ t. replay_on watches t (accepted_of (commands_of cs) rs)) c.self.invariant
-    ∙ state_after base h cs rs ∙ ap (λ l. replay_on watches base (commands_of l)) (sym list)
+    let told = c.answer_all-self-inside.ensures in
+    let new = c.answer_all-self-inside.new.history in
+    let registry = c.in-Ok-replies_of.ensures.committed.registry ∙ ap (λ l. replay_on watches s (accepted_of l rs)) c.in-Ok.ensures
+    ∙ ap (λ t. replay_on watches t (accepted_of (commands_of cs) rs)) c.self.invariant.0 ∙ state_after base h cs rs
+    ∙ ap (λ l. replay_on watches base (commands_of l)) (sym told.list) ∙ ap (λ b. replay_on watches b (commands_of new.list)) (sym told.base) in
+    let longer : length new.list ≡ length h + length (accepted_calls cs rs) = ap length told.list ∙ length-append h (accepted_calls cs rs) in
+    (registry, omega (arith, told.count, c.self.invariant.1, longer))
 
 pub returns-in-Ok-replies_of-clause-right : goal.returns-in-Ok-replies_of-clause-right
 returns-in-Ok-replies_of-clause-right g c =
     let base = c.self.inside.history.base in
-    let h = c.self.inside.history.entries.items in
+    let h = c.self.inside.history.list in
     let cs = c.args.calls.items in
     let rs = c.in-Ok-replies_of.replies.items in
     let s = c.self.inside.store.registry in
     let n = c.replies_of.new.store.number in
     let room = c.replies_of.new.store.room in
-    let at : c.len-at.result ≡ length h = omega (arith, c.len-at.ensures, c.self.inside.history.entries.ok) in
-    let list = c.record_all.ensures ∙ ap (λ l. l ++ accepted_calls c.in-Ok-called_anew.copies.items rs) c.reserve.ensures.items ∙ ap (λ k. h ++ accepted_calls k rs) c.in-Ok-called_anew.ensures in
-    let answers = c.answer_all.ensures ∙ ap (λ k. answers_from k cs rs) at in
+    let told = c.answer_all-self-inside.ensures in
+    let answers = told.answers ∙ ap (λ k. answers_from k cs rs) c.self.invariant.1 in
     let answered = subst (λ l. AreAnswered n room s l rs) c.in-Ok.ensures c.in-Ok-replies_of.ensures.committed.batch.answered in
-    let fair = subst (λ t. AllFair t (commands_of cs) rs) c.self.invariant (all_fair n room s (commands_of cs) rs answered) in
-    rw (list, answers) (answers_right base h cs rs fair)
+    let fair = subst (λ t. AllFair t (commands_of cs) rs) c.self.invariant.0 (all_fair n room s (commands_of cs) rs answered) in
+    rw (told.list, told.base, answers) (answers_right base h cs rs fair)
 
 pub returns-in-Err-clause-right : goal.returns-in-Err-clause-right
 returns-in-Err-clause-right g c = rw c.refuse_all-in-Err.ensures (refused_right _ _ _ _ _ (⊎_elim (λ d. inr (inl d)) (λ k. ⊎_elim (λ n. inr (inr (inr n))) (λ s. inl s) k) c.in-Err.ensures.kinds))
