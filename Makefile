@@ -17,7 +17,7 @@ PAGES := GUIDE.md QUERIES.md FORMATS.md PROMISES.md DEFINITIONS.md ARCHITECTURE.
 EXAMPLES := build.sh compile_trigger.sh follow.py test_runner.sh
 SOURCES := crates.txt $(shell find crates -name out -prune -o -type f \( -name '*.rt' -o -name '*.antt' \) -print)
 
-.PHONY: help clean uninstall test lint build run lines serve-use quick-use feed-use install bench bench-commands bench-crawl bench-view bench-share bench-match bench-peer bench-plots clients crawl-tree session examples examples-use dist dist-use kill faults growths fuzz hostile state-file file-calls
+.PHONY: help clean uninstall test lint build run lines serve-use quick-use feed-use install bench bench-commands bench-crawl bench-view bench-share bench-match bench-peer bench-plots clients crawl-tree session examples examples-use dist dist-use kill faults growths fuzz hostile desk-memory state-file file-calls
 
 help:
 	@echo "make test          the whole gate: each proof from nothing, edits that must be refused, tests, programs, and each growth of"
@@ -46,6 +46,7 @@ help:
 	@echo "make fuzz          random lines, state files and clients, each reply beside a model's in Python (python3; some two minutes;"
 	@echo "                   tools/fuzz/fuzz.py --minutes 60 for an hour, --seed for other ones)"
 	@echo "make hostile       the memory of a server beside 31 clients that ask for as much as they can (python3; some two minutes, 4 GB)"
+	@echo "make desk-memory   whether a server's memory stays the same however many commands it accepts (python3; some two minutes)"
 	@echo "make bench         a million lines beside Python's json (python3, GNU time)"
 	@echo "make bench-commands   commands through lines and from 1, 8 and 31 clients, beside SQLite (python3, cc)"
 	@echo "make bench-crawl, bench-view, bench-share, bench-match   a first crawl beside find; what is asked of many files; clients while"
@@ -172,6 +173,10 @@ fuzz: $(PROGRAM)
 # 31 clients that ask for as much as they can, and what memory a server takes beside them.
 hostile: $(PROGRAM)
 	tools/hostile_clients.py $(PROGRAM)
+
+# A trigger that is defined again and again, by one client and by four, and whether a server's memory stays the same.
+desk-memory: $(PROGRAM)
+	tools/desk_memory.py $(PROGRAM)
 
 # The built program over a state file that another has open, and where `format` fails or is killed.
 state-file: $(PROGRAM)
