@@ -5,6 +5,7 @@ use std::alloc::Global;
 use std::process::{Abort, Processes};
 use std::sync::atomic::{AtomicU64, Ordering};
 use std::sync::{Mutex, Wait};
+use std::thread::join;
 use std::{env, fs};
 use wm_disk::Refusal;
 use wm_registry::{Stdin, Trigger};
@@ -242,6 +243,36 @@ fn is_started<R: Wait>(
     );
     drop(folder);
     is_left(rt, "trigger_by_table") && refused.is_none()
+}
+
+/// Deletes `t`, and waits until its reply may be sent: whether it was then.
+fn delete<R: Wait>(rt: &R, table: &Mutex<TriggerTable>) -> bool {
+    table.lock(rt).remove("t");
+    for _ in 0..1_000_000 {
+        if table.lock(rt).may_reply() {
+            return true;
+        }
+    }
+    false
+}
+
+/// Begins the definition once and ends its start.
+fn begin_once<R: Wait>(rt: &R, table: &Mutex<TriggerTable>, one: DefinedTrigger) {
+    if table.lock(rt).begin(one) {
+        table.lock(rt).end();
+    }
+}
+
+#[test]
+fn threads_share_a_table(rt: HostRuntime) {
+    let defined = leaving(&rt, rt.alloc());
+    let one = defined.copy().expect(&rt, "memory");
+    let table = Mutex::new(table_of(&rt, rt.alloc(), &defined));
+    let shared = &table;
+    let (deleted, ()) = join(&rt, || delete(&rt, shared), || begin_once(&rt, shared, one));
+    check!(rt; deleted);
+    check!(rt; !table.lock(&rt).begin(defined));
+    drop(table);
 }
 
 #[test]

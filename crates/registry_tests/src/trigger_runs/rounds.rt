@@ -162,11 +162,21 @@ fn keep_by_chance(rt: &impl Abort, alloc: Global, all: &DefinedTriggers, runs: &
     drop(view);
 }
 
-// with `rt try --test --fail-alloc N` in its place it is the round that finds no memory
+/// Definitions of `t` and `u` for files of C, whose expressions take memory in each round.
+fn with_expressions(rt: &impl Abort, alloc: Global) -> DefinedTriggers {
+    let mut all = defined(rt, alloc, &[]);
+    for (name, number) in [("t", 1), ("u", 2)] {
+        let trigger = named_for(rt, alloc, name, "[\"suffix\",\"c\"]");
+        all.define(number, trigger).expect(rt, "memory");
+    }
+    all
+}
+
+// Memory is ample here. Where one growth after another is refused (tools/refuse_growth.c), some of them are the round's.
 #[test]
 fn a_round_without_memory_keeps_every_clock(rt: HostRuntime) {
     let alloc = rt.alloc();
-    let all = defined(&rt, alloc, &[("t", 1), ("u", 2)]);
+    let all = with_expressions(&rt, alloc);
     let mut runs = runs_of(&rt, alloc, &all);
     keep_by_chance(&rt, alloc, &all, &mut runs);
     drop(runs);
