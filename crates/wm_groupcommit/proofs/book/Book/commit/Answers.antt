@@ -1,4 +1,4 @@
-use Rattle.std.proofs.Common.{◌≡◌, ◌++◌, length, refl, sym, ap, ◌∙◌, subst, inl, inr, ⊎_elim, arith, length-append, ◌+◌}
+use Rattle.std.proofs.Common.{◌≡◌, length, refl, sym, ap, ◌∙◌, subst, inl, inr, ⊎_elim, arith, length-append, ◌+◌}
 use Rattle.wm_disk.specs.declared.refusal.Refusal.TheVariants.{NoMemory}
 use Rattle.wm_checkpoint.specs.Machines.{replay_on}
 use Rattle.wm_registry.specs.MachineLaws.{watches}
