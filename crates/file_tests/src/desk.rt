@@ -2,6 +2,7 @@
 //! promise stands in their contracts; here is that they succeed, and that the flusher answers what the seats submitted.
 mod desks;
 mod faults;
+mod receipts;
 mod rows;
 mod seats;
 mod sweeps;
