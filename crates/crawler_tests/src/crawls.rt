@@ -39,13 +39,14 @@ fn is_refused<R: Threads + Abort + Sync>(
     is_refused
 }
 
-/// Folders in folders, a link that leads to one, and a name that stands twice.
+/// Folders in folders, a link that leads to one with a folder in it, and a name that stands twice.
 const FOLDERS: &[Folder<'static>] = &[
     ("", "src|a.c|link|pipe|a.c", 0),
     ("src", "lib|b.c", 0),
     ("src/lib", "c.c|empty", 0),
     ("src/lib/empty", "gone", 0),
-    ("link", "never", 0),
+    ("link", "never|deep", 0),
+    ("link/deep", "nor", 0),
 ];
 
 const FILES: &[(&str, Kind)] = &[
@@ -58,6 +59,8 @@ const FILES: &[(&str, Kind)] = &[
     ("src/lib/c.c", Kind::File),
     ("src/lib/empty", Kind::Folder),
     ("link/never", Kind::File),
+    ("link/deep", Kind::Folder),
+    ("link/deep/nor", Kind::File),
 ];
 
 const LISTED: &[Row] = &[
@@ -74,7 +77,11 @@ const LISTED: &[Row] = &[
     ("src/lib", "f:src/lib/c.c d:src/lib/empty ", 0),
     ("src/lib/empty", "", 0),
     ("a.c", "", 0),
+    ("a.c/b", "", 0),
+    ("link", "", 0),
+    ("link/deep", "", 0),
     ("missing", "", 0),
+    ("missing/too", "", 0),
 ];
 
 /// Each number of workers that may be: up to `MAX_WORKERS`.
@@ -240,10 +247,12 @@ fn with_hidden_file(rt: &impl Abort, alloc: Global) -> MemTree {
     tree
 }
 
+/// Also where that stands above the part.
 #[test]
 fn is_refused_where_metadata_cannot_be_told(rt: HostRuntime) {
     let tree = with_hidden_file(&rt, rt.alloc());
-    assert_refused(&rt, rt.alloc(), &tree, &[1, 2], &[""]);
+    assert_refused(&rt, rt.alloc(), &tree, &[1, 2], &["", "b", "b/c"]);
+    assert_lists(&rt, rt.alloc(), &tree, &[1, 2], &[("a/c", "", 0)]);
     drop(tree);
 }
 

@@ -134,8 +134,8 @@ fn tells_sizes_and_times(rt: HostRuntime) {
 const ROOTS: &[(&str, &str)] = &[
     ("crawl_missing", ""),
     ("crawl_tops/d/f", ""),
-    ("crawl_link", "d:d f:d/f l:l "),
-    ("crawl_tops", "d:d f:d/f l:l "),
+    ("crawl_link", "d:d f:d/f l:l l:up "),
+    ("crawl_tops", "d:d f:d/f l:l l:up "),
 ];
 
 fn lists_below<R: Threads + Abort + Sync>(
@@ -155,6 +155,10 @@ const PARTS: &[(&str, usize)] = &[
     ("d", 1),
     ("d/f", 0),
     ("l", 0),
+    ("l/f", 0),
+    ("up", 0),
+    ("up/crawl_tops", 0),
+    ("up/crawl_tops/d", 0),
     ("missing", 0),
     ("missing/too", 0),
 ];
@@ -183,12 +187,12 @@ fn assert_counts_below<R: Threads + Abort + Sync>(rt: &HostRuntime, host: &R) {
 }
 
 /// A root that is missing, one that is a file, and one that a link leads to; parts that are missing, a
-/// file, and a link.
+/// file, a link, and behind a link that leads up to the root again.
 #[test]
 fn lists_nothing_below_what_is_no_folder(rt: HostRuntime) {
     const MADE: &str =
         "rm -rf crawl_tops crawl_link && mkdir -p crawl_tops/d && : > crawl_tops/d/f && \
-        ln -s d crawl_tops/l && ln -s crawl_tops crawl_link";
+        ln -s d crawl_tops/l && ln -s .. crawl_tops/up && ln -s crawl_tops crawl_link";
     check!(rt; sh(&rt, &rt, MADE));
     for (root, wanted) in ROOTS {
         check!(rt; lists_below(&rt, &rt, root, wanted), root);

@@ -7,7 +7,7 @@ use Rattle.wm_names.specs.declared.subtree.Subtree.{Subtree}
 use Rattle.wm_names.specs.declared.subtree.Subtree.TheVariants.{Whole, Below}
 use Rattle.wm_names.specs.Entries.{is_fit, join}
 use Rattle.wm_crawler.specs.Trees.{Content, Among, is_folder, SomeFails}
-use Rattle.wm_crawler.specs.Crawls.{FailsIn}
+use Rattle.wm_crawler.specs.Crawls.{FailsBelow}
 use Rattle.wm_crawler.specs.Levels.{path_of, with_meta, paths_in, folder_at, folders, next_level, levels, counted, unfit_of, unfit_levels, all_told, all_held, readable_levels, AreRead, AreTold, AreLevels, IsOneLevel, AllIn, AllFrom, AllAmong}
 use Rattle.wm_crawler.proofs.Elements.{made, mapped}
 use Rattle.wm_crawler.proofs.Steps.{both_true, counted_then, counted_twice, fitting}
@@ -39,13 +39,13 @@ top_in top old new names e s p a =
     let m = made (path_of top) p names (subst (Among p) (s ∙ ap (λ x. x ++ filter_map (path_of top) names) e) a) in
     (m.0, fitting top m.0 p (is_fit top m.0) m.2)
 
-pub fails_at_path : (may_fail : Subtree → Type 0) (top : Subtree) (paths asked : List Path) → asked ≡ paths → AllIn top paths → SomeFails may_fail (map Below asked) → FailsIn may_fail top
+pub fails_at_path : (may_fail : Subtree → Type 0) (top : Subtree) (paths asked : List Path) → asked ≡ paths → AllIn top paths → SomeFails may_fail (map Below asked) → FailsBelow may_fail top
 fails_at_path may_fail top paths asked e inside (place, a, m) =
     let (p, there, s) = mapped Below place asked a in
     let (rest, t) = inside p (subst (Among p) e there) in
     (place, inr (rest, s ∙ ap Below t), m)
 
-pub fails_at_folder : (may_fail : Subtree → Type 0) (top : Subtree) (paths asked : List Path) (found : List (Path × Meta)) (fs : List Subtree) → asked ≡ paths → fs ≡ folders found → AllIn top paths → AllAmong asked found → SomeFails may_fail fs → FailsIn may_fail top
+pub fails_at_folder : (may_fail : Subtree → Type 0) (top : Subtree) (paths asked : List Path) (found : List (Path × Meta)) (fs : List Subtree) → asked ≡ paths → fs ≡ folders found → AllIn top paths → AllAmong asked found → SomeFails may_fail fs → FailsBelow may_fail top
 fails_at_folder may_fail top paths asked found fs e g inside among (place, a, m) =
     let (rest, s) = folder_in top paths found place inside (subst (λ x. AllAmong x found) e among) (subst (Among place) g a) in
     (place, inr (rest, s), m)

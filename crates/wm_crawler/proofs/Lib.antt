@@ -4,6 +4,7 @@ mod Levels
 mod Readable
 mod Results
 mod Steps
+mod Tops
 mod Unfit
 mod Walks
 mod Whole

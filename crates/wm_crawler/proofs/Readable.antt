@@ -7,7 +7,7 @@ use Rattle.wm_names.specs.declared.subtree.Subtree.{Subtree}
 use Rattle.wm_names.specs.declared.subtree.Subtree.TheVariants.{Below}
 use Rattle.wm_names.specs.Entries.{join}
 use Rattle.wm_crawler.specs.Trees.{Content, Among, is_folder}
-use Rattle.wm_crawler.specs.Crawls.{HoldsName, IsFolder, IsWalk, IsBelow, IsEntered, IsReadable}
+use Rattle.wm_crawler.specs.Crawls.{HoldsName, IsFolder, IsWalk, IsBelow, IsEntered, AreReadable}
 use Rattle.wm_crawler.specs.Levels.{with_meta, paths_in, folders, next_level, all_told, all_held, readable_levels}
 use Rattle.wm_crawler.proofs.Walks.{Led, led, led_few, held_for, folder_for, next_for, found_meta}
 
@@ -64,7 +64,7 @@ module _ (c : Content) where
   folder_there : (top : Subtree) (q : Path) (m : Meta) → IsBelow c top q m → is_folder m ≡ true → IsFolder c q
   folder_there top q m w k = record { meta = m; there = found_meta c top q m w; kind = k }
 
-  pub readable : (top : Subtree) → is_some (c.held top) ≡ true → readable_levels c 1024 (paths_in c top) ≡ true → IsReadable c top
+  pub readable : (top : Subtree) → is_some (c.held top) ≡ true → readable_levels c 1024 (paths_in c top) ≡ true → AreReadable c top
   readable top h e folder entered = (held entered, λ name k. told entered name k)
     where
       held : IsEntered c top folder → is_some (c.held folder) ≡ true

@@ -17,7 +17,7 @@ use Rattle.wm_view.specs.Files.{Files, at}
 use Rattle.wm_view.specs.Listings.{Found}
 use Rattle.wm_view.specs.laws.PathSets.{same→≡}
 use Rattle.wm_crawler.specs.Trees.{Content, Among}
-use Rattle.wm_crawler.specs.Crawls.{IsWalk, IsBelow, IsCrawl}
+use Rattle.wm_crawler.specs.Crawls.{IsWalk, IsBelow, ListsBelow}
 use Rattle.wm_crawler.specs.Levels.{first_at, levels, or_else, paths_in}
 use Rattle.wm_crawler.proofs.Walks.{below_found, found_below, found_meta}
 
@@ -145,7 +145,7 @@ covered c (Below top) p m (names, w) = let r = under c top names p m w in ap (is
 
 -- ---- the listing is the crawl
 
-pub is_crawl : (c : Content) (top : Subtree) (raw sorted : List (Path × Meta)) (files : Files) → raw ≡ levels c 1024 (paths_in c top) → IsPermutation raw sorted → ((p : Path) → at files p ≡ cond (covers top p) (first_at p sorted) None) → IsCrawl c top files
+pub is_crawl : (c : Content) (top : Subtree) (raw sorted : List (Path × Meta)) (files : Files) → raw ≡ levels c 1024 (paths_in c top) → IsPermutation raw sorted → ((p : Path) → at files p ≡ cond (covers top p) (first_at p sorted) None) → ListsBelow c top files
 is_crawl c top raw sorted files e perm listed = (sound, complete)
   where
     below : (q : Path) (k : Meta) → Among (q, k) sorted → IsBelow c top q k

@@ -8,7 +8,7 @@ use Rattle.wm_names.specs.declared.entry.Meta.{Meta}
 use Rattle.wm_names.specs.declared.subtree.Subtree.{Subtree}
 use Rattle.wm_view.specs.Files.{Files, at}
 use Rattle.wm_crawler.specs.Trees.{Content}
-use Rattle.wm_crawler.specs.Crawls.{IsCrawl, IsReadable, faults_below}
+use Rattle.wm_crawler.specs.Crawls.{ListsBelow, AreReadable, faults_below}
 use Rattle.wm_crawler.specs.Levels.{counted, first_at, levels, paths_in, readable_levels, unfit_of, AreRead, AreLevels}
 use Rattle.wm_crawler.proofs.Readable.{readable}
 use Rattle.wm_crawler.proofs.Results.{is_crawl}
@@ -19,7 +19,7 @@ top_paths : (c : Content) (top : Subtree) (ps : List Path) → ps ≡ flat_map (
 top_paths c top ps e = e ∙ append-nil (paths_in c top)
 
 pub all_found : (c : Content) (top : Subtree) (ps : List Path) (above : ℕ) (raw sorted : List (Path × Meta)) (unfit : ℕ) (files : Files)
-    → AreRead c (top ∷ []) ps above → AreLevels c 1024 ps above raw unfit → IsPermutation raw sorted → ((p : Path) → at files p ≡ cond (covers top p) (first_at p sorted) None) → IsCrawl c top files
+    → AreRead c (top ∷ []) ps above → AreLevels c 1024 ps above raw unfit → IsPermutation raw sorted → ((p : Path) → at files p ≡ cond (covers top p) (first_at p sorted) None) → ListsBelow c top files
 all_found c top ps above raw sorted unfit files r l perm listed = is_crawl c top raw sorted files (l.found ∙ ap (levels c 1024) (top_paths c top ps r.found)) perm listed
 
 pub all_counted : (c : Content) (top : Subtree) (ps : List Path) (above : ℕ) (raw : List (Path × Meta)) (unfit : ℕ) → AreRead c (top ∷ []) ps above → AreLevels c 1024 ps above raw unfit → unfit ≡ faults_below c top
@@ -30,5 +30,5 @@ first_of : (b : Bool) → (b && true) ≡ true → b ≡ true
 first_of true e = refl
 first_of false e = absurd (true≢false (sym e))
 
-pub all_readable : (c : Content) (top : Subtree) (ps : List Path) (above : ℕ) (raw : List (Path × Meta)) (unfit : ℕ) → AreRead c (top ∷ []) ps above → AreLevels c 1024 ps above raw unfit → IsReadable c top
+pub all_readable : (c : Content) (top : Subtree) (ps : List Path) (above : ℕ) (raw : List (Path × Meta)) (unfit : ℕ) → AreRead c (top ∷ []) ps above → AreLevels c 1024 ps above raw unfit → AreReadable c top
 all_readable c top ps above raw unfit r l = readable c top (first_of (is_some (c.held top)) r.held) (ap (readable_levels c 1024) (sym (top_paths c top ps r.found)) ∙ l.read)

@@ -6,7 +6,6 @@ use Rattle.wm_names.specs.Entries.{is_fit, same_kind}
 use Rattle.wm_names.specs.declared.entry.Kind.TheVariants.{Folder}
 use Rattle.wm_names.specs.declared.entry.Meta.{Meta}
 use Rattle.wm_names.specs.declared.subtree.Subtree.{Subtree}
-use Rattle.wm_names.specs.declared.subtree.Subtree.TheVariants.{Below}
 
 -- what a folder holds: the names that are text, and how many names are not
 pub record Held : Type 0 where

@@ -149,7 +149,9 @@ fn write_paths(prefix: &str, texts: &mut [String], paths: &[RelPath]) -> Result<
 
 impl<F: Files + Drop> FolderTree<F> {
     /// The tree of the folder at a path. Nothing is read yet. A link that the root's path ends in is
-    /// followed, and so is one in the midst of a path that is asked for; one at its end never is.
+    /// followed, and so is one in the midst of a path that is asked for; one at its end never is. A crawl asks
+    /// about each component first, and goes on only over folders. It can't close the moment between that and
+    /// the reading, in which another program may put a link in a folder's place, since std looks up whole paths.
     pub fn new(files: F, root: RootPath) -> FolderTree<F>
         ensures { result ≡ root }
     {

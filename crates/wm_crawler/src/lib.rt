@@ -14,6 +14,7 @@ mod name;
 mod reading;
 mod roots;
 mod telling;
+mod top;
 mod tree;
 
 pub use crawling::{Crawled, MAX_WORKERS, crawl};

@@ -89,7 +89,7 @@ pub(crate) fn told_all<R: Threads + Sync, T: Tree + Sync>(
 }
 
 /// Whether this is a folder.
-fn is_folder(meta: &Meta) -> bool
+pub(crate) fn is_folder(meta: &Meta) -> bool
     ensures { result ≡ is_folder_lem meta.now }
 {
     meta.kind.same(Kind::Folder)

@@ -1,4 +1,4 @@
-use Rattle.std.proofs.Common.{subst, ◌≡◌}
+use Rattle.std.proofs.Common.{subst}
 use Rattle.wm_crawler.specs.Crawls.{IsCrawl, IsReadable}
 use Rattle.wm_crawler.proofs.roots.crawl_root.Goals as goal
 
