@@ -1,8 +1,12 @@
--- Readings of a root, and what was published since they began.
-use Rattle.std.specs.Prelude.{ℕ, Bool, false, Option, Some, None, nat_lt}
+-- Readings of a root, what is observed meanwhile, and what was published since they began.
+use Rattle.std.specs.Prelude.{◌≡◌, ◌⊎◌, ◌++◌, ◌∷◌, [], ℕ, Bool, false, List, Option, Some, None, nat_lt}
+use Rattle.wm_names.specs.Paths.{Path}
+use Rattle.wm_names.specs.declared.entry.Meta.{Meta}
 use Rattle.wm_clock.specs.declared.clock_id.ClockId.{ClockId}
+use Rattle.wm_view.specs.HistoryLaws.{last_told}
 use Rattle.wm_view.specs.declared.op.Op.{Op}
-use Rattle.wm_view.specs.declared.op.Op.TheVariants.{Recrawl}
+use Rattle.wm_view.specs.declared.op.Op.TheVariants.{Observe, Recrawl}
+use Rattle.wm_reading.specs.Overlays.{Noted, state_of}
 
 -- the tick of a clock; 0 where there is none, before the first whole listing
 abbrev pub tick_shown : Option ClockId → ℕ
@@ -13,3 +17,22 @@ tick_shown (Some clock) = clock.tick
 abbrev pub is_begun_before : ℕ → Op → Bool
 is_begun_before tick (Recrawl moment begun_at listing) = nat_lt begun_at tick
 is_begun_before tick _ = false
+
+-- the pairs of an observation; none of another operation
+abbrev pub pairs_in : Op → Option (List (Path × Option Meta))
+pairs_in (Observe moment pairs) = Some pairs
+pairs_in _ = None
+
+-- the pairs of an observation are noted in their order, unless one was left out; of another operation nothing is
+abbrev pub Notes : Option (List (Path × Option Meta)) → Noted → Noted → Type 0
+Notes None old new = new ≡ old
+Notes (Some pairs) old new = new.incomplete ≡ false → (old.incomplete ≡ false) × ((p : Path) (read : Option Meta) → state_of new p read ≡ last_told pairs p (state_of old p read))
+
+-- what is noted, if a reading is under way
+abbrev pub NotesIf : Option (List (Path × Option Meta)) → Option Noted → Option Noted → Type 0
+NotesIf pairs None new = new ≡ None
+NotesIf pairs (Some old) new = (noted : Noted) × (new ≡ Some noted) × Notes pairs old noted
+
+-- All that was handed in before, the age-out that was due, and the operation; without the age-out only if that was refused, and then it stays due.
+abbrev pub IsHandedIn : List Op → List Op → Option ℕ → Option ℕ → Op → List Op → Type 0
+IsHandedIn before due aged_before aged_after op after = (after ≡ before ++ (due ++ op ∷ [])) ⊎ ((after ≡ before ++ op ∷ []) × ((last : ℕ) → aged_before ≡ Some last → aged_after ≡ Some last))

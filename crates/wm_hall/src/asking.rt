@@ -5,7 +5,7 @@ ghost use Rattle.wm_expr.specs.Meanings.{holds};
 ghost use Rattle.wm_view.specs.Histories.{is_ready};
 ghost use Rattle.wm_since.specs.Answers.{answer_to, clock_of as clock_of_history, question};
 ghost use Rattle.wm_since.specs.Cursors.{cursor_at, has_room, moved_to};
-ghost use Rattle.wm_share.specs.PublishedLists.{Begins, history};
+ghost use Rattle.wm_share.specs.PublishedLists.{Begins, disconnected, history};
 ghost use Rattle.wm_lines.specs.Replies.{line_text, query_reply};
 
 use std::alloc::Global;
@@ -15,7 +15,7 @@ use wm_lines::{Expression, reply};
 use wm_share::{Naming, Viewer};
 use wm_since::{Cursors, Every, Fields, Query};
 
-/// Appends the answer to a question, and gives its clock. `NotReady` before the first whole listing, `NoPlace` where the root is
+/// Appends the answer to a question, and gives its clock. `NotReady` before the first whole listing, `NoPlace` if the root is
 /// gone, and `NoMemory`; nothing is appended then.
 pub fn tell<J: Naming>(
     alloc: Global,
@@ -24,11 +24,11 @@ pub fn tell<J: Naming>(
     fields: &Fields,
     out: &mut Vec<u8>,
 ) -> Result<ClockId, Refusal>
-    ensures seen { Begins viewer.old viewer.new }
-    ensures ready { IfOk result (λ _. is_ready (history viewer.new) ≡ true) }
-    ensures clock { IfOk result (λ clock. clock ≡ clock_of_history (history viewer.new)) }
-    ensures told { IfOk result (λ _. out.new.items ≡ out.old.items ++ line_text (query_reply fields.now (answer_to (holds query.now.test) (history viewer.new) (question query.now)))) }
-    ensures refused { IfErr result (λ e. (e ≡ Refusal.NoMemory) ⊎ (e ≡ Refusal.NoPlace) ⊎ ((e ≡ Refusal.NotReady) × (is_ready (history viewer.new) ≡ false))) }
+    ensures seen { Begins viewer.old.list viewer.new.list }
+    ensures ready { IfOk result (λ _. is_ready (history viewer.new.list) ≡ true) }
+    ensures clock { IfOk result (λ clock. clock ≡ clock_of_history (history viewer.new.list)) }
+    ensures told { IfOk result (λ _. out.new.items ≡ out.old.items ++ line_text (query_reply fields.now (answer_to (holds query.now.test) (history viewer.new.list) (question query.now)))) }
+    ensures refused { IfErr result (λ e. (e ≡ Refusal.NoMemory) ⊎ ((e ≡ Refusal.NoPlace) × (viewer.new ≡ disconnected viewer.old)) ⊎ ((e ≡ Refusal.NotReady) × (is_ready (history viewer.new.list) ≡ false))) }
     ensures err { OnErr result (out.new.items ≡ out.old.items) }
     ensures room { vec_capacity out.old ≤ vec_capacity out.new }
 {
@@ -48,11 +48,11 @@ pub fn tell_by<J: Naming>(
     fields: &Fields,
     out: &mut Vec<u8>,
 ) -> Result<(), Refusal>
-    ensures seen { Begins viewer.old viewer.new }
-    ensures told { IfOk result (λ _. out.new.items ≡ out.old.items ++ line_text (query_reply fields.now (answer_to (holds query.test) (history viewer.new) (record { since = cursor_at name cursors.old; empty_on_fresh = query.empty_on_fresh })))) }
-    ensures ready { IfOk result (λ _. is_ready (history viewer.new) ≡ true) }
-    ensures moved { IfOk result (λ _. cursors.new ≡ moved_to name (clock_of_history (history viewer.new)) cursors.old) }
-    ensures refused { IfErr result (λ e. (e ≡ Refusal.NoMemory) ⊎ (e ≡ Refusal.NoPlace) ⊎ ((e ≡ Refusal.NotReady) × (is_ready (history viewer.new) ≡ false)) ⊎ ((e ≡ Refusal.TooMany) × (is_ready (history viewer.new) ≡ true) × (has_room name cursors.old ≡ false))) }
+    ensures seen { Begins viewer.old.list viewer.new.list }
+    ensures told { IfOk result (λ _. out.new.items ≡ out.old.items ++ line_text (query_reply fields.now (answer_to (holds query.test) (history viewer.new.list) (record { since = cursor_at name cursors.old; empty_on_fresh = query.empty_on_fresh })))) }
+    ensures ready { IfOk result (λ _. is_ready (history viewer.new.list) ≡ true) }
+    ensures moved { IfOk result (λ _. cursors.new ≡ moved_to name (clock_of_history (history viewer.new.list)) cursors.old) }
+    ensures refused { IfErr result (λ e. (e ≡ Refusal.NoMemory) ⊎ ((e ≡ Refusal.NoPlace) × (viewer.new ≡ disconnected viewer.old)) ⊎ ((e ≡ Refusal.NotReady) × (is_ready (history viewer.new.list) ≡ false)) ⊎ ((e ≡ Refusal.TooMany) × (is_ready (history viewer.new.list) ≡ true) × (has_room name cursors.old ≡ false))) }
     ensures err { OnErr result ((out.new.items ≡ out.old.items) × (cursors.new ≡ cursors.old)) }
     ensures room { vec_capacity out.old ≤ vec_capacity out.new }
 {
@@ -77,10 +77,10 @@ fn tell_with_room<J: Naming>(
     fields: &Fields,
     out: &mut Vec<u8>,
 ) -> Result<ClockId, Refusal>
-    ensures seen { Begins viewer.old viewer.new }
-    ensures ok { IfOk result (λ clock. (is_ready (history viewer.new) ≡ true) × (has_room ≡ true) × (clock ≡ clock_of_history (history viewer.new))) }
-    ensures told { IfOk result (λ _. out.new.items ≡ out.old.items ++ line_text (query_reply fields.now (answer_to (holds query.now.test) (history viewer.new) (question query.now)))) }
-    ensures refused { IfErr result (λ e. (e ≡ Refusal.NoMemory) ⊎ (e ≡ Refusal.NoPlace) ⊎ ((e ≡ Refusal.NotReady) × (is_ready (history viewer.new) ≡ false)) ⊎ ((e ≡ Refusal.TooMany) × (is_ready (history viewer.new) ≡ true) × (has_room ≡ false))) }
+    ensures seen { Begins viewer.old.list viewer.new.list }
+    ensures ok { IfOk result (λ clock. (is_ready (history viewer.new.list) ≡ true) × (has_room ≡ true) × (clock ≡ clock_of_history (history viewer.new.list))) }
+    ensures told { IfOk result (λ _. out.new.items ≡ out.old.items ++ line_text (query_reply fields.now (answer_to (holds query.now.test) (history viewer.new.list) (question query.now)))) }
+    ensures refused { IfErr result (λ e. (e ≡ Refusal.NoMemory) ⊎ ((e ≡ Refusal.NoPlace) × (viewer.new ≡ disconnected viewer.old)) ⊎ ((e ≡ Refusal.NotReady) × (is_ready (history viewer.new.list) ≡ false)) ⊎ ((e ≡ Refusal.TooMany) × (is_ready (history viewer.new.list) ≡ true) × (has_room ≡ false))) }
     ensures err { OnErr result (out.new.items ≡ out.old.items) }
     ensures room { vec_capacity out.old ≤ vec_capacity out.new }
 {
@@ -93,15 +93,15 @@ fn tell_with_room<J: Naming>(
 }
 
 /// Where the root stands, as the viewer sees it. It costs what changed since a clock that it was told before. `NotReady` before the
-/// first whole listing, `NoPlace` where the root is gone, and `NoMemory`.
+/// first whole listing, `NoPlace` if the root is gone, and `NoMemory`.
 pub fn clock<J: Naming>(
     alloc: Global,
     viewer: &mut Viewer<J>,
     told: Option<ClockId>,
 ) -> Result<ClockId, Refusal>
-    ensures seen { Begins viewer.old viewer.new }
-    ensures clock { IfOk result (λ clock. (is_ready (history viewer.new) ≡ true) × (clock ≡ clock_of_history (history viewer.new))) }
-    ensures refused { IfErr result (λ e. (e ≡ Refusal.NoMemory) ⊎ (e ≡ Refusal.NoPlace) ⊎ ((e ≡ Refusal.NotReady) × (is_ready (history viewer.new) ≡ false))) }
+    ensures seen { Begins viewer.old.list viewer.new.list }
+    ensures clock { IfOk result (λ clock. (is_ready (history viewer.new.list) ≡ true) × (clock ≡ clock_of_history (history viewer.new.list))) }
+    ensures refused { IfErr result (λ e. (e ≡ Refusal.NoMemory) ⊎ ((e ≡ Refusal.NoPlace) × (viewer.new ≡ disconnected viewer.old)) ⊎ ((e ≡ Refusal.NotReady) × (is_ready (history viewer.new.list) ≡ false))) }
 {
     let query = Query {
         since: told,

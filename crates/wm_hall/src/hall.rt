@@ -3,17 +3,20 @@
 ghost use Rattle.std.specs.Prelude.{◌≡◌, IfErr};
 
 use crate::asking::{clock, tell, tell_by};
-use crate::keeping::{Forgetting, Left, operate, pay, progress_of, tick_of};
+use crate::keeping::{Forgetting, Left, pay, progress_of, tick_of};
+use crate::reading::{Begun, Reading, operate_noted, take_in};
 use crate::work::Work;
 use std::alloc::Global;
-use std::sync::{Mutex, Wait};
+use std::sync::{Condvar, Mutex, Wait};
 use wm_clock::{ClockId, ClockSpec, CursorName};
 use wm_disk::{NoMemory, Refusal};
 use wm_lines::{Expression, Inquiry, Progress};
 use wm_names::RootPath;
+use wm_reading::Observed;
 use wm_registry::Trigger;
 use wm_share::{Naming, Pool, RootKeeper, Shown, Told, Viewer};
 use wm_since::{Cursors, Fields, Query};
+use wm_triggers::{DefinedTrigger, DefinedTriggers, TriggerTable};
 use wm_view::Op;
 
 /// One watched root.
@@ -22,10 +25,16 @@ pub struct RootHall<J: Naming, K: Wait + Drop> {
     pub path: RootPath,
     pub number: u64,
     pub work: Work,
-    triggers: Mutex<Vec<Trigger>>,
+    triggers: Mutex<TriggerTable>,
+    /// The start of a trigger is over.
+    started: Condvar,
+    /// The sessions that have a subscription on the root, a bit for each connection slot.
+    subscribers: Mutex<u64>,
     keeper: Mutex<RootKeeper<J, Shown<J>, K>>,
     /// It is taken under the keeper's lock alone.
     left: Mutex<Left>,
+    /// What was observed since the reading that is under way began. It is taken under the keeper's lock alone.
+    reading: Mutex<Option<Observed>>,
     pool: Mutex<Pool<J>>,
     /// What was published last.
     told: Mutex<Option<Told<J>>>,
@@ -42,49 +51,156 @@ impl<J: Naming, K: Wait + Drop> RootHall<J, K> {
         keeper: RootKeeper<J, Shown<J>, K>,
         pool: Pool<J>,
     ) -> Result<RootHall<J, K>, NoMemory> {
-        let (path, work, cursors) = fittings(alloc, path)?;
+        let (path, work, cursors, triggers) = fittings(alloc, path)?;
         Ok(RootHall {
             path,
             number,
             work,
-            triggers: Mutex::new(Vec::new(alloc)),
+            triggers: Mutex::new(triggers),
+            started: Condvar::new(),
+            subscribers: Mutex::new(0),
             keeper: Mutex::new(keeper),
             left: Mutex::new(Left::new()),
+            reading: Mutex::new(None),
             pool: Mutex::new(pool),
             told: Mutex::new(None),
             cursors: Mutex::new(cursors),
         })
     }
 
-    /// Keeps the triggers as they are now. Without memory the old ones stay.
-    pub fn keep_triggers<R: Wait>(
+    /// Defines a trigger by the command of a number: in place of the one of its name, or behind the others. The root's triggers
+    /// are looked at then. `NoMemory` only if the root has as many triggers as it may have.
+    pub fn define<R: Wait>(&self, rt: &R, number: u64, trigger: Trigger) -> Result<(), NoMemory> {
+        let defined = self.triggers.lock(rt).define(number, trigger);
+        self.work.stir(rt);
+        defined
+    }
+
+    /// Takes out the trigger of a name, if there is one.
+    pub fn delete<R: Wait>(&self, rt: &R, name: &str) {
+        self.triggers.lock(rt).remove(name);
+    }
+
+    /// The root isn't watched any longer, or the server closes: no trigger is started from now on, and its workers end.
+    pub fn end<R: Wait>(&self, rt: &R) {
+        self.triggers.lock(rt).end_root();
+        self.work.end(rt);
+    }
+
+    /// Waits until no start is under way of a trigger that was deleted or replaced, or whose root has ended. No such trigger is
+    /// started after that.
+    pub fn await_starts<R: Wait>(&self, rt: &R) {
+        let waited = self
+            .started
+            .wait_while(rt, self.triggers.lock(rt), |table| !table.may_reply());
+        drop(waited);
+    }
+
+    /// The triggers as they are defined now. `NoMemory`.
+    pub fn defined<R: Wait>(&self, rt: &R, alloc: Global) -> Result<DefinedTriggers, NoMemory> {
+        self.triggers.lock(rt).defined().copy(alloc)
+    }
+
+    /// Whether a trigger may be started now: this definition stands, and the root is watched. Its start is under way then until
+    /// [`Self::end_start`].
+    pub fn begin_start<R: Wait>(&self, rt: &R, one: DefinedTrigger) -> bool {
+        self.triggers.lock(rt).begin(one)
+    }
+
+    /// The start that was under way is over.
+    pub fn end_start<R: Wait>(&self, rt: &R) {
+        self.triggers.lock(rt).end();
+        self.started.notify_all();
+    }
+
+    /// The session of a connection slot has a subscription on the root, or none any longer. Slots are numbered below 64.
+    pub fn subscribe<R: Wait>(&self, rt: &R, slot: u64, has_any: bool) {
+        let mut subscribers = self.subscribers.lock(rt);
+        *subscribers = with_slot(*subscribers, slot, has_any);
+    }
+
+    /// The slots whose sessions have a subscription on the root, a bit for each.
+    pub fn subscribers<R: Wait>(&self, rt: &R) -> u64 {
+        *self.subscribers.lock(rt)
+    }
+
+    /// Begins a reading of the root, or of a part of it: what is observed from now on is noted until the reading is handed in or given
+    /// up. One reading is under way at a time; an earlier one that wasn't handed in is given up.
+    pub fn begin_reading<R: Wait>(&self, rt: &R, alloc: Global) -> Begun {
+        let keeper = self.keeper.lock(rt);
+        *self.reading.lock(rt) = Some(Observed::new(alloc));
+        let tick = self.tick(rt);
+        drop(keeper);
+        Begun { tick }
+    }
+
+    /// Gives up the reading that is under way.
+    pub fn give_up_reading<R: Wait>(&self, rt: &R) {
+        let keeper = self.keeper.lock(rt);
+        *self.reading.lock(rt) = None;
+        drop(keeper);
+    }
+
+    /// Hands in what a reading found, publishes it, and tells where the view stands then. Of each path that was observed since the
+    /// reading began, the view gets what was observed last. `BadClock` if the reading has to be done again; and as [`Self::operate`].
+    pub fn take_in<R: Wait>(
         &self,
         rt: &R,
         alloc: Global,
-        triggers: &[Trigger],
-    ) -> Result<(), NoMemory> {
-        let copies = copied(alloc, triggers)?;
-        *self.triggers.lock(rt) = copies;
-        Ok(())
-    }
-
-    /// The triggers as they are. `NoMemory`.
-    pub fn triggers<R: Wait>(&self, rt: &R, alloc: Global) -> Result<Vec<Trigger>, NoMemory> {
-        copied(alloc, &self.triggers.lock(rt))
+        forgetting: Forgetting,
+        moment: u64,
+        found: Reading,
+    ) -> Result<Progress, Refusal> {
+        let mut keeper = self.keeper.lock(rt);
+        let mut left = self.left.lock(rt);
+        let mut reading = self.reading.lock(rt);
+        let paid = self.pay(rt, &mut keeper, &mut left);
+        let told = match paid {
+            Ok(()) => take_in(
+                alloc,
+                &mut keeper,
+                &mut left,
+                &mut reading,
+                forgetting,
+                moment,
+                found,
+            ),
+            Err(refusal) => {
+                drop(found);
+                Err(refusal)
+            }
+        };
+        let met = self.keep_progress(rt, told);
+        drop(reading);
+        drop(left);
+        drop(keeper);
+        self.work.stir(rt);
+        met
     }
 
     /// Performs an operation, whose moment is in seconds, publishes it, and tells where the view stands then. What the view
     /// refuses, `Exhausted`, and `NoMemory`, after which it may still be published before the next one; a reading that began
-    /// before that is refused `NoMemory` too, since what was observed before it would overtake it.
+    /// before that is refused `BadClock`, since what was observed before it would overtake it.
     pub fn operate<R: Wait>(
         &self,
         rt: &R,
+        alloc: Global,
         forgetting: Forgetting,
         op: Op,
     ) -> Result<Progress, Refusal> {
         let mut keeper = self.keeper.lock(rt);
         let mut left = self.left.lock(rt);
-        let met = self.perform(rt, &mut keeper, &mut left, forgetting, op);
+        let mut reading = self.reading.lock(rt);
+        let paid = self.pay(rt, &mut keeper, &mut left);
+        let told = match paid {
+            Ok(()) => operate_noted(alloc, &mut keeper, &mut left, &mut reading, forgetting, op),
+            Err(refusal) => {
+                drop(op);
+                Err(refusal)
+            }
+        };
+        let met = self.keep_progress(rt, told);
+        drop(reading);
         drop(left);
         drop(keeper);
         // also of what was owed, where the operation is refused
@@ -92,19 +208,26 @@ impl<J: Naming, K: Wait + Drop> RootHall<J, K> {
         met
     }
 
-    /// Publishes what is owed, and then the operation, under the keeper's lock.
-    fn perform<R: Wait>(
+    /// Publishes what is owed, under the keeper's lock.
+    fn pay<R: Wait>(
         &self,
         rt: &R,
         keeper: &mut RootKeeper<J, Shown<J>, K>,
         left: &mut Left,
-        forgetting: Forgetting,
-        op: Op,
-    ) -> Result<Progress, Refusal> {
+    ) -> Result<(), Refusal> {
         if let Some(told) = pay(keeper, left)? {
             self.keep_told(rt, told);
         }
-        let told = operate(keeper, left, forgetting, op)?;
+        Ok(())
+    }
+
+    /// Keeps what was published, and tells where the view stands then.
+    fn keep_progress<R: Wait>(
+        &self,
+        rt: &R,
+        told: Result<Told<J>, Refusal>,
+    ) -> Result<Progress, Refusal> {
+        let told = told?;
         let met = progress_of(&told);
         self.keep_told(rt, told);
         met
@@ -223,12 +346,25 @@ fn inquire_of<J: Naming>(
     Ok(())
 }
 
-/// What a new hall has beside its keeper and its viewers: its path, the crawl that is asked for, and no cursor.
-fn fittings(alloc: Global, path: &RootPath) -> Result<(RootPath, Work, Cursors), NoMemory> {
+/// What a new hall has beside its keeper and its viewers: its path, the crawl that is asked for, no cursor and no trigger.
+fn fittings(
+    alloc: Global,
+    path: &RootPath,
+) -> Result<(RootPath, Work, Cursors, TriggerTable), NoMemory> {
     let path = path.copy(alloc)?;
     let work = Work::new(alloc)?;
     let cursors = Cursors::new(alloc)?;
-    Ok((path, work, cursors))
+    let triggers = TriggerTable::new(alloc)?;
+    Ok((path, work, cursors, triggers))
+}
+
+/// The bits with that of a slot set or cleared; a slot past the last bit has none.
+fn with_slot(bits: u64, slot: u64, is_set: bool) -> u64 {
+    if slot >= 64 {
+        return bits;
+    }
+    let bit = 1u64 << slot;
+    if is_set { bits | bit } else { bits & !bit }
 }
 
 /// The clock by which is asked, where it is one of this instance.
@@ -237,12 +373,4 @@ fn clock_of(since: &Option<ClockSpec>) -> Option<ClockId> {
         Some(ClockSpec::Clock(clock)) => Some(*clock),
         Some(ClockSpec::Cursor(_)) | Some(ClockSpec::Another) | None => None,
     }
-}
-
-fn copied(alloc: Global, triggers: &[Trigger]) -> Result<Vec<Trigger>, NoMemory> {
-    let mut copies = Vec::new(alloc);
-    for trigger in triggers {
-        copies.push(trigger.copy()?)?;
-    }
-    Ok(copies)
 }

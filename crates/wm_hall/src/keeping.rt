@@ -2,7 +2,7 @@
 //! Definitions: specs/Readings.antt, specs/Forgetting.antt; `with_operations` and `outcome` of wm_share. Tests: serve_tests/src/halls.rt and sessions.rt; without memory tools/growths.py.
 ghost use Rattle.std.specs.Prelude.{◌≡◌, ◌≢◌, ℕ, ◌⊎◌, ◌++◌, ◌∷◌, [], true, false, cond, is_some, Some, None, IfOk, IfErr, IsErrOf, MatchResult};
 ghost use Rattle.wm_hall.specs.Forgetting.{HasForgotten, MayWait, due_age_out, moment_of as moment_of_lem};
-ghost use Rattle.wm_hall.specs.Readings.{is_begun_before, tick_shown};
+ghost use Rattle.wm_hall.specs.Readings.{IsHandedIn, is_begun_before, tick_shown};
 ghost use Rattle.wm_share.specs.Operations.{MayRefuse, handed_in};
 ghost use Rattle.wm_share.specs.PublishedLists.{PublishedList, clock_shown, history, outcome, with_operations};
 
@@ -70,11 +70,7 @@ fn publish<J: Naming, T: Listed<J> + Drop, R: Wait + Drop>(
     ensures refused { IfErr result (MayRefuse keeper.new) }
     ensures full { IsErrOf result Refusal.Exhausted → keeper.new.pending ≡ keeper.old.pending }
 {
-    match op {
-        Op::Observe(moment, pairs) => keeper.observe(moment, pairs)?,
-        Op::Recrawl(moment, begun_at, listing) => keeper.recrawl(moment, begun_at, listing)?,
-        Op::AgeOut(time, age) => keeper.age_out(time, age)?,
-    }
+    keeper.append(op)?;
     keeper.publish()
 }
 
@@ -127,7 +123,7 @@ pub(crate) fn pay<J: Naming, T: Listed<J> + Drop, R: Wait + Drop>(
     Ok(Some(told))
 }
 
-/// Publishes an operation, and notes where it is owed.
+/// Publishes an operation with all that waited, and notes whether something waits then.
 fn perform<J: Naming, T: Listed<J> + Drop, R: Wait + Drop>(
     keeper: &mut RootKeeper<J, T, R>,
     left: &mut Left,
@@ -136,14 +132,13 @@ fn perform<J: Naming, T: Listed<J> + Drop, R: Wait + Drop>(
     ensures told { IfOk result (λ told. told ≡ with_operations keeper.old.published (keeper.old.pending ++ op ∷ [])) }
     ensures published { MatchResult result (λ told. (keeper.new.published ≡ told) × (keeper.new.pending ≡ [])) (λ _. keeper.new.published ≡ keeper.old.published) }
     ensures waits { IfErr result (λ _. (keeper.new.pending ≡ keeper.old.pending) ⊎ (keeper.new.pending ≡ keeper.old.pending ++ op ∷ [])) }
-    ensures owed { MatchResult result (λ _. left.new ≡ left.old) (λ _. (left.new.owes ≡ true) × (left.new.paid_at ≡ left.old.paid_at) × (left.new.aged_at ≡ left.old.aged_at)) }
+    ensures owed { MatchResult result (λ _. left.new.owes ≡ false) (λ _. left.new.owes ≡ true) }
+    ensures left { (left.new.paid_at ≡ left.old.paid_at) × (left.new.aged_at ≡ left.old.aged_at) }
     ensures refused { IfErr result (MayRefuse keeper.new) }
     ensures full { IsErrOf result Refusal.Exhausted → keeper.new.pending ≡ keeper.old.pending }
 {
     let done = publish(keeper, op);
-    if done.is_err() {
-        left.owes = true;
-    }
+    left.owes = done.is_err();
     done
 }
 
@@ -155,7 +150,7 @@ fn age_out<J: Naming, T: Listed<J> + Drop, R: Wait + Drop>(
     moment: u64,
     forgetting: Forgetting,
 )
-    ensures forgotten { (handed_in keeper.new ≡ handed_in keeper.old ++ due_age_out left.old.aged_at forgetting moment) ⊎ ((handed_in keeper.new ≡ handed_in keeper.old) × (left.new.owes ≡ true)) }
+    ensures forgotten { (handed_in keeper.new ≡ handed_in keeper.old ++ due_age_out left.old.aged_at forgetting moment) ⊎ ((handed_in keeper.new ≡ handed_in keeper.old) × (left.new.aged_at ≡ left.old.aged_at)) }
     ensures share { keeper.new.published.share ≡ keeper.old.published.share }
     ensures paid { left.new.paid_at ≡ left.old.paid_at }
     ensures aged { (left.new.aged_at ≡ left.old.aged_at) ⊎ ((left.new.aged_at ≡ Some moment) × HasForgotten (due_age_out left.old.aged_at forgetting moment) (handed_in keeper.old) (handed_in keeper.new)) }
@@ -187,31 +182,30 @@ fn moment_of(op: &Op) -> u64
 }
 
 /// Publishes an operation with what still waited, and before it what is to be forgotten. A view that became ready counts its interval
-/// from then. `NoMemory` too where a reading began before what was owed was published: it has to be done again.
+/// from then. `BadClock` for a reading that began before what was owed was published: it has to be done again.
 pub(crate) fn operate<J: Naming, T: Listed<J> + Drop, R: Wait + Drop>(
     keeper: &mut RootKeeper<J, T, R>,
     left: &mut Left,
     forgetting: Forgetting,
     op: Op,
 ) -> Result<Told<J>, Refusal>
-    ensures overtaken { is_begun_before left.old.paid_at op ≡ true → IsErrOf result Refusal.NoMemory × (left.new ≡ left.old) × (keeper.new ≡ keeper.old) }
+    ensures overtaken { is_begun_before left.old.paid_at op ≡ true → IsErrOf result Refusal.BadClock × (left.new ≡ left.old) × (keeper.new ≡ keeper.old) }
     ensures shown { IfOk result (λ told. (keeper.new.published ≡ told) × (keeper.new.pending ≡ [])) }
-    ensures whole { IfOk result (λ told. (told.operations ≡ handed_in keeper.old ++ (due_age_out left.old.aged_at forgetting (moment_of_lem op) ++ op ∷ []))
-        ⊎ ((told.operations ≡ handed_in keeper.old ++ op ∷ []) × (left.new.owes ≡ true))) }
+    ensures whole { IfOk result (λ told. IsHandedIn (handed_in keeper.old) (due_age_out left.old.aged_at forgetting (moment_of_lem op)) left.old.aged_at left.new.aged_at op told.operations) }
     ensures begins { IfOk result (λ told. left.old.aged_at ≡ None → left.new.aged_at ≡ cond (is_some (clock_shown (history told))) (Some (moment_of_lem op)) None) }
     ensures aged { (last : ℕ) → left.old.aged_at ≡ Some last → (left.new.aged_at ≡ Some last)
         ⊎ ((left.new.aged_at ≡ Some (moment_of_lem op)) × HasForgotten (due_age_out left.old.aged_at forgetting (moment_of_lem op)) (handed_in keeper.old) (handed_in keeper.new)) }
     ensures unready { left.old.aged_at ≡ None → IfErr result (λ _. left.new.aged_at ≡ None) }
     ensures paid { left.new.paid_at ≡ left.old.paid_at }
-    ensures owes { IfOk result (λ _. due_age_out left.old.aged_at forgetting (moment_of_lem op) ≡ [] → left.new.owes ≡ left.old.owes) }
+    ensures owes { IfOk result (λ _. left.new.owes ≡ false) }
     ensures owed { is_begun_before left.old.paid_at op ≡ false → IfErr result (λ _. left.new.owes ≡ true) }
     ensures waits { IfErr result (λ _. MayWait (due_age_out left.old.aged_at forgetting (moment_of_lem op)) op (handed_in keeper.old) (handed_in keeper.new)) }
     ensures share { keeper.new.published.share ≡ keeper.old.published.share }
-    ensures refused { IfErr result (MayRefuse keeper.new) }
+    ensures refused { IfErr result (λ e. MayRefuse keeper.new e ⊎ ((e ≡ Refusal.BadClock) × (is_begun_before left.old.paid_at op ≡ true))) }
     ensures full { IsErrOf result Refusal.Exhausted → (handed_in keeper.new ≡ handed_in keeper.old) ⊎ (handed_in keeper.new ≡ handed_in keeper.old ++ due_age_out left.old.aged_at forgetting (moment_of_lem op)) }
 {
     if left.overtakes(&op) {
-        return Err(Refusal::NoMemory);
+        return Err(Refusal::BadClock);
     }
     let moment = moment_of(&op);
     age_out(keeper, left, moment, forgetting);

@@ -9,11 +9,13 @@
 mod asking;
 mod hall;
 mod keeping;
+mod reading;
 mod viewers;
 mod work;
 
 pub use asking::{clock, tell, tell_by};
 pub use hall::RootHall;
 pub use keeping::Forgetting;
+pub use reading::{Begun, Reading};
 pub use viewers::Viewers;
 pub use work::Work;

@@ -29,7 +29,7 @@ impl<J: Naming> Viewers<J> {
         rt: &R,
         hall: &RootHall<J, K>,
     ) -> Result<&mut Viewer<J>, Refusal>
-        ensures own { IfOk result (λ viewer. viewer.now.share.root ≡ hall.now.number) }
+        ensures own { IfOk result (λ viewer. viewer.now.list.share.root ≡ hall.now.number) }
         ensures refused { IfErr result (λ e. (e ≡ Refusal.NoMemory) ⊎ (e ≡ Refusal.NoPlace)) }
     {
         if self.place(hall.number).is_none() {
@@ -59,6 +59,14 @@ impl<J: Naming> Viewers<J> {
             && place < self.all.len()
         {
             self.all.swap_remove(place);
+        }
+    }
+
+    /// The number of the root that the viewer at a place is of.
+    pub fn root_at(&self, place: usize) -> Option<u64> {
+        match self.all.get(place) {
+            Some(viewer) => Some(viewer.share().root),
+            None => None,
         }
     }
 

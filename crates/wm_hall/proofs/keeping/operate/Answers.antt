@@ -13,18 +13,18 @@ anyhow : {T E : Type 0} (r : Result T E) (Q : Type 0) → Q → IfErr r (λ _. Q
 anyhow (Ok t) Q q = tt
 anyhow (Err e) Q q = q
 
--- what an age-out hands in: itself where it is due, or nothing, and then it is owed
-abbrev Forgotten : List Op → List Op → List Op → Bool → Type 0
-Forgotten before due after owes = (after ≡ before ++ due) ⊎ ((after ≡ before) × (owes ≡ true))
+-- what an age-out hands in: itself if it is due, or nothing, and then it is still due
+abbrev Forgotten : List Op → List Op → List Op → Option ℕ → Option ℕ → Type 0
+Forgotten before due after old aged = (after ≡ before ++ due) ⊎ ((after ≡ before) × (aged ≡ old))
 
 one_more : (before due mid : List Op) (op : Op) → mid ≡ before ++ due → mid ++ op ∷ [] ≡ before ++ (due ++ op ∷ [])
 one_more before due mid op h = ap (λ (list : List Op). list ++ op ∷ []) h ∙ append_assoc before due (op ∷ [])
 
 -- the operation stands behind what was handed in before it
-behind : (before due mid all : List Op) (op : Op) (owes owed : Bool) → owes ≡ owed → all ≡ mid ++ op ∷ [] → Forgotten before due mid owed
-    → (all ≡ before ++ (due ++ op ∷ [])) ⊎ ((all ≡ before ++ op ∷ []) × (owes ≡ true))
-behind before due mid all op owes owed same is (inl h) = inl (is ∙ one_more before due mid op h)
-behind before due mid all op owes owed same is (inr (h, e)) = inr (is ∙ ap (λ (list : List Op). list ++ op ∷ []) h, same ∙ e)
+behind : (before due mid all : List Op) (op : Op) (old aged new : Option ℕ) → ((n : ℕ) → aged ≡ Some n → new ≡ Some n) → all ≡ mid ++ op ∷ [] → Forgotten before due mid old aged
+    → (all ≡ before ++ (due ++ op ∷ [])) ⊎ ((all ≡ before ++ op ∷ []) × ((last : ℕ) → old ≡ Some last → new ≡ Some last))
+behind before due mid all op old aged new stays is (inl h) = inl (is ∙ one_more before due mid op h)
+behind before due mid all op old aged new stays is (inr (h, e)) = inr (is ∙ ap (λ (list : List Op). list ++ op ∷ []) h, λ last was. stays last (e ∙ was))
 
 -- what was handed in where the operation is refused
 handed_after : (op : Op) (mid after : Operations) → after.published ≡ mid.published → (after.pending ≡ mid.pending) ⊎ (after.pending ≡ mid.pending ++ op ∷ [])
@@ -37,11 +37,11 @@ handed_whole : (op : Op) (mid after : Operations) (told : PublishedList) → aft
 handed_whole op mid after told shown none is = ap₂ (λ (list : PublishedList) (ops : List Op). list.operations ++ ops) shown none ∙ append-nil told.operations ∙ is
 
 -- what waits where the operation is refused
-waiting : (before due mid after : List Op) (op : Op) (owes : Bool) → Forgotten before due mid owes → (after ≡ mid) ⊎ (after ≡ mid ++ op ∷ []) → MayWait due op before after
-waiting before due mid after op owes (inl h) (inl is) = inr (inl (is ∙ h))
-waiting before due mid after op owes (inr (h, e)) (inl is) = inl (is ∙ h)
-waiting before due mid after op owes (inl h) (inr is) = inr (inr (inr (is ∙ one_more before due mid op h)))
-waiting before due mid after op owes (inr (h, e)) (inr is) = inr (inr (inl (is ∙ ap (λ (list : List Op). list ++ op ∷ []) h)))
+waiting : (before due mid after : List Op) (op : Op) (old aged : Option ℕ) → Forgotten before due mid old aged → (after ≡ mid) ⊎ (after ≡ mid ++ op ∷ []) → MayWait due op before after
+waiting before due mid after op old aged (inl h) (inl is) = inr (inl (is ∙ h))
+waiting before due mid after op old aged (inr (h, e)) (inl is) = inl (is ∙ h)
+waiting before due mid after op old aged (inl h) (inr is) = inr (inr (inr (is ∙ one_more before due mid op h)))
+waiting before due mid after op old aged (inr (h, e)) (inr is) = inr (inr (inl (is ∙ ap (λ (list : List Op). list ++ op ∷ []) h)))
 
 -- what was forgotten stays so behind the operation
 forgotten_after : (due before mid after : List Op) (op : Op) → HasForgotten due before mid → (after ≡ mid) ⊎ (after ≡ mid ++ op ∷ []) → HasForgotten due before after
@@ -62,8 +62,8 @@ returns-in_err-told-clause-waits g c =
     let due = λ (n : ℕ). due_age_out c.args.left.now.aged_at c.args.forgetting n in
     let before = handed_in c.args.keeper.now in
     let mid = c.age_out.new.keeper in
-    anyhow _ _ (waiting before _ (handed_in mid) _ c.args.op c.age_out.new.left.owes
-    (subst (λ n. Forgotten before (due n) (handed_in mid) c.age_out.new.left.owes) c.moment_of-moment.ensures c.age_out.ensures.forgotten)
+    anyhow _ _ (waiting before _ (handed_in mid) _ c.args.op c.args.left.now.aged_at c.age_out.new.left.aged_at
+    (subst (λ n. Forgotten before (due n) (handed_in mid) c.args.left.now.aged_at c.age_out.new.left.aged_at) c.moment_of-moment.ensures c.age_out.ensures.forgotten)
     (handed_after c.args.op mid c.perform.new.keeper (search rules) (search rules)))
 
 pub returns-in_err-told-clause-aged : goal.returns-in_err-told-clause-aged
@@ -94,7 +94,7 @@ returns-clause-whole g c =
     let before = handed_in c.args.keeper.now in
     let mid = c.age_out.new.keeper in
     let told = c.in_ok-told.told in
-    behind before _ (handed_in mid) told.operations c.args.op _ c.age_out.new.left.owes
-    (elim c.if-is_none.branch [ then-is_none+then-is_some w ↦ search rules | else-is_none w ↦ search rules ])
+    behind before _ (handed_in mid) told.operations c.args.op c.args.left.now.aged_at c.age_out.new.left.aged_at _
+    (λ n h. elim c.if-is_none.branch [ then-is_none+then-is_some w ↦ search rules | else-is_none w ↦ search rules ])
     (ap (λ (list : PublishedList). list.operations) c.in_ok-told.ensures.told ∙ sym (append_assoc mid.published.operations mid.pending (c.args.op ∷ [])))
-    (subst (λ n. Forgotten before (due n) (handed_in mid) c.age_out.new.left.owes) c.moment_of-moment.ensures c.age_out.ensures.forgotten)
+    (subst (λ n. Forgotten before (due n) (handed_in mid) c.args.left.now.aged_at c.age_out.new.left.aged_at) c.moment_of-moment.ensures c.age_out.ensures.forgotten)
