@@ -27,20 +27,21 @@ use Rattle.logbook.proofs.tokens.Seen.TheSendSync as SeenSent
 use Rattle.logbook.specs.Kept.{pens_own}
 use Rattle.logbook.specs.contracts.tokens.Pens
 use Rattle.wm_expr.proofs.expr.Expr.TheLaws.TheKnot as Expressions
-use Rattle.wm_hall.proofs.hall.RootHall.TheSendSync as HallSent
 use Rattle.wm_hall.proofs.viewers.Viewers.TheSendSync as ViewersSent
-use Rattle.wm_hall.specs.contracts.hall.RootHall
 use Rattle.wm_hall.specs.contracts.viewers.Viewers
-use Rattle.wm_lines.specs.contracts.expression.Expression
 use Rattle.wm_share.specs.contracts.shares.Shares
 use Rattle.wm_share.specs.contracts.shares.Shares.TheInside as SharesInside
 use Rattle.wm_share.specs.declared.book.Naming as Naming
-use Rattle.wm_subs.specs.contracts.subscriptions.Subscriptions
 use Rattle.wm_serve.specs.contracts.chair.Chair
+use Rattle.wm_serve.specs.contracts.following.Following
+use Rattle.wm_serve.specs.contracts.root_table.RootTable
 use Rattle.wm_serve.specs.contracts.shared.Missing
 use Rattle.wm_serve.specs.contracts.shared.Shared
+use Rattle.wm_serve.specs.contracts.subscribed_roots.SubscribedRoots
 use Rattle.wm_serve.proofs.bell.Bell.TheSendSync as BellSent
 use Rattle.wm_serve.proofs.door.Door.TheSendSync as DoorSent
+use Rattle.wm_serve.proofs.following.Following.TheSendSync as FollowingSent
+use Rattle.wm_serve.proofs.root_table.RootTable.TheSendSync as TableSent
 use Rattle.wm_hall.proofs.keeping.Forgetting.TheSendSync as ForgettingSent
 
 -- ---- what makes the roots' views
@@ -64,23 +65,21 @@ shares_sync J g = MutexSent.the_sync (Shares.the_row J g) (shares_send J g)
 
 -- ---- the roots
 
-halls_sync : (J K : RattleType) (g : Naming.Ghosts J.Denot) → IsSend K → IsSync (Mutex.the_row (Vec.the_row (Arc.the_row (RootHall.the_row J K g) Global.the_row GlobalImpl.ghosts) Global.the_row GlobalImpl.ghosts))
-halls_sync J K g k =
-    MutexSent.the_sync (Vec.the_row (Arc.the_row (RootHall.the_row J K g) Global.the_row GlobalImpl.ghosts) Global.the_row GlobalImpl.ghosts)
-    (VecSent.the_send (Arc.the_row (RootHall.the_row J K g) Global.the_row GlobalImpl.ghosts) Global.the_row GlobalImpl.ghosts
-    (ArcSent.the_send (RootHall.the_row J K g) Global.the_row GlobalImpl.ghosts (HallSent.the_send J K g k) GlobalSent.the_send (HallSent.the_sync J K g k) GlobalSent.the_sync FreesSent.the_frees)
-    GlobalSent.the_send
-    FreesSent.the_frees)
+roots_sync : (J K : RattleType) (g : Naming.Ghosts J.Denot) → IsSend K → IsSync (Mutex.the_row (RootTable.the_row J K g))
+roots_sync J K g k = MutexSent.the_sync (RootTable.the_row J K g) (TableSent.the_send J K g k)
 
 missing_sync : IsSync (Mutex.the_row Missing.the_row)
 missing_sync = search (crosses, Expressions.crosses, sendable) depth 60 fits 20000
 
 -- ---- the sessions
 
+number_sync : IsSync Builtin.u64
+number_sync = search (crosses, sendable) depth 60 fits 20000
+
 page_sync : IsSync (Mutex.the_row (Vec.the_row Builtin.u8 Global.the_row GlobalImpl.ghosts))
 page_sync = search (crosses, sendable) depth 60 fits 20000
 
-subscriptions_sync : IsSync (Mutex.the_row (Subscriptions.the_row Expression.the_row))
+subscriptions_sync : IsSync (Mutex.the_row SubscribedRoots.the_row)
 subscriptions_sync = search (crosses, Expressions.crosses, sendable) depth 60 fits 20000
 
 stream_sync : IsSync (Mutex.the_row (Option.the_row (Arc.the_row UnixStream.the_row Global.the_row GlobalImpl.ghosts)))
@@ -90,16 +89,13 @@ chair_sync : (J : RattleType) (g : Naming.Ghosts J.Denot) → IsSync (Chair.the_
 chair_sync J g =
     declared_sync (Chair.the_type J g) (
       page_sync,
-      (subscriptions_sync, (MutexSent.the_sync (Viewers.the_row J g) (ViewersSent.the_send J g), (BellSent.the_sync, (CountSent.the_sync, (stream_sync, tt))))),
+      (subscriptions_sync, (MutexSent.the_sync (Viewers.the_row J g) (ViewersSent.the_send J g), (BellSent.the_sync, (number_sync, (stream_sync, tt))))),
     )
 
 chairs_sync : (J : RattleType) (g : Naming.Ghosts J.Denot) → IsSync (Vec.the_row (Chair.the_row J g) Global.the_row GlobalImpl.ghosts)
 chairs_sync J g = search (chair_sync J g, crosses, sendable) depth 60 fits 20000
 
 -- ---- all of it
-
-count_send : IsSend Builtin.u64
-count_send = search sendable
 
 pub shared_sync : (T J K : RattleType) (g : Naming.Ghosts J.Denot) → IsSync T → IsSend K → IsSync K → IsSync (Shared.the_row T J K g)
 shared_sync T J K g desk k k' =
@@ -110,8 +106,11 @@ shared_sync T J K g desk k k' =
         (
           shares_sync J g,
           (
-            halls_sync J K g k,
-            (MutexSent.the_sync Builtin.u64 count_send, (missing_sync, (CondvarSent.the_sync, (chairs_sync J g, (DoorSent.the_sync, (CountSent.the_sync, (ForgettingSent.the_sync, tt))))))),
+            roots_sync J K g k,
+            (
+              MutexSent.the_sync Following.the_row FollowingSent.the_send,
+              (CondvarSent.the_sync, (missing_sync, (CondvarSent.the_sync, (chairs_sync J g, (DoorSent.the_sync, (CountSent.the_sync, (ForgettingSent.the_sync, tt))))))),
+            ),
           ),
         ),
       ),

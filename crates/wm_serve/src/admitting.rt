@@ -12,16 +12,25 @@ use std::thread::Threads;
 use std::time::{Clock, Duration};
 use wm_crawler::{Folders, Turnstile};
 use wm_disk::Refusal;
+use wm_server::run::NO_MEMORY;
 use wm_triggers::Programs;
 
 const TOO_MANY: &str = "{\"error\":\"17 TooMany\",\"version\":\"w1\"}\n";
 
-/// Lets a session in, or tells it that no place is left: whether it was let in.
+/// The line by which a session is told why it isn't let in.
+fn turned_away(refusal: Refusal) -> &'static str {
+    match refusal {
+        Refusal::TooMany => TOO_MANY,
+        _ => NO_MEMORY,
+    }
+}
+
+/// Lets a session in, or tells it why not: whether it was let in.
 fn admit_one<R: Wait, H: House>(rt: &R, house: &H, stream: UnixStream) -> bool {
     match house.enter(rt, stream) {
         Ok(()) => true,
-        Err(stream) => {
-            let _told = (&stream).write_all(TOO_MANY.as_bytes());
+        Err((refusal, stream)) => {
+            let _told = (&stream).write_all(turned_away(refusal).as_bytes());
             false
         }
     }

@@ -1,6 +1,7 @@
 //! A session: its lines and its replies.
 //! Tests: serve_tests/src/sessions.rt.
 use crate::chair::Chair;
+use crate::ended_roots::leave_roots;
 use crate::meeting::meet;
 use crate::place::Place;
 use crate::registrar::Registrar;
@@ -48,12 +49,13 @@ fn send_alone<R: Wait, J: Naming>(
 /// Waits for the end of a crawl. The session's viewer learns of it.
 fn crawl<R: Wait, T: Registrar, J: Naming, K: Wait + Copy + Drop>(
     rt: &R,
+    alloc: Global,
     shared: &Shared<T, J, K>,
     chair: &Chair<J>,
     root: &RootPath,
     subtree: Subtree,
 ) -> Result<Progress, Refusal> {
-    let hall = shared.hall(rt, root)?;
+    let hall = shared.hall(rt, alloc, root)?;
     let ended = hall.work.crawl(rt, subtree);
     chair.viewers.lock(rt).learn(rt, &hall);
     drop(hall);
@@ -71,7 +73,7 @@ fn recrawl<R: Wait, T: Registrar, J: Naming, K: Wait + Copy + Drop>(
 ) -> Result<Vec<u8>, NoMemory> {
     let mut out = Vec::new(alloc);
     out.try_reserve(PROGRESS_ROOM.max(REFUSAL_ROOM))?;
-    match crawl(rt, shared, chair, root, subtree) {
+    match crawl(rt, alloc, shared, chair, root, subtree) {
         Ok(progress) => put_clock(progress.clock, &mut out),
         Err(refusal) => put_refusal(refusal, &mut out),
     }
@@ -245,6 +247,7 @@ fn attend<R: Wait + Clock, T: Registrar, J: Naming, K: Wait + Copy + Drop>(
     let _ended = serve_lines(rt, alloc, shared, chair, place, &stream);
     let _ = stream.shutdown(Shutdown::Both);
     drop(stream);
+    leave_roots(rt, shared, chair);
     chair.seat(rt, alloc, None);
     for viewer in chair.take_viewers(rt, alloc).into_vec() {
         give_back(rt, shared, viewer);

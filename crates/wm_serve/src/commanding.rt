@@ -6,71 +6,74 @@ use crate::shared::Shared;
 use std::alloc::Global;
 use std::sync::Wait;
 use wm_disk::Refusal;
+use wm_groupcommit::Standing;
 use wm_lines::reply::lines_to;
-use wm_names::RootPath;
 use wm_registry::{Command, Reply};
 use wm_share::Naming;
 
-/// What has to be there before a command is submitted: its root, and each line that it may be answered with.
+/// Each line that a command may be answered with.
 #[derive(Drop)]
-struct Prepared {
-    root: RootPath,
+struct Lines {
     changed: Vec<u8>,
     replaced: Vec<u8>,
     unchanged: Vec<u8>,
 }
 
-/// The root that a command is about; none for a `Begin`, which no line asks for.
-fn root_of(command: &Command) -> Option<&RootPath> {
-    match command {
-        Command::Watch(path) => Some(path),
-        Command::WatchDel(path) => Some(path),
-        Command::Trigger(path, _) => Some(path),
-        Command::TriggerDel(path, _) => Some(path),
-        Command::Begin => None,
-    }
-}
-
-/// Makes what a command needs, and room for the longest of its lines. `NoMemory` for a `Begin`, too.
-fn prepare(alloc: Global, command: &Command, out: &mut Vec<u8>) -> Result<Prepared, Refusal> {
-    let Some(root) = root_of(command) else {
-        return Err(Refusal::NoMemory);
-    };
+/// Makes each line that a command may be answered with, and room for the longest. `NoMemory`.
+fn prepare(alloc: Global, command: &Command, out: &mut Vec<u8>) -> Result<Lines, Refusal> {
     let (changed, replaced, unchanged) = lines_to(alloc, command, out)?;
-    Ok(Prepared {
-        root: root.copy(alloc)?,
+    Ok(Lines {
         changed,
         replaced,
         unchanged,
     })
 }
 
-/// Appends the line of a reply, once the hall of the root follows the registry.
-fn tell<R: Wait, T: Registrar, J: Naming, K: Wait + Copy + Drop>(
-    rt: &R,
-    alloc: Global,
-    shared: &Shared<T, J, K>,
-    prepared: &Prepared,
-    reply: Reply,
-    out: &mut Vec<u8>,
-) -> Result<(), Refusal> {
-    let (line, is_change) = match reply {
-        Reply::Changed => (&prepared.changed, true),
-        Reply::Replaced => (&prepared.replaced, true),
-        Reply::Unchanged => (&prepared.unchanged, false),
+/// Appends the line of a reply.
+fn put(lines: &Lines, reply: Reply, out: &mut Vec<u8>) -> Result<(), Refusal> {
+    let line = match reply {
+        Reply::Changed => &lines.changed,
+        Reply::Replaced => &lines.replaced,
+        Reply::Unchanged => &lines.unchanged,
         Reply::Refused(refusal) => return Err(refusal),
     };
-    // Without memory the hall follows with the next command of its root.
-    if is_change || shared.hall(rt, &prepared.root).is_err() {
-        let _followed = shared.follow(rt, alloc, &prepared.root);
-    }
     out.extend_from_slice(line)?;
     Ok(())
 }
 
-/// Submits a command. Each reply that it may have is made first, with its room, so that an accepted command has its reply.
-/// `NoMemory` where that finds no room, and for a `Begin`: then nothing is submitted. Else it is refused as
-/// [`Place::submit`] is. A refusal appends nothing.
+/// Whether a refusal is the registry's, so that it shows which roots are watched.
+fn is_of_registry(reply: Reply) -> bool {
+    match reply {
+        Reply::Refused(refusal) => !matches!(
+            refusal,
+            Refusal::NoMemory | Refusal::DeviceFailed | Refusal::StoreFailed
+        ),
+        Reply::Changed | Reply::Replaced | Reply::Unchanged => false,
+    }
+}
+
+/// Has the roots follow a command that was accepted, or waits until they have followed all that its reply shows.
+fn follow<R: Wait, T: Registrar, J: Naming, K: Wait + Copy + Drop>(
+    rt: &R,
+    alloc: Global,
+    shared: &Shared<T, J, K>,
+    reply: Reply,
+    standing: Option<Standing>,
+) {
+    match standing {
+        Some(Standing::Stands { number, command }) => shared.follow(rt, alloc, number, command),
+        Some(Standing::Unchanged { after }) => shared.await_followed(rt, after),
+        None => {
+            if is_of_registry(reply) {
+                shared.await_followed(rt, shared.desk.accepted(rt));
+            }
+        }
+    }
+}
+
+/// Submits a command, has the watched roots follow it, and appends its reply. Each line that it may be answered with is made first,
+/// with its room, so that an accepted command has its reply. `NoMemory` if that finds no memory: then nothing is submitted. Else
+/// it is refused as [`Place::submit`] is. A refusal appends nothing.
 pub fn command<R: Wait, T: Registrar, J: Naming, K: Wait + Copy + Drop>(
     rt: &R,
     alloc: Global,
@@ -80,11 +83,12 @@ pub fn command<R: Wait, T: Registrar, J: Naming, K: Wait + Copy + Drop>(
     out: &mut Vec<u8>,
 ) -> Result<(), Refusal> {
     match prepare(alloc, &command, out) {
-        Ok(prepared) => {
-            let reply = place.submit(rt, command);
-            let told = tell(rt, alloc, shared, &prepared, reply, out);
-            drop(prepared);
-            told
+        Ok(lines) => {
+            let (reply, standing) = place.submit(rt, command);
+            follow(rt, alloc, shared, reply, standing);
+            let met = put(&lines, reply, out);
+            drop(lines);
+            met
         }
         Err(refusal) => {
             drop(command);

@@ -7,9 +7,10 @@ use std::thread::Threads;
 use std::time::Clock;
 use wm_crawler::{Folders, Turnstile, crawl_root};
 use wm_disk::Refusal;
+use wm_hall::Reading;
 use wm_lines::Progress;
 
-/// Crawls once, and takes in what was found.
+/// Crawls once, and hands in what was found. What is observed while the crawl reads is noted from before it begins.
 fn crawl_once<R: Threads + Wait + Clock + Sync, H: House, F: Folders + Sync, G: Turnstile + Sync>(
     rt: &R,
     alloc: Global,
@@ -20,7 +21,9 @@ fn crawl_once<R: Threads + Wait + Clock + Sync, H: House, F: Folders + Sync, G: 
     root: u64,
     asked: &Crawl,
 ) -> Result<Progress, Refusal> {
-    let begun_at = house.tick(rt, root);
+    let Some(begun) = house.begin_reading(rt, alloc, root) else {
+        return Err(Refusal::NotWatched);
+    };
     let found = crawl_root(
         rt,
         alloc,
@@ -29,12 +32,18 @@ fn crawl_once<R: Threads + Wait + Clock + Sync, H: House, F: Folders + Sync, G: 
         &asked.subtree,
         workers,
         gate,
-    )?;
-    house.take_in(rt, root, begun_at, found)
+    );
+    match found {
+        Ok(listing) => house.take_in(rt, alloc, root, Reading { begun, listing }),
+        Err(refusal) => {
+            drop(begun);
+            house.give_up_reading(rt, root);
+            Err(refusal)
+        }
+    }
 }
 
-/// Crawls as it is asked, and tells the end. One that was overtaken is tried once more: it is refused `BadClock`, or
-/// `NoMemory` where it was by what memory had run out for.
+/// Crawls as it is asked, and tells the end. One that was overtaken, and is refused `BadClock`, is tried once more.
 fn crawl_asked<R: Threads + Wait + Clock + Sync, H: House, F: Folders + Sync, G: Turnstile + Sync>(
     rt: &R,
     alloc: Global,
@@ -46,7 +55,7 @@ fn crawl_asked<R: Threads + Wait + Clock + Sync, H: House, F: Folders + Sync, G:
     asked: &Crawl,
 ) {
     let mut ended = crawl_once(rt, alloc, house, folders, gate, workers, root, asked);
-    if let Err(Refusal::BadClock | Refusal::NoMemory) = ended {
+    if let Err(Refusal::BadClock) = ended {
         ended = crawl_once(rt, alloc, house, folders, gate, workers, root, asked);
     }
     house.crawled(rt, root, asked.ticket, ended);

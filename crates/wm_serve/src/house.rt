@@ -5,10 +5,10 @@ use std::os::unix::net::UnixStream;
 use std::sync::Wait;
 use std::time::Clock;
 use wm_disk::Refusal;
+use wm_hall::{Begun, Reading};
 use wm_lines::Progress;
 use wm_names::{RootPath, Subtree};
 use wm_triggers::Programs;
-use wm_view::Listing;
 
 /// A worker of the root of a number.
 #[derive(Clone, Copy, Debug, PartialEq, Eq)]
@@ -32,8 +32,8 @@ pub trait House {
     /// So many sessions may be there at once from now on.
     fn open_door<R: Wait>(&self, rt: &R, chairs: u64);
 
-    /// Lets a session in, or hands it back where there is no chair, or memory ran out.
-    fn enter<R: Wait>(&self, rt: &R, stream: UnixStream) -> Result<(), UnixStream>;
+    /// Lets a session in, or hands it back with the cause: `TooMany` if each chair is taken, and `NoMemory`.
+    fn enter<R: Wait>(&self, rt: &R, stream: UnixStream) -> Result<(), (Refusal, UnixStream)>;
 
     /// Answers the lines of one session after the other, until no session comes any longer.
     fn sit<R: Wait + Clock>(&self, rt: &R, alloc: Global, chair: usize);
@@ -53,17 +53,19 @@ pub trait House {
     /// Waits for a crawl of the root of this number; `None` where it isn't watched any longer.
     fn next_crawl<R: Wait>(&self, rt: &R, alloc: Global, root: u64) -> Option<Crawl>;
 
-    /// The tick at which the root of this number stands; 0 before its first listing.
-    fn tick<R: Wait>(&self, rt: &R, root: u64) -> u64;
+    /// Begins a reading of the root of this number; `None` if it isn't watched any longer.
+    fn begin_reading<R: Wait>(&self, rt: &R, alloc: Global, root: u64) -> Option<Begun>;
 
-    /// Takes in what a crawl found that began at a tick. `NotWatched` where no root has the number, and else
-    /// refused as `RootHall::operate`.
+    /// Gives up the reading of the root that is under way.
+    fn give_up_reading<R: Wait>(&self, rt: &R, root: u64);
+
+    /// Hands in what a crawl found. `NotWatched` where no root has the number, and else refused as `RootHall::take_in`.
     fn take_in<R: Wait + Clock>(
         &self,
         rt: &R,
+        alloc: Global,
         root: u64,
-        begun_at: u64,
-        found: Listing,
+        found: Reading,
     ) -> Result<Progress, Refusal>;
 
     /// The crawl of a ticket has ended so.

@@ -3,7 +3,7 @@
 use std::fs::{File, Files, Permissions};
 use std::io::ErrorKind;
 use std::net::Net;
-use std::os::unix::fs::{FileTypeExt, PermissionsExt};
+use std::os::unix::fs::{FileTypeExt, MetadataExt, PermissionsExt};
 use std::os::unix::net::{UnixListener, UnixStream};
 use std::{fs, io};
 
@@ -28,6 +28,29 @@ fn bind<R: Net + Files<File = File>>(rt: &R, path: &str) -> io::Result<UnixListe
             _ => Err(e),
         },
         Err(e) => Err(e),
+    }
+}
+
+/// The socket of a server: where it stands, and which one it is.
+#[derive(Clone, Copy, Debug, PartialEq, Eq)]
+pub struct Identity {
+    device: u64,
+    inode: u64,
+}
+
+/// Which file stands at a path, if one does.
+pub fn identity_of<R: Files<File = File>>(rt: &R, path: &str) -> Option<Identity> {
+    let found = fs::symlink_metadata(rt, path).ok()?;
+    Some(Identity {
+        device: found.dev(),
+        inode: found.ino(),
+    })
+}
+
+/// Removes the socket of a server that ends, unless another file stands at its path by now.
+pub fn remove<R: Files<File = File>>(rt: &R, path: &str, own: Option<Identity>) {
+    if own.is_some() && identity_of(rt, path) == own {
+        let _gone = fs::remove_file(rt, path);
     }
 }
 

@@ -11,7 +11,7 @@ use crate::subscribing::{subscribe, unsubscribe};
 use std::alloc::Global;
 use std::sync::Wait;
 use std::time::Clock;
-use wm_disk::Refusal;
+use wm_disk::{NoMemory, Refusal};
 use wm_lines::reply::{PROGRESS_ROOM, put_clock, put_floor};
 use wm_lines::{Progress, Request};
 use wm_names::RootPath;
@@ -32,6 +32,16 @@ fn meet_registry(
     Ok(())
 }
 
+/// The desk's registry as it is now. The watched roots have followed it, so that no later question contradicts it.
+fn registry_of<R: Wait, T: Registrar, J: Naming, K: Wait + Copy + Drop>(
+    rt: &R,
+    shared: &Shared<T, J, K>,
+) -> Result<Registry, NoMemory> {
+    let (registry, count) = shared.desk.registry(rt)?;
+    shared.await_followed(rt, count);
+    Ok(registry)
+}
+
 /// Lists the roots of the desk's registry as it is now.
 fn list<R: Wait, T: Registrar, J: Naming, K: Wait + Copy + Drop>(
     rt: &R,
@@ -39,7 +49,7 @@ fn list<R: Wait, T: Registrar, J: Naming, K: Wait + Copy + Drop>(
     shared: &Shared<T, J, K>,
     out: &mut Vec<u8>,
 ) -> Result<(), Refusal> {
-    let registry = shared.desk.registry(rt)?;
+    let registry = registry_of(rt, shared)?;
     meet_registry(alloc, registry, Request::WatchList, out)
 }
 
@@ -51,22 +61,23 @@ fn list_triggers<R: Wait, T: Registrar, J: Naming, K: Wait + Copy + Drop>(
     path: RootPath,
     out: &mut Vec<u8>,
 ) -> Result<(), Refusal> {
-    let registry = shared.desk.registry(rt)?;
+    let registry = registry_of(rt, shared)?;
     meet_registry(alloc, registry, Request::TriggerList(path), out)
 }
 
 /// Performs an operation. The session's viewer learns of it before that is told.
 fn operate_on<R: Wait + Clock, T: Registrar, J: Naming, K: Wait + Copy + Drop>(
     rt: &R,
+    alloc: Global,
     shared: &Shared<T, J, K>,
     chair: &Chair<J>,
     path: &RootPath,
     op: Op,
 ) -> Result<Progress, Refusal> {
-    let hall = shared.hall(rt, path)?;
-    let met = hall.operate(rt, shared.forgetting, op);
+    let hall = shared.hall(rt, alloc, path)?;
+    let met = hall.operate(rt, alloc, shared.forgetting, op);
     chair.viewers.lock(rt).learn(rt, &hall);
-    shared.ring(rt);
+    shared.ring(rt, &hall);
     drop(hall);
     met
 }
@@ -74,6 +85,7 @@ fn operate_on<R: Wait + Clock, T: Registrar, J: Naming, K: Wait + Copy + Drop>(
 /// Performs an operation, and appends where the view stands after it.
 fn operate<R: Wait + Clock, T: Registrar, J: Naming, K: Wait + Copy + Drop>(
     rt: &R,
+    alloc: Global,
     shared: &Shared<T, J, K>,
     chair: &Chair<J>,
     path: &RootPath,
@@ -82,7 +94,7 @@ fn operate<R: Wait + Clock, T: Registrar, J: Naming, K: Wait + Copy + Drop>(
 ) -> Result<(), Refusal> {
     out.try_reserve(PROGRESS_ROOM)?;
     let tells_floor = matches!(op, Op::AgeOut(_, _));
-    let progress = operate_on(rt, shared, chair, path, op)?;
+    let progress = operate_on(rt, alloc, shared, chair, path, op)?;
     if tells_floor {
         put_floor(progress.floor, out);
     } else {
@@ -138,15 +150,15 @@ pub fn meet<R: Wait + Clock, T: Registrar, J: Naming, K: Wait + Copy + Drop>(
         }
         Request::Observe(path, pairs) => {
             let op = Op::Observe(second(rt), pairs);
-            operate(rt, shared, chair, &path, op, out)
+            operate(rt, alloc, shared, chair, &path, op, out)
         }
         Request::Listing(path, begun_at, listing) => {
             let op = Op::Recrawl(second(rt), begun_at, listing);
-            operate(rt, shared, chair, &path, op, out)
+            operate(rt, alloc, shared, chair, &path, op, out)
         }
         Request::AgeOut(path, age) => {
             let op = Op::AgeOut(second(rt), age);
-            operate(rt, shared, chair, &path, op, out)
+            operate(rt, alloc, shared, chair, &path, op, out)
         }
         Request::Clock(path) => tell_clock(rt, alloc, shared, chair, &path, out),
         Request::Query(path, inquiry) => {

@@ -3,7 +3,7 @@
 use crate::registrar::Registrar;
 use std::sync::Wait;
 use wm_disk::Refusal;
-use wm_groupcommit::Seat;
+use wm_groupcommit::{Seat, Standing};
 use wm_registry::{Command, Reply};
 
 /// A seat with the desk that gave it.
@@ -21,8 +21,8 @@ impl<'a, T: Registrar> Given<'a, T> {
         Ok(Given { desk, seat })
     }
 
-    /// How a command was met: it is refused as `Desk::submit` refuses it.
-    fn submit<R: Wait>(&mut self, rt: &R, command: Command) -> Reply {
+    /// As [`Registrar::submit`].
+    fn submit<R: Wait>(&mut self, rt: &R, command: Command) -> (Reply, Option<Standing>) {
         self.desk.submit(rt, &mut self.seat, command)
     }
 }
@@ -40,8 +40,8 @@ impl<'a, T: Registrar> Place<'a, T> {
         Place { desk, given: None }
     }
 
-    /// How a command was met: it is refused as `Desk::submit` refuses it, and `NoMemory` without a seat.
-    pub fn submit<R: Wait>(&mut self, rt: &R, command: Command) -> Reply {
+    /// As [`Registrar::submit`]; and `NoMemory` without a seat.
+    pub fn submit<R: Wait>(&mut self, rt: &R, command: Command) -> (Reply, Option<Standing>) {
         if self.given.is_none() {
             self.given = Given::take(rt, self.desk).ok();
         }
@@ -49,7 +49,7 @@ impl<'a, T: Registrar> Place<'a, T> {
             Some(given) => given.submit(rt, command),
             None => {
                 drop(command);
-                Reply::Refused(Refusal::NoMemory)
+                (Reply::Refused(Refusal::NoMemory), None)
             }
         }
     }

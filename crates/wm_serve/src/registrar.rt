@@ -11,7 +11,7 @@ use std::sync::atomic::{AtomicU64, Ordering};
 use std::thread;
 use std::time::{Clock, Duration};
 use wm_disk::{Disk, NoMemory, Refusal};
-use wm_groupcommit::{Desk, Flusher, Seat};
+use wm_groupcommit::{Desk, Flusher, Seat, Standing};
 use wm_registry::{Command, Registry, Reply};
 
 /// What meets the commands of a server's sessions, each from a seat that it gave.
@@ -22,15 +22,23 @@ pub trait Registrar {
     /// There is one proof of it at most.
     ghost sole: { (desk : Self) (seat : Seat) → IsProp (gave desk seat) };
 
-    /// The registry as it is now.
-    fn registry<R: Wait>(&self, rt: &R) -> Result<Registry, NoMemory>;
+    /// The registry as it is now, and how many commands had been accepted by then.
+    fn registry<R: Wait>(&self, rt: &R) -> Result<(Registry, u64), NoMemory>;
+
+    /// How many commands were accepted by now.
+    fn accepted<R: Wait>(&self, rt: &R) -> u64;
 
     /// A new seat; it is refused as `Desk::seat` is.
     fn seat<R: Wait>(&self, rt: &R) -> Result<Seat, Refusal>
         ensures { IfOk result (gave self.now) };
 
-    /// How a command was met: it is refused as `Desk::submit` refuses it.
-    fn submit<R: Wait>(&self, rt: &R, seat: &mut Seat, command: Command) -> Reply
+    /// The reply to a command, and where the command stands unless it was refused. It is refused as `Desk::submit` refuses it.
+    fn submit<R: Wait>(
+        &self,
+        rt: &R,
+        seat: &mut Seat,
+        command: Command,
+    ) -> (Reply, Option<Standing>)
         requires { gave self.now seat.old }
         ensures { gave self.now seat.new };
 
@@ -70,22 +78,27 @@ impl<D: Disk + Drop> Registrar for Desk<D> {
 
     ghost sole = { λ desk seat. Prim.hlevel (codes, ℕ_set) };
 
-    fn registry<R: Wait>(&self, rt: &R) -> Result<Registry, NoMemory> {
-        let (registry, _) = Desk::registry(self, rt)?;
-        Ok(registry)
+    fn registry<R: Wait>(&self, rt: &R) -> Result<(Registry, u64), NoMemory> {
+        Desk::registry(self, rt)
+    }
+
+    fn accepted<R: Wait>(&self, rt: &R) -> u64 {
+        Desk::accepted(self, rt)
     }
 
     fn seat<R: Wait>(&self, rt: &R) -> Result<Seat, Refusal> {
         Desk::seat(self, rt)
     }
 
-    fn submit<R: Wait>(&self, rt: &R, seat: &mut Seat, command: Command) -> Reply {
+    fn submit<R: Wait>(
+        &self,
+        rt: &R,
+        seat: &mut Seat,
+        command: Command,
+    ) -> (Reply, Option<Standing>) {
         match Desk::submit(self, rt, seat, command) {
-            Ok((reply, receipt)) => {
-                drop(receipt);
-                reply
-            }
-            Err(refusal) => Reply::Refused(refusal),
+            Ok((reply, receipt)) => (reply, Some(receipt.into_standing())),
+            Err(refusal) => (Reply::Refused(refusal), None),
         }
     }
 

@@ -30,7 +30,7 @@ pub fn clock<R: Wait, T: Registrar, J: Naming, K: Wait + Copy + Drop>(
     viewers: &mut Viewers<J>,
     path: &RootPath,
 ) -> Result<ClockId, Refusal> {
-    let hall = shared.hall(rt, path)?;
+    let hall = shared.hall(rt, alloc, path)?;
     let clock = clock_of(rt, alloc, viewers, &hall);
     drop(hall);
     clock
@@ -63,7 +63,7 @@ pub fn inquire<R: Wait, T: Registrar, J: Naming, K: Wait + Copy + Drop>(
     inquiry: Inquiry,
     out: &mut Vec<u8>,
 ) -> Result<(), Refusal> {
-    match shared.hall(rt, path) {
+    match shared.hall(rt, alloc, path) {
         Ok(hall) => {
             let met = inquire_of(rt, alloc, viewers, &hall, inquiry, out);
             drop(hall);

@@ -4,11 +4,10 @@ ghost use Rattle.std.specs.Prelude.{◌≡◌, true};
 ghost use Rattle.wm_lines.specs.KeptExpressions.{have_expressions as have_expressions_lem};
 
 use crate::admitting::serve_on;
-use crate::listening::listen;
+use crate::listening::{identity_of, listen, remove};
 use crate::registrar::Registrar;
 use crate::shared::Shared;
 use std::alloc::Global;
-use std::fs;
 use std::fs::{File, Files};
 use std::io::Write;
 use std::marker::Brand;
@@ -40,7 +39,8 @@ pub struct Settings {
     pub sessions: u64,
 }
 
-/// Serves a state file on a socket until so many sessions have ended. The socket is removed then.
+/// Serves a state file on a socket until so many sessions have ended. The socket is removed then, unless another file
+/// stands at its path by now.
 ///
 /// Refused before anybody is let in: `DeviceFailed` where the file can't be opened, has another owner or fails, where a server listens on
 /// the socket, something else stands there or it can't be made, and where the writer fails; `Damaged` where the file
@@ -68,6 +68,7 @@ pub fn serve<
         drop(store);
         return Err(Refusal::DeviceFailed);
     };
+    let own = identity_of(rt, socket);
     let served = serve_over::<FileDisk<Unknown>, Brand, R, F, G, P, W>(
         rt,
         alloc,
@@ -81,7 +82,7 @@ pub fn serve<
         Opened::new(),
     );
     drop(listener);
-    let _gone = fs::remove_file(rt, socket);
+    remove(rt, socket, own);
     served
 }
 

@@ -1,16 +1,18 @@
-//! What all threads of a server share: the desk, the halls, the chairs and the door.
+//! What all threads of a server share: the desk, the watched roots, the chairs and the door.
 //! Tests: serve_tests/src/sessions.rt.
 use crate::chair::Chair;
 use crate::door::{CHAIRS, Door};
+use crate::following::Following;
 use crate::house::Worker;
 use crate::registrar::Registrar;
+use crate::root_table::{Found, RootTable};
 use std::alloc::Global;
 use std::sync::atomic::{AtomicU64, Ordering};
 use std::sync::{Arc, Condvar, Mutex, Wait};
 use wm_disk::{NoMemory, Refusal};
 use wm_hall::{Forgetting, RootHall};
 use wm_names::RootPath;
-use wm_registry::{Registry, Root};
+use wm_registry::Registry;
 use wm_share::{Naming, Shares};
 
 /// The workers that are still to be started.
@@ -27,9 +29,11 @@ pub struct Shared<T: Registrar, J: Naming, K: Wait + Copy + Drop> {
     keeping: K,
     /// What makes the keeper and the viewers of a root.
     shares: Mutex<Shares<J>>,
-    pub halls: Mutex<Vec<Arc<RootHall<J, K>>>>,
-    /// Held while the halls follow the registry.
-    following: Mutex<u64>,
+    pub roots: Mutex<RootTable<J, K>>,
+    /// Held while the roots follow a command.
+    pub following: Mutex<Following>,
+    /// The roots have followed one more command.
+    pub followed: Condvar,
     pub missing: Mutex<Missing>,
     pub came: Condvar,
     pub chairs: Vec<Chair<J>>,
@@ -40,7 +44,7 @@ pub struct Shared<T: Registrar, J: Naming, K: Wait + Copy + Drop> {
 }
 
 impl<T: Registrar, J: Naming, K: Wait + Copy + Drop> Shared<T, J, K> {
-    /// What all threads share, with no hall and no worker yet, and a door that lets nobody in. `NoMemory` hands the desk back.
+    /// What all threads share, with no root and no worker yet, and a door that lets nobody in. `NoMemory` hands the desk back.
     pub fn new(
         alloc: Global,
         keeping: K,
@@ -48,15 +52,16 @@ impl<T: Registrar, J: Naming, K: Wait + Copy + Drop> Shared<T, J, K> {
         shares: Shares<J>,
         forgetting: Forgetting,
     ) -> Result<Shared<T, J, K>, (NoMemory, T)> {
-        let Ok(chairs) = chairs(alloc) else {
+        let Ok((chairs, roots)) = fittings(alloc) else {
             return Err((NoMemory, desk));
         };
         Ok(Shared {
             keeping,
             desk,
             shares: Mutex::new(shares),
-            halls: Mutex::new(Vec::new(alloc)),
-            following: Mutex::new(0),
+            roots: Mutex::new(roots),
+            following: Mutex::new(Following::new()),
+            followed: Condvar::new(),
             missing: Mutex::new(Missing {
                 workers: Vec::new(alloc),
                 is_closing: false,
@@ -75,8 +80,9 @@ impl<T: Registrar, J: Naming, K: Wait + Copy + Drop> Shared<T, J, K> {
             keeping: _,
             desk,
             shares: _,
-            halls: _,
+            roots: _,
             following: _,
+            followed: _,
             missing: _,
             came: _,
             chairs: _,
@@ -87,25 +93,33 @@ impl<T: Registrar, J: Naming, K: Wait + Copy + Drop> Shared<T, J, K> {
         desk
     }
 
-    /// The hall of a watched root. `NotWatched` where there is none, and `NoMemory` where it has too many owners.
-    pub fn hall<R: Wait>(&self, rt: &R, path: &RootPath) -> Result<Arc<RootHall<J, K>>, Refusal> {
-        let halls = self.halls.lock(rt);
-        let found = hall_of(&halls, path);
-        drop(halls);
-        found
+    /// The hall of a watched root; it is made if memory ran out for it before. `NotWatched` if there is no such root, and
+    /// `NoMemory`.
+    pub fn hall<R: Wait>(
+        &self,
+        rt: &R,
+        alloc: Global,
+        path: &RootPath,
+    ) -> Result<Arc<RootHall<J, K>>, Refusal> {
+        let found = self.roots.lock(rt).find(path);
+        match found? {
+            Found::Hall(hall) => Ok(hall),
+            Found::Missing(number) => self.make_up(rt, alloc, path, number),
+            Found::NotWatched => Err(Refusal::NotWatched),
+        }
     }
 
     /// The hall of a root by its number.
     pub fn numbered<R: Wait>(&self, rt: &R, number: u64) -> Option<Arc<RootHall<J, K>>> {
-        let halls = self.halls.lock(rt);
-        let found = hall_numbered(&halls, number);
-        drop(halls);
-        found
+        self.roots.lock(rt).numbered(number)
     }
 
-    /// Makes a hall for each root of the registry at the start. `NoMemory`, and then some may have none.
+    /// Has the roots of the registry at the start. `NoMemory`, and then some may have no hall.
     pub fn begin<R: Wait>(&self, rt: &R, alloc: Global) -> Result<(), NoMemory> {
-        let registry = self.desk.registry(rt)?;
+        let (registry, count) = self.desk.registry(rt)?;
+        self.following
+            .lock(rt)
+            .begin(registry.incarnation(), registry.next_root(), count);
         let added = self.add_all(rt, alloc, &registry);
         drop(registry);
         added
@@ -113,141 +127,91 @@ impl<T: Registrar, J: Naming, K: Wait + Copy + Drop> Shared<T, J, K> {
 
     fn add_all<R: Wait>(&self, rt: &R, alloc: Global, registry: &Registry) -> Result<(), NoMemory> {
         for (path, root) in registry.roots() {
-            self.add(rt, alloc, path, registry.incarnation(), root)?;
+            let hall = self.new_hall(rt, alloc, path, registry.incarnation(), root.number)?;
+            for trigger in root.triggers.as_slice() {
+                hall.define(rt, 0, trigger.copy()?)?;
+            }
+            self.put(rt, path.copy(alloc)?, root.number, Some(hall));
         }
         Ok(())
     }
 
     /// A hall for a root, with no triggers yet.
-    fn new_hall<R: Wait>(
+    pub fn new_hall<R: Wait>(
         &self,
         rt: &R,
         alloc: Global,
         path: &RootPath,
         incarnation: u64,
-        root: &Root,
+        number: u64,
     ) -> Result<Arc<RootHall<J, K>>, NoMemory> {
         let mut shares = self.shares.lock(rt);
-        let Ok((keeper, pool)) = shares.share(self.keeping, alloc, incarnation, root.number) else {
+        let Ok((keeper, pool)) = shares.share(self.keeping, alloc, incarnation, number) else {
             return Err(NoMemory);
         };
         drop(shares);
-        let hall = RootHall::new(alloc, path, root.number, keeper, pool)?;
+        let hall = RootHall::new(alloc, path, number, keeper, pool)?;
         Arc::new(alloc, hall).map_err(|_| NoMemory)
     }
 
-    /// Puts a hall into the table, and its workers among those that are to be started.
-    fn put_with<R: Wait>(
+    /// Puts a root into the table, and has the workers of its hall started. Without memory for these it has no hall yet.
+    pub fn put<R: Wait>(
         &self,
         rt: &R,
-        hall: Arc<RootHall<J, K>>,
-        workers: &mut Vec<Worker>,
-    ) -> Result<(), NoMemory> {
-        let number = hall.number;
-        if workers.try_reserve(2).is_err() {
-            drop(hall);
-            return Err(NoMemory);
-        }
-        self.halls.lock(rt).push(hall)?;
-        workers.push(Worker::Crawler(number))?;
-        workers.push(Worker::Triggers(number))?;
-        Ok(())
-    }
-
-    /// Puts a hall into the table, and has its workers started.
-    fn put<R: Wait>(&self, rt: &R, hall: Arc<RootHall<J, K>>) -> Result<(), NoMemory> {
+        path: RootPath,
+        number: u64,
+        hall: Option<Arc<RootHall<J, K>>>,
+    ) {
         let mut missing = self.missing.lock(rt);
-        let put = self.put_with(rt, hall, &mut missing.workers);
+        let mut hall = hall;
+        if missing.workers.try_reserve(2).is_err() {
+            drop(hall);
+            hall = None;
+        }
+        let has_hall = hall.is_some();
+        let _put = self.roots.lock(rt).put(path, number, hall);
+        if has_hall {
+            let _started = start(&mut missing.workers, number);
+        }
         drop(missing);
-        put
+        self.came.notify_all();
     }
 
-    fn add<R: Wait>(
+    /// Gives a root that has no hall this one, and has its workers started.
+    pub fn fill<R: Wait>(
         &self,
         rt: &R,
-        alloc: Global,
         path: &RootPath,
-        incarnation: u64,
-        root: &Root,
+        number: u64,
+        hall: Arc<RootHall<J, K>>,
     ) -> Result<(), NoMemory> {
-        let hall = self.new_hall(rt, alloc, path, incarnation, root)?;
-        if hall
-            .keep_triggers(rt, alloc, root.triggers.as_slice())
-            .is_err()
-        {
+        let mut missing = self.missing.lock(rt);
+        if missing.workers.try_reserve(2).is_err() {
             drop(hall);
             return Err(NoMemory);
         }
-        self.put(rt, hall)?;
+        if self.roots.lock(rt).fill(path, number, hall) {
+            start(&mut missing.workers, number)?;
+        }
+        drop(missing);
         self.came.notify_all();
         Ok(())
     }
 
-    /// Takes the hall of a path out of the table.
-    fn take<R: Wait>(&self, rt: &R, path: &RootPath) -> Option<Arc<RootHall<J, K>>> {
-        let mut found = None;
-        let mut halls = self.halls.lock(rt);
-        for (i, hall) in halls.iter().enumerate() {
-            if hall.path == *path {
-                found = Some(i);
+    /// The subscriptions on a root may be due.
+    pub fn ring<R: Wait>(&self, rt: &R, hall: &RootHall<J, K>) {
+        let subscribers = hall.subscribers(rt);
+        for chair in self.chairs.iter() {
+            if chair.is_among(subscribers) {
+                chair.bell.ring(rt);
             }
         }
-        let taken = match found {
-            Some(i) if i < halls.len() => Some(halls.remove(i)),
-            _ => None,
-        };
-        drop(halls);
-        taken
     }
 
-    fn remove<R: Wait>(&self, rt: &R, path: &RootPath) {
-        let Some(hall) = self.take(rt, path) else {
-            return;
-        };
-        hall.work.end(rt);
+    /// A root isn't watched any longer: each session drops what it has of it.
+    pub fn ring_all<R: Wait>(&self, rt: &R) {
         for chair in self.chairs.iter() {
-            chair.end_root(rt, path, hall.number);
-        }
-        drop(hall);
-    }
-
-    /// The hall of a path follows the registry, after a command that changed it. `NoMemory`: then it is as it was, or a watched
-    /// root has none.
-    pub fn follow<R: Wait>(&self, rt: &R, alloc: Global, path: &RootPath) -> Result<(), NoMemory> {
-        let following = self.following.lock(rt);
-        let registry = self.desk.registry(rt)?;
-        let followed = self.follow_to(rt, alloc, path, &registry);
-        drop(registry);
-        drop(following);
-        followed
-    }
-
-    fn follow_to<R: Wait>(
-        &self,
-        rt: &R,
-        alloc: Global,
-        path: &RootPath,
-        registry: &Registry,
-    ) -> Result<(), NoMemory> {
-        let Some(root) = registry.roots().get(path) else {
-            self.remove(rt, path);
-            return Ok(());
-        };
-        if let Ok(hall) = self.hall(rt, path)
-            && hall.number == root.number
-        {
-            hall.keep_triggers(rt, alloc, root.triggers.as_slice())?;
-            hall.work.stir(rt);
-            return Ok(());
-        }
-        self.remove(rt, path);
-        self.add(rt, alloc, path, registry.incarnation(), root)
-    }
-
-    /// The subscriptions may be due.
-    pub fn ring<R: Wait>(&self, rt: &R) {
-        for chair in self.chairs.iter() {
-            chair.ring(rt);
+            chair.bell.ring(rt);
         }
     }
 
@@ -255,11 +219,7 @@ impl<T: Registrar, J: Naming, K: Wait + Copy + Drop> Shared<T, J, K> {
     pub fn end_workers<R: Wait>(&self, rt: &R) {
         self.missing.lock(rt).is_closing = true;
         self.came.notify_all();
-        let halls = self.halls.lock(rt);
-        for hall in halls.iter() {
-            hall.work.end(rt);
-        }
-        drop(halls);
+        self.roots.lock(rt).end_all(rt);
         for chair in self.chairs.iter() {
             chair.bell.close(rt);
         }
@@ -267,36 +227,26 @@ impl<T: Registrar, J: Naming, K: Wait + Copy + Drop> Shared<T, J, K> {
     }
 }
 
-/// The hall of a path among these, refused as `Shared::hall`.
-fn hall_of<J: Naming, K: Wait + Drop>(
-    halls: &[Arc<RootHall<J, K>>],
-    path: &RootPath,
-) -> Result<Arc<RootHall<J, K>>, Refusal> {
-    for hall in halls {
-        if hall.path == *path {
-            return Arc::try_clone(hall).map_err(|_| Refusal::NoMemory);
-        }
-    }
-    Err(Refusal::NotWatched)
+/// Has both workers of a root started. There is room for them.
+fn start(workers: &mut Vec<Worker>, number: u64) -> Result<(), NoMemory> {
+    workers.push(Worker::Crawler(number))?;
+    workers.push(Worker::Triggers(number))?;
+    Ok(())
 }
 
-/// The hall of a number among these.
-fn hall_numbered<J: Naming, K: Wait + Drop>(
-    halls: &[Arc<RootHall<J, K>>],
-    number: u64,
-) -> Option<Arc<RootHall<J, K>>> {
-    for hall in halls {
-        if hall.number == number {
-            return Arc::try_clone(hall).ok();
-        }
-    }
-    None
+/// The chairs, and the table of roots.
+fn fittings<J: Naming, K: Wait + Drop>(
+    alloc: Global,
+) -> Result<(Vec<Chair<J>>, RootTable<J, K>), NoMemory> {
+    let chairs = chairs(alloc)?;
+    let roots = RootTable::new(alloc)?;
+    Ok((chairs, roots))
 }
 
 fn chairs<J: Naming>(alloc: Global) -> Result<Vec<Chair<J>>, NoMemory> {
     let mut chairs = Vec::new(alloc);
-    for _ in 0..CHAIRS {
-        chairs.push(Chair::new(alloc))?;
+    for slot in 0..CHAIRS {
+        chairs.push(Chair::new(alloc, slot))?;
     }
     Ok(chairs)
 }

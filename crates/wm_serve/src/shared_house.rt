@@ -12,12 +12,11 @@ use std::os::unix::net::UnixStream;
 use std::sync::Wait;
 use std::time::Clock;
 use wm_disk::{NoMemory, Refusal};
-use wm_hall::RootHall;
+use wm_hall::{Begun, Reading, RootHall};
 use wm_lines::Progress;
 use wm_names::Subtree;
 use wm_share::Naming;
 use wm_triggers::Programs;
-use wm_view::{Listing, Op};
 
 /// A crawl of a hall's root.
 fn crawl_of<J: Naming, K: Wait + Drop>(
@@ -38,7 +37,7 @@ impl<T: Registrar, J: Naming, K: Wait + Copy + Drop> House for Shared<T, J, K> {
         self.door.open(rt, chairs);
     }
 
-    fn enter<R: Wait>(&self, rt: &R, stream: UnixStream) -> Result<(), UnixStream> {
+    fn enter<R: Wait>(&self, rt: &R, stream: UnixStream) -> Result<(), (Refusal, UnixStream)> {
         self.door.enter(rt, stream)
     }
 
@@ -93,32 +92,33 @@ impl<T: Registrar, J: Naming, K: Wait + Copy + Drop> House for Shared<T, J, K> {
         None
     }
 
-    fn tick<R: Wait>(&self, rt: &R, root: u64) -> u64 {
-        match self.numbered(rt, root) {
-            Some(hall) => {
-                let tick = hall.tick(rt);
-                drop(hall);
-                tick
-            }
-            None => 0,
+    fn begin_reading<R: Wait>(&self, rt: &R, alloc: Global, root: u64) -> Option<Begun> {
+        let hall = self.numbered(rt, root)?;
+        let begun = hall.begin_reading(rt, alloc);
+        drop(hall);
+        Some(begun)
+    }
+
+    fn give_up_reading<R: Wait>(&self, rt: &R, root: u64) {
+        if let Some(hall) = self.numbered(rt, root) {
+            hall.give_up_reading(rt);
+            drop(hall);
         }
     }
 
     fn take_in<R: Wait + Clock>(
         &self,
         rt: &R,
+        alloc: Global,
         root: u64,
-        begun_at: u64,
-        found: Listing,
+        found: Reading,
     ) -> Result<Progress, Refusal> {
         let Some(hall) = self.numbered(rt, root) else {
             drop(found);
             return Err(Refusal::NotWatched);
         };
-        let moment = second(rt);
-        let op = Op::Recrawl(moment, begun_at, found);
-        let met = hall.operate(rt, self.forgetting, op);
-        self.ring(rt);
+        let met = hall.take_in(rt, alloc, self.forgetting, second(rt), found);
+        self.ring(rt, &hall);
         drop(hall);
         met
     }

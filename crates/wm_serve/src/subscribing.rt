@@ -4,11 +4,13 @@ ghost use Rattle.std.specs.Prelude.{◌≡◌, true};
 ghost use Rattle.wm_subs.specs.SessionLists.{may_subscribe};
 
 use crate::chair::Chair;
+use crate::ended_roots::drop_ended;
 use crate::registrar::Registrar;
 use crate::seeing::clock_of;
 use crate::shared::Shared;
+use crate::subscribed_roots::SubscribedRoots;
 use std::alloc::Global;
-use std::sync::Wait;
+use std::sync::{Arc, Wait};
 use wm_clock::{ClockId, ClockSpec};
 use wm_disk::Refusal;
 use wm_hall::RootHall;
@@ -32,7 +34,16 @@ fn start<R: Wait, J: Naming, K: Wait + Drop>(
     }
 }
 
-/// The clock of a root, as the session's viewer sees it, and that since which a subscription is told first.
+/// What a subscription begins with: the hall of its root, the root's clock as the session's viewer sees it, and the clock since
+/// which is told first.
+#[derive(Drop)]
+struct Beginning<J: Naming, K: Wait + Drop> {
+    hall: Arc<RootHall<J, K>>,
+    clock: ClockId,
+    since: Option<ClockId>,
+}
+
+/// What a subscription begins with.
 fn begin<R: Wait, T: Registrar, J: Naming, K: Wait + Copy + Drop>(
     rt: &R,
     alloc: Global,
@@ -40,14 +51,21 @@ fn begin<R: Wait, T: Registrar, J: Naming, K: Wait + Copy + Drop>(
     chair: &Chair<J>,
     root: &RootPath,
     since: &Option<ClockSpec>,
-) -> Result<(ClockId, Option<ClockId>), Refusal> {
+) -> Result<Beginning<J, K>, Refusal> {
     let mut viewers = chair.viewers.lock(rt);
-    let hall = shared.hall(rt, root)?;
+    let hall = shared.hall(rt, alloc, root)?;
     let clock = clock_of(rt, alloc, &mut viewers, &hall);
-    let since = start(rt, &hall, since);
-    drop(hall);
     drop(viewers);
-    Ok((clock?, since))
+    match clock {
+        Ok(clock) => {
+            let since = start(rt, &hall, since);
+            Ok(Beginning { hall, clock, since })
+        }
+        Err(refusal) => {
+            drop(hall);
+            Err(refusal)
+        }
+    }
 }
 
 /// Puts a subscription among the others, which have room for it, and appends the reply that was made for it.
@@ -111,22 +129,48 @@ fn subscribed_to(
     }
 }
 
+/// Puts a subscription on a root among the session's, and has the root wake the session.
+fn put_on<R: Wait, J: Naming, K: Wait + Drop>(
+    rt: &R,
+    alloc: Global,
+    chair: &Chair<J>,
+    all: &mut SubscribedRoots,
+    hall: &RootHall<J, K>,
+    clock: ClockId,
+    subscribed: Subscribed<Expression>,
+    out: &mut Vec<u8>,
+) -> Result<(), Refusal> {
+    if all.note(alloc, &hall.path, hall.number).is_err() {
+        drop(subscribed);
+        return Err(Refusal::NoMemory);
+    }
+    let met = put(alloc, &mut all.all, clock, subscribed, out);
+    if met.is_ok() {
+        hall.subscribe(rt, chair.slot, true);
+    } else {
+        all.forget(&hall.path);
+    }
+    met
+}
+
 /// Puts what is subscribed to among the session's subscriptions.
 fn subscribe_among<R: Wait, T: Registrar, J: Naming, K: Wait + Copy + Drop>(
     rt: &R,
     alloc: Global,
     shared: &Shared<T, J, K>,
     chair: &Chair<J>,
-    all: &mut Subscriptions<Expression>,
+    all: &mut SubscribedRoots,
     root: RootPath,
     name: SubscriptionName,
     inquiry: Inquiry,
     out: &mut Vec<u8>,
 ) -> Result<(), Refusal> {
     match begin(rt, alloc, shared, chair, &root, &inquiry.since) {
-        Ok((clock, since)) => {
+        Ok(Beginning { hall, clock, since }) => {
             let subscribed = subscribed_to(root, name, inquiry, since);
-            put(alloc, all, clock, subscribed, out)
+            let met = put_on(rt, alloc, chair, all, &hall, clock, subscribed, out);
+            drop(hall);
+            met
         }
         Err(refusal) => {
             drop(inquiry);
@@ -135,25 +179,6 @@ fn subscribe_among<R: Wait, T: Registrar, J: Naming, K: Wait + Copy + Drop>(
             Err(refusal)
         }
     }
-}
-
-/// Subscribes under the lock of the session's subscriptions: a root that is still in the table takes the subscription along when it
-/// goes.
-fn subscribe_under_lock<R: Wait, T: Registrar, J: Naming, K: Wait + Copy + Drop>(
-    rt: &R,
-    alloc: Global,
-    shared: &Shared<T, J, K>,
-    chair: &Chair<J>,
-    root: RootPath,
-    name: SubscriptionName,
-    inquiry: Inquiry,
-    out: &mut Vec<u8>,
-) -> Result<(), Refusal> {
-    let mut all = chair.subscriptions.lock(rt);
-    let met = subscribe_among(rt, alloc, shared, chair, &mut all, root, name, inquiry, out);
-    chair.recount(all.as_slice().len());
-    drop(all);
-    met
 }
 
 /// Subscribes to a root under a name, in place of a subscription of that root and name, and appends the reply. `NotWatched`,
@@ -169,11 +194,33 @@ pub fn subscribe<R: Wait, T: Registrar, J: Naming, K: Wait + Copy + Drop>(
     inquiry: Inquiry,
     out: &mut Vec<u8>,
 ) -> Result<(), Refusal> {
-    let met = subscribe_under_lock(rt, alloc, shared, chair, root, name, inquiry, out);
+    let mut all = chair.subscriptions.lock(rt);
+    drop_ended(rt, shared, &mut all);
+    let met = subscribe_among(rt, alloc, shared, chair, &mut all, root, name, inquiry, out);
+    drop(all);
     if met.is_ok() {
-        chair.ring(rt);
+        chair.bell.ring(rt);
     }
     met
+}
+
+/// Takes a subscription out, and appends the reply. The root wakes the session no longer if it was the last one on it.
+fn take_out<R: Wait, J: Naming, K: Wait + Drop>(
+    rt: &R,
+    alloc: Global,
+    chair: &Chair<J>,
+    all: &mut SubscribedRoots,
+    hall: &RootHall<J, K>,
+    name: &SubscriptionName,
+    out: &mut Vec<u8>,
+) -> Result<(), Refusal> {
+    let is_there = all.all.holds(&hall.path, name);
+    reply::put_unsubscribe(alloc, is_there, name, out)?;
+    all.all.remove(&hall.path, name);
+    if all.forget(&hall.path) {
+        hall.subscribe(rt, chair.slot, false);
+    }
+    Ok(())
 }
 
 /// Ends the subscription of a watched root and a name, where there is one, and appends the reply. `NotWatched`, and `NoMemory`:
@@ -187,14 +234,11 @@ pub fn unsubscribe<R: Wait, T: Registrar, J: Naming, K: Wait + Copy + Drop>(
     name: &SubscriptionName,
     out: &mut Vec<u8>,
 ) -> Result<(), Refusal> {
-    drop(shared.hall(rt, root)?);
+    let hall = shared.hall(rt, alloc, root)?;
     let mut all = chair.subscriptions.lock(rt);
-    let is_there = all.holds(root, name);
-    let told = reply::put_unsubscribe(alloc, is_there, name, out);
-    if told.is_ok() {
-        all.remove(root, name);
-        chair.recount(all.as_slice().len());
-    }
+    drop_ended(rt, shared, &mut all);
+    let met = take_out(rt, alloc, chair, &mut all, &hall, name, out);
     drop(all);
-    Ok(told?)
+    drop(hall);
+    met
 }

@@ -1,6 +1,7 @@
 //! Tells the subscriptions of a session.
 //! Tests: serve_tests/src/sessions.rt.
 use crate::chair::Chair;
+use crate::ended_roots::{drop_ended, drop_ended_viewers};
 use crate::registrar::Registrar;
 use crate::shared::Shared;
 use std::alloc::Global;
@@ -54,13 +55,14 @@ fn tell_one<R: Wait, T: Registrar, J: Naming, K: Wait + Copy + Drop>(
     subscribed: &Subscribed<Expression>,
     out: &mut Vec<u8>,
 ) -> Result<Option<ClockId>, Refusal> {
-    let hall = shared.hall(rt, &subscribed.root)?;
+    let hall = shared.hall(rt, alloc, &subscribed.root)?;
     let told = tell_of(rt, alloc, &hall, viewers, subscribed, out);
     drop(hall);
     told
 }
 
-/// Appends the lines that are due, in the order of subscribing. One that is refused is tried again with the next change.
+/// Drops what the session has of roots that aren't watched any longer, and appends the lines that are due, in the order of
+/// subscribing. One that is refused is tried again with the next change.
 fn tell_all<R: Wait, T: Registrar, J: Naming, K: Wait + Copy + Drop>(
     rt: &R,
     alloc: Global,
@@ -68,9 +70,11 @@ fn tell_all<R: Wait, T: Registrar, J: Naming, K: Wait + Copy + Drop>(
     chair: &Chair<J>,
     out: &mut Vec<u8>,
 ) {
-    let mut all = chair.subscriptions.lock(rt);
-    let all = &mut *all;
+    let mut subscribed = chair.subscriptions.lock(rt);
+    drop_ended(rt, shared, &mut subscribed);
+    let all = &mut subscribed.all;
     let mut viewers = chair.viewers.lock(rt);
+    drop_ended_viewers(rt, shared, &mut viewers);
     for place in 0..all.as_slice().len() {
         if place >= all.as_slice().len() {
             return;

@@ -1,35 +1,34 @@
-//! Runs the triggers of a root.
-//! Tests: serve_tests/src/sessions.rt.
-use std::alloc::Global;
-use std::mem;
-use std::sync::Wait;
-use wm_disk::Refusal;
-use wm_hall::RootHall;
-use wm_registry::Trigger;
-use wm_share::{Naming, Viewer};
-use wm_triggers::{Programs, Run, TriggerRun};
+//! Runs the triggers of a root: which of them stand, which run is due, and that none is started once it was deleted, is decided
+//! by the machines of wm_triggers.
+//! Tests: serve_tests/src/triggers.rt.
+ghost use Rattle.std.specs.Prelude.{◌<◌, length};
+ghost use Rattle.wm_share.specs.PublishedLists.{Begins};
 
-/// A trigger and its runs.
+use std::alloc::Global;
+use std::sync::Wait;
+use wm_disk::{NoMemory, Refusal};
+use wm_hall::RootHall;
+use wm_share::{Naming, Viewer};
+use wm_triggers::{DefinedTrigger, DefinitionRuns, Permit, Programs, Run, TriggerRun, TriggerRuns};
+
+/// The permit to start a definition of a trigger, which the root gives while the definition stands.
 #[derive(Drop)]
-struct Kept {
-    trigger: Trigger,
-    runs: TriggerRun,
+struct StandingPermit<'a, R: Wait, J: Naming, K: Wait + Drop> {
+    rt: &'a R,
+    hall: &'a RootHall<J, K>,
+    one: DefinedTrigger,
 }
 
-/// The runs of a trigger: those that were kept, or none yet.
-fn runs_of(alloc: Global, trigger: &Trigger, kept: &mut Vec<Kept>) -> Result<Kept, Refusal> {
-    let mut place = None;
-    for (i, old) in kept.iter().enumerate() {
-        if old.trigger.is_same(trigger) {
-            place = Some(i);
+impl<R: Wait, J: Naming, K: Wait + Drop> Permit for StandingPermit<'_, R, J, K> {
+    fn begin(&self) -> bool {
+        match self.one.copy() {
+            Ok(one) => self.hall.begin_start(self.rt, one),
+            Err(NoMemory) => false,
         }
     }
-    match place {
-        Some(i) if i < kept.len() => Ok(kept.swap_remove(i)),
-        _ => Ok(Kept {
-            trigger: trigger.copy()?,
-            runs: TriggerRun::new(alloc, trigger)?,
-        }),
+
+    fn end(&self) {
+        self.hall.end_start(self.rt);
     }
 }
 
@@ -38,62 +37,80 @@ fn due_run<J: Naming>(
     alloc: Global,
     viewer: &mut Viewer<J>,
     runs: &TriggerRun,
-) -> Result<Option<Run>, Refusal> {
+) -> Result<Option<Run>, Refusal>
+    ensures { Begins viewer.old.list viewer.new.list }
+{
     let query = runs.ask(alloc)?;
     let answer = viewer.answer(alloc, &query);
     drop(query);
     Ok(runs.run_of(answer?))
 }
 
-/// Runs a trigger if it is due.
-fn run_one<J: Naming, K: Wait + Drop, P: Programs>(
+/// Starts the program of a run that is due, and waits for its end: whether it was started.
+fn start<R: Wait, J: Naming, K: Wait + Drop, P: Programs>(
+    rt: &R,
+    alloc: Global,
+    hall: &RootHall<J, K>,
+    programs: &P,
+    one: &DefinitionRuns,
+    run: &Run,
+) -> bool {
+    let Ok(definition) = one.definition() else {
+        return false;
+    };
+    let permit = StandingPermit {
+        rt,
+        hall,
+        one: definition,
+    };
+    programs
+        .run(alloc, &hall.path, one.trigger(), run, permit)
+        .is_ok()
+}
+
+/// Runs the trigger at a place if it is due.
+fn run_at<R: Wait, J: Naming, K: Wait + Drop, P: Programs>(
+    rt: &R,
     alloc: Global,
     hall: &RootHall<J, K>,
     viewer: &mut Viewer<J>,
     programs: &P,
-    kept: &mut Kept,
-) -> Result<(), Refusal> {
-    let Some(run) = due_run(alloc, viewer, &kept.runs)? else {
+    runs: &mut TriggerRuns,
+    place: usize,
+) -> Result<(), Refusal>
+    requires { place < length runs.old }
+{
+    let one = runs.at(place);
+    let Some(run) = due_run(alloc, viewer, one.runs())? else {
         return Ok(());
     };
-    match programs.run(alloc, &hall.path, &kept.trigger, &run) {
-        Ok(()) => kept.runs.started(&run),
-        Err(_) => kept.runs.failed_to_start(),
+    if start(rt, alloc, hall, programs, one, &run) {
+        runs.started(place, &run);
     }
     drop(run);
     Ok(())
 }
 
-/// Runs a trigger if it is due, and keeps its runs.
-fn run_and_keep<J: Naming, K: Wait + Drop, P: Programs>(
-    alloc: Global,
-    hall: &RootHall<J, K>,
-    viewer: &mut Viewer<J>,
-    programs: &P,
-    mut one: Kept,
-    now: &mut Vec<Kept>,
-) -> Result<(), Refusal> {
-    let _run = run_one(alloc, hall, viewer, programs, &mut one);
-    now.push(one)?;
-    Ok(())
-}
-
-/// Runs the triggers once, those that are due. Whose runs find no memory begins anew with the next change.
+/// Runs each trigger once that is due. One whose run finds no memory is tried again with the next change.
 fn run_all<R: Wait, J: Naming, K: Wait + Drop, P: Programs>(
     rt: &R,
     alloc: Global,
     hall: &RootHall<J, K>,
     viewer: &mut Viewer<J>,
     programs: &P,
-    kept: &mut Vec<Kept>,
-) -> Result<Vec<Kept>, Refusal> {
-    let mut now = Vec::new(alloc);
-    for trigger in hall.triggers(rt, alloc)? {
-        let one = runs_of(alloc, &trigger, kept);
-        drop(trigger);
-        run_and_keep(alloc, hall, viewer, programs, one?, &mut now)?;
+    runs: &mut TriggerRuns,
+) -> Result<(), Refusal> {
+    let defined = hall.defined(rt, alloc)?;
+    let kept = runs.keep(alloc, &defined);
+    drop(defined);
+    kept?;
+    for place in 0..runs.len() {
+        if place >= runs.len() {
+            return Ok(());
+        }
+        let _run = run_at(rt, alloc, hall, viewer, programs, runs, place);
     }
-    Ok(now)
+    Ok(())
 }
 
 /// Runs the triggers with each change, until the root isn't watched any longer. Without a viewer it runs none.
@@ -103,7 +120,7 @@ fn follow<R: Wait, J: Naming, K: Wait + Drop, P: Programs>(
     hall: &RootHall<J, K>,
     viewer: &mut Option<Viewer<J>>,
     programs: &P,
-    kept: &mut Vec<Kept>,
+    runs: &mut TriggerRuns,
 ) {
     let mut seen = 0;
     for _ in rt.forever() {
@@ -115,9 +132,7 @@ fn follow<R: Wait, J: Naming, K: Wait + Drop, P: Programs>(
             continue;
         };
         hall.teach(rt, viewer);
-        if let Ok(now) = run_all(rt, alloc, hall, viewer, programs, kept) {
-            drop(mem::replace(kept, now));
-        }
+        let _round = run_all(rt, alloc, hall, viewer, programs, runs);
     }
 }
 
@@ -129,8 +144,8 @@ pub fn trigger_for<R: Wait, J: Naming, K: Wait + Drop, P: Programs>(
     programs: &P,
 ) {
     let mut viewer = hall.lend(rt).ok();
-    let mut kept = Vec::new(alloc);
-    follow(rt, alloc, hall, &mut viewer, programs, &mut kept);
-    drop(kept);
+    let mut runs = TriggerRuns::new(alloc);
+    follow(rt, alloc, hall, &mut viewer, programs, &mut runs);
+    drop(runs);
     drop(viewer);
 }

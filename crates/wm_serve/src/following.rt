@@ -1,0 +1,227 @@
+//! How the watched roots follow the accepted commands, each in its turn.
+//!
+//! The desk numbers the accepted commands. The thread of the session that a command came from has the roots follow it before
+//! it replies, once they have followed all earlier ones. So the table of roots is always that of the registry after some number
+//! of commands, and a session that has seen more commands than that waits until the table has followed them.
+//!
+//! Tests: serve_tests/src/sessions.rt.
+ghost use Rattle.std.specs.Prelude.{◌≡◌, ◌<◌, ◌+◌, max, nat_lt};
+
+use crate::registrar::Registrar;
+use crate::root_table::Found;
+use crate::shared::Shared;
+use std::alloc::Global;
+use std::sync::{Arc, Wait};
+use wm_disk::Refusal;
+use wm_hall::RootHall;
+use wm_names::RootPath;
+use wm_registry::{Command, Trigger};
+use wm_share::Naming;
+
+/// How far the roots have followed.
+#[derive(Drop)]
+pub struct Following {
+    incarnation: u64,
+    /// How many accepted commands were followed.
+    count: u64,
+    /// The number of the next root that is watched.
+    next_root: u64,
+}
+
+impl Following {
+    /// Nothing is followed yet.
+    pub fn new() -> Following
+        ensures { (result.count ≡ 0) × (result.next_root ≡ 1) }
+    {
+        Following {
+            incarnation: 0,
+            count: 0,
+            next_root: 1,
+        }
+    }
+
+    /// The roots stand as in a registry.
+    pub fn begin(&mut self, incarnation: u64, next_root: u64, count: u64)
+        ensures { (self.new.incarnation ≡ incarnation) × (self.new.next_root ≡ next_root) × (self.new.count ≡ count) }
+    {
+        self.incarnation = incarnation;
+        self.next_root = next_root;
+        self.count = count;
+    }
+
+    /// Whether an earlier command is still to be followed before the one of this number.
+    fn is_before(&self, number: u64) -> bool
+        ensures { result ≡ nat_lt (self.now.count + 1) number }
+    {
+        number > 0 && self.count < number - 1
+    }
+
+    /// The command of this number was followed.
+    fn followed(&mut self, number: u64)
+        ensures { (self.new.count ≡ max self.old.count number) × (self.new.next_root ≡ self.old.next_root) }
+    {
+        if self.count < number {
+            self.count = number;
+        }
+    }
+
+    /// The number of a root that is watched now: no other root has it.
+    fn take_number(&mut self) -> u64
+        requires { self.old.next_root < 18446744073709551615 }
+        ensures { (result ≡ self.old.next_root) × (self.new.next_root ≡ self.old.next_root + 1) × (self.new.count ≡ self.old.count) }
+    {
+        let number = self.next_root;
+        self.next_root = number + 1;
+        number
+    }
+}
+
+impl<T: Registrar, J: Naming, K: Wait + Copy + Drop> Shared<T, J, K> {
+    /// Has the roots follow the accepted command of this number, once they have followed all earlier ones. No trigger that it
+    /// deleted or replaced, or whose root it ended, is started after that.
+    pub fn follow<R: Wait>(&self, rt: &R, alloc: Global, number: u64, command: Command) {
+        let mut following = self.followed.wait_while(
+            rt,
+            self.following.lock(rt),
+            |following| following.is_before(number),
+        );
+        let changed = self.apply(rt, alloc, &mut following, number, command);
+        following.followed(number);
+        drop(following);
+        self.followed.notify_all();
+        if let Some(hall) = changed {
+            hall.await_starts(rt);
+            drop(hall);
+        }
+    }
+
+    /// Waits until the roots have followed so many commands.
+    pub fn await_followed<R: Wait>(&self, rt: &R, count: u64) {
+        let following = self.followed.wait_while(
+            rt,
+            self.following.lock(rt),
+            |following| following.count < count,
+        );
+        drop(following);
+    }
+
+    /// Does to the roots what a command did to the registry. The hall comes back whose triggers changed, or which has ended.
+    fn apply<R: Wait>(
+        &self,
+        rt: &R,
+        alloc: Global,
+        following: &mut Following,
+        number: u64,
+        command: Command,
+    ) -> Option<Arc<RootHall<J, K>>> {
+        match command {
+            Command::Begin => None,
+            Command::Watch(path) => {
+                self.watch(rt, alloc, following, path);
+                None
+            }
+            Command::WatchDel(path) => self.unwatch(rt, &path),
+            Command::Trigger(path, trigger) => self.define(rt, &path, number, trigger),
+            Command::TriggerDel(path, name) => {
+                let hall = self.known_hall(rt, &path)?;
+                hall.delete(rt, name.as_str());
+                Some(hall)
+            }
+        }
+    }
+
+    /// The hall of a root, if there is one.
+    fn known_hall<R: Wait>(&self, rt: &R, path: &RootPath) -> Option<Arc<RootHall<J, K>>> {
+        let found = self.roots.lock(rt).find(path);
+        match found {
+            Ok(Found::Hall(hall)) => Some(hall),
+            Ok(Found::Missing(_)) | Ok(Found::NotWatched) | Err(_) => None,
+        }
+    }
+
+    /// Adds a root. Without memory for its hall it is watched without one.
+    fn watch<R: Wait>(&self, rt: &R, alloc: Global, following: &mut Following, path: RootPath) {
+        if following.next_root == u64::MAX {
+            drop(path);
+            return;
+        }
+        let number = following.take_number();
+        let hall = self.new_hall(rt, alloc, &path, following.incarnation, number);
+        self.put(rt, path, number, hall.ok());
+    }
+
+    /// Takes a root out. Its workers end, and each session drops what it has of it.
+    fn unwatch<R: Wait>(&self, rt: &R, path: &RootPath) -> Option<Arc<RootHall<J, K>>> {
+        let taken = self.roots.lock(rt).take(path);
+        let hall = taken?;
+        hall.end(rt);
+        self.ring_all(rt);
+        Some(hall)
+    }
+
+    /// Defines a trigger of a root. A root without a hall gets its triggers with it.
+    fn define<R: Wait>(
+        &self,
+        rt: &R,
+        path: &RootPath,
+        number: u64,
+        trigger: Trigger,
+    ) -> Option<Arc<RootHall<J, K>>> {
+        match self.known_hall(rt, path) {
+            Some(hall) => {
+                let _defined = hall.define(rt, number, trigger);
+                Some(hall)
+            }
+            None => {
+                drop(trigger);
+                None
+            }
+        }
+    }
+
+    /// Makes the hall of a root for which memory had run out. No command is followed meanwhile. `NotWatched` if the root isn't
+    /// watched any longer, and `NoMemory`.
+    pub fn make_up<R: Wait>(
+        &self,
+        rt: &R,
+        alloc: Global,
+        path: &RootPath,
+        number: u64,
+    ) -> Result<Arc<RootHall<J, K>>, Refusal> {
+        let following = self.following.lock(rt);
+        let found = self.roots.lock(rt).find(path);
+        let made = match found? {
+            Found::Hall(hall) => Ok(hall),
+            Found::Missing(_) => self.make(rt, alloc, &following, path, number),
+            Found::NotWatched => Err(Refusal::NotWatched),
+        };
+        drop(following);
+        made
+    }
+
+    fn make<R: Wait>(
+        &self,
+        rt: &R,
+        alloc: Global,
+        following: &Following,
+        path: &RootPath,
+        number: u64,
+    ) -> Result<Arc<RootHall<J, K>>, Refusal> {
+        let (registry, _) = self.desk.registry(rt)?;
+        let Some(root) = registry.roots().get(path) else {
+            return Err(Refusal::NotWatched);
+        };
+        if root.number != number {
+            return Err(Refusal::NotWatched);
+        }
+        let hall = self.new_hall(rt, alloc, path, following.incarnation, number)?;
+        for trigger in root.triggers.as_slice() {
+            hall.define(rt, following.count, trigger.copy()?)?;
+        }
+        let Ok(other) = Arc::try_clone(&hall) else {
+            return Err(Refusal::NoMemory);
+        };
+        self.fill(rt, path, number, other)?;
+        Ok(hall)
+    }
+}
