@@ -1,7 +1,7 @@
 //! Crawls of a server, and what happens while they run.
 use crate::checks::check;
 use crate::client::{Client, TRIES, ask_of};
-use crate::places::{Place, path_of};
+use crate::places::{Place, path_of, sh};
 use std::process::Abort;
 use std::sync::atomic::{AtomicBool, AtomicU64, Ordering};
 use std::time::Duration;
@@ -107,6 +107,84 @@ fn operation_in_crawl(rt: HostRuntime) {
     check!(rt; served.is_ok());
     check!(rt; !gate.gave_up.load(Ordering::SeqCst));
     check!(rt; told.contains("\"files\":[\"new\",\"a\",\"d\",\"d/b\"]"));
+}
+
+/// Observes what a path has, or that it isn't there, and gives the reply.
+fn observe_as(
+    rt: &HostRuntime,
+    host: &impl Abort,
+    client: &mut Client,
+    root: &str,
+    pair: &str,
+) -> String {
+    let line = format!(in rt.alloc(); "[\"observe\",\"{root}\",[{pair}]]").expect(host, "memory");
+    client.ask(line.as_str()).expect(host, "a reply")
+}
+
+const KEPT: &str = "[\"a\",{\"mtime_ms\":0,\"size\":1,\"type\":\"f\"}]";
+
+/// While a crawl is held that has read the root's top, `a` comes back and is observed as it was, and `short` is observed as gone.
+/// Tells the clocks of both observations, and what is there after the crawl.
+fn observe_what_was_misread(
+    rt: &HostRuntime,
+    host: &impl Abort,
+    place: &Place,
+    gate: &Held,
+    client: &mut Client,
+    other: &mut Client,
+) -> (String, String, String) {
+    let root = place.root.as_str();
+    ask_of(host, client, "watch", root);
+    names(rt, host, client, root);
+    let before = observe_as(rt, host, client, root, KEPT);
+    check!(host; sh(rt, host, "mv serve_misread/a serve_misread.away && : > serve_misread/short"));
+    let line = format!(in rt.alloc(); "[\"recrawl\",\"{root}\"]").expect(host, "memory");
+    other.send(line.as_str()).expect(host, "a request");
+    await_held(rt, gate);
+    check!(host; sh(rt, host, "mv serve_misread.away serve_misread/a && rm serve_misread/short"));
+    observe_as(rt, host, client, root, KEPT);
+    let after = observe_as(rt, host, client, root, "[\"short\",null]");
+    gate.is_open.store(true, Ordering::SeqCst);
+    other.line().expect(host, "a reply");
+    (before, after, names(rt, host, client, root))
+}
+
+fn misread(
+    rt: &HostRuntime,
+    host: &impl Abort,
+    place: &Place,
+    gate: &Held,
+) -> (String, String, String) {
+    let mut client = Client::connect(rt, host, place.socket.as_str());
+    let mut other = Client::connect(rt, host, place.socket.as_str());
+    let told = observe_what_was_misread(rt, host, place, gate, &mut client, &mut other);
+    drop(other);
+    drop(client);
+    told
+}
+
+/// A crawl doesn't undo what was observed while it read, though the observations changed nothing.
+#[test]
+fn unchanged_observation_in_crawl(rt: HostRuntime) {
+    let alloc = rt.alloc();
+    let place = Place::new(&rt, &rt, "serve_misread");
+    let gate = Held {
+        passed: AtomicU64::new(0),
+        is_open: AtomicBool::new(false),
+        gave_up: AtomicBool::new(false),
+    };
+    let (served, told) = thread::join(
+        &rt,
+        || place.serve(&rt, alloc, &gate, 2),
+        || misread(&rt, &rt, &place, &gate),
+    );
+    drop(place);
+    let (before, after, names) = told;
+    check!(rt; served.is_ok());
+    check!(rt; !gate.gave_up.load(Ordering::SeqCst));
+    check!(rt; before.as_str() == "{\"clock\":\"c:1:1:2\",\"version\":\"w1\"}", before);
+    check!(rt; after.as_str() == "{\"clock\":\"c:1:1:2\",\"version\":\"w1\"}", after);
+    check!(rt; names.contains("\"files\":[\"a\",\"d\",\"d/b\"]"), names);
 }
 
 /// Makes a trigger that writes into a file what it is given.

@@ -9,6 +9,8 @@ mod checks;
 #[cfg(test)]
 mod client;
 #[cfg(test)]
+mod contradictions;
+#[cfg(test)]
 mod crawls;
 #[cfg(test)]
 mod feeds;
@@ -24,6 +26,8 @@ mod restarts;
 mod sessions;
 #[cfg(test)]
 mod sockets;
+#[cfg(test)]
+mod triggers;
 #[cfg(test)]
 mod wmctl;
 #[cfg(test)]

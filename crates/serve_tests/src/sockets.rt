@@ -86,3 +86,31 @@ fn refused_sockets(rt: HostRuntime) {
     check!(rt; is_refused(&rt, alloc, &place));
     drop(place);
 }
+
+/// Has another socket stand at the path before the only session ends, and tells whether the session was answered.
+fn replace_socket(rt: &HostRuntime, host: &impl Abort, place: &Place) -> bool {
+    let socket = place.socket.as_str();
+    let mut client = Client::connect(rt, host, socket);
+    let answered = client.ask("[\"version\"]").is_ok();
+    fs::remove_file(rt, socket).expect(host, "a socket");
+    let listener = UnixListener::bind(rt, socket).expect(host, "a listener");
+    drop(client);
+    drop(listener);
+    answered
+}
+
+/// A server that ends leaves the socket of another one that stands at its path by then.
+#[test]
+fn socket_of_another_server_stays(rt: HostRuntime) {
+    let alloc = rt.alloc();
+    let place = Place::new(&rt, &rt, "serve_other");
+    let (served, answered) = thread::join(
+        &rt,
+        || place.serve(&rt, alloc, &Open, 1),
+        || replace_socket(&rt, &rt, &place),
+    );
+    check!(rt; served.is_ok());
+    check!(rt; answered);
+    check!(rt; fs::metadata(&rt, place.socket.as_str()).is_ok());
+    drop(place);
+}
