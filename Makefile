@@ -1,4 +1,4 @@
-# `make test` is the gate: every proof from nothing, the edits that must be refused, the tests, the programs, each growth of memory refused in three sessions.
+# `make test` is the gate: every proof from nothing, the edits that must be refused, the tests, the programs, each growth of memory refused in three sessions, quick use.
 # `make run` serves ./watchmand.socket over ./watchmand.state, which it makes where it isn't there.
 PREFIX ?= $(HOME)/.local
 STATE ?= watchmand.state
@@ -21,7 +21,7 @@ SOURCES := crates.txt $(shell find crates -name out -prune -o -type f \( -name '
 
 help:
 	@echo "make test          the whole gate: each proof from nothing, edits that must be refused, tests, programs, and each growth of"
-	@echo "                   memory refused in three sessions (rt, python3, cc; some two hours on two processors)"
+	@echo "                   memory refused in three sessions, and quick-use (rt, python3, cc; some two hours on two processors)"
 	@echo "make lint          what the gate doesn't see: no definition's name in the specs of two crates, and no use of another crate's proofs/ (sh, awk; at once)"
 	@echo "make build         builds watchmand (rt; some 45 minutes the first time, since it proves it)"
 	@echo "make run           serves SOCKET=$(SOCKET) over STATE=$(STATE), which it makes where it isn't there, and tells what to try next"

@@ -1,6 +1,6 @@
 #!/bin/sh
-# The gate: `rt ci`, then the sweep of growths of memory over the program that it proved and built. It tells at its end what both took of the processors.
-# The last line is that of `rt ci`, and the status is 0 where both are well. Three checks at once, each by one job: beside three others a check
+# The gate: `rt ci`, then the sweep of growths of memory and the quick part of rough use over the programs that it proved and built. It prints at its end what all took of the processors.
+# The last line is that of `rt ci`, and the status is 0 if all are well. Three checks at once, each by one job: beside three others a check
 # takes nearly twice the processor where two processors share a core, so four at once end no sooner.
 # usage: tools/gate.sh
 set -eu
@@ -26,7 +26,10 @@ trap 'rm -rf "$room"' EXIT
   echo "$status" > "$room/status"
 } | tee "$room/told"
 status=$(cat "$room/status")
-if [ "$status" = 0 ]; then tools/growths.py crates/watchmand/out/watchmand || status=1; fi
+if [ "$status" = 0 ]; then
+  tools/growths.py crates/watchmand/out/watchmand || status=1
+  tools/quick.py crates/watchmand/out/watchmand crates/wmctl/out/wmctl crates/wmfeed/out/wmfeed || status=1
+fi
 times > "$room/times"
 tr 'ms' '  ' < "$room/times" | awk 'NR == 2 { printf "gate: %d processor minutes\n", $1 + $3 + ($2 + $4) / 60 + 0.5 }'
 tail -n 1 "$room/told"

@@ -112,6 +112,7 @@ class Session:
             self.socket.connect(self.path)
         self.socket.settimeout(20)
         self.lines = self.socket.makefile("rb")
+        self.is_new, self.is_turned_away = True, False
 
     def refused(self, by):
         self.refusals += 1
@@ -138,15 +139,21 @@ class Session:
             except (BrokenPipeError, ConnectionResetError):
                 reply = b""
             if reply == REFUSED:
+                # one for which there was no memory when it came is closed behind this line
+                self.is_turned_away = self.is_new
                 self.refused(reply)
                 if isinstance(request, Once):
                     return reply
+            elif reply == b"" and self.is_turned_away:
+                self.connect()
+                continue
             elif reply == TOO_MANY or reply == b"" and self.path:
                 self.refused(reply)
                 self.connect()
             elif reply == b"":
                 self.is_ended()
             else:
+                self.is_new = False
                 return reply
 
     def met(self, request):

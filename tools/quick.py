@@ -1,8 +1,8 @@
 #!/usr/bin/env python3
 """The quick part of what tries the built programs: tools/quick.py WATCHMAND WMCTL WMFEED
 
-It runs what rough use of a server has found wrong (quick_use.py), the quick cases of rough_use.py, 40 kills, the state file's calls that fail, and
-the quick cases of a feed, if inotifywait is there; a failing call wants strace. It prints how long each took; the status is 1 if one of them fails. Some
+It runs what rough use of a server has found wrong (quick_use.py), the quick cases of rough_use.py, 40 kills, the state file's calls that fail, if
+strace is there, and the quick cases of a feed, if inotifywait is there. It prints how long each took; the status is 1 if one of them fails twice. Some
 three minutes on two processors."""
 import os, shutil, subprocess, sys, time
 
@@ -14,7 +14,11 @@ FEED = ["--rounds", "3", "--seed", "1", "random_changes", "changes_by_many", "en
 
 def parts(watchmand, wmctl, wmfeed):
     """What is run: the words of each."""
-    found = [["quick_use.py", watchmand, wmctl, wmfeed], ["rough_use.py", watchmand, *ROUGH], ["kill_loop.py", watchmand, "40"], ["faults.py", watchmand]]
+    found = [["quick_use.py", watchmand, wmctl, wmfeed], ["rough_use.py", watchmand, *ROUGH], ["kill_loop.py", watchmand, "40"]]
+    if shutil.which("strace"):
+        found.append(["faults.py", watchmand])
+    else:
+        print("strace isn't installed: no call fails", flush=True)
     if shutil.which("inotifywait"):
         found.append(["feed_use.py", watchmand, wmctl, wmfeed, *FEED])
     else:
@@ -32,7 +36,8 @@ def is_well(words):
 def main():
     if len(sys.argv) != 4:
         sys.exit(__doc__)
-    wrong = [words[0] for words in parts(*map(os.path.abspath, sys.argv[1:])) if not is_well(words)]
+    # what looks at time may fail on a machine that is busy for a moment: a part that fails is run once more
+    wrong = [words[0] for words in parts(*map(os.path.abspath, sys.argv[1:])) if not is_well(words) and not is_well(words)]
     print(f"quick use: {' '.join(wrong)} failed" if wrong else "quick use: all well")
     return 1 if wrong else 0
 
