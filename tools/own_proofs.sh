@@ -1,8 +1,7 @@
 #!/bin/sh
 # Lists each line in which a crate's file uses another crate's proofs/. What proofs above want of a crate is a clause of a
 # contract, or a law in its specs/. That a type may cross threads is the exception: Rattle writes that of each type into
-# proofs/ (TheSendSync; TheKnot of one that holds itself), and where it can't, it stands in proofs/Crossing.antt. `same_bytes` and `bytes_eq-flip` of
-# wm_registry, which wm_triggers uses since 28 November 2026, want to stand in its specs/. Ends with 1 where there is another line.
+# proofs/ (TheSendSync; TheKnot of one that holds itself), and where it can't, it stands in proofs/Crossing.antt. Ends with 1 where there is a line.
 # usage: tools/own_proofs.sh
 set -eu
 cd "$(dirname "$0")/.."
@@ -15,7 +14,7 @@ find crates/*/src crates/*/specs crates/*/proofs -type f \( -name '*.rt' -o -nam
   -exec grep -HnE "Rattle\.($crates)\.proofs\." {} + | awk -F: '
   {
     split($1, parts, "/")
-    if (index($0, "Rattle." parts[2] ".proofs.") == 0 && $0 !~ /\.proofs\.Crossing\.|\.TheSendSync as |\.TheLaws\.TheKnot as |^crates\/wm_triggers\/proofs\/[A-Za-z]*\.antt:[0-9]*:use Rattle\.wm_registry\.proofs\.Names\./) { print; found = 1 }
+    if (index($0, "Rattle." parts[2] ".proofs.") == 0 && $0 !~ /\.proofs\.Crossing\.|\.TheSendSync as |\.TheLaws\.TheKnot as /) { print; found = 1 }
   }
   END { exit found }
 '

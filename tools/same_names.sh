@@ -1,6 +1,6 @@
 #!/bin/sh
 # Lists each name that the specs of two crates define, with its files. A field of a record is no such name.
-# Ends with 1 where there is one, but for those of `known`, which came in together on 28 November 2026 and want new names.
+# Ends with 1 where there is one.
 # usage: tools/same_names.sh
 set -eu
 cd "$(dirname "$0")/.."
@@ -20,10 +20,7 @@ definitions() {
   ' {} +
 }
 
-known="Step are_apart faults_of goes_on state_of"
-
-definitions | LC_ALL=C sort -u | awk -v known=" $known " '
-  index(known, " " $1 " ") { next }
+definitions | LC_ALL=C sort -u | awk '
   {
     split($2, parts, "/")
     if ($1 != name) { tell(); name = $1; first = parts[2]; shared = 0; files = "" }

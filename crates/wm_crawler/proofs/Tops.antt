@@ -7,7 +7,7 @@ use Rattle.wm_names.specs.declared.subtree.Subtree.TheVariants.{Below}
 use Rattle.wm_names.specs.Entries.{join}
 use Rattle.wm_crawler.specs.Trees.{Content, Among, SomeFails}
 use Rattle.wm_view.specs.Files.{Files}
-use Rattle.wm_crawler.specs.Crawls.{IsCrawl, ListsBelow, folder_below, goes_on, has_top, leads_down, places_down}
+use Rattle.wm_crawler.specs.Crawls.{IsCrawl, ListsBelow, folder_below, through_folder, has_top, leads_down, places_down}
 
 -- the next of the names
 module _ {X : Type 0} (f : X → Path) (ns : List X) (i : ℕ) (d : X) (lt : i < length ns) where
@@ -20,13 +20,13 @@ module _ {X : Type 0} (f : X → Path) (ns : List X) (i : ℕ) (d : X) (lt : i <
   next_name : map f (drop i ns) ≡ name ∷ rest
   next_name = ap (map f) (drop_more ns i d lt)
 
-  first_step : (c : Content) (folder : Subtree) → leads_down c folder (map f (drop i ns)) ≡ goes_on (folder_below c folder name) (leads_down c (Below (join folder name)) rest)
+  first_step : (c : Content) (folder : Subtree) → leads_down c folder (map f (drop i ns)) ≡ through_folder (folder_below c folder name) (leads_down c (Below (join folder name)) rest)
   first_step c folder = ap (leads_down c folder) next_name
 
   pub leads_on : (c : Content) (all : Option Bool) (folder next : Subtree) → folder_below c folder (f (get_or ns i d)) ≡ Some (Some next) → next ≡ Below (join folder (f (get_or ns i d)))
       → all ≡ leads_down c folder (map f (drop i ns)) → all ≡ leads_down c next (map f (drop (i + 1) ns))
   leads_on c all folder next found is h =
-      h ∙ first_step c folder ∙ ap (λ o. goes_on o (leads_down c (Below (join folder name)) rest)) found ∙ ap (λ p. leads_down c p rest) (sym is)
+      h ∙ first_step c folder ∙ ap (λ o. through_folder o (leads_down c (Below (join folder name)) rest)) found ∙ ap (λ p. leads_down c p rest) (sym is)
 
   pub way_on : (way : List Subtree) (folder next : Subtree) → next ≡ Below (join folder (f (get_or ns i d)))
       → ((p : Subtree) → Among p (places_down folder (map f (drop i ns))) → Among p way) → (p : Subtree) → Among p (places_down next (map f (drop (i + 1) ns))) → Among p way

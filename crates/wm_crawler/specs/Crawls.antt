@@ -25,15 +25,15 @@ as_folder path (Some (Some meta)) = Some (cond (is_folder meta) (Some (Below pat
 abbrev pub folder_below : Content → Subtree → Path → Option (Option Subtree)
 folder_below c folder name = cond (is_fit folder name) (as_folder (join folder name) (c.meta (join folder name))) (Some None)
 
-abbrev pub goes_on : Option (Option Subtree) → Option Bool → Option Bool
-goes_on None rest = None
-goes_on (Some None) rest = Some false
-goes_on (Some (Some folder)) rest = rest
+abbrev pub through_folder : Option (Option Subtree) → Option Bool → Option Bool
+through_folder None rest = None
+through_folder (Some None) rest = Some false
+through_folder (Some (Some folder)) rest = rest
 
 -- whether each of the names is that of a folder in the folder before it
 abbrev pub leads_down : Content → Subtree → List Path → Option Bool
 leads_down c folder [] = Some true
-leads_down c folder (name ∷ names) = goes_on (folder_below c folder name) (leads_down c (Below (join folder name)) names)
+leads_down c folder (name ∷ names) = through_folder (folder_below c folder name) (leads_down c (Below (join folder name)) names)
 
 -- Whether the part has a top: the root, or a folder to which folders alone lead from the root, and no link. Nothing where it can't be told.
 abbrev pub has_top : Content → Subtree → Option Bool
@@ -109,8 +109,8 @@ is_top (Some b) = b
 is_top None = false
 
 -- those of a part: none, if it has no top
-abbrev pub faults_of : Content → Subtree → ℕ
-faults_of c top = cond (is_top (has_top c top)) (faults_below c top) 0
+abbrev pub crawl_faults : Content → Subtree → ℕ
+crawl_faults c top = cond (is_top (has_top c top)) (faults_below c top) 0
 
 -- the folder is the top, or stands below it
 abbrev pub IsEntered : Content → Subtree → Subtree → Type 0

@@ -2,7 +2,7 @@
 //! Definitions: specs/Crawls.antt, specs/Levels.antt. Tests: crawler_tests/src/crawls.rt.
 ghost use Rattle.std.specs.Prelude.{◌≡◌, ◌≢◌, ◌<◌, ◌≤◌, ◌∷◌, [], IfOk, IfErr};
 ghost use Rattle.wm_disk.specs.declared.refusal.Refusal.TheVariants.{DeviceFailed, NoMemory as no_memory};
-ghost use Rattle.wm_crawler.specs.Crawls.{AreReadable, FailsBelow, FailsIn, IsCrawl, IsReadable, ListsBelow, faults_below, faults_of, max_workers};
+ghost use Rattle.wm_crawler.specs.Crawls.{AreReadable, FailsBelow, FailsIn, IsCrawl, IsReadable, ListsBelow, faults_below, crawl_faults, max_workers};
 ghost use Rattle.wm_crawler.specs.Levels.{AreLevels, AreRead, AllIn, IsOneLevel};
 
 use crate::gate::Turnstile;
@@ -146,7 +146,7 @@ pub fn crawl<R: Threads + Sync, T: Tree + Sync, G: Turnstile + Sync>(
     requires { (1 ≤ workers) × (workers ≤ max_workers) }
     ensures part { IfOk result (λ c. c.listing.subtree ≡ subtree.now) }
     ensures files { IfOk result (λ c. T.stays tree.now → IsCrawl (T.content tree.now) subtree.now c.listing.files) }
-    ensures faults { IfOk result (λ c. T.stays tree.now → c.faults ≡ faults_of (T.content tree.now) subtree.now) }
+    ensures faults { IfOk result (λ c. T.stays tree.now → c.faults ≡ crawl_faults (T.content tree.now) subtree.now) }
     ensures whole { IfOk result (λ _. T.stays tree.now → IsReadable (T.content tree.now) subtree.now) }
     ensures refused { IfErr result (λ e. e ≢ no_memory → (e ≡ DeviceFailed) × FailsIn (T.may_fail tree.now) subtree.now) }
 {

@@ -6,7 +6,7 @@ use Rattle.wm_clock.specs.declared.clock_id.ClockId.{ClockId}
 use Rattle.wm_view.specs.HistoryLaws.{last_told}
 use Rattle.wm_view.specs.declared.op.Op.{Op}
 use Rattle.wm_view.specs.declared.op.Op.TheVariants.{Observe, Recrawl}
-use Rattle.wm_reading.specs.Overlays.{Noted, state_of}
+use Rattle.wm_reading.specs.Overlays.{Noted, overlaid_state}
 
 -- the tick of a clock; 0 where there is none, before the first whole listing
 abbrev pub tick_shown : Option ClockId → ℕ
@@ -26,7 +26,7 @@ pairs_in _ = None
 -- the pairs of an observation are noted in their order, unless one was left out; of another operation nothing is
 abbrev pub Notes : Option (List (Path × Option Meta)) → Noted → Noted → Type 0
 Notes None old new = new ≡ old
-Notes (Some pairs) old new = new.incomplete ≡ false → (old.incomplete ≡ false) × ((p : Path) (read : Option Meta) → state_of new p read ≡ last_told pairs p (state_of old p read))
+Notes (Some pairs) old new = new.incomplete ≡ false → (old.incomplete ≡ false) × ((p : Path) (read : Option Meta) → overlaid_state new p read ≡ last_told pairs p (overlaid_state old p read))
 
 -- what is noted, if a reading is under way
 abbrev pub NotesIf : Option (List (Path × Option Meta)) → Option Noted → Option Noted → Type 0

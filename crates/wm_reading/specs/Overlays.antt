@@ -21,9 +21,9 @@ abbrev pub max_observed : ℕ
 max_observed = 65536
 
 -- the state of a path at the end of the reading: what was observed last of it, and else what was read
-abbrev pub state_of : Noted → Path → Option Meta → Option Meta
-state_of n p read = unwrap_or (find path_cmp p n.states) read
+abbrev pub overlaid_state : Noted → Path → Option Meta → Option Meta
+overlaid_state n p read = unwrap_or (find path_cmp p n.states) read
 
 -- the listing of the same part has each path of it in its state at the end of the reading
 abbrev pub IsOverlaid : Noted → Found → Found → Type 0
-IsOverlaid n read result = (result.subtree ≡ read.subtree) × ((p : Path) → covers read.subtree p ≡ true → at result.files p ≡ state_of n p (at read.files p))
+IsOverlaid n read result = (result.subtree ≡ read.subtree) × ((p : Path) → covers read.subtree p ≡ true → at result.files p ≡ overlaid_state n p (at read.files p))

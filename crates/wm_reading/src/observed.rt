@@ -6,7 +6,7 @@ ghost use Rattle.std.specs.FinMap.{find};
 ghost use Rattle.wm_names.specs.Paths.{Path, path_cmp};
 ghost use Rattle.wm_names.specs.declared.entry.Meta.{Meta as Metadata};
 ghost use Rattle.wm_view.specs.HistoryLaws.{last_told};
-ghost use Rattle.wm_reading.specs.Overlays.{IsOverlaid, max_observed, state_of};
+ghost use Rattle.wm_reading.specs.Overlays.{IsOverlaid, max_observed, overlaid_state};
 
 use crate::overlay::overlay;
 use std::alloc::Global;
@@ -61,7 +61,7 @@ impl Observed {
     /// Notes what was observed; of several pairs of one path the last counts. It is incomplete from then on if more than
     /// [`MAX_OBSERVED`] paths were observed, or memory ran out.
     pub fn note(&mut self, alloc: Global, pairs: &Pairs)
-        ensures kept { self.new.incomplete ≡ false → (p : Path) (read : Option Metadata) → state_of self.new p read ≡ last_told pairs.now p (state_of self.old p read) }
+        ensures kept { self.new.incomplete ≡ false → (p : Path) (read : Option Metadata) → overlaid_state self.new p read ≡ last_told pairs.now p (overlaid_state self.old p read) }
         ensures complete { self.new.incomplete ≡ false → (self.old.incomplete ≡ false) × (length self.new.states ≤ max_observed) }
     {
         if self.is_incomplete {

@@ -2,9 +2,9 @@
 use Rattle.std.proofs.Common.{◌≡◌, Bool, true, false, not, ◌&&◌, ◌||◌, ◌==◌, cond, List, [], ◌∷◌, Option, Some, None, is_none, refl, sym, ap, ◌∙◌, true≢false}
 use Rattle.std.proofs.lemmas.Bool.{and_parts, and_right, eqb-true}
 use Rattle.std.specs.List.{list_any}
-use Rattle.wm_registry.proofs.Names.{same_bytes}
+use Rattle.std.proofs.lemmas.Slice.Eq.{bytes_eq-Decides}
 use Rattle.wm_triggers.specs.Definitions.{has_name, is_definition, stands, with_definition, without_definition}
-use Rattle.wm_triggers.specs.Tables.{DefinedMayStart, EndedIsGone, NeverStartedAgain, OthersStand, RemovedIsGone, ReplacedIsGone, Step, Table, after_step, after_steps, begins, defines, defines_again, ends, ends_root, is_starting, is_starting_in, may_begin, may_reply_of, may_start, removes, table_starting}
+use Rattle.wm_triggers.specs.Tables.{DefinedMayStart, EndedIsGone, NeverStartedAgain, OthersStand, RemovedIsGone, ReplacedIsGone, TableStep, Table, after_step, after_steps, begins, defines, defines_again, ends, ends_root, is_starting, is_starting_in, may_begin, may_reply_of, may_start, removes, table_starting}
 use Rattle.wm_triggers.specs.declared.defined_trigger.DefinedTrigger.{DefinedTrigger}
 use Rattle.wm_triggers.proofs.Naming.{any-with, any-without, defined-stands, other-with, other-without, removed-stands, replaced-stands}
 
@@ -12,7 +12,7 @@ use Rattle.wm_triggers.proofs.Naming.{any-with, any-without, defined-stands, oth
 alike : (d one : DefinedTrigger) (t : Table) → is_definition d.trigger.name d.number one ≡ true → may_start one t ≡ may_start d t
 alike d one t h =
     let both = and_parts (has_name d.trigger.name one) (one.number == d.number) h in
-    ap (λ n. not t.has_ended && stands n one.number t.defined) (sym (same_bytes d.trigger.name one.trigger.name both.0))
+    ap (λ n. not t.has_ended && stands n one.number t.defined) (sym ((bytes_eq-Decides d.trigger.name one.trigger.name).0 both.0))
     ∙ ap (λ k. not t.has_ended && stands d.trigger.name k t.defined) (eqb-true one.number d.number both.1)
 
 -- so what may be started isn't what may not
@@ -40,7 +40,7 @@ begun : (d one : DefinedTrigger) (t : Table) → IsGone d t → (b : Bool) → m
 begun d one t g true may = record { gone = g.gone; idle = other d one t g.gone (and_parts (is_none t.starting) (may_start one t) may).1 }
 begun d one t g false stays = g
 
-gone-step : (d : DefinedTrigger) (t : Table) (step : Step) → IsGone d t → defines_again d step ≡ false → IsGone d (after_step t step)
+gone-step : (d : DefinedTrigger) (t : Table) (step : TableStep) → IsGone d t → defines_again d step ≡ false → IsGone d (after_step t step)
 gone-step d t (defines new) g never = record {
   gone = and_of (not t.has_ended) (stands d.trigger.name d.number t.defined) (stands d.trigger.name d.number (with_definition new t.defined)) g.gone
       (λ h. any-with (is_definition d.trigger.name d.number) new t.defined h never);
@@ -59,7 +59,7 @@ neither : (a b : Bool) → (a || b) ≡ false → (a ≡ false) × (b ≡ false)
 neither true b e = absurd (true≢false e)
 neither false b e = (refl, e)
 
-gone-steps : (d : DefinedTrigger) (t : Table) (steps : List Step) → IsGone d t → list_any (defines_again d) steps ≡ false → IsGone d (after_steps t steps)
+gone-steps : (d : DefinedTrigger) (t : Table) (steps : List TableStep) → IsGone d t → list_any (defines_again d) steps ≡ false → IsGone d (after_steps t steps)
 gone-steps d t [] g never = g
 gone-steps d t (step ∷ steps) g never =
     let both = neither (defines_again d step) (list_any (defines_again d) steps) never in
@@ -76,7 +76,7 @@ removed_is_gone d t apart = and_right (not t.has_ended) (stands d.trigger.name d
 pub replaced_is_gone : ReplacedIsGone
 replaced_is_gone d new t apart same another =
     and_right (not t.has_ended) (stands d.trigger.name d.number (with_definition new t.defined))
-    (replaced-stands d.trigger.name d.number new t.defined apart (same_bytes new.trigger.name d.trigger.name same) another)
+    (replaced-stands d.trigger.name d.number new t.defined apart ((bytes_eq-Decides new.trigger.name d.trigger.name).0 same) another)
 
 pub ended_is_gone : EndedIsGone
 ended_is_gone d t = refl

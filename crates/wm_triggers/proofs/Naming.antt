@@ -6,8 +6,7 @@ use Rattle.std.proofs.lemmas.List.Quantifiers.{position-Some}
 use Rattle.std.proofs.lemmas.Slice.Eq.{bytes_eq-Decides}
 use Rattle.std.specs.List.{list_any, position_from, remove}
 use Rattle.std.specs.Str.{bytes_eq}
-use Rattle.wm_registry.proofs.Names.{bytes_eq-flip, same_bytes}
-use Rattle.wm_triggers.specs.Definitions.{are_apart, has_name, is_defined, is_definition, stands, with_definition, without_definition}
+use Rattle.wm_triggers.specs.Definitions.{names_are_apart, has_name, is_defined, is_definition, stands, with_definition, without_definition}
 use Rattle.wm_triggers.specs.declared.defined_trigger.DefinedTrigger.{DefinedTrigger}
 
 -- ---- the place of a name
@@ -121,38 +120,45 @@ any-without p name (x ∷ ds) h = by (any-without p name ds both.1) (has_name na
 
 -- ---- no name twice
 
+differs-flipped : (a b : List ℕ) → bytes_eq a b ≡ false → bytes_eq b a ≡ false
+differs-flipped a b miss = by (bytes_eq b a) refl
+  where
+    by : (c : Bool) → bytes_eq b a ≡ c → c ≡ false
+    by true same = absurd (true≢false (sym ((bytes_eq-Decides a b).1 (sym ((bytes_eq-Decides b a).0 same))) ∙ miss))
+    by false differs = refl
+
 is_false : (b : Bool) → not b ≡ true → b ≡ false
 is_false true h = absurd (true≢false (sym h))
 is_false false h = refl
 
 -- the first name isn't there again, and the others are apart
-pub apart-parts : (d : DefinedTrigger) (ds : List DefinedTrigger) → are_apart (d ∷ ds) ≡ true → (is_defined d.trigger.name ds ≡ false) × (are_apart ds ≡ true)
+pub apart-parts : (d : DefinedTrigger) (ds : List DefinedTrigger) → names_are_apart (d ∷ ds) ≡ true → (is_defined d.trigger.name ds ≡ false) × (names_are_apart ds ≡ true)
 apart-parts d ds h =
-    let both = and_parts (not (is_defined d.trigger.name ds)) (are_apart ds) h in
+    let both = and_parts (not (is_defined d.trigger.name ds)) (names_are_apart ds) h in
     (is_false (is_defined d.trigger.name ds) both.0, both.1)
 
-apart-from : (d : DefinedTrigger) (ds : List DefinedTrigger) → is_defined d.trigger.name ds ≡ false → are_apart ds ≡ true → are_apart (d ∷ ds) ≡ true
-apart-from d ds none rest = and_from (not (is_defined d.trigger.name ds)) (are_apart ds) (ap not none) rest
+apart-from : (d : DefinedTrigger) (ds : List DefinedTrigger) → is_defined d.trigger.name ds ≡ false → names_are_apart ds ≡ true → names_are_apart (d ∷ ds) ≡ true
+apart-from d ds none rest = and_from (not (is_defined d.trigger.name ds)) (names_are_apart ds) (ap not none) rest
 
-pub apart-with : (new : DefinedTrigger) (ds : List DefinedTrigger) → are_apart ds ≡ true → are_apart (with_definition new ds) ≡ true
+pub apart-with : (new : DefinedTrigger) (ds : List DefinedTrigger) → names_are_apart ds ≡ true → names_are_apart (with_definition new ds) ≡ true
 apart-with new [] h = refl
 apart-with new (x ∷ ds) h = by (apart-with new ds both.1) (has_name new.trigger.name x) refl
   where
-    both : (is_defined x.trigger.name ds ≡ false) × (are_apart ds ≡ true)
+    both : (is_defined x.trigger.name ds ≡ false) × (names_are_apart ds ≡ true)
     both = apart-parts x ds h
 
-    by : are_apart (with_definition new ds) ≡ true → (b : Bool) → has_name new.trigger.name x ≡ b → are_apart (cond b (new ∷ ds) (x ∷ with_definition new ds)) ≡ true
-    by rest true hit = apart-from new ds (ap (λ n. is_defined n ds) (same_bytes new.trigger.name x.trigger.name hit) ∙ both.0) both.1
-    by rest false miss = apart-from x (with_definition new ds) (any-with (has_name x.trigger.name) new ds both.0 (bytes_eq-flip new.trigger.name x.trigger.name miss)) rest
+    by : names_are_apart (with_definition new ds) ≡ true → (b : Bool) → has_name new.trigger.name x ≡ b → names_are_apart (cond b (new ∷ ds) (x ∷ with_definition new ds)) ≡ true
+    by rest true hit = apart-from new ds (ap (λ n. is_defined n ds) ((bytes_eq-Decides new.trigger.name x.trigger.name).0 hit) ∙ both.0) both.1
+    by rest false miss = apart-from x (with_definition new ds) (any-with (has_name x.trigger.name) new ds both.0 (differs-flipped new.trigger.name x.trigger.name miss)) rest
 
-pub apart-without : (name : List ℕ) (ds : List DefinedTrigger) → are_apart ds ≡ true → are_apart (without_definition name ds) ≡ true
+pub apart-without : (name : List ℕ) (ds : List DefinedTrigger) → names_are_apart ds ≡ true → names_are_apart (without_definition name ds) ≡ true
 apart-without name [] h = h
 apart-without name (x ∷ ds) h = by (apart-without name ds both.1) (has_name name x)
   where
-    both : (is_defined x.trigger.name ds ≡ false) × (are_apart ds ≡ true)
+    both : (is_defined x.trigger.name ds ≡ false) × (names_are_apart ds ≡ true)
     both = apart-parts x ds h
 
-    by : are_apart (without_definition name ds) ≡ true → (b : Bool) → are_apart (cond b ds (x ∷ without_definition name ds)) ≡ true
+    by : names_are_apart (without_definition name ds) ≡ true → (b : Bool) → names_are_apart (cond b ds (x ∷ without_definition name ds)) ≡ true
     by rest true = both.1
     by rest false = apart-from x (without_definition name ds) (any-without (has_name x.trigger.name) name ds both.0) rest
 
@@ -165,29 +171,29 @@ undefined-stands name number (x ∷ ds) h =
     let both = neither (has_name name x) (is_defined name ds) h in
     ap (λ b. (b && (x.number == number)) || stands name number ds) both.0 ∙ undefined-stands name number ds both.1
 
-pub removed-stands : (name : List ℕ) (number : ℕ) (ds : List DefinedTrigger) → are_apart ds ≡ true → stands name number (without_definition name ds) ≡ false
+pub removed-stands : (name : List ℕ) (number : ℕ) (ds : List DefinedTrigger) → names_are_apart ds ≡ true → stands name number (without_definition name ds) ≡ false
 removed-stands name number [] h = refl
 removed-stands name number (x ∷ ds) h = by (removed-stands name number ds both.1) (has_name name x) refl
   where
-    both : (is_defined x.trigger.name ds ≡ false) × (are_apart ds ≡ true)
+    both : (is_defined x.trigger.name ds ≡ false) × (names_are_apart ds ≡ true)
     both = apart-parts x ds h
 
     by : stands name number (without_definition name ds) ≡ false → (b : Bool) → has_name name x ≡ b → stands name number (cond b ds (x ∷ without_definition name ds)) ≡ false
-    by rest true hit = undefined-stands name number ds (ap (λ n. is_defined n ds) (same_bytes name x.trigger.name hit) ∙ both.0)
+    by rest true hit = undefined-stands name number ds (ap (λ n. is_defined n ds) ((bytes_eq-Decides name x.trigger.name).0 hit) ∙ both.0)
     by rest false miss = ap (λ b. (b && (x.number == number)) || stands name number (without_definition name ds)) miss ∙ rest
 
 -- one that has the name of the new one, and isn't it
-pub replaced-stands : (name : List ℕ) (number : ℕ) (new : DefinedTrigger) (ds : List DefinedTrigger) → are_apart ds ≡ true → new.trigger.name ≡ name → is_definition name number new ≡ false → stands name number (with_definition new ds) ≡ false
+pub replaced-stands : (name : List ℕ) (number : ℕ) (new : DefinedTrigger) (ds : List DefinedTrigger) → names_are_apart ds ≡ true → new.trigger.name ≡ name → is_definition name number new ≡ false → stands name number (with_definition new ds) ≡ false
 replaced-stands name number new [] h same other = ap (λ b. b || false) other
 replaced-stands name number new (x ∷ ds) h same other = by (replaced-stands name number new ds both.1 same other) (has_name new.trigger.name x) refl
   where
-    both : (is_defined x.trigger.name ds ≡ false) × (are_apart ds ≡ true)
+    both : (is_defined x.trigger.name ds ≡ false) × (names_are_apart ds ≡ true)
     both = apart-parts x ds h
 
     by : stands name number (with_definition new ds) ≡ false → (b : Bool) → has_name new.trigger.name x ≡ b → stands name number (cond b (new ∷ ds) (x ∷ with_definition new ds)) ≡ false
     by rest true hit =
         ap (λ b. b || stands name number ds) other
-        ∙ undefined-stands name number ds (ap (λ n. is_defined n ds) (sym same ∙ same_bytes new.trigger.name x.trigger.name hit) ∙ both.0)
+        ∙ undefined-stands name number ds (ap (λ n. is_defined n ds) (sym same ∙ (bytes_eq-Decides new.trigger.name x.trigger.name).0 hit) ∙ both.0)
     by rest false miss = ap (λ b. (b && (x.number == number)) || stands name number (with_definition new ds)) (ap (λ n. has_name n x) (sym same) ∙ miss) ∙ rest
 
 -- each is the definition of its own name and number
@@ -204,13 +210,13 @@ defined-stands new (x ∷ ds) = by (defined-stands new ds) (has_name new.trigger
 
 -- a definition of another name
 pub other-with : (name : List ℕ) (number : ℕ) (new : DefinedTrigger) (ds : List DefinedTrigger) → bytes_eq new.trigger.name name ≡ false → stands name number (with_definition new ds) ≡ stands name number ds
-other-with name number new [] other = ap (λ b. (b && (new.number == number)) || false) (bytes_eq-flip new.trigger.name name other)
+other-with name number new [] other = ap (λ b. (b && (new.number == number)) || false) (differs-flipped new.trigger.name name other)
 other-with name number new (x ∷ ds) other = by (other-with name number new ds other) (has_name new.trigger.name x) refl
   where
     by : stands name number (with_definition new ds) ≡ stands name number ds → (b : Bool) → has_name new.trigger.name x ≡ b → stands name number (cond b (new ∷ ds) (x ∷ with_definition new ds)) ≡ stands name number (x ∷ ds)
     by rest true hit =
-        ap (λ b. (b && (new.number == number)) || stands name number ds) (bytes_eq-flip new.trigger.name name other)
-        ∙ sym (ap (λ b. (b && (x.number == number)) || stands name number ds) (ap (λ n. bytes_eq name n) (sym (same_bytes new.trigger.name x.trigger.name hit)) ∙ bytes_eq-flip new.trigger.name name other))
+        ap (λ b. (b && (new.number == number)) || stands name number ds) (differs-flipped new.trigger.name name other)
+        ∙ sym (ap (λ b. (b && (x.number == number)) || stands name number ds) (ap (λ n. bytes_eq name n) (sym ((bytes_eq-Decides new.trigger.name x.trigger.name).0 hit)) ∙ differs-flipped new.trigger.name name other))
     by rest false miss = ap (λ b. is_definition name number x || b) rest
 
 pub other-without : (name : List ℕ) (number : ℕ) (gone : List ℕ) (ds : List DefinedTrigger) → bytes_eq gone name ≡ false → stands name number (without_definition gone ds) ≡ stands name number ds
@@ -218,5 +224,5 @@ other-without name number gone [] other = refl
 other-without name number gone (x ∷ ds) other = by (other-without name number gone ds other) (has_name gone x) refl
   where
     by : stands name number (without_definition gone ds) ≡ stands name number ds → (b : Bool) → has_name gone x ≡ b → stands name number (cond b ds (x ∷ without_definition gone ds)) ≡ stands name number (x ∷ ds)
-    by rest true hit = sym (ap (λ b. (b && (x.number == number)) || stands name number ds) (ap (λ n. bytes_eq name n) (sym (same_bytes gone x.trigger.name hit)) ∙ bytes_eq-flip gone name other))
+    by rest true hit = sym (ap (λ b. (b && (x.number == number)) || stands name number ds) (ap (λ n. bytes_eq name n) (sym ((bytes_eq-Decides gone x.trigger.name).0 hit)) ∙ differs-flipped gone name other))
     by rest false miss = ap (λ b. is_definition name number x || b) rest

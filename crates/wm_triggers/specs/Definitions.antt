@@ -31,6 +31,6 @@ without_definition name [] = []
 without_definition name (d ∷ ds) = if has_name name d then ds else d ∷ without_definition name ds
 
 -- no name stands there twice
-abbrev pub are_apart : List DefinedTrigger → Bool
-are_apart [] = true
-are_apart (d ∷ ds) = not (is_defined d.trigger.name ds) && are_apart ds
+abbrev pub names_are_apart : List DefinedTrigger → Bool
+names_are_apart [] = true
+names_are_apart (d ∷ ds) = not (is_defined d.trigger.name ds) && names_are_apart ds

@@ -1,7 +1,7 @@
 -- The triggers of a root, and which of them is being started.
 use Rattle.std.specs.Prelude.{◌≡◌, ℕ, Bool, true, false, not, ◌&&◌, List, [], Option, Some, None, is_none, if◌then◌else◌}
 use Rattle.std.specs.List.{fold, list_any}
-use Rattle.wm_triggers.specs.Definitions.{are_apart, has_name, is_definition, stands, with_definition, without_definition}
+use Rattle.wm_triggers.specs.Definitions.{names_are_apart, has_name, is_definition, stands, with_definition, without_definition}
 use Rattle.wm_triggers.specs.declared.defined_trigger.DefinedTrigger.{DefinedTrigger}
 
 pub record Table : Type 0 where
@@ -60,25 +60,25 @@ table_idle t = record t { starting = None }
 abbrev pub table_ended : Table → Table
 table_ended t = record t { has_ended = true }
 
-pub data Step : Type 0 where
-  defines : DefinedTrigger → Step
-  removes : List ℕ → Step
-  begins : DefinedTrigger → Step
-  ends : Step
-  ends_root : Step
+pub data TableStep : Type 0 where
+  defines : DefinedTrigger → TableStep
+  removes : List ℕ → TableStep
+  begins : DefinedTrigger → TableStep
+  ends : TableStep
+  ends_root : TableStep
 
-abbrev pub after_step : Table → Step → Table
+abbrev pub after_step : Table → TableStep → Table
 after_step t (defines d) = table_with d t
 after_step t (removes name) = table_without name t
 after_step t (begins d) = table_begun d t
 after_step t ends = table_idle t
 after_step t ends_root = table_ended t
 
-abbrev pub after_steps : Table → List Step → Table
+abbrev pub after_steps : Table → List TableStep → Table
 after_steps t steps = fold after_step t steps
 
 -- the step defines what has the name and the number of this definition
-abbrev pub defines_again : DefinedTrigger → Step → Bool
+abbrev pub defines_again : DefinedTrigger → TableStep → Bool
 defines_again d (defines new) = is_definition d.trigger.name d.number new
 defines_again d (removes name) = false
 defines_again d (begins one) = false
@@ -90,18 +90,18 @@ defines_again d ends_root = false
 -- A definition that may not be started, and of which no start is under way, is never started again, whatever happens; unless its name is
 -- defined again under its number, which no later command does.
 abbrev pub NeverStartedAgain : Type 0
-NeverStartedAgain = (d : DefinedTrigger) (t : Table) (steps : List Step)
+NeverStartedAgain = (d : DefinedTrigger) (t : Table) (steps : List TableStep)
     → may_start d t ≡ false → may_reply t ≡ true → list_any (defines_again d) steps ≡ false
     → (may_begin d (after_steps t steps) ≡ false) × (is_starting d (after_steps t steps) ≡ false)
 
 -- once a name is taken out, no definition of it may be started
 abbrev pub RemovedIsGone : Type 0
-RemovedIsGone = (d : DefinedTrigger) (t : Table) → are_apart t.defined ≡ true → may_start d (table_without d.trigger.name t) ≡ false
+RemovedIsGone = (d : DefinedTrigger) (t : Table) → names_are_apart t.defined ≡ true → may_start d (table_without d.trigger.name t) ≡ false
 
 -- once a name is defined by another command, no earlier definition of it may be started
 abbrev pub ReplacedIsGone : Type 0
 ReplacedIsGone = (d new : DefinedTrigger) (t : Table)
-    → are_apart t.defined ≡ true → has_name new.trigger.name d ≡ true → is_definition d.trigger.name d.number new ≡ false
+    → names_are_apart t.defined ≡ true → has_name new.trigger.name d ≡ true → is_definition d.trigger.name d.number new ≡ false
     → may_start d (table_with new t) ≡ false
 
 -- once the root isn't watched any longer, nothing may be started

@@ -2,7 +2,7 @@
 //! Definitions: specs/Definitions.antt. Tests: registry_tests/src/trigger_runs/tables.rt.
 ghost use Rattle.std.specs.Prelude.{◌≡◌, ◌≤◌, [], true, false, length, position, vec_capacity, OnOk, OnErr, IfOk};
 ghost use Rattle.wm_registry.specs.Limits.{max_triggers};
-ghost use Rattle.wm_triggers.specs.Definitions.{are_apart, has_name, is_defined, stands, with_definition, without_definition};
+ghost use Rattle.wm_triggers.specs.Definitions.{names_are_apart, has_name, is_defined, stands, with_definition, without_definition};
 
 use crate::defined_trigger::DefinedTrigger;
 use std::alloc::Global;
@@ -20,14 +20,14 @@ pub struct DefinedTriggers {
 impl Model for DefinedTriggers {
     ghost use Rattle.std.specs.Prelude.{◌≡◌, ◌≤◌, List, true, vec_capacity};
     ghost use Rattle.wm_registry.specs.Limits.{max_triggers};
-    ghost use Rattle.wm_triggers.specs.Definitions.{are_apart};
+    ghost use Rattle.wm_triggers.specs.Definitions.{names_are_apart};
     ghost use Rattle.wm_triggers.specs.declared.defined_trigger.DefinedTrigger.{DefinedTrigger};
 
     ghost Value = { List DefinedTrigger };
 
     ghost view = { λ s. s.all.items };
 
-    ghost invariant = { λ s. (are_apart s.all.items ≡ true) × (max_triggers ≤ vec_capacity s.all) };
+    ghost invariant = { λ s. (names_are_apart s.all.items ≡ true) × (max_triggers ≤ vec_capacity s.all) };
 }
 
 /// The place of the definition of the name.
@@ -80,7 +80,7 @@ impl DefinedTriggers {
     /// The definitions, in the order of their first definition.
     pub fn as_slice(&self) -> &[DefinedTrigger]
         ensures value { result.now ≡ self.now }
-        ensures apart { are_apart self.now ≡ true }
+        ensures apart { names_are_apart self.now ≡ true }
     {
         &self.all
     }
