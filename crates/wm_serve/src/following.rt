@@ -31,7 +31,7 @@ pub struct Following {
 impl Following {
     /// Nothing is followed yet.
     pub fn new() -> Following
-        ensures { (result.count ≡ 0) × (result.next_root ≡ 1) }
+        ensures { (result.incarnation ≡ 0) × (result.count ≡ 0) × (result.next_root ≡ 1) }
     {
         Following {
             incarnation: 0,
@@ -56,9 +56,16 @@ impl Following {
         number > 0 && self.count < number - 1
     }
 
+    /// Whether fewer commands than these were followed.
+    fn is_short_of(&self, count: u64) -> bool
+        ensures { result ≡ nat_lt self.now.count count }
+    {
+        self.count < count
+    }
+
     /// The command of this number was followed.
     fn followed(&mut self, number: u64)
-        ensures { (self.new.count ≡ max self.old.count number) × (self.new.next_root ≡ self.old.next_root) }
+        ensures { (self.new.count ≡ max self.old.count number) × (self.new.next_root ≡ self.old.next_root) × (self.new.incarnation ≡ self.old.incarnation) }
     {
         if self.count < number {
             self.count = number;
@@ -68,7 +75,7 @@ impl Following {
     /// The number of a root that is watched now: no other root has it.
     fn take_number(&mut self) -> u64
         requires { self.old.next_root < 18446744073709551615 }
-        ensures { (result ≡ self.old.next_root) × (self.new.next_root ≡ self.old.next_root + 1) × (self.new.count ≡ self.old.count) }
+        ensures { (result ≡ self.old.next_root) × (self.new.next_root ≡ self.old.next_root + 1) × (self.new.count ≡ self.old.count) × (self.new.incarnation ≡ self.old.incarnation) }
     {
         let number = self.next_root;
         self.next_root = number + 1;
@@ -100,7 +107,7 @@ impl<T: Registrar, J: Naming, K: Wait + Copy + Drop> Shared<T, J, K> {
         let following = self.followed.wait_while(
             rt,
             self.following.lock(rt),
-            |following| following.count < count,
+            |following| following.is_short_of(count),
         );
         drop(following);
     }
