@@ -72,9 +72,9 @@ const TOLD: &[(usize, &str, &str)] = &[
 
 /// When an operation is, in seconds, and when what is deleted is forgotten.
 #[derive(Clone, Copy)]
-struct At {
-    moment: u64,
-    forgetting: Forgetting,
+pub struct At {
+    pub moment: u64,
+    pub forgetting: Forgetting,
 }
 
 /// Each operation is at one second, and nothing is forgotten by itself.
@@ -87,7 +87,7 @@ const ALWAYS: At = At {
 };
 
 /// A hall of the root 5.
-fn opened_hall<'a, J: Naming, R: Wait + Abort>(
+pub fn opened_hall<'a, J: Naming, R: Wait + Abort>(
     rt: &'a R,
     alloc: Global,
     mut shares: Shares<J>,
@@ -198,7 +198,7 @@ fn meet_line<J: Naming, R: Wait + Abort, K: Wait + Drop>(
 }
 
 /// As [`meet_line`], at a moment.
-fn meet_line_at<J: Naming, R: Wait + Abort, K: Wait + Drop>(
+pub fn meet_line_at<J: Naming, R: Wait + Abort, K: Wait + Drop>(
     rt: &R,
     alloc: Global,
     hall: &RootHall<J, K>,
@@ -214,7 +214,7 @@ fn meet_line_at<J: Naming, R: Wait + Abort, K: Wait + Drop>(
 }
 
 /// What a line is told: its reply, or the refusal.
-fn is_told(met: Result<(), Refusal>, out: &[u8], told: &str) -> bool {
+pub fn is_told(met: Result<(), Refusal>, out: &[u8], told: &str) -> bool {
     match met {
         Ok(()) => out == told.as_bytes(),
         Err(refusal) => refusal.text() == told,
@@ -351,89 +351,4 @@ fn keeps_limits<J: Naming, R: Wait + Abort>(rt: &R, alloc: Global, opened: Opene
 #[test]
 fn cursors_and_viewers_have_limits(rt: HostRuntime) {
     keeps_limits::<Brand, _>(&rt, rt.alloc(), Opened::new());
-}
-
-const LISTS_BOTH: &str =
-    "[\"listing\",\"/r\",0,\"\",[[\"a\",{\"type\":\"f\",\"size\":1,\"mtime_ms\":0}],[\"b\",{\"type\":\"f\",\"size\":1,\"mtime_ms\":0}]]]\n";
-
-const NOTHING: &str = "[\"observe\",\"/r\",[]]\n";
-
-const SINCE_1: &str = "[\"query\",\"/r\",{\"since\":\"c:1:5:1\",\"fields\":[\"name\"]}]\n";
-
-const SINCE_2: &str = "[\"query\",\"/r\",{\"since\":\"c:1:5:2\",\"fields\":[\"name\"]}]\n";
-
-const CLOCK_3: &str = "{\"clock\":\"c:1:5:3\",\"version\":\"w1\"}\n";
-
-const ONLY_B: &str =
-    "{\"clock\":\"c:1:5:3\",\"files\":[\"b\"],\"is_fresh_instance\":false,\"version\":\"w1\"}\n";
-
-const FRESH: &str =
-    "{\"clock\":\"c:1:5:3\",\"files\":[],\"is_fresh_instance\":true,\"version\":\"w1\"}\n";
-
-/// What a root is asked at a second, and what it is told. It forgets what was deleted 10 seconds ago, each 5 seconds: `a` is old
-/// enough at 111, and `b` at 114, one second before which and four seconds behind which no interval ends.
-const FORGETS: &[(u64, &str, &str)] = &[
-    (
-        100,
-        LISTS_BOTH,
-        "{\"clock\":\"c:1:5:1\",\"version\":\"w1\"}\n",
-    ),
-    (
-        101,
-        "[\"observe\",\"/r\",[[\"a\",null]]]\n",
-        "{\"clock\":\"c:1:5:2\",\"version\":\"w1\"}\n",
-    ),
-    (104, "[\"observe\",\"/r\",[[\"b\",null]]]\n", CLOCK_3),
-    (106, NOTHING, CLOCK_3),
-    (110, NOTHING, CLOCK_3),
-    (
-        110,
-        SINCE_1,
-        "{\"clock\":\"c:1:5:3\",\"files\":[\"b\",\"a\"],\"is_fresh_instance\":false,\"version\":\"w1\"}\n",
-    ),
-    (111, NOTHING, CLOCK_3),
-    (111, SINCE_1, FRESH),
-    (111, SINCE_2, ONLY_B),
-    (115, NOTHING, CLOCK_3),
-    (115, SINCE_2, ONLY_B),
-    (116, NOTHING, CLOCK_3),
-    (116, SINCE_2, FRESH),
-];
-
-fn forget_rows<J: Naming, R: Wait + Abort, K: Wait + Drop>(
-    rt: &R,
-    alloc: Global,
-    hall: &RootHall<J, K>,
-    viewers: &mut Viewers<J>,
-) {
-    let mut out = Vec::new(alloc);
-    for (moment, line, told) in FORGETS {
-        out.clear();
-        let at = At {
-            moment: *moment,
-            forgetting: Forgetting {
-                age: 10,
-                interval: 5,
-            },
-        };
-        let met = meet_line_at(rt, alloc, hall, viewers, at, line, &mut out);
-        check!(rt; is_told(met, &out, told), line);
-    }
-}
-
-fn forgets<J: Naming, R: Wait + Abort>(rt: &R, alloc: Global, opened: Opened)
-    requires { opened.seen.book ≡ J.book }
-{
-    let shares: Shares<J> = Shares::new(opened);
-    let hall = opened_hall(rt, alloc, shares);
-    let mut viewers = Viewers::new(alloc);
-    forget_rows(rt, alloc, &hall, &mut viewers);
-    drop(viewers);
-    drop(hall);
-}
-
-/// A deleted file is forgotten once its age has passed, not before, and at most once in an interval.
-#[test]
-fn deleted_files_are_forgotten(rt: HostRuntime) {
-    forgets::<Brand, _>(&rt, rt.alloc(), Opened::new());
 }

@@ -15,6 +15,8 @@ mod crawls;
 #[cfg(test)]
 mod feeds;
 #[cfg(test)]
+mod forgetting;
+#[cfg(test)]
 mod halls;
 #[cfg(test)]
 mod places;

@@ -1,4 +1,4 @@
-use Rattle.serve_tests.proofs.halls.deleted_files_are_forgotten.Given as goal
+use Rattle.serve_tests.proofs.forgetting.deleted_files_are_forgotten.Given as goal
 
 -- the book that was just opened
 abbrev pub ghosts-forgets : goal.ghosts-forgets
