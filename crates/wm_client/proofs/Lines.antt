@@ -1,5 +1,5 @@
 -- What is printed line by line is the first lines of the input.
-use Rattle.std.proofs.Common.{◌≡◌, ◌∙◌, ℕ, true, List, ◌++◌, refl, sym, subst, ap, append_assoc, append-nil, ◌+◌, arith, zero, suc, Option, Some, None}
+use Rattle.std.proofs.Common.{◌≡◌, ◌∙◌, ◌<◌, ℕ, true, List, ◌++◌, refl, sym, subst, ap, append_assoc, append-nil, ◌+◌, arith, zero, suc, Option, Some, None}
 use Rattle.std.specs.Io.KnownBytes.{Appends}
 use Rattle.std.specs.Io.BufRead.{drop_through, take_through}
 use Rattle.wm_client.specs.Talks.{HasLines, has_come_whole, lines_first}
@@ -37,6 +37,15 @@ one_more_whole n input has whole = subst (λ m. HasLines m input) (sym (plus_one
 
 pub whole_first : (n : ℕ) (input : List ℕ) → has_come_whole (take_through 10 input) ≡ true → HasLines n (drop_through 10 input) → HasLines (n + 1) input
 whole_first n input whole has = subst (λ m. HasLines m input) (sym (plus_one n)) (whole, has)
+
+pub rest_whole : (n : ℕ) (input : List ℕ) → HasLines (n + 1) input → HasLines n (drop_through 10 input)
+rest_whole n input has = (subst (λ m. HasLines m input) (plus_one n) has).1
+
+-- each of n whole lines has come whole
+pub line_whole : (n k : ℕ) (input : List ℕ) → k < n → HasLines n input → has_come_whole (take_through 10 (lines_behind k input)) ≡ true
+line_whole zero k input below has = absurd (omega (arith, below))
+line_whole (suc n) zero input below has = has.0
+line_whole (suc n) (suc k) input below has = line_whole n k (drop_through 10 input) (omega (arith, below)) has.1
 
 -- the first line, and then n more
 pub reply_first : (n : ℕ) (input : List ℕ) → lines_first (n + 1) input ≡ take_through 10 input ++ lines_first n (drop_through 10 input)

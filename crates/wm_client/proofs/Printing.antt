@@ -1,5 +1,5 @@
 -- What is printed line by line is printed whole.
-use Rattle.std.proofs.Common.{◌≡◌, ◌∙◌, ◌&&◌, ◌+◌, ℕ, Bool, List, [], ◌∷◌, ◌++◌, Option, length, refl, sym, ap, ap₂, subst, append_assoc, length-append}
+use Rattle.std.proofs.Common.{◌≡◌, ◌∙◌, ◌&&◌, ◌+◌, ℕ, Bool, true, List, [], ◌∷◌, ◌++◌, Option, length, refl, sym, ap, ap₂, subst, append_assoc, append-nil, length-append}
 use Rattle.std.specs.Io.KnownBytes.{Appends}
 use Rattle.std.specs.List.{concat}
 use Rattle.std.proofs.lemmas.List.Folds.{list_all-append}
@@ -16,6 +16,9 @@ lines_joined xs ys held mid holds p q = (
   list_all-append has_come_whole xs ys ∙ ap₂ (λ (a b : Bool). a && b) p.0 q.0,
   subst (Appends held holds) (sym (concat-append xs ys)) (grown_twice held mid holds _ _ p.1 q.1),
 )
+
+pub one_line : (line : List ℕ) (held holds : Option (List ℕ)) → has_come_whole line ≡ true → Appends held holds line → PrintsLines (line ∷ []) held holds
+one_line line held holds whole printed = (ap (λ (b : Bool). b && true) whole, subst (Appends held holds) (sym (append-nil line)) printed)
 
 -- so many lines were printed
 abbrev pub PrintsCount : ℕ → Option (List ℕ) → Option (List ℕ) → Type 0

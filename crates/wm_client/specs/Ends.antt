@@ -11,14 +11,15 @@ status_of_stop stop.WatchGone = 0
 status_of_stop stop.ServerGone = 3
 status_of_stop other = 1
 
-abbrev pub IsOfStop : ℕ → Type 0
-IsOfStop status = (s : Stop) × (status ≡ status_of_stop s)
+-- a feed of a root to a socket may stop for this cause
+abbrev pub Stops : Type 1
+Stops = (socket root : List ℕ) → Stop → Type 0
 
--- What is wanted may end so, beside 1: a text with its own status; a feed with 2 where its root's path is none, and else with the status of a stop.
-abbrev pub MayEnd : FeedWanted → ℕ → Type 0
-MayEnd (feed_shown told) status = status ≡ told
-MayEnd (feed_to socket root) status = ((is_root_path root ≡ false) × (status ≡ 2)) ⊎ ((is_root_path root ≡ true) × IsOfStop status)
+-- What is wanted may end so, beside 1: a text with its own status; a feed with 2 if its root's path is none, and else with the status of a cause for which it may stop.
+abbrev pub MayEnd : Stops → FeedWanted → ℕ → Type 0
+MayEnd may_stop (feed_shown told) status = status ≡ told
+MayEnd may_stop (feed_to socket root) status = ((is_root_path root ≡ false) × (status ≡ 2)) ⊎ ((is_root_path root ≡ true) × (cause : Stop) × may_stop socket root cause × (status ≡ status_of_stop cause))
 
 -- Memory ran out, or help or the version can't be told; or these words ask for something that may end so.
-abbrev pub EndsAsAsked : List (List ℕ) → ℕ → Type 0
-EndsAsAsked words status = (status ≡ 1) ⊎ ((wanted : FeedWanted) × FeedAsksFor words wanted × MayEnd wanted status)
+abbrev pub EndsAsAsked : Stops → List (List ℕ) → ℕ → Type 0
+EndsAsAsked may_stop words status = (status ≡ 1) ⊎ ((wanted : FeedWanted) × FeedAsksFor words wanted × MayEnd may_stop wanted status)

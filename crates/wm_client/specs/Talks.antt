@@ -1,11 +1,11 @@
--- What a talk with a server sends, and what it prints of the lines that come.
+-- What a talk with a server prints of the lines that come.
 use Rattle.std.specs.Prelude.{◌≡◌, ◌<◌, ◌≤◌, ◌+◌, ◌++◌, ◌∷◌, ⊤, ℕ, zero, suc, nat_eq, Bool, true, false, List, [], Option, length, take, codes}
 use Rattle.std.specs.Io.BufRead.{drop_through, take_through}
 use Rattle.std.specs.Io.KnownBytes.{Appends}
 use Rattle.std.specs.List.{concat, ends_with, list_all}
 use Rattle.std.specs.Str.{bytes_eq}
 use Rattle.wm_client.specs.declared.talking.TalkEnd.{TalkEnd}
-use Rattle.wm_client.specs.declared.talking.TalkEnd.TheVariants.{Told, Refused, NoReply, Unprinted}
+use Rattle.wm_client.specs.declared.talking.TalkEnd.TheVariants.{Told, Refused, NoReply, ReadFailed, Unsent, Unprinted}
 
 -- the first n lines of an input, each with its newline (10)
 abbrev pub lines_first : ℕ → List ℕ → List ℕ
@@ -37,11 +37,14 @@ abbrev pub PrintsBefore : ℕ → List ℕ → Option (List ℕ) → Option (Lis
 PrintsBefore n input held holds = (k : ℕ) × (k < n) × HasLines k input × Appends held holds (lines_first k input)
 
 -- What was printed of the lines that came, by how a talk ended. All was told: the reply, which is no refusal, and so many lines after it, each of them
--- whole. Refused: the reply alone, which is a refusal, whole. A line didn't come: those before it. A line couldn't be printed: nothing is said.
+-- whole. Refused: the reply alone, which is a refusal, whole. No reply: the lines that came whole, which are fewer than were awaited. A read failed: those before it.
+-- The request couldn't be sent: nothing, and what came is no refusal. A line couldn't be printed: nothing is said.
 abbrev pub Prints : ℕ → List ℕ → Option (List ℕ) → Option (List ℕ) → TalkEnd → Type 0
 Prints follow input held holds Told = HasLines (follow + 1) input × Appends held holds (lines_first (follow + 1) input) × (is_refusal_line (take_through 10 input) ≡ false)
 Prints follow input held holds Refused = HasLines 1 input × Appends held holds (lines_first 1 input) × (is_refusal_line (take_through 10 input) ≡ true)
-Prints follow input held holds NoReply = PrintsSome follow input held holds
+Prints follow input held holds NoReply = PrintsSome follow input held holds × (HasLines (follow + 1) input → ⊥)
+Prints follow input held holds ReadFailed = PrintsSome follow input held holds
+Prints follow input held holds Unsent = (holds ≡ held) × (is_refusal_line (take_through 10 input) ≡ false)
 Prints follow input held holds Unprinted = ⊤
 
 -- Just these lines were printed, one behind the other, each of them whole.
@@ -54,10 +57,3 @@ abbrev pub PrintsReply : ℕ → Option (List ℕ) → Option (List ℕ) → Tal
 PrintsReply follow held holds Told = (reply : List ℕ) × (lines : List (List ℕ)) × PrintsLines (reply ∷ lines) held holds × (is_refusal_line reply ≡ false) × (length lines ≡ follow)
 PrintsReply follow held holds Refused = (reply : List ℕ) × PrintsLines (reply ∷ []) held holds × (is_refusal_line reply ≡ true)
 PrintsReply follow held holds other = ⊤
-
--- Where a reply came, the request and a newline were sent.
-abbrev pub Sends : List ℕ → Option (List ℕ) → Option (List ℕ) → TalkEnd → Type 0
-Sends request held holds Told = Appends held holds (request ++ codes "\n")
-Sends request held holds Refused = Appends held holds (request ++ codes "\n")
-Sends request held holds NoReply = ⊤
-Sends request held holds Unprinted = Appends held holds (request ++ codes "\n")

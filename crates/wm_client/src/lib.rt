@@ -3,7 +3,7 @@
 //!
 //! [`Words`] is what the words of `wmctl` ask for (specs/ClientWords.antt), [`talk`] sends a request and
 //! prints the reply (specs/Talks.antt), and [`wmctl`] is all of the program, with the status that it may end with
-//! (specs/Statuses.antt). [`every_reply`] says what is taken for a refusal (specs/ReplyLaws.antt). [`FeedWords`] is what the words of
+//! (specs/Statuses.antt). [`every_reply`] says what is taken for a refusal (specs/ReplyLaws.antt), and [`refusal_of`] which one it is (specs/RefusalLines.antt). [`FeedWords`] is what the words of
 //! `wmfeed` ask for (specs/FeedWords.antt), and [`wmfeed`] all of that program over a [`Feeder`], with its status (specs/Ends.antt).
 #![tactic(auto)]
 
@@ -11,6 +11,7 @@ mod feed_words;
 mod feeding;
 mod laws;
 mod program;
+mod refused;
 mod showing;
 mod stop;
 mod talking;
@@ -20,6 +21,7 @@ pub use feed_words::FeedWords;
 pub use feeding::{Feeder, wmfeed};
 pub use laws::every_reply;
 pub use program::wmctl;
+pub use refused::refusal_of;
 pub use stop::Stop;
 pub use talking::{TalkEnd, talk};
 pub use words::Words;

@@ -14,9 +14,10 @@ use std::net::Net;
 use std::os::unix::net::UnixStream;
 use wm_disk::NoMemory;
 
-/// Runs `wmctl` with the words after its own name, and gives its status: 0; 1 where the reply is a refusal, memory
-/// ran out, or the reply, help or the version can't be printed; 2 where the words aren't understood; 3 where the
-/// socket failed or ended.
+/// Runs `wmctl` with the words after its own name, and gives its status: 0; 1 if the reply is a refusal, also one that
+/// came though the request couldn't be sent, memory ran out, or the reply, help or the version can't be printed; 2 if the
+/// words aren't understood; 3 if the socket failed, or ended before the reply and each further line had come, which is
+/// told on `faults` as `wmctl: no reply`.
 pub fn wmctl<N: Net, W: Write, E: Write>(
     alloc: Global,
     net: &N,
@@ -71,10 +72,7 @@ fn end<E: Write>(talked: Result<TalkEnd, NoMemory>, faults: &mut E) -> u8
     let (status, told) = match talked {
         Ok(TalkEnd::Told) => return 0,
         Ok(TalkEnd::Refused) => return 1,
-        Ok(TalkEnd::NoReply) => (
-            3,
-            "wmctl: the socket failed, or ended before a whole line had come\n",
-        ),
+        Ok(TalkEnd::NoReply | TalkEnd::ReadFailed | TalkEnd::Unsent) => (3, "wmctl: no reply\n"),
         Ok(TalkEnd::Unprinted) => (1, "wmctl: the reply can't be printed\n"),
         Err(NoMemory) => (1, "wmctl: 16 NoMemory\n"),
     };

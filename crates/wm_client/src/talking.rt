@@ -1,9 +1,9 @@
 //! A talk with a server: one request, its reply, and lines that come after it. Definitions: specs/Talks.
 //! Tests: serve_tests/src/wmctl/talks.rt.
-ghost use Rattle.std.specs.Prelude.{◌≡◌, ◌≢◌, ◌∷◌, [], ℕ, true, length, List, Some, IfErr, IfOk, Ok};
+ghost use Rattle.std.specs.Prelude.{◌≡◌, ◌≢◌, ◌∷◌, ◌++◌, [], ℕ, true, false, codes, length, List, Some, IfErr, IfOk, Ok};
 ghost use Rattle.std.specs.Io.BufRead.{drop_through, take_through};
 ghost use Rattle.std.specs.Io.KnownBytes.{Appends};
-ghost use Rattle.wm_client.specs.Talks.{HasLines, Prints, PrintsBefore, PrintsLines, PrintsReply, PrintsSome, Sends, is_refusal_line, has_come_whole, lines_first};
+ghost use Rattle.wm_client.specs.Talks.{HasLines, Prints, PrintsBefore, PrintsLines, PrintsReply, PrintsSome, is_refusal_line, has_come_whole, lines_first};
 
 use std::alloc::Global;
 use std::io::{BufRead, ErrorKind, Write};
@@ -16,14 +16,20 @@ pub enum TalkEnd {
     Told,
     /// The reply is a refusal. It was printed, and no further line was awaited.
     Refused,
-    /// The socket failed, or ended before a whole line had come.
+    /// The socket ended before a whole line had come.
     NoReply,
+    /// A read of the socket failed.
+    ReadFailed,
+    /// A write of the request failed, and what came all the same is no refusal, so no reply to it. It wasn't printed.
+    Unsent,
     /// What came couldn't be printed.
     Unprinted,
 }
 
 /// Sends a request, one line without its newline, and prints the reply and so many lines that come after it.
-/// `Err` comes where a line that came has no room in memory; what came before it was printed.
+///
+/// If a write fails, the server may have refused the session before it closed the socket (`17 TooMany`): the next line is read all
+/// the same, and printed if it is a refusal. `Err` comes if a line that came has no room in memory; what came before it was printed.
 pub fn talk<S: Write, R: BufRead, W: Write>(
     alloc: Global,
     json: &str,
@@ -32,23 +38,35 @@ pub fn talk<S: Write, R: BufRead, W: Write>(
     replies: &mut R,
     printer: &mut W,
 ) -> Result<TalkEnd, NoMemory>
-    ensures sent { IfOk result (Sends json.now (S.contents sender.old) (S.contents sender.new)) }
+    ensures sent { result ≡ Ok TalkEnd.Told → Appends (S.contents sender.old) (S.contents sender.new) (json.now ++ codes "\n") }
     ensures whole { IfOk result (PrintsReply follow (W.contents printer.old) (W.contents printer.new)) }
     ensures told { IfOk result (λ end. (input : List ℕ) → R.remaining replies.old ≡ Some input → Prints follow input (W.contents printer.old) (W.contents printer.new) end) }
     ensures short { IfErr result (λ _. (input : List ℕ) → R.remaining replies.old ≡ Some input → PrintsSome follow input (W.contents printer.old) (W.contents printer.new)) }
 {
-    if sender.write_all(json.as_bytes()).is_err() || sender.write_all(b"\n").is_err() {
-        return Ok(TalkEnd::NoReply);
-    }
+    let is_sent = send(json, sender);
     let mut line = Vec::new(alloc);
-    match print_line(replies, &mut line, printer)? {
+    match read_line(replies, &mut line)? {
         TalkEnd::Told => {}
         other => return Ok(other),
     }
-    if is_refusal(&line) {
+    let is_refused = is_refusal(&line);
+    if !is_refused && !is_sent {
+        return Ok(TalkEnd::Unsent);
+    }
+    if !print(&line, printer) {
+        return Ok(TalkEnd::Unprinted);
+    }
+    if is_refused {
         return Ok(TalkEnd::Refused);
     }
     print_lines(follow, replies, &mut line, printer)
+}
+
+/// Sends a request and its newline. `false` if a write failed.
+fn send<S: Write>(json: &str, sender: &mut S) -> bool
+    ensures { result ≡ true → Appends (S.contents sender.old) (S.contents sender.new) (json.now ++ codes "\n") }
+{
+    sender.write_all(json.as_bytes()).is_ok() && sender.write_all(b"\n").is_ok()
 }
 
 /// Whether a reply is a refusal, by how the server begins its line.
@@ -67,8 +85,9 @@ fn print_lines<R: BufRead, W: Write>(
 ) -> Result<TalkEnd, NoMemory>
     ensures whole { result ≡ Ok TalkEnd.Told → (lines : List (List ℕ)) × PrintsLines lines (W.contents printer.old) (W.contents printer.new) × (length lines ≡ count) }
     ensures told { result ≡ Ok TalkEnd.Told → (input : List ℕ) → R.remaining replies.old ≡ Some input → HasLines count input × Appends (W.contents printer.old) (W.contents printer.new) (lines_first count input) }
-    ensures told_alone { IfOk result (λ end. end ≢ TalkEnd.Refused) }
-    ensures some { result ≡ Ok TalkEnd.NoReply → (input : List ℕ) → R.remaining replies.old ≡ Some input → PrintsBefore count input (W.contents printer.old) (W.contents printer.new) }
+    ensures alone { IfOk result (λ end. (end ≢ TalkEnd.Refused) × (end ≢ TalkEnd.Unsent)) }
+    ensures some { IfOk result (λ end. end ≢ TalkEnd.Told → end ≢ TalkEnd.Unprinted → (input : List ℕ) → R.remaining replies.old ≡ Some input → PrintsBefore count input (W.contents printer.old) (W.contents printer.new)) }
+    ensures lacking { result ≡ Ok TalkEnd.NoReply → (input : List ℕ) → R.remaining replies.old ≡ Some input → HasLines count input → ⊥ }
     ensures short { IfErr result (λ _. (input : List ℕ) → R.remaining replies.old ≡ Some input → PrintsBefore count input (W.contents printer.old) (W.contents printer.new)) }
 {
     for _ in 0..count {
@@ -87,24 +106,48 @@ fn print_line<R: BufRead, W: Write>(
     printer: &mut W,
 ) -> Result<TalkEnd, NoMemory>
     ensures whole { result ≡ Ok TalkEnd.Told → PrintsLines (line.new.items ∷ []) (W.contents printer.old) (W.contents printer.new) }
-    ensures told { result ≡ Ok TalkEnd.Told → (input : List ℕ) → R.remaining replies.old ≡ Some input → (line.new.items ≡ take_through 10 input)
-        × (has_come_whole (take_through 10 input) ≡ true) × Appends (W.contents printer.old) (W.contents printer.new) (take_through 10 input) × (R.remaining replies.new ≡ Some (drop_through 10 input)) }
-    ensures told_alone { IfOk result (λ end. end ≢ TalkEnd.Refused) }
-    ensures quiet { result ≡ Ok TalkEnd.NoReply → W.contents printer.new ≡ W.contents printer.old }
+    ensures told { result ≡ Ok TalkEnd.Told → (input : List ℕ) → R.remaining replies.old ≡ Some input →
+        (has_come_whole (take_through 10 input) ≡ true) × Appends (W.contents printer.old) (W.contents printer.new) (take_through 10 input) × (R.remaining replies.new ≡ Some (drop_through 10 input)) }
+    ensures alone { IfOk result (λ end. (end ≢ TalkEnd.Refused) × (end ≢ TalkEnd.Unsent)) }
+    ensures quiet { IfOk result (λ end. end ≢ TalkEnd.Told → end ≢ TalkEnd.Unprinted → W.contents printer.new ≡ W.contents printer.old) }
+    ensures lacking { result ≡ Ok TalkEnd.NoReply → (input : List ℕ) → R.remaining replies.old ≡ Some input → has_come_whole (take_through 10 input) ≡ false }
     ensures short { IfErr result (λ _. W.contents printer.new ≡ W.contents printer.old) }
+{
+    match read_line(replies, line)? {
+        TalkEnd::Told => {}
+        other => return Ok(other),
+    }
+    if print(line, printer) {
+        Ok(TalkEnd::Told)
+    } else {
+        Ok(TalkEnd::Unprinted)
+    }
+}
+
+/// Prints a line. `false` if that failed.
+fn print<W: Write>(line: &[u8], printer: &mut W) -> bool
+    ensures { result ≡ true → Appends (W.contents printer.old) (W.contents printer.new) line.now }
+{
+    printer.write_all(line).is_ok()
+}
+
+/// Reads the next line that comes.
+fn read_line<R: BufRead>(replies: &mut R, line: &mut Vec<u8>) -> Result<TalkEnd, NoMemory>
+    ensures whole { result ≡ Ok TalkEnd.Told → has_come_whole line.new.items ≡ true }
+    ensures told { result ≡ Ok TalkEnd.Told → (input : List ℕ) → R.remaining replies.old ≡ Some input → (line.new.items ≡ take_through 10 input) × (R.remaining replies.new ≡ Some (drop_through 10 input)) }
+    ensures alone { IfOk result (λ end. (end ≢ TalkEnd.Refused) × (end ≢ TalkEnd.Unsent) × (end ≢ TalkEnd.Unprinted)) }
+    ensures lacking { result ≡ Ok TalkEnd.NoReply → (input : List ℕ) → R.remaining replies.old ≡ Some input → has_come_whole (take_through 10 input) ≡ false }
 {
     line.clear();
     if let Err(error) = replies.read_until(b'\n', line) {
         if error.kind() == ErrorKind::OutOfMemory {
             return Err(NoMemory);
         }
-        return Ok(TalkEnd::NoReply);
+        return Ok(TalkEnd::ReadFailed);
     }
-    if !line.ends_with(b"\n") {
-        return Ok(TalkEnd::NoReply);
-    }
-    match printer.write_all(line) {
-        Ok(()) => Ok(TalkEnd::Told),
-        Err(_) => Ok(TalkEnd::Unprinted),
+    if line.ends_with(b"\n") {
+        Ok(TalkEnd::Told)
+    } else {
+        Ok(TalkEnd::NoReply)
     }
 }

@@ -1,17 +1,15 @@
-//! The feed of a root: one watch after the other, each with its records until a doubt. Tests: tools/feed_use.py.
+//! The feed of a root: one watch after the other, each with its records until a doubt. Tests: feed_tests, tools/feed_use.py.
 
 use crate::folders::Seen;
-use crate::sending::{is_wide, recrawl, send};
+use crate::sending::{is_for_now, is_wide, recrawl, send};
 use crate::server::{Asked, Server};
+use crate::system::System;
 use crate::watch::{Got, Watch};
 use serde_json::json;
 use std::alloc::Global;
-use std::fs::Files;
-use std::net::Net;
-use std::process::Processes;
-use std::thread;
-use std::time::{Clock, Duration};
+use std::time::Duration;
 use wm_client::Stop;
+use wm_disk::Refusal;
 use wm_feed::{Batch, Told, read_record};
 use wm_names::{RootPath, Subtree};
 
@@ -39,12 +37,13 @@ const MAX_FAULTS: u32 = 10;
 
 /// A feed of a root.
 #[derive(Drop)]
-pub(crate) struct Feed<'a, R: Processes> {
-    rt: &'a R,
+pub(crate) struct Feed<'a, Y: System> {
+    system: &'a Y,
     alloc: Global,
     root: &'a RootPath,
-    server: &'a mut Server,
-    watch: &'a mut Watch<R>,
+    server: &'a mut Server<Y>,
+    watch: &'a mut Watch<Y>,
+    files: Y::Files,
     seen: Seen,
     /// How often the new folders were looked for, where they weren't seen to be watched yet.
     looks: Option<u32>,
@@ -53,9 +52,9 @@ pub(crate) struct Feed<'a, R: Processes> {
 }
 
 /// Asks for a root by a command of one argument.
-fn ask_of(
+fn ask_of<Y: System>(
     alloc: Global,
-    server: &mut Server,
+    server: &mut Server<Y>,
     command: &str,
     root: &RootPath,
 ) -> Result<Asked, Stop> {
@@ -64,23 +63,25 @@ fn ask_of(
 }
 
 /// Waits until the root's first crawl has ended.
-fn await_ready<R: Clock>(
-    rt: &R,
+fn await_ready<Y: System>(
+    system: &Y,
     alloc: Global,
-    server: &mut Server,
+    server: &mut Server<Y>,
     root: &RootPath,
 ) -> Result<(), Stop> {
     for _ in 0..u64::MAX {
         match ask_of(alloc, server, "clock", root)? {
             Asked::Told => break,
-            Asked::Refused => return Err(Stop::Refused),
-            Asked::NotReady | Asked::Failed => thread::sleep(rt, Duration::from_millis(10)),
+            Asked::Refused(refusal) if is_for_now(refusal) => {
+                system.sleep(Duration::from_millis(10));
+            }
+            Asked::Refused(refusal) => return Err(Stop::Refused(refusal)),
         }
     }
     Ok(())
 }
 
-impl<R: Net + Processes + Files + Clock + AllocGlobal> Feed<'_, R> {
+impl<Y: System> Feed<'_, Y> {
     /// Adds the records that came to a batch.
     fn take(&mut self, batch: &mut Batch) -> Result<(), Stop> {
         for _ in 0..u64::MAX {
@@ -124,14 +125,14 @@ impl<R: Net + Processes + Files + Clock + AllocGlobal> Feed<'_, R> {
         if !batch.folders().is_empty() || batch.is_whole() {
             self.looks = Some(0);
         }
-        send(self.alloc, self.rt, self.server, self.root, &batch)
+        send(self.alloc, &self.files, self.server, self.root, &batch)
     }
 
     /// Asks whether the root is still watched. One that was watched anew has another view, which is crawled first.
     fn ask_whether_watched(&mut self) -> Result<(), Stop> {
         match ask_of(self.alloc, self.server, "clock", self.root)? {
-            Asked::NotReady => Err(Stop::Doubt),
-            Asked::Told | Asked::Failed | Asked::Refused => Ok(()),
+            Asked::Refused(Refusal::NotReady) => Err(Stop::Doubt),
+            Asked::Told | Asked::Refused(_) => Ok(()),
         }
     }
 
@@ -144,7 +145,7 @@ impl<R: Net + Processes + Files + Clock + AllocGlobal> Feed<'_, R> {
         let root = self.root.as_str();
         if self
             .seen
-            .are_watched(self.rt, self.alloc, self.server, root, process)?
+            .are_watched(self.system, self.alloc, self.server, root, process)?
         {
             self.looks = None;
             return Ok(());
@@ -182,22 +183,24 @@ impl<R: Net + Processes + Files + Clock + AllocGlobal> Feed<'_, R> {
 }
 
 /// Feeds the server until there is a cause to stop. Whether each folder was seen to be watched is told, too.
-fn feed_until_stop<R: Net + Processes + Files + Clock + AllocGlobal>(
-    rt: &R,
+fn feed_until_stop<Y: System>(
+    system: &Y,
     alloc: Global,
-    server: &mut Server,
+    server: &mut Server<Y>,
     root: &RootPath,
-    watch: &mut Watch<R>,
+    watch: &mut Watch<Y>,
     is_seen: &mut bool,
 ) -> Result<(), Stop> {
-    await_ready(rt, alloc, server, root)?;
+    await_ready(system, alloc, server, root)?;
     recrawl(alloc, server, root, &Subtree::Whole)?;
+    let files = system.files(root.copy(alloc)?);
     let mut feed = Feed {
-        rt,
+        system,
         alloc,
         root,
         server,
         watch,
+        files,
         seen: Seen::new(),
         looks: Some(0),
         batches: 0,
@@ -212,18 +215,18 @@ fn feed_until_stop<R: Net + Processes + Files + Clock + AllocGlobal>(
 }
 
 /// One watch of the root, until there is a cause to stop.
-fn watch_once<R: Net + Processes + Files + Clock + AllocGlobal>(
-    rt: &R,
+fn watch_once<Y: System>(
+    system: &Y,
     alloc: Global,
-    server: &mut Server,
+    server: &mut Server<Y>,
     root: &RootPath,
     is_seen: &mut bool,
 ) -> Stop {
-    let mut watch = match Watch::start(alloc, rt, root.as_str()) {
+    let mut watch = match Watch::start(alloc, system, root.as_str()) {
         Ok(watch) => watch,
         Err(stop) => return stop,
     };
-    let ended = feed_until_stop(rt, alloc, server, root, &mut watch, is_seen);
+    let ended = feed_until_stop(system, alloc, server, root, &mut watch, is_seen);
     watch.end();
     match ended {
         Ok(()) => Stop::Doubt,
@@ -231,35 +234,52 @@ fn watch_once<R: Net + Processes + Files + Clock + AllocGlobal>(
     }
 }
 
+/// How a feed ends whose watches end again and again: by the refusal that ended the last of them, if one did. What is there
+/// now is told once more, as the root itself may be gone.
+fn give_up<Y: System>(alloc: Global, server: &mut Server<Y>, root: &RootPath, last: Stop) -> Stop {
+    let _told = recrawl(alloc, server, root, &Subtree::Whole);
+    match last {
+        Stop::RefusedForNow(refusal) => Stop::Refused(refusal),
+        _ => Stop::Unwatchable,
+    }
+}
+
 /// Watches a root and tells the server what changes, until the server, the watch or inotifywait ends.
-pub(crate) fn feed_root<R: Net + Processes + Files + Clock + AllocGlobal>(
-    rt: &R,
+fn feed_root<Y: System>(
+    system: &Y,
     alloc: Global,
-    server: &mut Server,
+    server: &mut Server<Y>,
     root: &RootPath,
 ) -> Stop {
     match ask_of(alloc, server, "watch", root) {
         Ok(Asked::Told) => {}
-        Ok(_) => return Stop::Refused,
+        Ok(Asked::Refused(refusal)) => return Stop::Refused(refusal),
         Err(stop) => return stop,
     }
     let mut faults: u32 = 0;
     for _ in 0..u64::MAX {
         let mut is_seen = false;
-        let stop = watch_once(rt, alloc, server, root, &mut is_seen);
-        if stop != Stop::Doubt && stop != Stop::Ended {
+        let stop = watch_once(system, alloc, server, root, &mut is_seen);
+        if !matches!(stop, Stop::Doubt | Stop::RefusedForNow(_) | Stop::Ended) {
             return stop;
         }
         faults = if is_seen { 0 } else { faults.saturating_add(1) };
         if faults >= MAX_FAULTS {
-            // What is there now is told once more, as the root itself may be gone.
-            let _told = recrawl(alloc, server, root, &Subtree::Whole);
-            return Stop::Unwatchable;
+            return give_up(alloc, server, root, stop);
         }
-        thread::sleep(
-            rt,
-            Duration::from_millis(u64::from(faults).saturating_mul(50)),
-        );
+        system.sleep(Duration::from_millis(u64::from(faults).saturating_mul(50)));
     }
     Stop::Unwatchable
+}
+
+/// Feeds the server at the socket of a path with what changes below a root, over a system, until there is a cause to stop.
+///
+/// `WatchGone` if the root isn't watched any longer; `Refused` by the refusal of a request that isn't one for now, or of one that
+/// ended the last of ten watches; `Unwatched` if inotifywait can't be started, `Unwatchable` if ten watches ended in a row before each
+/// folder was seen to be watched; `ServerGone`, `Unreadable` and `NoMemory`. What was sent until then is with the server.
+pub fn feed_by<Y: System>(system: &Y, alloc: Global, socket: &str, root: &RootPath) -> Stop {
+    match Server::connect(alloc, system, socket) {
+        Ok(mut server) => feed_root(system, alloc, &mut server, root),
+        Err(stop) => stop,
+    }
 }

@@ -1,37 +1,18 @@
 //! Whether inotifywait watches each folder that the server knows. Between its reading of a new folder
 //! and its watch of it, inotifywait misses a folder that is made there; the system's list of its watches tells.
-//! Tests: tools/feed_use.py.
+//! Tests: feed_tests, tools/feed_use.py.
 
 use crate::sending::hand_over;
 use crate::server::Server;
+use crate::system::System;
 use serde_json::{Value, json};
 use std::alloc::Global;
 use std::collections::BTreeSet;
-use std::fs;
-use std::fs::Files;
-use std::os::unix::fs::MetadataExt;
 use wm_client::Stop;
-use wm_feed::add_watched;
 
 /// The members of a query that asks for the names of all folders.
 const FOLDERS: &str =
     "\"expression\":[\"allof\",\"exists\",[\"type\",\"d\"]],\"fields\":[\"name\"]";
-
-/// The numbers of all files that a process watches.
-fn watched<R: Files + AllocGlobal>(
-    rt: &R,
-    alloc: Global,
-    process: u32,
-) -> Result<BTreeSet<u64>, Stop> {
-    let mut numbers = BTreeSet::new(alloc);
-    for descriptor in 3..16 {
-        let path = format!(in alloc; "/proc/{process}/fdinfo/{descriptor}")?;
-        if let Ok(text) = fs::read_to_string(rt, path.as_str()) {
-            add_watched(text.as_str(), &mut numbers)?;
-        }
-    }
-    Ok(numbers)
-}
 
 /// The clock of a reply.
 fn clock_of(alloc: Global, reply: &Value) -> Result<Option<String>, Stop> {
@@ -42,37 +23,34 @@ fn clock_of(alloc: Global, reply: &Value) -> Result<Option<String>, Stop> {
 }
 
 /// Whether a path below a root is a folder that isn't watched, though it can be.
-fn is_missed<R: Files>(
-    rt: &R,
+fn is_missed<Y: System>(
+    system: &Y,
     alloc: Global,
     root: &str,
     path: &str,
     watched: &BTreeSet<u64>,
 ) -> Result<bool, Stop> {
     let text = format!(in alloc; "{root}/{path}")?;
-    let Ok(found) = fs::symlink_metadata(rt, text.as_str()) else {
-        return Ok(false);
-    };
-    if !found.is_dir() || watched.contains(&found.ino()) {
-        return Ok(false);
+    match system.folder(text.as_str()) {
+        Some(number) if !watched.contains(&number) => Ok(system.is_readable(text.as_str())),
+        _ => Ok(false),
     }
-    Ok(rt.open_dir(text.as_str()).is_ok())
 }
 
 /// Whether one of the folders that a reply lists is missed.
-fn is_any_missed<R: Files>(
-    rt: &R,
+fn is_any_missed<Y: System>(
+    system: &Y,
     alloc: Global,
     root: &str,
     reply: &Value,
     watched: &BTreeSet<u64>,
 ) -> Result<bool, Stop> {
     let Some(files) = reply.get("files").and_then(Value::as_array) else {
-        return Err(Stop::Refused);
+        return Err(Stop::Unreadable);
     };
     for file in files {
         if let Some(path) = file.as_str() {
-            if is_missed(rt, alloc, root, path, watched)? {
+            if is_missed(system, alloc, root, path, watched)? {
                 return Ok(true);
             }
         }
@@ -89,10 +67,10 @@ fn quoted(alloc: Global, text: &str) -> Result<String, Stop> {
 /// The value that a reply is.
 fn value_of(alloc: Global, reply: &[u8]) -> Result<Value, Stop> {
     let Ok(text) = str::from_utf8(reply) else {
-        return Err(Stop::Refused);
+        return Err(Stop::Unreadable);
     };
     let Ok(value) = Value::from_str(alloc, text) else {
-        return Err(Stop::Refused);
+        return Err(Stop::Unreadable);
     };
     Ok(value)
 }
@@ -125,22 +103,27 @@ impl Seen {
     }
 
     /// Asks for the folders that came since.
-    fn ask(&self, alloc: Global, server: &mut Server, root: &str) -> Result<(), Stop> {
+    fn ask<Y: System>(
+        &self,
+        alloc: Global,
+        server: &mut Server<Y>,
+        root: &str,
+    ) -> Result<(), Stop> {
         let request = self.request(alloc, root)?;
         hand_over(alloc, server, request.as_str())
     }
 
     /// Whether each folder that a reply lists is watched by a process, or can't be read: then its clock is kept.
-    fn take<R: Files + AllocGlobal>(
+    fn take<Y: System>(
         &mut self,
-        rt: &R,
+        system: &Y,
         alloc: Global,
         root: &str,
         reply: &Value,
         process: u32,
     ) -> Result<bool, Stop> {
-        let watched = watched(rt, alloc, process)?;
-        if is_any_missed(rt, alloc, root, reply, &watched)? {
+        let watched = system.watched(alloc, process)?;
+        if is_any_missed(system, alloc, root, reply, &watched)? {
             return Ok(false);
         }
         self.clock = clock_of(alloc, reply)?;
@@ -148,16 +131,16 @@ impl Seen {
     }
 
     /// Whether each folder that the server knows is watched by a process, or can't be read.
-    pub(crate) fn are_watched<R: Files + AllocGlobal>(
+    pub(crate) fn are_watched<Y: System>(
         &mut self,
-        rt: &R,
+        system: &Y,
         alloc: Global,
-        server: &mut Server,
+        server: &mut Server<Y>,
         root: &str,
         process: u32,
     ) -> Result<bool, Stop> {
         self.ask(alloc, server, root)?;
         let reply = value_of(alloc, server.reply())?;
-        self.take(rt, alloc, root, &reply, process)
+        self.take(system, alloc, root, &reply, process)
     }
 }

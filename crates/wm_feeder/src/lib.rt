@@ -1,16 +1,22 @@
 //! The feed of `wmfeed`: it tells a server what inotifywait tells of a folder.
 //!
-//! [`Inotify`] is the `Feeder`; the rest of the program is `wmfeed` of `wm_client`. What a record means, what a
+//! [`feed_by`] feeds a server over a [`System`], which is all that a feed asks of the system that it runs on; [`Inotify`] is that of the
+//! program, and its `Feeder`. The rest of the program is `wmfeed` of `wm_client`. What a record means, what a
 //! few ask for together and the line that tells it stand in `wm_feed`, with their contracts. What a reply is taken for has
-//! private clauses (specs/Asks.antt); what asks the system has none.
+//! private clauses (server.rt); what asks the system has none.
 #![tactic(auto)]
 
 mod feeding;
 mod folders;
 mod inotify;
+mod inotifywait;
 mod looking;
 mod sending;
 mod server;
+mod system;
 mod watch;
 
+pub use feeding::feed_by;
 pub use inotify::Inotify;
+pub use inotifywait::Inotifywait;
+pub use system::{System, Watcher};

@@ -1,25 +1,24 @@
-//! What stands at paths of a folder now, as a crawl would tell it. Tests: tools/feed_use.py.
+//! What stands at paths of a folder now, as a crawl would tell it. Tests: feed_tests, tools/feed_use.py.
 
 use std::alloc::Global;
-use std::fs::Files;
 use wm_client::Stop;
-use wm_crawler::{FolderTree, Tree};
+use wm_crawler::Tree;
 use wm_disk::Refusal;
-use wm_names::{Kind, Meta, RelPath, RootPath};
+use wm_names::{Kind, Meta, RelPath};
 
 /// Looks paths up, and keeps what it saw of the last path's folder.
 #[derive(Drop)]
-pub(crate) struct Looking<F> {
-    tree: FolderTree<F>,
+pub(crate) struct Looking<'a, T> {
+    tree: &'a T,
     folder: String,
     is_real: bool,
 }
 
-impl<F: Files + Drop> Looking<F> {
+impl<'a, T: Tree> Looking<'a, T> {
     /// Nothing is looked up yet.
-    pub(crate) fn new(alloc: Global, files: F, root: RootPath) -> Looking<F> {
+    pub(crate) fn new(alloc: Global, tree: &'a T) -> Looking<'a, T> {
         Looking {
-            tree: FolderTree::new(files, root),
+            tree,
             folder: String::new(alloc),
             is_real: true,
         }

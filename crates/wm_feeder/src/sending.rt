@@ -1,11 +1,13 @@
-//! A batch told to the server. Tests: tools/feed_use.py.
+//! A batch told to the server. Tests: feed_tests, tools/feed_use.py.
 
 use crate::looking::Looking;
 use crate::server::{Asked, Server};
+use crate::system::System;
 use serde_json::json;
 use std::alloc::Global;
-use std::fs::Files;
 use wm_client::Stop;
+use wm_crawler::Tree;
+use wm_disk::Refusal;
 use wm_feed::{Batch, observe_line};
 use wm_lines::MAX_LINE;
 use wm_names::{Meta, RelPath, RootPath, Subtree};
@@ -24,19 +26,31 @@ pub(crate) fn is_wide(batch: &Batch) -> bool {
     batch.is_whole() || batch.folders().len() > MAX_FOLDERS
 }
 
-/// Asks for what has to be met, or has to be tried anew.
-pub(crate) fn hand_over(alloc: Global, server: &mut Server, request: &str) -> Result<(), Stop> {
+/// Whether the same request may be accepted later: the root isn't crawled yet, the device failed, or memory.
+pub(crate) fn is_for_now(refusal: Refusal) -> bool {
+    matches!(
+        refusal,
+        Refusal::NotReady | Refusal::DeviceFailed | Refusal::NoMemory
+    )
+}
+
+/// Asks for what has to be accepted, or has to be tried anew.
+pub(crate) fn hand_over<Y: System>(
+    alloc: Global,
+    server: &mut Server<Y>,
+    request: &str,
+) -> Result<(), Stop> {
     match server.ask(alloc, request)? {
         Asked::Told => Ok(()),
-        Asked::NotReady | Asked::Failed => Err(Stop::Doubt),
-        Asked::Refused => Err(Stop::Refused),
+        Asked::Refused(refusal) if is_for_now(refusal) => Err(Stop::RefusedForNow(refusal)),
+        Asked::Refused(refusal) => Err(Stop::Refused(refusal)),
     }
 }
 
 /// Crawls a part of the root.
-pub(crate) fn recrawl(
+pub(crate) fn recrawl<Y: System>(
     alloc: Global,
-    server: &mut Server,
+    server: &mut Server<Y>,
     root: &RootPath,
     subtree: &Subtree,
 ) -> Result<(), Stop> {
@@ -50,9 +64,9 @@ pub(crate) fn recrawl(
 }
 
 /// Tells pairs, in lines of so many.
-fn observe(
+fn observe<Y: System>(
     alloc: Global,
-    server: &mut Server,
+    server: &mut Server<Y>,
     root: &RootPath,
     pairs: &[(RelPath, Option<Meta>)],
 ) -> Result<(), Stop> {
@@ -68,9 +82,9 @@ fn observe(
 }
 
 /// Tells pairs, in short lines.
-fn observe_few(
+fn observe_few<Y: System>(
     alloc: Global,
-    server: &mut Server,
+    server: &mut Server<Y>,
     root: &RootPath,
     pairs: &[(RelPath, Option<Meta>)],
 ) -> Result<(), Stop> {
@@ -82,9 +96,9 @@ fn observe_few(
 }
 
 /// Adds what stands at a path now.
-fn look_at<F: Files + Drop>(
+fn look_at<T: Tree>(
     alloc: Global,
-    looking: &mut Looking<F>,
+    looking: &mut Looking<'_, T>,
     path: &RelPath,
     pairs: &mut Vec<(RelPath, Option<Meta>)>,
 ) -> Result<(), Stop> {
@@ -94,13 +108,12 @@ fn look_at<F: Files + Drop>(
 }
 
 /// What stands at the paths of a batch now.
-fn look<F: Files + Drop>(
+fn look<T: Tree>(
     alloc: Global,
-    files: F,
-    root: &RootPath,
+    tree: &T,
     batch: &Batch,
 ) -> Result<Vec<(RelPath, Option<Meta>)>, Stop> {
-    let mut looking = Looking::new(alloc, files, root.copy(alloc)?);
+    let mut looking = Looking::new(alloc, tree);
     let mut pairs = Vec::new(alloc);
     for path in batch.paths() {
         look_at(alloc, &mut looking, path, &mut pairs)?;
@@ -109,9 +122,9 @@ fn look<F: Files + Drop>(
 }
 
 /// Crawls the folders of a batch, or the root where they are many.
-fn recrawl_folders(
+fn recrawl_folders<Y: System>(
     alloc: Global,
-    server: &mut Server,
+    server: &mut Server<Y>,
     root: &RootPath,
     batch: &Batch,
 ) -> Result<(), Stop> {
@@ -134,14 +147,14 @@ fn recrawl_folders(
 }
 
 /// Looks up what a batch asks for and tells it.
-pub(crate) fn send<F: Files + Drop>(
+pub(crate) fn send<Y: System>(
     alloc: Global,
-    files: F,
-    server: &mut Server,
+    tree: &Y::Files,
+    server: &mut Server<Y>,
     root: &RootPath,
     batch: &Batch,
 ) -> Result<(), Stop> {
-    let pairs = look(alloc, files, root, batch)?;
+    let pairs = look(alloc, tree, batch)?;
     observe(alloc, server, root, &pairs)?;
     recrawl_folders(alloc, server, root, batch)
 }

@@ -1,68 +1,62 @@
-//! A session with the server, one request at a time. Definitions: specs/Asks.
-//! Tests: tools/feed_use.py.
-ghost use Rattle.std.specs.Prelude.{◌≡◌, ◌≢◌, ◌⊎◌, ◌↔◌, true, false, Ok, Err, IfErr, IfOk};
+//! A session with the server, one request at a time. Definitions: specs/RefusalLines of wm_client.
+//! Tests: feed_tests, tools/feed_use.py.
+ghost use Rattle.std.specs.Prelude.{◌≡◌, ◌⊎◌, true, false, None, Ok, IfErr, IfOk};
+ghost use Rattle.wm_disk.specs.declared.refusal.Refusal.{Refusal};
 ghost use Rattle.wm_disk.specs.declared.refusal.Refusal.TheVariants as refusals;
+ghost use Rattle.wm_client.specs.RefusalLines.{IsRefusalOf, is_refused_by};
 ghost use Rattle.wm_client.specs.Talks.{is_refusal_line};
-ghost use Rattle.wm_feeder.specs.Asks.{is_refused_by};
 
+use crate::system::System;
 use std::alloc::Global;
-use std::io::BufReader;
-use std::net::Net;
-use std::os::unix::net::UnixStream;
-use wm_client::{Stop, TalkEnd, talk};
+use wm_client::{Stop, TalkEnd, refusal_of, talk};
+use wm_disk::Refusal;
 
 /// What a request was answered.
 #[derive(Clone, Copy, Debug, PartialEq, Eq)]
 pub(crate) enum Asked {
     /// The reply is in [`Server::reply`].
     Told,
-    NotReady,
-    /// The device failed, or memory: the same request may be met later.
-    Failed,
-    Refused,
+    /// The reply is this refusal.
+    Refused(Refusal),
 }
 
 /// A session with the server.
 #[derive(Drop)]
-pub(crate) struct Server {
-    stream: UnixStream,
-    replies: BufReader<UnixStream>,
+pub(crate) struct Server<Y: System> {
+    sender: Y::Sender,
+    replies: Y::Replies,
     reply: Vec<u8>,
 }
 
-impl Server {
+impl<Y: System> Server<Y> {
     /// A session over the socket of a path.
-    pub(crate) fn connect<N: Net>(alloc: Global, net: &N, socket: &str) -> Result<Server, Stop>
+    pub(crate) fn connect(alloc: Global, system: &Y, socket: &str) -> Result<Server<Y>, Stop>
         ensures { IfErr result (λ stop. (stop ≡ Stop.ServerGone) ⊎ (stop ≡ Stop.NoMemory)) }
     {
-        let Ok(stream) = UnixStream::connect(net, socket) else {
-            return Err(Stop::ServerGone);
-        };
-        let Ok(other) = stream.try_clone() else {
-            return Err(Stop::ServerGone);
-        };
-        let Ok(replies) = BufReader::new(alloc, other) else {
-            return Err(Stop::NoMemory);
-        };
+        let (sender, replies) = system.connect(alloc, socket)?;
         Ok(Server {
-            stream,
+            sender,
             replies,
             reply: Vec::new(alloc),
         })
     }
 
-    /// Sends a request and reads its reply. It is refused where the server ended, memory ran out or the root isn't watched.
+    /// Sends a request and reads its reply. A refusal that comes though the request couldn't be sent is its reply,
+    /// as the first line of a session for which the server has no place.
+    ///
+    /// It fails if the server ended, memory ran out, the root isn't watched any longer, or the reply is a refusal that isn't known.
     pub(crate) fn ask(&mut self, alloc: Global, request: &str) -> Result<Asked, Stop>
-        ensures told { IfOk result (λ asked. asked ≡ Asked.Told → is_refusal_line self.new.reply.items ≡ false) }
-        ensures refused { IfOk result (λ asked. asked ≢ Asked.Told → is_refusal_line self.new.reply.items ≡ true) }
-        ensures gone { IfErr result (λ stop. (stop ≡ Stop.ServerGone) ⊎ (stop ≡ Stop.NoMemory) ⊎ ((stop ≡ Stop.WatchGone) × (is_refused_by refusals.NotWatched self.new.reply.items ≡ true))) }
+        ensures told { result ≡ Ok Asked.Told → is_refusal_line self.new.reply.items ≡ false }
+        ensures refused { (r : Refusal) → result ≡ Ok (Asked.Refused r) → is_refused_by r self.new.reply.items ≡ true }
+        ensures failed { IfErr result (λ stop. (stop ≡ Stop.ServerGone) ⊎ (stop ≡ Stop.NoMemory) ⊎ ((stop ≡ Stop.WatchGone) × (is_refused_by refusals.NotWatched self.new.reply.items ≡ true))
+            ⊎ ((stop ≡ Stop.Unreadable) × IsRefusalOf self.new.reply.items None)) }
     {
         self.reply.clear();
         let Ok(end) = talk(
             alloc,
             request,
             0,
-            &mut &self.stream,
+            &mut self.sender,
             &mut self.replies,
             &mut self.reply,
         ) else {
@@ -71,29 +65,22 @@ impl Server {
         match end {
             TalkEnd::Told => Ok(Asked::Told),
             TalkEnd::Refused => self.refused(),
-            TalkEnd::NoReply => Err(Stop::ServerGone),
+            TalkEnd::NoReply | TalkEnd::ReadFailed | TalkEnd::Unsent => Err(Stop::ServerGone),
             TalkEnd::Unprinted => Err(Stop::NoMemory),
         }
     }
 
-    /// What kind of refusal the reply is.
+    /// Which refusal the reply is.
     fn refused(&self) -> Result<Asked, Stop>
-        ensures kind { IfOk result (λ asked. asked ≢ Asked.Told) }
-        ensures gone { (result ≡ Err Stop.WatchGone) ↔ (is_refused_by refusals.NotWatched self.now.reply.items ≡ true) }
-        ensures unready { result ≡ Ok Asked.NotReady → is_refused_by refusals.NotReady self.now.reply.items ≡ true }
-        ensures known { IfErr result (λ stop. stop ≡ Stop.WatchGone) }
+        ensures refused { IfOk result (λ asked. (r : Refusal) × (asked ≡ Asked.Refused r) × (is_refused_by r self.now.reply.items ≡ true)) }
+        ensures failed { IfErr result (λ stop. ((stop ≡ Stop.WatchGone) × (is_refused_by refusals.NotWatched self.now.reply.items ≡ true))
+            ⊎ ((stop ≡ Stop.Unreadable) × IsRefusalOf self.now.reply.items None)) }
     {
-        let reply = &self.reply;
-        if reply.starts_with(b"{\"error\":\"5 NotWatched") {
-            return Err(Stop::WatchGone);
+        match refusal_of(&self.reply) {
+            Some(Refusal::NotWatched) => Err(Stop::WatchGone),
+            Some(refusal) => Ok(Asked::Refused(refusal)),
+            None => Err(Stop::Unreadable),
         }
-        if reply.starts_with(b"{\"error\":\"6 NotReady") {
-            return Ok(Asked::NotReady);
-        }
-        if reply.starts_with(b"{\"error\":\"13 ") || reply.starts_with(b"{\"error\":\"16 ") {
-            return Ok(Asked::Failed);
-        }
-        Ok(Asked::Refused)
     }
 
     /// The last reply, with its newline.

@@ -30,7 +30,7 @@ const ENDS: &[(&str, &[&str], u8, &str, &str)] = &[
         &["[1]", "--follow", "2"],
         3,
         "[1]\nb\n",
-        "wmctl: the socket failed, or ended before a whole line had come\n",
+        "wmctl: no reply\n",
     ),
     (
         "",
@@ -64,6 +64,47 @@ fn ends_of_the_table(rt: HostRuntime) {
     fs::remove_file(&rt, PATH).expect(&rt, "a socket");
 }
 
+/// Tells a session before it asks, and ends it without reading.
+fn refuse(host: &impl Abort, listener: &UnixListener, told: &str) {
+    let (stream, _) = listener.accept().expect(host, "a session");
+    (&stream)
+        .write_all(told.as_bytes())
+        .expect(host, "a reader");
+}
+
+/// What a session is told whose request isn't read; the status, and what is printed and told.
+const UNREAD: &[(&str, u8, &str, &str)] = &[
+    (
+        "{\"error\":\"17 TooMany\",\"version\":\"w1\"}\n",
+        1,
+        "{\"error\":\"17 TooMany\",\"version\":\"w1\"}\n",
+        "",
+    ),
+    ("{\"error\":\"17 TooMany\"", 3, "", "wmctl: no reply\n"),
+    ("", 3, "", "wmctl: no reply\n"),
+];
+
+#[test]
+fn prints_the_refusal_of_a_session(rt: HostRuntime) {
+    const PATH: &str = "wm_client_refusing";
+    let alloc = rt.alloc();
+    let _ = fs::remove_file(&rt, PATH);
+    let listener = UnixListener::bind(&rt, PATH).expect(&rt, "a listener");
+    for (told, status, printed, fault) in UNREAD {
+        let mut output = Vec::new(alloc);
+        let mut faults = Vec::new(alloc);
+        let (_, ended) = thread::join(
+            &rt,
+            || refuse(&rt, &listener, told),
+            || wmctl(alloc, &rt, &[PATH, "[1]"], &mut output, &mut faults),
+        );
+        check!(rt; ended == *status, (told, ended));
+        check!(rt; output.as_slice() == printed.as_bytes(), told);
+        check!(rt; faults.as_slice() == fault.as_bytes(), told);
+    }
+    fs::remove_file(&rt, PATH).expect(&rt, "a socket");
+}
+
 /// Words that ask for no talk; the status, and how what is printed and told begins.
 const SHOWN: &[(&[&str], u8, &str, &str)] = &[
     (&["--version"], 0, "wmctl ", ""),
@@ -90,6 +131,5 @@ fn tells_that_nobody_serves_a_socket(rt: HostRuntime) {
     let words = ["wm_client_nowhere", "[]"];
     let status = wmctl(rt.alloc(), &rt, &words, &mut output, &mut faults);
     check!(rt; status == 3 && output.is_empty());
-    check!(rt; faults.as_slice()
-            == b"wmctl: the socket failed, or ended before a whole line had come\n".as_slice());
+    check!(rt; faults.as_slice() == b"wmctl: no reply\n".as_slice());
 }
