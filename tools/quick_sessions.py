@@ -235,6 +235,4 @@ def socket_of_another_server_stays(programs):
 
 
 CASES = [watch_list_and_questions_agree, long_question_delays_no_command, observations_wake_only_their_subscribers, commands_leave_no_memory,
-         socket_of_another_server_stays]
-# What is known to be wrong still: the clients lose a reply that has come if their write failed.
-OPEN = [refusal_17_reaches_the_client]
+         socket_of_another_server_stays, refusal_17_reaches_the_client]
