@@ -128,6 +128,43 @@ const MISSED: Run = Run {
     watches: 2,
 };
 
+const CRAWLED_AGAIN: Run = Run {
+    what: "a crawl that was overtaken, or found no memory, is done again under a new watch",
+    ready: Ready {
+        said: [
+            r#"{"version":"w1","watch":"/r"}
+{"clock":"c:1:1:1","version":"w1"}
+{"error":"7 BadClock","version":"w1"}
+{"clock":"c:1:1:1","version":"w1"}
+{"error":"16 NoMemory","version":"w1"}
+"#,
+            r#"{"clock":"c:1:1:1","version":"w1"}
+{"clock":"c:1:1:1","version":"w1"}
+{"clock":"c:1:1:1","files":["d"],"is_fresh_instance":true,"version":"w1"}
+{"error":"5 NotWatched","version":"w1"}
+"#,
+        ],
+        watches: &[&[ESTABLISHED], &[ESTABLISHED], &[ESTABLISHED, Quiet, Quiet]],
+        ..READY
+    },
+    sent: [
+        r#"["watch","/r"]
+["clock","/r"]
+["recrawl","/r"]
+["clock","/r"]
+["recrawl","/r"]
+"#,
+        r#"["clock","/r"]
+["recrawl","/r"]
+["query","/r",{"expression":["allof","exists",["type","d"]],"fields":["name"]}]
+["clock","/r"]
+"#,
+    ],
+    status: 0,
+    told: WATCH_GONE,
+    watches: 3,
+};
+
 #[test]
 fn waits_until_a_root_is_ready(rt: HostRuntime) {
     let done = check_run(&rt, rt.alloc(), &UNREADY);
@@ -136,7 +173,7 @@ fn waits_until_a_root_is_ready(rt: HostRuntime) {
 
 #[test]
 fn begins_of_the_table(rt: HostRuntime) {
-    for row in &[PIECES, MISSED] {
+    for row in &[PIECES, MISSED, CRAWLED_AGAIN] {
         let _done = check_run(&rt, rt.alloc(), row);
     }
 }

@@ -13,6 +13,9 @@ use wm_disk::Refusal;
 use wm_feeder::{System, Watcher, feed_by};
 use wm_names::{Kind, Meta, RelPath, RootPath, Subtree};
 
+/// The number of the process of each watch.
+const PROCESS: u32 = 7;
+
 /// What a reading of a watch gives.
 #[derive(Clone, Copy, Debug)]
 pub enum Reading {
@@ -84,7 +87,7 @@ impl Done {
     }
 }
 
-/// A system that has this ready.
+/// A system that has this ready, for a feed of the root `/r` to the socket `socket`.
 #[derive(Clone, Copy)]
 pub struct Memory<'a> {
     pub ready: Ready,
@@ -144,7 +147,7 @@ impl Watcher for Script<'_> {
     }
 
     fn id(&self) -> u32 {
-        7
+        PROCESS
     }
 
     fn end(self) {
@@ -207,9 +210,9 @@ impl<'a> System for Memory<'a> {
     fn connect(
         &self,
         _alloc: Global,
-        _socket: &str,
+        socket: &str,
     ) -> Result<(Ear<'a>, Chain<&'static [u8], &'static [u8]>), Stop> {
-        if !self.ready.is_served {
+        if !self.ready.is_served || socket != "socket" {
             return Err(Stop::ServerGone);
         }
         let ear = Ear {
@@ -220,7 +223,10 @@ impl<'a> System for Memory<'a> {
         Ok((ear, first.as_bytes().chain(then.as_bytes())))
     }
 
-    fn watch(&self, _alloc: Global, _root: &str) -> Result<Script<'a>, Stop> {
+    fn watch(&self, _alloc: Global, root: &str) -> Result<Script<'a>, Stop> {
+        if root != "/r" {
+            return Err(Stop::Unwatched);
+        }
         let place = self.done.started.get();
         let Some(readings) = self.ready.watches.get(place) else {
             return Err(Stop::Unwatched);
@@ -232,14 +238,21 @@ impl<'a> System for Memory<'a> {
         })
     }
 
-    fn files(&self, _root: RootPath) -> Paths {
+    fn files(&self, root: RootPath) -> Paths {
+        let is_root = root.as_str() == "/r";
+        drop(root);
         Paths {
-            stands: self.ready.paths,
+            stands: if is_root { self.ready.paths } else { &[] },
         }
     }
 
-    fn watched(&self, alloc: Global, _process: u32) -> Result<BTreeSet<u64>, Stop> {
-        Ok(set_of(alloc, self.ready.watched)?)
+    fn watched(&self, alloc: Global, process: u32) -> Result<BTreeSet<u64>, Stop> {
+        let watched = if process == PROCESS {
+            self.ready.watched
+        } else {
+            &[]
+        };
+        Ok(set_of(alloc, watched)?)
     }
 
     fn folder(&self, path: &str) -> Option<u64> {

@@ -26,11 +26,12 @@ pub(crate) fn is_wide(batch: &Batch) -> bool {
     batch.is_whole() || batch.folders().len() > MAX_FOLDERS
 }
 
-/// Whether the same request may be accepted later: the root isn't crawled yet, the device failed, or memory.
+/// Whether the same request may be accepted later: the root isn't crawled yet, a crawl was overtaken by too many observations, the
+/// device failed, or memory ran out.
 pub(crate) fn is_for_now(refusal: Refusal) -> bool {
     matches!(
         refusal,
-        Refusal::NotReady | Refusal::DeviceFailed | Refusal::NoMemory
+        Refusal::NotReady | Refusal::BadClock | Refusal::DeviceFailed | Refusal::NoMemory
     )
 }
 

@@ -1,6 +1,6 @@
 //! A session with the server, one request at a time. Definitions: specs/RefusalLines of wm_client.
 //! Tests: feed_tests, tools/feed_use.py.
-ghost use Rattle.std.specs.Prelude.{◌≡◌, ◌⊎◌, true, false, None, Ok, IfErr, IfOk};
+ghost use Rattle.std.specs.Prelude.{◌≡◌, ◌≢◌, ◌⊎◌, true, false, None, Ok, IfErr, IfOk};
 ghost use Rattle.wm_disk.specs.declared.refusal.Refusal.{Refusal};
 ghost use Rattle.wm_disk.specs.declared.refusal.Refusal.TheVariants as refusals;
 ghost use Rattle.wm_client.specs.RefusalLines.{IsRefusalOf, is_refused_by};
@@ -47,7 +47,7 @@ impl<Y: System> Server<Y> {
     /// It fails if the server ended, memory ran out, the root isn't watched any longer, or the reply is a refusal that isn't known.
     pub(crate) fn ask(&mut self, alloc: Global, request: &str) -> Result<Asked, Stop>
         ensures told { result ≡ Ok Asked.Told → is_refusal_line self.new.reply.items ≡ false }
-        ensures refused { (r : Refusal) → result ≡ Ok (Asked.Refused r) → is_refused_by r self.new.reply.items ≡ true }
+        ensures refused { (r : Refusal) → result ≡ Ok (Asked.Refused r) → (is_refused_by r self.new.reply.items ≡ true) × (r ≢ refusals.NotWatched) }
         ensures failed { IfErr result (λ stop. (stop ≡ Stop.ServerGone) ⊎ (stop ≡ Stop.NoMemory) ⊎ ((stop ≡ Stop.WatchGone) × (is_refused_by refusals.NotWatched self.new.reply.items ≡ true))
             ⊎ ((stop ≡ Stop.Unreadable) × IsRefusalOf self.new.reply.items None)) }
     {
@@ -72,7 +72,7 @@ impl<Y: System> Server<Y> {
 
     /// Which refusal the reply is.
     fn refused(&self) -> Result<Asked, Stop>
-        ensures refused { IfOk result (λ asked. (r : Refusal) × (asked ≡ Asked.Refused r) × (is_refused_by r self.now.reply.items ≡ true)) }
+        ensures refused { IfOk result (λ asked. (r : Refusal) × (asked ≡ Asked.Refused r) × (is_refused_by r self.now.reply.items ≡ true) × (r ≢ refusals.NotWatched)) }
         ensures failed { IfErr result (λ stop. ((stop ≡ Stop.WatchGone) × (is_refused_by refusals.NotWatched self.now.reply.items ≡ true))
             ⊎ ((stop ≡ Stop.Unreadable) × IsRefusalOf self.now.reply.items None)) }
     {

@@ -1,7 +1,7 @@
 //! Talks over bytes in memory.
 use crate::checks::check;
 use std::io;
-use std::io::{ErrorKind, Write};
+use std::io::{BufReader, ErrorKind, Read, Write};
 use wm_client::{TalkEnd, refusal_of, talk};
 use wm_disk::Refusal;
 
@@ -44,6 +44,54 @@ fn talks_of_the_table(rt: HostRuntime) {
         .expect(&rt, "memory");
         check!(rt; end == *wanted, (input, end));
         check!(rt; sent.as_slice() == b"[\"x\"]\n".as_slice(), input);
+        check!(rt; printed.as_slice() == wanted_text.as_bytes(), input);
+    }
+}
+
+/// What comes before a read fails.
+#[derive(Clone, Copy)]
+struct Reset {
+    left: &'static [u8],
+}
+
+impl Read for Reset {
+    fn read(&mut self, room: &mut [u8]) -> io::Result<usize> {
+        if self.left.is_empty() {
+            return Err(io::Error::from(ErrorKind::ConnectionReset));
+        }
+        self.left.read(room)
+    }
+}
+
+/// How many lines are to follow, what comes before a read fails, how the talk ends, and what is printed.
+const RESET: &[(u32, &str, TalkEnd, &str)] = &[
+    (0, "a\n", TalkEnd::Told, "a\n"),
+    (0, "half", TalkEnd::ReadFailed, ""),
+    (0, "", TalkEnd::ReadFailed, ""),
+    (1, "a\n", TalkEnd::ReadFailed, "a\n"),
+    (
+        1,
+        "{\"error\":\"17 TooMany\",\"version\":\"w1\"}\n",
+        TalkEnd::Refused,
+        "{\"error\":\"17 TooMany\",\"version\":\"w1\"}\n",
+    ),
+];
+
+#[test]
+fn ends_where_a_read_fails(rt: HostRuntime) {
+    let alloc = rt.alloc();
+    for (follow, input, wanted, wanted_text) in RESET {
+        let reset = Reset {
+            left: input.as_bytes(),
+        };
+        let mut replies = BufReader::new(alloc, reset).expect(&rt, "memory");
+        let mut sent = Vec::new(alloc);
+        let mut printed = Vec::new(alloc);
+        let end = talk(alloc, "[1]", *follow, &mut sent, &mut replies, &mut printed).expect(
+            &rt, "memory",
+        );
+        check!(rt; end == *wanted, (input, end));
+        check!(rt; sent.as_slice() == b"[1]\n".as_slice(), input);
         check!(rt; printed.as_slice() == wanted_text.as_bytes(), input);
     }
 }
