@@ -9,12 +9,13 @@ use wm_clock::ClockId;
 use wm_disk::NoMemory;
 use wm_expr::Expr;
 use wm_names::Entry;
-use wm_since::{Answer, Fields, Mirror, Query, Test, answer, render};
+use wm_since::{Answer, Fields, Mirror, Query, Since, Test, answer, render};
 use wm_view::View;
 
 mod cursors;
 mod expressions;
 mod mirrors;
+mod moments;
 mod rendering;
 mod since;
 
@@ -77,7 +78,7 @@ fn answer_since<T: Test>(
     test: T,
 ) -> Answer {
     let query = Query {
-        since: clock_at(since),
+        since: Since::from_clock(clock_at(since)),
         test,
         empty_on_fresh: false,
     };

@@ -8,9 +8,11 @@ use wm_view::{Known, View};
 
 mod against_reference;
 mod ageing;
+mod from_moments;
 mod generated;
 mod listings;
 mod many;
+mod moments;
 mod observing;
 mod overlays;
 mod recrawling;
@@ -18,19 +20,23 @@ mod reference;
 mod sessions;
 mod walking;
 
-/// What is listed of a path: the path, whether it exists, its size, the ticks of its creation and of its
-/// last change, and the moment of that.
-type Shown = (&'static str, bool, u64, u64, u64, u64);
+/// A tick and its moment.
+type At = (u64, u64);
+
+/// What is listed of a path: the path, whether it exists, its size, and when it was created and changed
+/// last.
+type Shown = (&'static str, bool, u64, At, At);
 
 /// Whether a listed path is this one, and all that is known of it is this.
 fn is_shown(listed: &(RelPath, Known), shown: &Shown) -> bool {
-    let (path, exists, size, created, last, moment) = *shown;
+    let (path, exists, size, creation, last_change) = *shown;
     let known = Known {
         exists,
         meta: file(size),
-        last,
-        created,
-        moment,
+        last: last_change.0,
+        created: creation.0,
+        moment: last_change.1,
+        created_moment: creation.1,
     };
     listed.0.as_str() == path && listed.1 == known
 }

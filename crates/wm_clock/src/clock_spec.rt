@@ -1,15 +1,16 @@
-//! What a client may ask from: its text names a clock or a cursor.
+//! What a client may ask from: its text names a clock or a cursor, its number a moment.
 //! Definitions: specs/Clocks.antt. Tests: leaf_tests/src/clocks/clock_specs.rt.
 ghost use Rattle.std.specs.Prelude.{◌≡◌, ◌≢◌, ◌↔◌, ◌∷◌, true, Some, None, IfOk, IfErr, IsErrOf};
-ghost use Rattle.wm_clock.specs.Clocks.{ClockRead, Reads, is_cursor, spec_of};
+ghost use Rattle.wm_clock.specs.Clocks.{ClockRead, Reads, is_cursor, seconds_of, spec_of};
 
 use crate::clock_id::ClockId;
 use crate::cursor_name::CursorName;
 use crate::number::read_number;
 use std::alloc::Global;
-use wm_disk::Refusal;
+use wm_disk::{MAX_COUNTER, Refusal};
 
-/// What a text may name: a moment, the clock of another instance, or a cursor.
+/// What a client may ask from. A text names a clock, a clock of another instance or a cursor; a number
+/// names a moment.
 #[derive(Drop)]
 pub enum ClockSpec {
     /// The text is that of a clock id in range.
@@ -18,6 +19,8 @@ pub enum ClockSpec {
     Another,
     /// The text is `n:` and a name of 1 to 64 bytes.
     Cursor(CursorName),
+    /// Named by a number, and by no text: a moment in Unix seconds, 0 to 2^63 - 1.
+    Seconds(u64),
 }
 
 /// The clock whose text is `c:` and these bytes.
@@ -37,6 +40,17 @@ fn read_clock(rest: &str) -> Option<ClockId>
 }
 
 impl ClockSpec {
+    /// The moment that the number names, in Unix seconds. `BadClock` if it is above 2^63 - 1.
+    pub fn seconds(seconds: u64) -> Result<ClockSpec, Refusal>
+        ensures exact { IfOk result (λ s. seconds_of seconds ≡ Some s) }
+        ensures refused { IfErr result (λ e. (e ≡ Refusal.BadClock) × (seconds_of seconds ≡ None)) }
+    {
+        if seconds > MAX_COUNTER {
+            return Err(Refusal::BadClock);
+        }
+        Ok(ClockSpec::Seconds(seconds))
+    }
+
     /// What the text names. `BadClock` where it begins neither with `c:` nor with `n:`, and where what
     /// follows `n:` is empty or has more than 64 bytes; `NoMemory` where a cursor's name finds no room,
     /// and never for a text that begins with `c:`.

@@ -1,7 +1,8 @@
-//! Clock ids: moments of a root, and the texts that name them.
+//! Clock ids: states of a root, and the texts that name them.
 //!
-//! A [`ClockId`] has one text, `c:I:R:T`. A [`ClockSpec`] is what a client's text names: such a moment,
-//! the clock of another instance, or a cursor, `n:` and a [`CursorName`].
+//! A [`ClockId`] has one text, `c:I:R:T`. A [`ClockSpec`] is what a client may ask from: by a text such a
+//! clock, a clock of another instance, or a cursor, `n:` and a [`CursorName`]; by a number a moment in
+//! Unix seconds.
 //!
 //! Tests: leaf_tests/src/clocks.
 #![tactic(auto)]

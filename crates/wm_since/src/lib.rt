@@ -1,7 +1,8 @@
-//! What changed in a root since a clock, and a client who keeps a list of files by such answers.
+//! What changed in a root since a clock or a moment, and a client who keeps a list of files by answers
+//! since clocks.
 //!
 //! An answer is defined on the root's history (specs/Answers.antt), so [`answer`] says what it means,
-//! and not only what a view's summary makes of it. A [`Mirror`] asks and applies answers
+//! and not only what a view's summary makes of it. A [`Mirror`] asks since clocks and applies answers
 //! (specs/Clients.antt), and [`every_client`] ties the two: a mirror that had exactly the matching files at
 //! its last clock has exactly those at the answer's (specs/Matching.antt). The crate `wm_world` has that
 //! over whole runs.
@@ -31,6 +32,6 @@ pub use fields::Fields;
 pub use laws::{cursor_laws, every_answer, every_client};
 pub use listed::{Listed, ListedFiles};
 pub use mirror::Mirror;
-pub use query::{Answer, Query};
+pub use query::{Answer, Query, Since};
 pub use rendering::render;
 pub use test::{Every, Test};

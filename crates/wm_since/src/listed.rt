@@ -9,7 +9,8 @@ use wm_names::Entry;
 #[derive(Drop)]
 pub struct Listed {
     pub entry: Entry,
-    /// Whether it came into being after the clock of the question, or the answer is fresh.
+    /// Whether it came into being after the question's clock, or at its moment or later. In a fresh
+    /// answer each is new.
     pub is_new: bool,
     /// The tick of its last change.
     pub last: u64,

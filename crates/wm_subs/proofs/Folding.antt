@@ -2,19 +2,20 @@
 use Rattle.std.proofs.Common.{◌≡◌, ◌≤◌, Bool, true, false, cond, not, ◌&&◌, ◌||◌, List, [], ◌∷◌, length, filter, nat_lt, nat_le, ◌==◌, Option, Some, None, refl, sym, ap, subst, ◌∙◌, arith, true≢false, leb-true, lt-ltb}
 use Rattle.wm_disk.specs.laws.Tests.{both_second}
 use Rattle.wm_names.specs.declared.entry.Entry.{Entry}
-use Rattle.wm_clock.specs.declared.clock_id.ClockId.{ClockId}
 use Rattle.wm_view.specs.declared.op.Op.{Op}
 use Rattle.wm_view.specs.Files.{Paths}
 use Rattle.wm_view.specs.Histories.{History, is_ready, tick_of}
 use Rattle.wm_since.specs.declared.listed.Listed.{Listed}
 use Rattle.wm_since.specs.declared.query.Answer.{Answer}
-use Rattle.wm_since.specs.Answers.{answer_to, can_tell, clock_of, is_fresh, question}
+use Rattle.wm_since.specs.declared.query.Since.{Since}
+use Rattle.wm_since.specs.declared.query.Since.TheVariants.{Clock, Moment}
+use Rattle.wm_since.specs.Answers.{all_existing, answer_to, can_tell, clock_of, difference_since, is_fresh, question}
 use Rattle.wm_since.specs.Clients.{files_after, is_gone, is_put, put_in}
 use Rattle.wm_since.specs.Laws.{AnswersApply}
-use Rattle.wm_since.specs.Matching.{files_at, matching_at}
+use Rattle.wm_since.specs.Matching.{matching_at}
 use Rattle.wm_since.specs.Tests.{PathOnly}
 use Rattle.wm_subs.specs.Subscribers.{Subscriber, after_due, due_answer, if_due, is_due_answer}
-use Rattle.wm_subs.specs.Folds.{FoldsOn, HoldsSince, KeepsList, RunsFold, files_told, history_after}
+use Rattle.wm_subs.specs.Folds.{FoldsOn, HoldsAt, HoldsSince, KeepsList, RunsFold, files_told, history_after}
 use Rattle.wm_subs.proofs.Staying.{matching_stays, ready_stays}
 
 -- ---- what a client makes of an answer
@@ -51,45 +52,55 @@ quiet false f n e = absurd (true≢false e)
 
 module _ (law : AnswersApply) (passes : Entry → Bool) (h : History) (only : PathOnly passes) where
   -- the answer with the files of a fresh one
-  abbrev whole : Option ClockId → Answer
+  abbrev whole : Option Since → Answer
   whole since = answer_to passes h (record { since = since; empty_on_fresh = false })
 
-  applied : (since : Option ClockId) (files : Paths) → HoldsSince passes h since files → files_after files (whole since) ≡ matching_at h passes (tick_of h)
+  -- each fresh answer is that to a question from nowhere
+  fresh_alike : (since : Option Since) → is_fresh h since ≡ true → whole since ≡ whole None
+  fresh_alike since e = λ i. record { clock = clock_of h; fresh = e i; files = cond (e i) (all_existing h passes) (difference_since h passes since) }
+
+  applied_on : (since : Option Since) (files : Paths) → is_fresh h since ≡ false → HoldsAt passes h since files → files_after files (whole since) ≡ matching_at h passes (tick_of h)
+  applied_on None files e holds = absurd (true≢false e)
+  applied_on (Some (Clock c)) files e holds = ap (λ ps. files_after ps (whole (Some (Clock c)))) holds ∙ law passes h (Some c) only
+  applied_on (Some (Moment m)) files e holds = absurd holds
+
+  applied : (since : Option Since) (files : Paths) → HoldsSince passes h since files → files_after files (whole since) ≡ matching_at h passes (tick_of h)
   applied since files holds =
       elim (is_fresh h since) as (λ b. is_fresh h since ≡ b → files_after files (whole since) ≡ matching_at h passes (tick_of h)) [
-        | true ↦ λ e. fresh_begins (whole since) files (files_at h passes since) e ∙ law passes h since only
-        | false ↦ λ e. ap (λ ps. files_after ps (whole since)) (holds e) ∙ law passes h since only
+        | true ↦ λ e. ap (files_after files) (fresh_alike since e) ∙ fresh_begins (whole None) files [] refl ∙ law passes h None only
+        | false ↦ λ e. applied_on since files e (holds e)
       ] refl
 
   -- the clock is one of this history
-  within : (since : Option ClockId) → is_fresh h since ≡ false → (ops : List Op) → files_at h passes since ≡ files_at (history_after h ops) passes since
-  within None e ops = absurd (true≢false e)
-  within (Some c) e ops =
+  stays : (since : Option Since) (files : Paths) → is_fresh h since ≡ false → HoldsAt passes h since files → (ops : List Op) → HoldsAt passes (history_after h ops) since files
+  stays None files e holds ops = absurd (true≢false e)
+  stays (Some (Moment m)) files e holds ops = absurd holds
+  stays (Some (Clock c)) files e holds ops =
       let told : can_tell h c ≡ true = not_false (can_tell h c) e in
       let low : c.tick ≤ tick_of h = leb-true c.tick (tick_of h) (both_second ((c.incarnation == h.incarnation) && (c.root == h.root) && nat_le h.floor c.tick) (nat_le c.tick (tick_of h)) told) in
-      matching_stays passes h ops c.tick low
+      holds ∙ matching_stays passes h ops c.tick low
     where
       not_false : (b : Bool) → not b ≡ false → b ≡ true
       not_false true q = refl
       not_false false q = absurd (true≢false q)
 
   -- the list is kept, where an answer was told or not
-  kept : (since : Option ClockId) (files : Paths) (due : Bool) → HoldsSince passes h since files
+  kept : (since : Option Since) (files : Paths) (due : Bool) → HoldsSince passes h since files
       → (due ≡ false → (is_fresh h since ≡ false) × ((whole since).files ≡ []))
-      → (next : Option ClockId) → next ≡ cond due (Some (clock_of h)) since
+      → (next : Option Since) → next ≡ cond due (Some (Clock (clock_of h))) since
       → KeepsList passes h next (files_told files (cond due (Some (whole since)) None))
   kept since files true holds silent next e = record {
     now = applied since files holds;
-    later = λ ops _. applied since files holds ∙ matching_stays passes h ops (tick_of h) (omega arith) ∙ ap (λ o. files_at (history_after h ops) passes o) (sym e);
+    later = λ ops _. subst (λ o. HoldsAt passes (history_after h ops) o (files_after files (whole since))) (sym e) (applied since files holds ∙ matching_stays passes h ops (tick_of h) (omega arith));
   }
   kept since files false holds silent next e =
       let off : is_fresh h since ≡ false = (silent refl).0 in
       record {
         now = sym (silent_keeps (whole since) files off (silent refl).1) ∙ applied since files holds;
-        later = λ ops _. holds off ∙ within since off ops ∙ ap (λ o. files_at (history_after h ops) passes o) (sym e);
+        later = λ ops _. subst (λ o. HoldsAt passes (history_after h ops) o files) (sym e) (stays since files off (holds off) ops);
       }
 
-next_since : {T : Type 0} (s : Subscriber T) (a : Answer) (b : Bool) → (after_due s (cond b (Some a) None)).query.since ≡ cond b (Some a.clock) s.query.since
+next_since : {T : Type 0} (s : Subscriber T) (a : Answer) (b : Bool) → (after_due s (cond b (Some a) None)).query.since ≡ cond b (Some (Clock a.clock)) s.query.since
 next_since s a true = refl
 next_since s a false = refl
 

@@ -2,14 +2,15 @@
 use Rattle.std.specs.Prelude.{◌≡◌, Bool, true, false, List, [], ◌∷◌, Option, Some, None}
 use Rattle.std.specs.List.{fold}
 use Rattle.wm_names.specs.declared.entry.Entry.{Entry}
-use Rattle.wm_clock.specs.declared.clock_id.ClockId.{ClockId}
 use Rattle.wm_view.specs.declared.op.Op.{Op}
 use Rattle.wm_view.specs.Files.{Paths}
 use Rattle.wm_view.specs.Histories.{History, after_operation, is_ready, tick_of}
 use Rattle.wm_since.specs.declared.query.Answer.{Answer}
+use Rattle.wm_since.specs.declared.query.Since.{Since}
+use Rattle.wm_since.specs.declared.query.Since.TheVariants.{Clock, Moment}
 use Rattle.wm_since.specs.Answers.{is_fresh}
 use Rattle.wm_since.specs.Clients.{files_after}
-use Rattle.wm_since.specs.Matching.{files_at, matching_at}
+use Rattle.wm_since.specs.Matching.{matching_at}
 use Rattle.wm_since.specs.Tests.{PathOnly}
 use Rattle.wm_subs.specs.Subscribers.{Subscriber, after_due, due_answer}
 
@@ -18,17 +19,23 @@ abbrev pub files_told : Paths → Option Answer → Paths
 files_told files None = files
 files_told files (Some a) = files_after files a
 
--- The list has just the matching files at the clock since which is asked: none need be there where there is no such clock, or where the
--- history can't tell what changed since it, for then the answer is fresh and begins the list anew.
-abbrev pub HoldsSince : (Entry → Bool) → History → Option ClockId → Paths → Type 0
-HoldsSince passes h since files = is_fresh h since ≡ false → files ≡ files_at h passes since
+-- The list has just the matching files at the clock, and is empty if there is no start. No list counts as held at a moment: of an answer
+-- since a moment that isn't fresh nothing is claimed.
+abbrev pub HoldsAt : (Entry → Bool) → History → Option Since → Paths → Type 0
+HoldsAt passes h None files = files ≡ []
+HoldsAt passes h (Some (Clock c)) files = files ≡ matching_at h passes c.tick
+HoldsAt passes h (Some (Moment m)) files = ⊥
+
+-- The same if what changed since the start can be told: else the list may be any, for then the answer is fresh and begins it anew.
+abbrev pub HoldsSince : (Entry → Bool) → History → Option Since → Paths → Type 0
+HoldsSince passes h since files = is_fresh h since ≡ false → HoldsAt passes h since files
 
 -- the history later on, after these operations
 abbrev pub history_after : History → List Op → History
 history_after h ops = fold after_operation h ops
 
 -- The list after what was told: it has just the matching files now, and at the clock since which is asked next, in each later history.
-pub record KeepsList (passes : Entry → Bool) (h : History) (next : Option ClockId) (files : Paths) : Type 0 where
+pub record KeepsList (passes : Entry → Bool) (h : History) (next : Option Since) (files : Paths) : Type 0 where
   pub now : files ≡ matching_at h passes (tick_of h)
   pub later : (ops : List Op) → HoldsSince passes (history_after h ops) next files
 
@@ -51,7 +58,7 @@ abbrev pub last_history : History → List (List Op) → History
 last_history h [] = h
 last_history h (ops ∷ more) = last_history (history_after h ops) more
 
--- The list begins as it holds since the subscription's clock, with nothing where there is none. Once the view is ready it has just the
+-- The list begins as it holds since the subscription's start, with nothing if there is none. Once the view is ready it has just the
 -- matching files after each call.
 abbrev pub RunsFold : Type 0 → Type 0
 RunsFold T = (passes : Entry → Bool) (h : History) (s : Subscriber T) (files : Paths) (more : List (List Op))

@@ -12,7 +12,7 @@ use std::alloc::Global;
 use std::marker::Model;
 use wm_clock::ClockId;
 use wm_disk::Refusal;
-use wm_since::{Answer, Query, Test, answer, every_client};
+use wm_since::{Answer, Query, Since, Test, answer, every_client};
 use wm_view::View;
 
 mod following;
@@ -35,7 +35,8 @@ impl<T> Model for Subscription<T> {
 }
 
 impl<T: Test> Subscription<T> {
-    /// A subscription that was told nothing yet. Its first answer is since the query's clock.
+    /// A subscription that was told nothing yet. Its first answer is since the query's clock or moment;
+    /// each later one is since the clock of the one before.
     pub fn new(name: SubscriptionName, query: Query<T>) -> Subscription<T>
         ensures { result ≡ new_subscriber name query }
     {
@@ -75,7 +76,7 @@ impl<T: Test> Subscription<T> {
     pub fn told(&mut self, clock: ClockId)
         ensures { self.new ≡ told_up_to self.old clock }
     {
-        self.query.since = Some(clock);
+        self.query.since = Some(Since::Clock(clock));
         self.is_told = true;
     }
 

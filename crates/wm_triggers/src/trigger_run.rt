@@ -18,7 +18,7 @@ use wm_clock::ClockId;
 use wm_disk::{NoMemory, Refusal};
 use wm_expr::Expr;
 use wm_registry::Trigger;
-use wm_since::{Answer, Query, answer, every_client};
+use wm_since::{Answer, Query, Since, answer, every_client};
 use wm_view::View;
 
 /// The runs of one trigger: which files they are for, and since when the next one tells.
@@ -91,7 +91,7 @@ impl TriggerRun {
     {
         let test = self.expr.copy(alloc)?;
         Ok(Query {
-            since: self.since,
+            since: Since::from_clock(self.since),
             test,
             empty_on_fresh: false,
         })

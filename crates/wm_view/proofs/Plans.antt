@@ -1,6 +1,7 @@
 -- The changes of a tick against the map that it makes.
 use Rattle.std.proofs.Common.{◌≡◌, ℕ, suc, length, nat_le, add-one, le-leb, le-ltb, Result, Ok, Err, ◌+◌, ◌<◌, ◌≤◌, Bool, true, false, cond, not, ◌&&◌, ◌||◌, T, List, [], ◌∷◌, map, Option, Some, None, filter, is_some, unwrap_or, option_and_then, refl, sym, ap, subst, ◌∙◌, arith, true≢false}
 use Rattle.std.specs.Ordering.{is_lt}
+use Rattle.std.specs.List.{AllByRecursion}
 use Rattle.std.specs.Cmp.Lexicographic.{nat_list_cmp_total}
 use Rattle.std.specs.FinMap.{find, put, is_sorted}
 use Rattle.std.specs.FinMap.Entries.{below_all, is_sorted-put, find-put, same_entries}
@@ -15,7 +16,7 @@ use Rattle.wm_view.specs.Steps.{present, keys, known_or, known_next, next_in, gr
 use Rattle.wm_view.specs.Histories.{max_pairs, refuse_if, unless_refused, observed}
 use Rattle.wm_disk.specs.declared.refusal.Refusal.TheVariants.{Exhausted, NotReady, TooMany}
 use Rattle.wm_view.proofs.ByLast.{not_at_most}
-use Rattle.wm_view.specs.KnownPaths.{AreAt, IsUpTo, after_changes}
+use Rattle.wm_view.specs.KnownPaths.{AreAt, AreMadeAt, IsUpTo, after_changes}
 use Rattle.wm_view.specs.ViewStates.{IsDoneOrRefused}
 use Rattle.wm_view.specs.Changes.{IsPlan, change_of, told_change}
 use Rattle.std.specs.Option.{option_or}
@@ -58,23 +59,30 @@ after_sorted ks [] s = s
 after_sorted ks (e ∷ es) s = after_sorted (put path_cmp e.0 e.1 ks) es (is_sorted-put path_cmp nat_list_cmp_total e.0 e.1 ks s)
 
 -- each change is found, so what holds of those that are found holds of each
-pub at_from_points : (t : ℕ) (es : Knowns) → T (is_sorted path_cmp es) → ((p : Path) (x : Known) → find path_cmp p es ≡ Some x → x.last ≡ t) → AreAt t es
-at_from_points t [] s h = tt
-at_from_points t (e ∷ es) s h = (
-  h e.0 e.1 (ap (λ b. cond b (Some e.1) (find path_cmp e.0 es)) (same_itself e.0)),
-  at_from_points t es (tail e es s) (λ p x f. h p x (elim (same_path p e.0) as (λ b. same_path p e.0 ≡ b → cond b (Some e.1) (find path_cmp p es) ≡ Some x) [
-    | true ↦ λ same. absurd (true≢false (sym (ap is_some f) ∙ ap is_some (none_after p e es same s)))
-    | false ↦ λ _. f
-  ] refl)),
-)
+module _ (of : Known → ℕ) (t : ℕ) where
+  all_from_points : (es : Knowns) → T (is_sorted path_cmp es) → ((p : Path) (x : Known) → find path_cmp p es ≡ Some x → of x ≡ t) → AllByRecursion (λ e. of e.1 ≡ t) es
+  all_from_points [] s h = tt
+  all_from_points (e ∷ es) s h = (
+    h e.0 e.1 (ap (λ b. cond b (Some e.1) (find path_cmp e.0 es)) (same_itself e.0)),
+    all_from_points es (tail e es s) (λ p x f. h p x (elim (same_path p e.0) as (λ b. same_path p e.0 ≡ b → cond b (Some e.1) (find path_cmp p es) ≡ Some x) [
+      | true ↦ λ same. absurd (true≢false (sym (ap is_some f) ∙ ap is_some (none_after p e es same s)))
+      | false ↦ λ _. f
+    ] refl)),
+  )
+
+  all_points : (es : Knowns) → AllByRecursion (λ e. of e.1 ≡ t) es → (p : Path) (x : Known) → find path_cmp p es ≡ Some x → of x ≡ t
+  all_points [] h p x f = absurd (true≢false (sym (ap is_some f)))
+  all_points (e ∷ es) h p x f =
+      elim (same_path p e.0) as (λ b. cond b (Some e.1) (find path_cmp p es) ≡ Some x → of x ≡ t) [
+        | true ↦ λ g. ap (λ o. of (unwrap_or o x)) (sym g) ∙ h.0
+        | false ↦ λ g. all_points es h.1 p x g
+      ] f
 
 pub at_points : (t : ℕ) (es : Knowns) → AreAt t es → (p : Path) (x : Known) → find path_cmp p es ≡ Some x → x.last ≡ t
-at_points t [] h p x f = absurd (true≢false (sym (ap is_some f)))
-at_points t (e ∷ es) h p x f =
-    elim (same_path p e.0) as (λ b. cond b (Some e.1) (find path_cmp p es) ≡ Some x → x.last ≡ t) [
-      | true ↦ λ g. ap (λ o. (unwrap_or o x).last) (sym g) ∙ h.0
-      | false ↦ λ g. at_points t es h.1 p x g
-    ] f
+at_points t es h p x f = all_points (λ k. k.last) t es h p x f
+
+pub of_points : (m : ℕ) (es : Knowns) → AreMadeAt m es → (p : Path) (x : Known) → find path_cmp p es ≡ Some x → x.moment ≡ m
+of_points m es h p x f = all_points (λ k. k.moment) m es h p x f
 
 more : (a b : ℕ) → a ≤ b → a ≤ b + 1
 more a b l = omega arith
@@ -199,6 +207,7 @@ next_new k t m o = record {
   last = t;
   created = cond (is_some o && not k.exists) t k.created;
   moment = m;
+  created_moment = cond (is_some o && not k.exists) m k.created_moment;
 }
 
 or_true : (b : Bool) → (b || true) ≡ true
@@ -226,7 +235,7 @@ plan_next ks t m files plan s p is =
 
 -- ---- a tick, where anything changes
 
-module _ (s : Summary) (sorted : T (is_sorted path_cmp s.known)) (moment : ℕ) (files : Files) where
+module _ (s : Summary) (ready : s.ready ≡ true) (sorted : T (is_sorted path_cmp s.known)) (moment : ℕ) (files : Files) where
   and_false : (b : Bool) → (b && false) ≡ false
   and_false true = refl
   and_false false = refl
@@ -256,7 +265,7 @@ module _ (s : Summary) (sorted : T (is_sorted path_cmp s.known)) (moment : ℕ) 
       let other : same_files files (present s.known) ≡ false = differs plan l is in
       let made : after_changes s.known plan ≡ known_next s.known (suc s.tick) moment files = plan_next s.known (suc s.tick) moment files plan sorted p (subst (λ t. IsPlan s.known t moment files plan) (add-one s.tick) is) in (
         ap (λ b. refuse_if (nat_le max_counter s.tick && not b) Exhausted None) other ∙ ap (λ b. refuse_if b Exhausted None) (and_true (nat_le max_counter s.tick) ∙ not_at_most max_counter s.tick low),
-        (λ i. record s { ready = true; tick = suc s.tick; known = made i }) ∙ sym (ap (λ b. cond b s (grown_in s moment files)) other),
+        (λ i. record s { ready = true; ready_moment = cond (sym ready i) s.ready_moment moment; tick = suc s.tick; known = made i }) ∙ sym (ap (λ b. cond b s (grown_in s moment files)) other),
       )
 
 -- ---- what is told of each path
@@ -302,20 +311,23 @@ module _ {V : Type 0} (x : Path × V) (rest : List (Path × V)) (s : T (is_sorte
           | false ↦ λ _. refl
         ] refl
 
-change_last : (k : Known) (t m : ℕ) (o : Option Meta) (x : Known) → change_of k t m o ≡ Some x → x.last ≡ t
-change_last k t m o x e =
-    elim (same_state o (state_in k)) as (λ b. cond b None (Some (cond b k (next_new k t m o))) ≡ Some x → x.last ≡ t) [
+change_made : (k : Known) (t m : ℕ) (o : Option Meta) (x : Known) → change_of k t m o ≡ Some x → (x.last ≡ t) × (x.moment ≡ m)
+change_made k t m o x e =
+    elim (same_state o (state_in k)) as (λ b. cond b None (Some (cond b k (next_new k t m o))) ≡ Some x → (x.last ≡ t) × (x.moment ≡ m)) [
       | true ↦ λ f. absurd (true≢false (sym (ap is_some f)))
-      | false ↦ λ f. sym (ap (λ (r : Option Known). (unwrap_or r (next_new k t m o)).last) f)
+      | false ↦ λ f. (sym (ap (λ (r : Option Known). (unwrap_or r (next_new k t m o)).last) f), sym (ap (λ (r : Option Known). (unwrap_or r (next_new k t m o)).moment) f))
     ] e
 
-told_last : (k : Known) (t m : ℕ) (f : Option (Option Meta)) (x : Known) → told_change k t m f ≡ Some x → x.last ≡ t
-told_last k t m None x e = absurd (true≢false (sym (ap is_some e)))
-told_last k t m (Some o) x e = change_last k t m o x e
+told_made : (k : Known) (t m : ℕ) (f : Option (Option Meta)) (x : Known) → told_change k t m f ≡ Some x → (x.last ≡ t) × (x.moment ≡ m)
+told_made k t m None x e = absurd (true≢false (sym (ap is_some e)))
+told_made k t m (Some o) x e = change_made k t m o x e
 
 module _ (ks : Knowns) (t m : ℕ) (told : Path → Option (Option Meta)) (plan : Knowns) (is : (p : Path) → find path_cmp p plan ≡ told_change (known_or ks p) t m (told p)) where
   pub told_at : T (is_sorted path_cmp plan) → AreAt t plan
-  told_at s = at_from_points t plan s (λ p x f. told_last (known_or ks p) t m (told p) x (sym (is p) ∙ f))
+  told_at s = all_from_points (λ k. k.last) t plan s (λ p x f. (told_made (known_or ks p) t m (told p) x (sym (is p) ∙ f)).0)
+
+  pub told_of : T (is_sorted path_cmp plan) → AreMadeAt m plan
+  told_of s = all_from_points (λ k. k.moment) m plan s (λ p x f. (told_made (known_or ks p) t m (told p) x (sym (is p) ∙ f)).1)
 
   -- a plan of what is told of each path, and of the rest nothing
   pub told_plan : (files : Files) → T (is_sorted path_cmp ks) → ((p : Path) → at files p ≡ unwrap_or (told p) (at (present ks) p)) → IsPlan ks t m files plan

@@ -1,5 +1,5 @@
 -- Laws of histories: what each operation makes of what is known of a path, and what every history keeps.
-use Rattle.std.specs.Prelude.{◌≡◌, ℕ, ◌+◌, ◌-◌, suc, ◌≤◌, ◌<◌, ◌⊎◌, Bool, true, false, not, ◌&&◌, cond, length, List, [], ◌∷◌, Option, Some, None, is_some, unwrap_or, T}
+use Rattle.std.specs.Prelude.{◌≡◌, ℕ, ◌+◌, ◌-◌, suc, ◌≤◌, ◌<◌, ◌⊎◌, Bool, true, false, not, ◌&&◌, cond, length, nat_lt, nat_le, List, [], ◌∷◌, Option, Some, None, is_some, unwrap_or, T}
 use Rattle.std.specs.FinMap.{is_sorted}
 use Rattle.wm_disk.specs.Counters.{max_counter}
 use Rattle.wm_names.specs.Paths.{Path, path_cmp, same_path}
@@ -9,7 +9,7 @@ use Rattle.wm_view.specs.declared.op.Op.{Op}
 use Rattle.wm_view.specs.declared.known.Known.{Known}
 use Rattle.wm_names.specs.Entries.{same_state}
 use Rattle.wm_view.specs.Files.{Files, IsMap, at, is_in}
-use Rattle.wm_view.specs.Histories.{History, Ticks, newest, tick_of, up_to, differs, appears, last_change, creation, last_meta, exists_now, grown, is_aged, aged_out, observed, recrawled, may_say, IsMade, map_at, is_ready, after_operation}
+use Rattle.wm_view.specs.Histories.{History, Ticks, latest, newest_moment, newest, tick_of, up_to, differs, appears, last_change, change_moment, creation, creation_moment, last_meta, exists_now, grown, is_aged, aged_out, observed, recrawled, may_say, IsMade, map_at, is_ready, after_operation}
 use Rattle.wm_view.specs.Summaries.{known_at}
 
 -- what is known of a path whose state is new at the next tick
@@ -21,6 +21,7 @@ known_anew h moment p state =
       last = tick_of h + 1;
       created = cond (is_some state && not (exists_now h p)) (tick_of h + 1) (creation h p);
       moment = moment;
+      created_moment = cond (is_some state && not (exists_now h p)) moment (creation_moment h p);
     }
 
 abbrev pub UnchangedStays : Type 0
@@ -46,9 +47,14 @@ CreationIsGreatest = (h : History) (p : Path) → IsGreatestTick (λ ts. appears
 
 -- ---- what every history keeps that operations made
 
--- a forgotten path is gone, and changed last at the floor or before
+-- there is another moment, and n is at most that
+abbrev pub IsWithin : ℕ → Option ℕ → Type 0
+IsWithin n None = ⊥
+IsWithin n (Some m) = n ≤ m
+
+-- a forgotten path is gone, and changed last at the floor or before, and at the moment floor or before
 abbrev pub Low : History → Type 0
-Low h = (p : Path) → is_in p h.forgotten ≡ true → (exists_now h p ≡ false) × (last_change h p ≤ h.floor)
+Low h = (p : Path) → is_in p h.forgotten ≡ true → (exists_now h p ≡ false) × (last_change h p ≤ h.floor) × IsWithin (change_moment h p) h.moment_floor
 
 abbrev pub ForgottenBelowFloor : Type 0
 ForgottenBelowFloor = (h : History) → IsMade h → Low h
@@ -57,6 +63,22 @@ ForgottenBelowFloor = (h : History) → IsMade h → Low h
 pub record IsOrderly (h : History) : Type 0 where
   pub low : Low h
   pub sorted : T (is_sorted path_cmp (newest h.ticks))
+
+-- ---- moments
+
+-- no tick has an earlier moment than the one before it
+abbrev pub AreSteady : Ticks → Type 0
+AreSteady [] = Unit {0}
+AreSteady (t ∷ ts) = (newest_moment ts ≤ t.moment) × AreSteady ts
+
+-- the last tick with a moment before this one, and 0 if there is none
+abbrev pub tick_before : Ticks → ℕ → ℕ
+tick_before ts m = latest (λ us. nat_lt (newest_moment us) m) ts
+
+-- where no tick has an earlier moment than the one before it, what changed last at a moment or later is just what changed after the last
+-- tick before that moment
+abbrev pub SteadyMoments : Type 0
+SteadyMoments = (h : History) (p : Path) (m : ℕ) → AreSteady h.ticks → 0 < last_change h p → nat_le m (change_moment h p) ≡ nat_lt (tick_before h.ticks m) (last_change h p)
 
 -- ---- what one operation makes of a map, path by path
 

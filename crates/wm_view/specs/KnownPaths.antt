@@ -1,5 +1,5 @@
 -- What is known of each path, with the order of change, and room for more. For private clauses.
-use Rattle.std.specs.Prelude.{◌≡◌, ℕ, ◌-◌, ◌≤◌, Bool, true, false, Option, Some, None, nat_lt, is_some, cond, not, ◌&&◌, ◌||◌, List, [], ◌∷◌, fold}
+use Rattle.std.specs.Prelude.{◌≡◌, ℕ, ◌+◌, ◌-◌, ◌≤◌, ◌<◌, Bool, true, false, Option, Some, None, nat_lt, nat_le, is_some, cond, not, ◌&&◌, ◌||◌, List, [], ◌∷◌, fold}
 use Rattle.std.specs.List.{filter, AllByRecursion}
 use Rattle.std.specs.Ordering.{nat_cmp, ordering_then, is_eq}
 use Rattle.std.specs.declared.cmp.Ordering.{Ordering}
@@ -64,6 +64,10 @@ HaveRoom k tick changes = AllByRecursion (λ e. HasChangeRoom k tick e.0 e.1.exi
 abbrev pub AreAt : ℕ → Knowns → Type 0
 AreAt tick changes = AllByRecursion (λ e. e.1.last ≡ tick) changes
 
+-- each of the changes was made at the moment
+abbrev pub AreMadeAt : ℕ → Knowns → Type 0
+AreMadeAt moment changes = AllByRecursion (λ e. e.1.moment ≡ moment) changes
+
 -- what is known after the changes
 abbrev pub after_changes : Knowns → Knowns → Knowns
 after_changes ks changes = fold (λ m e. put path_cmp e.0 e.1 m) ks changes
@@ -71,6 +75,24 @@ after_changes ks changes = fold (λ m e. put path_cmp e.0 e.1 m) ks changes
 -- each last change is at a tick up to n
 abbrev pub IsUpTo : ℕ → Knowns → Type 0
 IsUpTo n ks = (p : Path) (x : Known) → find path_cmp p ks ≡ Some x → x.last ≤ n
+
+-- ---- moments
+
+-- each change moment is at most n
+abbrev pub IsUpToMoment : ℕ → Knowns → Type 0
+IsUpToMoment n ks = (p : Path) (x : Known) → find path_cmp p ks ≡ Some x → x.moment ≤ n
+
+-- from one change to a later one the moment falls by no more
+abbrev pub FallsBy : ℕ → Knowns → Type 0
+FallsBy fall ks = (p q : Path) (x y : Known) → find path_cmp p ks ≡ Some x → find path_cmp q ks ≡ Some y → x.last ≤ y.last → x.moment ≤ y.moment + fall
+
+-- a search for changes at the moment or later may end at a change before the bound: each behind it is before the moment
+abbrev pub IsSearchBound : ℕ → ℕ → Knowns → Type 0
+IsSearchBound bound moment ks = (p q : Path) (x y : Known) → find path_cmp p ks ≡ Some x → find path_cmp q ks ≡ Some y → x.last ≤ y.last → y.moment < bound → x.moment < moment
+
+-- changed last at the moment or later
+abbrev pub is_from : ℕ → Path × Known → Bool
+is_from moment e = nat_le moment e.1.moment
 
 -- ---- the order of change
 

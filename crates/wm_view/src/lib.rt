@@ -1,5 +1,5 @@
 //! A view of one root in one incarnation: what is there, when each path last changed and came into
-//! being, and from which tick on it can tell what changed.
+//! being, and from which tick and which moment on it can tell what changed.
 //!
 //! The definition is the history of the root (specs/Histories.antt): a list of operations makes a list
 //! of maps, one a tick. A contract sees a [`View`] as its history's summary (specs/Summaries.antt), and

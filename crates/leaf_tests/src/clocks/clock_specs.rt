@@ -1,4 +1,4 @@
-//! Texts that a question may begin from: clocks, and cursors by their names.
+//! What a question may begin from: texts of clocks and of cursors, and numbers of seconds.
 use crate::checks::check;
 use std::alloc::Global;
 use std::process::Abort;
@@ -42,10 +42,10 @@ const LONGEST: &str = "0123456789abcdef0123456789abcdef0123456789abcdef012345678
 const CURSORS: &[&str] = &["x", "n:x", "c:1:1:1", " ", "\u{e9}\u{661}", "\0", LONGEST];
 
 const NO_CLOCKS: &[&str] = &[
-    "", "c", "n", ":", "1", "x:1", "n:", "N:x", " n:x", "C:1:1:1", " c:1:1:1", "1:1:1",
+    "", "c", "n", ":", "1", "8", "x:1", "n:", "N:x", " n:x", "C:1:1:1", " c:1:1:1", "1:1:1",
 ];
 
-// A clock's text, `another`, or a cursor's name behind a `@`.
+// A clock's text, `another`, a cursor's name behind a `@`, or the number of seconds behind an `s`.
 fn shown(rt: &impl Abort, alloc: Global, spec: &ClockSpec) -> String {
     let mut text = String::new(alloc);
     match spec {
@@ -57,6 +57,10 @@ fn shown(rt: &impl Abort, alloc: Global, spec: &ClockSpec) -> String {
         ClockSpec::Cursor(name) => {
             text.push('@').expect(rt, "memory");
             text.push_str(name.as_str()).expect(rt, "memory");
+        }
+        ClockSpec::Seconds(seconds) => {
+            let seconds = format!(in alloc; "s{seconds}").expect(rt, "memory");
+            text.push_str(&seconds).expect(rt, "memory");
         }
     }
     text
@@ -122,4 +126,33 @@ fn refuses_other_texts(rt: HostRuntime) {
     }
     let too_long = format!(in rt.alloc(); "n:{LONGEST}!").expect(&rt, "memory");
     check!(rt; is_refused(rt.alloc(), &too_long));
+}
+
+// Numbers that name moments, with what is shown of each: those up to 2^63 - 1.
+const SECONDS: &[(u64, &str)] = &[
+    (0, "s0"),
+    (1, "s1"),
+    (1_700_000_000, "s1700000000"),
+    (9_223_372_036_854_775_807, "s9223372036854775807"),
+];
+
+const TOO_MANY_SECONDS: &[u64] = &[9_223_372_036_854_775_808, 18_446_744_073_709_551_615];
+
+// Whether the number names the moment that is shown so.
+fn names_a_moment(rt: &impl Abort, alloc: Global, seconds: u64, want: &str) -> bool {
+    let spec = ClockSpec::seconds(seconds).expect(rt, "a moment");
+    let shown = shown(rt, alloc, &spec);
+    drop(spec);
+    shown.as_str() == want
+}
+
+#[test]
+fn takes_seconds_up_to_the_greatest_number(rt: HostRuntime) {
+    for (seconds, want) in SECONDS {
+        check!(rt; names_a_moment(&rt, rt.alloc(), *seconds, want), seconds);
+    }
+    for seconds in TOO_MANY_SECONDS {
+        let refused = ClockSpec::seconds(*seconds).err();
+        check!(rt; refused == Some(Refusal::BadClock), seconds);
+    }
 }

@@ -5,7 +5,7 @@ use crate::making::{Observed, observe, observed};
 use std::alloc::Global;
 use std::process::Abort;
 use wm_clock::{ClockId, CursorName};
-use wm_since::{Answer, Cursors, Every, MAX_CURSORS, Query, answer};
+use wm_since::{Answer, Cursors, Every, MAX_CURSORS, Query, Since, answer};
 use wm_view::View;
 
 /// Moves a cursor where there is room for it, and tells whether there was.
@@ -165,7 +165,7 @@ fn has_no_room_for_one_more(rt: HostRuntime) {
 /// What is answered about every file since a clock.
 fn answer_since(rt: &impl Abort, alloc: Global, view: &View, since: Option<ClockId>) -> Answer {
     let query = Query {
-        since,
+        since: Since::from_clock(since),
         test: Every,
         empty_on_fresh: false,
     };

@@ -6,7 +6,7 @@ use std::alloc::Global;
 use std::process::Abort;
 use wm_disk::Refusal;
 use wm_names::{Entry, RelPath, RootPath};
-use wm_since::{Answer, Every, Listed, ListedFiles, Mirror};
+use wm_since::{Answer, Every, Listed, ListedFiles, Mirror, Since};
 
 /// An answer: its tick, whether it is fresh, and its files with whether each exists.
 type Told = (u64, bool, &'static [(&'static str, bool)]);
@@ -53,7 +53,7 @@ enum Turn {
 /// Whether a mirror with no open question asks what changed since this tick.
 fn asks(rt: &impl Abort, alloc: Global, mirror: &mut Mirror<Every>, tick: Option<u64>) -> bool {
     match ask(rt, alloc, mirror) {
-        Some(query) => query.since == clock_at(tick) && !query.empty_on_fresh,
+        Some(query) => { query.since == Since::from_clock(clock_at(tick)) && !query.empty_on_fresh }
         None => false,
     }
 }

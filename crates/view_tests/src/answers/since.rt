@@ -5,7 +5,7 @@ use crate::making::{Observed, observe, observed, ready_with};
 use std::alloc::Global;
 use std::process::Abort;
 use wm_disk::Refusal;
-use wm_since::{Answer, Every, Fields, Query, Test, answer};
+use wm_since::{Answer, Every, Fields, Query, Since, Test, answer};
 use wm_view::{Op, View};
 
 /// An answer as a text: its clock, whether it is fresh, and its files as JSON.
@@ -21,13 +21,13 @@ fn shown(rt: &impl Abort, alloc: Global, answer: &Answer) -> String {
     text
 }
 
-/// A clock to ask from, in numbers: its incarnation, its root and its tick.
-type Since = Option<(u64, u64, u64)>;
+/// A clock to start from, in numbers: its incarnation, its root and its tick.
+type Start = Option<(u64, u64, u64)>;
 
 /// The question of what changed since a clock, of the files that pass a test.
-fn query<T: Test>(since: Since, test: T, empty_on_fresh: bool) -> Query<T> {
-    let since = match since {
-        Some((incarnation, root, tick)) => Some(clock(incarnation, root, tick)),
+fn query<T: Test>(start: Start, test: T, empty_on_fresh: bool) -> Query<T> {
+    let since = match start {
+        Some((incarnation, root, tick)) => Some(Since::Clock(clock(incarnation, root, tick))),
         None => None,
     };
     Query {
@@ -107,7 +107,7 @@ const WORKED: Observed = &[
 ];
 
 /// A clock, whether a fresh answer leaves out the files, and what is told since that clock.
-type Row = (Since, bool, &'static str);
+type Row = (Start, bool, &'static str);
 
 fn assert_tells(rt: &impl Abort, alloc: Global, view: &View, rows: &[Row]) {
     for (i, row) in rows.iter().enumerate() {

@@ -10,7 +10,7 @@ use std::alloc::Global;
 use std::process::Abort;
 use wm_clock::ClockId;
 use wm_names::Subtree;
-use wm_since::{Answer, Every, Query};
+use wm_since::{Answer, Every, Query, Since};
 use wm_subs::{Subscription, SubscriptionName};
 use wm_view::{Listing, Op, View};
 
@@ -23,18 +23,13 @@ fn clock(tick: u64) -> ClockId {
     }
 }
 
-/// A subscription to every file since a tick of root 1 in incarnation 1, and since no clock where
-/// there is none.
+/// A subscription to every file since a clock or a moment, if there is one.
 fn subscription(
     rt: &impl Abort,
     alloc: Global,
     name: &str,
-    since: Option<u64>,
+    since: Option<Since>,
 ) -> Subscription<Every> {
-    let since = match since {
-        Some(tick) => Some(clock(tick)),
-        None => None,
-    };
     let query = Query {
         since,
         test: Every,
@@ -51,17 +46,22 @@ enum Event {
     Begins,
     /// A file is there, with this size.
     Is(&'static str, u64),
+    /// The same at this moment.
+    IsAt(u64, &'static str, u64),
     /// A file is gone.
     Gone(&'static str),
     /// What is gone is forgotten.
     Forgets,
 }
 
-/// What happens at moment 10, and what is forgotten at moment 30.
+/// What happens at moment 10 if it has none of its own, and what is forgotten at moment 30.
 fn op_of(rt: &impl Abort, alloc: Global, event: &Event) -> Op {
     match *event {
         Event::Begins => Op::Recrawl(10, 0, Listing::new(alloc, Subtree::Whole)),
         Event::Is(path, size) => Op::Observe(10, pair(rt, alloc, path, Some(file(size)))),
+        Event::IsAt(moment, path, size) => {
+            Op::Observe(moment, pair(rt, alloc, path, Some(file(size))))
+        }
         Event::Gone(path) => Op::Observe(10, pair(rt, alloc, path, None)),
         Event::Forgets => Op::AgeOut(30, 20),
     }

@@ -1,4 +1,5 @@
 //! Views through generated sessions, compared after each operation with what the whole history gives.
+use super::from_moments::are_alike_from_moments;
 use super::generated::{Dice, Mix};
 use super::reference::{Listed, Reference};
 use crate::checks::check;
@@ -22,7 +23,7 @@ const SESSIONS: &[Sessions] = &[
 ];
 
 /// Whether just these are listed, in this order.
-fn lists(listed: &[(RelPath, Known)], wanted: &[Listed]) -> bool {
+pub fn lists(listed: &[(RelPath, Known)], wanted: &[Listed]) -> bool {
     if listed.len() != wanted.len() {
         return false;
     }
@@ -52,7 +53,7 @@ fn exist_alike(rt: &impl Abort, alloc: Global, view: &View, reference: &Referenc
     lists(&listed, &reference.existing(rt, alloc))
 }
 
-/// Whether both list the same after each of some ticks, and as existing.
+/// Whether both list the same after each of some ticks, since some moments, and as existing.
 fn list_alike(rt: &impl Abort, alloc: Global, view: &View, reference: &Reference) -> bool {
     let tick = reference.tick();
     for since in [0, reference.floor(), tick / 2, tick.saturating_sub(1), tick] {
@@ -60,14 +61,16 @@ fn list_alike(rt: &impl Abort, alloc: Global, view: &View, reference: &Reference
             return false;
         }
     }
-    exist_alike(rt, alloc, view, reference)
+    are_alike_from_moments(rt, alloc, view, reference) && exist_alike(rt, alloc, view, reference)
 }
 
-/// Whether both stand at the same tick and floor.
+/// Whether both stand at the same tick and the same floors, and were ready at the same moment.
 fn stand_alike(view: &View, reference: &Reference) -> bool {
     view.ready() == (0 < reference.tick())
         && view.tick() == reference.tick()
         && view.floor() == reference.floor()
+        && view.moment_floor() == reference.moment_floor()
+        && view.ready_moment() == reference.ready_moment()
 }
 
 /// Whether the operation has the same result on both, and leaves them alike.

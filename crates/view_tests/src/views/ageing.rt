@@ -6,11 +6,11 @@ use crate::making::{Observed, observed};
 use std::alloc::Global;
 use std::process::Abort;
 
-const B: Shown = ("b", true, 4, 3, 8, 180);
+const B: Shown = ("b", true, 4, (3, 30), (8, 180));
 
-const A_GONE: Shown = ("a", false, 1, 2, 5, 100);
+const A_GONE: Shown = ("a", false, 1, (2, 20), (5, 100));
 
-const C_GONE: Shown = ("c", false, 1, 4, 9, 200);
+const C_GONE: Shown = ("c", false, 1, (4, 40), (9, 200));
 
 /// `a` is deleted at tick 5 and moment 100, and `c` at tick 9 and moment 200.
 const TWO_GONE: Observed = &[
@@ -96,14 +96,14 @@ const COMES_BACK: &[Step] = &[
         Ok(()),
         (10, 5),
         0,
-        &[("a", true, 7, 10, 10, 300), C_GONE, B],
+        &[("a", true, 7, (10, 300), (10, 300)), C_GONE, B],
     ),
     (
         Deed::Observe(310, &[("a", None)]),
         Ok(()),
         (11, 5),
         0,
-        &[("a", false, 7, 10, 11, 310), C_GONE, B],
+        &[("a", false, 7, (10, 300), (11, 310)), C_GONE, B],
     ),
 ];
 

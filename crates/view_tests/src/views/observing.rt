@@ -20,7 +20,10 @@ const OBSERVATIONS: &[Observation] = &[
             ("b", Some(3)),
         ],
         2,
-        &[("a", true, 5, 1, 2, 20), ("b", true, 3, 2, 2, 20)],
+        &[
+            ("a", true, 5, (1, 10), (2, 20)),
+            ("b", true, 3, (2, 20), (2, 20)),
+        ],
     ),
     (&[("a", None), ("a", Some(2))], 1, &[]),
     (&[("k", Some(1))], 1, &[]),
@@ -38,17 +41,17 @@ const OBSERVATIONS: &[Observation] = &[
         ],
         2,
         &[
-            ("k", false, 1, 1, 2, 20),
-            ("x", true, 1, 2, 2, 20),
-            ("x.c", true, 1, 2, 2, 20),
-            ("x/a", true, 1, 2, 2, 20),
-            ("x0", true, 1, 2, 2, 20),
+            ("k", false, 1, (1, 10), (2, 20)),
+            ("x", true, 1, (2, 20), (2, 20)),
+            ("x.c", true, 1, (2, 20), (2, 20)),
+            ("x/a", true, 1, (2, 20), (2, 20)),
+            ("x0", true, 1, (2, 20), (2, 20)),
         ],
     ),
     (
         &[("k", None), ("k", Some(8))],
         2,
-        &[("k", true, 8, 1, 2, 20)],
+        &[("k", true, 8, (1, 10), (2, 20))],
     ),
 ];
 
@@ -152,7 +155,7 @@ fn assert_counts(rt: &impl Abort, alloc: Global, view: &mut View) {
     for (count, result, tick) in COUNTS {
         check!(rt; takes_count(rt, alloc, view, *count, *result, *tick), count);
     }
-    check!(rt; exists_so(rt, alloc, view, &[("a", true, 1, 2, 2, 20)]));
+    check!(rt; exists_so(rt, alloc, view, &[("a", true, 1, (2, 20), (2, 20))]));
 }
 
 #[test]

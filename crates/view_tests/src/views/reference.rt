@@ -35,6 +35,7 @@ struct Tick {
 pub struct Reference {
     ticks: Vec<Tick>,
     floor: u64,
+    moment_floor: Option<u64>,
     forgotten: [bool; PATHS],
 }
 
@@ -85,6 +86,7 @@ impl Reference {
         Reference {
             ticks: Vec::new(alloc),
             floor: 0,
+            moment_floor: None,
             forgotten: [false; PATHS],
         }
     }
@@ -99,10 +101,28 @@ impl Reference {
         self.floor
     }
 
+    /// The latest change moment of a path that an age-out named, if one did.
+    pub fn moment_floor(&self) -> Option<u64> {
+        self.moment_floor
+    }
+
+    /// The moment of the first listing, and 0 before it.
+    pub fn ready_moment(&self) -> u64 {
+        self.moment_of(1)
+    }
+
     /// What made a tick; nothing for tick 0, at which the map is empty.
     fn made(&self, tick: u64) -> Option<&Tick> {
         let place = (tick as usize).checked_sub(1)?;
         self.ticks.get(place)
+    }
+
+    /// The moment of a tick, and 0 if there is none yet.
+    fn moment_of(&self, tick: u64) -> u64 {
+        match self.made(tick) {
+            Some(made) => made.moment,
+            None => 0,
+        }
     }
 
     /// What is at the path at a tick.
@@ -152,10 +172,7 @@ impl Reference {
 
     /// The moment of its last change.
     fn change_moment(&self, path: usize) -> u64 {
-        match self.made(self.last_change(path)) {
-            Some(made) => made.moment,
-            None => 0,
-        }
+        self.moment_of(self.last_change(path))
     }
 
     /// The last metadata that it had; nothing where it never existed.
@@ -186,6 +203,7 @@ impl Reference {
             last: self.last_change(path),
             created: self.creation(path),
             moment: self.change_moment(path),
+            created_moment: self.moment_of(self.creation(path)),
         })
     }
 
@@ -212,6 +230,23 @@ impl Reference {
             }
         }
         changed
+    }
+
+    /// What changed last at the moment or later, in the same order.
+    pub fn changed_from(&self, rt: &impl Abort, alloc: Global, moment: u64) -> Vec<Listed> {
+        let mut changed = self.changed_after(rt, alloc, 0);
+        changed.retain(|listed| moment <= listed.1.moment);
+        changed
+    }
+
+    /// Whether what changed at the moment or later can't be told: there was no listing yet at the moment, or the
+    /// path of such a change is forgotten.
+    pub fn is_fresh_from(&self, moment: u64) -> bool {
+        let is_forgotten = match self.moment_floor {
+            Some(floor) => moment <= floor,
+            None => false,
+        };
+        moment < self.ready_moment() || is_forgotten
     }
 
     /// What exists, in the same order.
@@ -303,7 +338,12 @@ impl Reference {
     }
 
     fn forget(&mut self, path: usize) {
+        let moment = self.change_moment(path);
         self.floor = self.floor.max(self.last_change(path));
+        self.moment_floor = match self.moment_floor {
+            Some(floor) => Some(floor.max(moment)),
+            None => Some(moment),
+        };
         if let Some(forgotten) = self.forgotten.get_mut(path) {
             *forgotten = true;
         }

@@ -15,42 +15,51 @@ const OBSERVED: &[Step] = &[
         Ok(()),
         (2, 0),
         1,
-        &[("a.c", true, 3, 2, 2, 20)],
+        &[("a.c", true, 3, (2, 20), (2, 20))],
     ),
     (
         Deed::Observe(30, &[("b.c", Some(4))]),
         Ok(()),
         (3, 0),
         1,
-        &[("b.c", true, 4, 3, 3, 30), ("a.c", true, 3, 2, 2, 20)],
+        &[
+            ("b.c", true, 4, (3, 30), (3, 30)),
+            ("a.c", true, 3, (2, 20), (2, 20)),
+        ],
     ),
     (
         Deed::Observe(35, &[("b.c", Some(4))]),
         Ok(()),
         (3, 0),
         1,
-        &[("b.c", true, 4, 3, 3, 30), ("a.c", true, 3, 2, 2, 20)],
+        &[
+            ("b.c", true, 4, (3, 30), (3, 30)),
+            ("a.c", true, 3, (2, 20), (2, 20)),
+        ],
     ),
     (
         Deed::Observe(40, &[("t", Some(1))]),
         Ok(()),
         (4, 0),
         3,
-        &[("t", true, 1, 4, 4, 40)],
+        &[("t", true, 1, (4, 40), (4, 40))],
     ),
     (
         Deed::Observe(50, &[("a.c", None)]),
         Ok(()),
         (5, 0),
         4,
-        &[("a.c", false, 3, 2, 5, 50)],
+        &[("a.c", false, 3, (2, 20), (5, 50))],
     ),
     (
         Deed::Observe(60, &[("t", None)]),
         Ok(()),
         (6, 0),
         3,
-        &[("t", false, 1, 4, 6, 60), ("a.c", false, 3, 2, 5, 50)],
+        &[
+            ("t", false, 1, (4, 40), (6, 60)),
+            ("a.c", false, 3, (2, 20), (5, 50)),
+        ],
     ),
     (
         Deed::Observe(70, &[("a.c", Some(5))]),
@@ -58,16 +67,19 @@ const OBSERVED: &[Step] = &[
         (7, 0),
         0,
         &[
-            ("a.c", true, 5, 7, 7, 70),
-            ("t", false, 1, 4, 6, 60),
-            ("b.c", true, 4, 3, 3, 30),
+            ("a.c", true, 5, (7, 70), (7, 70)),
+            ("t", false, 1, (4, 40), (6, 60)),
+            ("b.c", true, 4, (3, 30), (3, 30)),
         ],
     ),
     (Deed::Observe(75, &[("t", None)]), Ok(()), (7, 0), 7, &[]),
 ];
 
 /// What exists after that.
-const LEFT: &[Shown] = &[("a.c", true, 5, 7, 7, 70), ("b.c", true, 4, 3, 3, 30)];
+const LEFT: &[Shown] = &[
+    ("a.c", true, 5, (7, 70), (7, 70)),
+    ("b.c", true, 4, (3, 30), (3, 30)),
+];
 
 fn assert_session(rt: &impl Abort, alloc: Global, view: &mut View) {
     assert_walks(rt, alloc, view, OBSERVED, false);
@@ -121,7 +133,7 @@ const FIRST_LISTING: &[Step] = &[(
     Ok(()),
     (1, 0),
     0,
-    &[("a", true, 1, 1, 1, 20)],
+    &[("a", true, 1, (1, 20), (1, 20))],
 )];
 
 /// Whether the view is of root 5 in incarnation 3, and is ready or isn't.
@@ -152,21 +164,24 @@ const RECRAWLED: &[Step] = &[
         Ok(()),
         (1, 0),
         0,
-        &[("a", true, 1, 1, 1, 10), ("b", true, 1, 1, 1, 10)],
+        &[
+            ("a", true, 1, (1, 10), (1, 10)),
+            ("b", true, 1, (1, 10), (1, 10)),
+        ],
     ),
     (
         Deed::Observe(20, &[("a", None)]),
         Ok(()),
         (2, 0),
         1,
-        &[("a", false, 1, 1, 2, 20)],
+        &[("a", false, 1, (1, 10), (2, 20))],
     ),
     (
         Deed::Observe(30, &[("c", Some(1))]),
         Ok(()),
         (3, 0),
         2,
-        &[("c", true, 1, 3, 3, 30)],
+        &[("c", true, 1, (3, 30), (3, 30))],
     ),
     (Deed::AgeOut(20, 0), Ok(()), (3, 2), 0, C_AND_B),
     (
@@ -202,19 +217,28 @@ const RECRAWLED: &[Step] = &[
         Ok(()),
         (4, 2),
         0,
-        &[("b", false, 1, 1, 4, 40), ("c", true, 1, 3, 3, 30)],
+        &[
+            ("b", false, 1, (1, 10), (4, 40)),
+            ("c", true, 1, (3, 30), (3, 30)),
+        ],
     ),
     (
         Deed::Recrawl(40, 4, None, &[]),
         Ok(()),
         (5, 2),
         0,
-        &[("c", false, 1, 3, 5, 40), ("b", false, 1, 1, 4, 40)],
+        &[
+            ("c", false, 1, (3, 30), (5, 40)),
+            ("b", false, 1, (1, 10), (4, 40)),
+        ],
     ),
 ];
 
 /// What is known while no recrawl is taken.
-const C_AND_B: &[Shown] = &[("c", true, 1, 3, 3, 30), ("b", true, 1, 1, 1, 10)];
+const C_AND_B: &[Shown] = &[
+    ("c", true, 1, (3, 30), (3, 30)),
+    ("b", true, 1, (1, 10), (1, 10)),
+];
 
 #[test]
 fn recrawls_between_the_floor_and_the_tick(rt: HostRuntime) {
@@ -238,28 +262,28 @@ const PERFORMED: &[Step] = &[
         Ok(()),
         (1, 0),
         0,
-        &[("a", true, 3, 1, 1, 20)],
+        &[("a", true, 3, (1, 20), (1, 20))],
     ),
     (
         Deed::Recrawl(25, 2, None, &[]),
         Err(Refusal::BadClock),
         (1, 0),
         0,
-        &[("a", true, 3, 1, 1, 20)],
+        &[("a", true, 3, (1, 20), (1, 20))],
     ),
     (
         Deed::Observe(30, &[("a", None)]),
         Ok(()),
         (2, 0),
         0,
-        &[("a", false, 3, 1, 2, 30)],
+        &[("a", false, 3, (1, 20), (2, 30))],
     ),
     (
         Deed::AgeOut(129, 100),
         Ok(()),
         (2, 0),
         0,
-        &[("a", false, 3, 1, 2, 30)],
+        &[("a", false, 3, (1, 20), (2, 30))],
     ),
     (Deed::AgeOut(130, 100), Ok(()), (2, 2), 0, &[]),
 ];

@@ -73,7 +73,13 @@ fn does(
 }
 
 /// Whether a step goes as told, as a value or by the method for it.
-fn goes_so(rt: &impl Abort, alloc: Global, view: &mut View, step: &Step, as_value: bool) -> bool {
+pub fn goes_so(
+    rt: &impl Abort,
+    alloc: Global,
+    view: &mut View,
+    step: &Step,
+    as_value: bool,
+) -> bool {
     let (deed, result, at, since, shown) = step;
     let done = if as_value {
         performs(rt, alloc, view, deed, *result)

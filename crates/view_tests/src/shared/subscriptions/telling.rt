@@ -1,10 +1,10 @@
 //! What a subscription is told of a view.
-use super::Event::{Begins, Forgets, Gone, Is};
+use super::Event::{Begins, Forgets, Gone, Is, IsAt};
 use super::{Event, clock, happen, subscription, told};
 use crate::checks::check;
 use std::alloc::Global;
 use std::process::Abort;
-use wm_since::Every;
+use wm_since::{Every, Since};
 use wm_subs::Subscription;
 use wm_view::View;
 
@@ -69,8 +69,8 @@ fn assert_tells_each(
     }
 }
 
-/// What is told of a new view, to a subscription since a tick.
-fn assert_tells(rt: &impl Abort, alloc: Global, since: Option<u64>, rows: &[Row]) {
+/// What is told of a new view, to a subscription since a clock or a moment, if there is one.
+fn assert_tells(rt: &impl Abort, alloc: Global, since: Option<Since>, rows: &[Row]) {
     let mut subscription = subscription(rt, alloc, "s", since);
     let mut view = View::new(alloc, 1, 1);
     assert_tells_each(rt, alloc, &mut view, &mut subscription, rows);
@@ -89,7 +89,46 @@ const SINCE_A_CLOCK: &[Row] = &[
 
 #[test]
 fn tells_since_its_own_last_clock(rt: HostRuntime) {
-    assert_tells(&rt, rt.alloc(), Some(2), SINCE_A_CLOCK);
+    assert_tells(&rt, rt.alloc(), Some(Since::Clock(clock(2))), SINCE_A_CLOCK);
+}
+
+/// A subscription since moment 20 is told of what changed at it or later, and then of all that changes, at whatever
+/// moment.
+const SINCE_A_MOMENT: &[Row] = &[
+    (
+        &[Begins, Is("a.c", 3), IsAt(19, "b.c", 4), IsAt(20, "c.c", 5)],
+        "c:1:1:4 c.c",
+    ),
+    (&[], "none"),
+    (&[Is("a.c", 1), Gone("b.c")], "c:1:1:6 -b.c a.c"),
+    (&[IsAt(20, "a.c", 1)], "none"),
+];
+
+/// One since a moment to come is told that nothing changed, and then of what changes, before that moment too.
+const SINCE_A_MOMENT_TO_COME: &[Row] = &[
+    (&[], "none"),
+    (&[Begins, Is("a.c", 3)], "c:1:1:2"),
+    (&[], "none"),
+    (&[Is("b.c", 3)], "c:1:1:3 b.c"),
+];
+
+/// One since a moment before the first listing begins afresh.
+const SINCE_TOO_EARLY: &[Row] = &[
+    (&[Begins, Is("a.c", 3)], "c:1:1:2 fresh a.c"),
+    (&[], "none"),
+    (&[Gone("a.c")], "c:1:1:3 -a.c"),
+];
+
+#[test]
+fn begins_at_a_moment(rt: HostRuntime) {
+    assert_tells(&rt, rt.alloc(), Some(Since::Moment(20)), SINCE_A_MOMENT);
+    assert_tells(
+        &rt,
+        rt.alloc(),
+        Some(Since::Moment(99)),
+        SINCE_A_MOMENT_TO_COME,
+    );
+    assert_tells(&rt, rt.alloc(), Some(Since::Moment(9)), SINCE_TOO_EARLY);
 }
 
 /// Nothing is told before the first whole listing; the first answer is fresh where there is no
@@ -118,7 +157,7 @@ const WITHOUT_FILES: &[Row] = &[
 
 #[test]
 fn tells_answers_without_files(rt: HostRuntime) {
-    assert_tells(&rt, rt.alloc(), Some(1), WITHOUT_FILES);
+    assert_tells(&rt, rt.alloc(), Some(Since::Clock(clock(1))), WITHOUT_FILES);
 }
 
 /// A clock that isn't one of the view's is answered afresh.
@@ -129,7 +168,12 @@ const SINCE_A_LATER_CLOCK: &[Row] = &[
 
 #[test]
 fn begins_anew_where_the_clock_is_none_of_the_view(rt: HostRuntime) {
-    assert_tells(&rt, rt.alloc(), Some(9), SINCE_A_LATER_CLOCK);
+    assert_tells(
+        &rt,
+        rt.alloc(),
+        Some(Since::Clock(clock(9))),
+        SINCE_A_LATER_CLOCK,
+    );
 }
 
 fn assert_told_up_to_a_clock(
