@@ -7,6 +7,7 @@ mod plain;
 mod queries;
 mod recrawls;
 mod refusals;
+mod seconds;
 mod subscriptions;
 mod triggers;
 mod views;

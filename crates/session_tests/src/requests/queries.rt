@@ -28,6 +28,14 @@ const ROWS: &[Row<'static>] = &[
         r#"["query","/r",{"sync_timeout":9223372036854775807}]"#,
         "query /r exists name new size",
     ),
+    (
+        r#"["query","/r",{"since":1}]"#,
+        "query /r 1 exists name new size",
+    ),
+    (
+        r#"["query","/r",{"since":9223372036854775807}]"#,
+        "query /r 9223372036854775807 exists name new size",
+    ),
     // of two values for one key the last counts
     (
         r#"["query","/r",{"fields":["mode"],"fields":["type"]}]"#,
@@ -75,7 +83,11 @@ const REFUSED: &[Row<'static>] = &[
     (r#"["query","r",{"fields":1}]"#, ARGUMENTS),
     (r#"["query","r",{"since":"x","fields":[]}]"#, PATH),
     (r#"["query","/r",{"since":"x"}]"#, CLOCK),
-    (r#"["query","/r",{"since":1}]"#, CLOCK),
+    (r#"["query","/r",{"since":9223372036854775808}]"#, CLOCK),
+    (r#"["query","/r",{"since":-1}]"#, CLOCK),
+    (r#"["query","/r",{"since":1.5}]"#, CLOCK),
+    (r#"["query","/r",{"since":"8"}]"#, CLOCK),
+    (r#"["query","/r",{"since":true}]"#, ARGUMENTS),
     (r#"["query","/r",{"since":"n:"}]"#, CLOCK),
     (
         r#"["query","/r",{"since":"n:nnnnnnnnnnnnnnnnnnnnnnnnnnnnnnnnnnnnnnnnnnnnnnnnnnnnnnnnnnnnnnnnn"}]"#,

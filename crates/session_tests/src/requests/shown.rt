@@ -46,6 +46,7 @@ fn show_clock_id(rt: &impl Abort, clock: &ClockId, text: &mut String) {
 fn show_clock(rt: &impl Abort, clock: &ClockSpec, text: &mut String) {
     match clock {
         ClockSpec::Clock(clock) => show_clock_id(rt, clock, text),
+        ClockSpec::Seconds(seconds) => write!(text, " {seconds}").expect(rt, "memory"),
         ClockSpec::Another => text.push_str(" another").expect(rt, "memory"),
         ClockSpec::Cursor(name) => write!(text, " @{}", name.as_str()).expect(rt, "memory"),
     }

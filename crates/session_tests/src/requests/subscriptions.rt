@@ -59,7 +59,16 @@ const IN_ORDER: &[Row<'static>] = &[
         r#"["subscribe","/r","s",{"since":"x","expression":1,"fields":[]}]"#,
         CLOCK,
     ),
-    (r#"["subscribe","/r","s",{"since":1}]"#, CLOCK),
+    (
+        r#"["subscribe","/r","s",{"since":1}]"#,
+        "subscribe /r s 1 exists name new size",
+    ),
+    (
+        r#"["subscribe","/r","s",{"since":9223372036854775808}]"#,
+        CLOCK,
+    ),
+    (r#"["subscribe","/r","s",{"since":"8"}]"#, CLOCK),
+    (r#"["subscribe","/r","s",{"since":true}]"#, ARGUMENTS),
     (
         r#"["subscribe","/r","s",{"expression":"x","fields":[]}]"#,
         EXPRESSION,

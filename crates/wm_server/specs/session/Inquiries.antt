@@ -4,21 +4,25 @@ use Rattle.wm_disk.specs.declared.refusal.Refusal.{Refusal}
 use Rattle.wm_disk.specs.declared.refusal.Refusal.TheVariants.{NotWatched, NotReady, TooMany}
 use Rattle.wm_clock.specs.declared.clock_id.ClockId.{ClockId}
 use Rattle.wm_clock.specs.declared.clock_spec.ClockSpec.{ClockSpec}
-use Rattle.wm_clock.specs.declared.clock_spec.ClockSpec.TheVariants.{Clock, Another, Cursor}
+use Rattle.wm_clock.specs.declared.clock_spec.ClockSpec.TheVariants.{Clock, Another, Cursor, Seconds}
 use Rattle.wm_expr.specs.Meanings.{holds}
-use Rattle.wm_since.specs.Answers.{Question, answer_by}
+use Rattle.wm_since.specs.declared.query.Since.{Since}
+use Rattle.wm_since.specs.declared.query.Since.TheVariants as since
+use Rattle.wm_since.specs.declared.query.Since.TheVariants.{Moment}
+use Rattle.wm_since.specs.Answers.{Question, answer_by, from_clock}
 use Rattle.wm_since.specs.Cursors.{CursorList, cursor_at, has_room}
 use Rattle.wm_since.specs.declared.query.Answer.{Answer}
 use Rattle.wm_lines.specs.declared.query.Inquiry.{Inquiry}
 use Rattle.wm_server.specs.declared.local.root_views.RootView.{RootView}
 use Rattle.wm_server.specs.session.Watched.{cursor_answer}
 
--- the clock since which is asked: none in another instance, and none by a cursor that isn't there
-abbrev pub since_point : Option ClockSpec → CursorList → Option ClockId
+-- since when is asked: from nowhere by a clock of another instance, and by a cursor that isn't there
+abbrev pub since_point : Option ClockSpec → CursorList → Option Since
 since_point None cursors = None
-since_point (Some (Clock c)) cursors = Some c
+since_point (Some (Clock c)) cursors = Some (since.Clock c)
 since_point (Some Another) cursors = None
-since_point (Some (Cursor name)) cursors = cursor_at name cursors
+since_point (Some (Cursor name)) cursors = from_clock (cursor_at name cursors)
+since_point (Some (Seconds s)) cursors = Some (Moment s)
 
 -- there is room for the cursor by which is asked
 abbrev pub has_place : Option ClockSpec → CursorList → Bool
@@ -38,9 +42,15 @@ inquired (Some root) q =
 
 -- ---- for private clauses
 
--- the clock since which is asked, where a cursor has one and room
-abbrev pub point_answer : Option RootView → Option ClockSpec → Result (Option ClockId) Refusal
+-- the cursor's clock as a start, or why there is none
+abbrev pub cursor_start : Result (Option ClockId) Refusal → Result (Option Since) Refusal
+cursor_start (Ok clock) = Ok (from_clock clock)
+cursor_start (Err e) = Err e
+
+-- since when is asked, where a cursor has a clock and room
+abbrev pub point_answer : Option RootView → Option ClockSpec → Result (Option Since) Refusal
 point_answer root None = Ok None
-point_answer root (Some (Clock c)) = Ok (Some c)
+point_answer root (Some (Clock c)) = Ok (Some (since.Clock c))
 point_answer root (Some Another) = Ok None
-point_answer root (Some (Cursor name)) = cursor_answer root name
+point_answer root (Some (Cursor name)) = cursor_start (cursor_answer root name)
+point_answer root (Some (Seconds s)) = Ok (Some (Moment s))

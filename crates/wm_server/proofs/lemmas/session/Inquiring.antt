@@ -5,9 +5,10 @@ use Rattle.wm_disk.specs.declared.refusal.Refusal.TheVariants as refusals
 use Rattle.wm_names.specs.Paths.{Path}
 use Rattle.wm_clock.specs.declared.clock_id.ClockId.{ClockId}
 use Rattle.wm_clock.specs.declared.clock_spec.ClockSpec.{ClockSpec}
-use Rattle.wm_clock.specs.declared.clock_spec.ClockSpec.TheVariants.{Clock, Another, Cursor}
+use Rattle.wm_clock.specs.declared.clock_spec.ClockSpec.TheVariants.{Clock, Another, Cursor, Seconds}
 use Rattle.wm_expr.specs.Meanings.{holds}
 use Rattle.wm_expr.specs.Terms.{Term}
+use Rattle.wm_since.specs.declared.query.Since.{Since}
 use Rattle.wm_since.specs.Answers.{answer_by}
 use Rattle.wm_since.specs.Cursors.{cursor_at, has_room}
 use Rattle.wm_since.specs.declared.field.Field.{Field}
@@ -15,7 +16,7 @@ use Rattle.wm_since.specs.declared.query.Answer.{Answer}
 use Rattle.wm_lines.specs.declared.query.Inquiry.{Inquiry}
 use Rattle.wm_server.specs.declared.local.root_views.RootView.{RootView}
 use Rattle.wm_server.specs.session.Faults.{FrontState, Defined, Memory, Lasts}
-use Rattle.wm_server.specs.session.Inquiries.{has_place, inquired, point_answer, question_in}
+use Rattle.wm_server.specs.session.Inquiries.{has_place, inquired, point_answer, question_in, cursor_start}
 use Rattle.wm_server.specs.session.Pages.{Refuses, page}
 use Rattle.wm_server.specs.session.Sessions.{inquiry_met, view_of}
 use Rattle.wm_server.specs.session.Watched.{answer_of}
@@ -33,12 +34,13 @@ unfolding err_of
 point_refused root None x fields b e h = absurd cc
 point_refused root (Some (Clock c)) x fields b e h = absurd cc
 point_refused root (Some Another) x fields b e h = absurd cc
+point_refused root (Some (Seconds n)) x fields b e h = absurd cc
 point_refused None (Some (Cursor name)) x fields b e h = ap (err_of {B = Answer} e) h
 point_refused (Some root) (Some (Cursor name)) x fields b e h =
     let answer : Result Answer Refusal = Ok (answer_by (holds x) root.view (question_in (asking (Some (Cursor name)) x fields b) root.cursors)) in
     let clock : Result (Option ClockId) Refusal = Ok (cursor_at name root.cursors) in
-    elim root.view.ready as (λ r. cond r (cond (has_room name root.cursors) clock (Err refusals.TooMany)) (Err refusals.NotReady) ≡ Err e → cond r (cond (has_room name root.cursors) answer (Err refusals.TooMany)) (Err refusals.NotReady) ≡ Err e) [
-      | true ↦ elim (has_room name root.cursors) as (λ r. cond r clock (Err refusals.TooMany) ≡ Err e → cond r answer (Err refusals.TooMany) ≡ Err e) [
+    elim root.view.ready as (λ r. cursor_start (cond r (cond (has_room name root.cursors) clock (Err refusals.TooMany)) (Err refusals.NotReady)) ≡ Err e → cond r (cond (has_room name root.cursors) answer (Err refusals.TooMany)) (Err refusals.NotReady) ≡ Err e) [
+      | true ↦ elim (has_room name root.cursors) as (λ r. cursor_start (cond r clock (Err refusals.TooMany)) ≡ Err e → cond r answer (Err refusals.TooMany) ≡ Err e) [
         | true ↦ λ f. absurd cc
         | false ↦ λ f. ap (err_of {B = Answer} e) f
       ]
@@ -46,7 +48,7 @@ point_refused (Some root) (Some (Cursor name)) x fields b e h =
     ] h
 
 -- so is an answer that is refused
-pub answer_refused : (root : Option RootView) (since : Option ClockSpec) (x : Term) (fields : List Field) (b : Bool) (point : Option ClockId) (e : Refusal)
+pub answer_refused : (root : Option RootView) (since : Option ClockSpec) (x : Term) (fields : List Field) (b : Bool) (point : Option Since) (e : Refusal)
     → answer_of (holds x) root (record { since = point; empty_on_fresh = b }) ≡ Err e → inquired root (asking since x fields b) ≡ Err e
 answer_refused None since x fields b point e h = h
 answer_refused (Some root) since x fields b point e h =

@@ -8,7 +8,6 @@ use Rattle.serde_json.specs.Find.{at, as_str, get}
 use Rattle.wm_disk.specs.declared.refusal.Refusal.{Refusal}
 use Rattle.wm_names.specs.Paths.{is_root_path, is_rel_path}
 use Rattle.wm_names.specs.declared.subtree.Subtree.{Subtree}
-use Rattle.wm_clock.specs.Clocks.{spec_of}
 use Rattle.wm_clock.specs.declared.clock_spec.ClockSpec.{ClockSpec}
 use Rattle.wm_disk.specs.declared.refusal.Refusal.TheVariants.{BadArguments, BadPath, BadTrigger}
 use Rattle.wm_registry.specs.Triggers.{Definition, is_name, is_trigger}
@@ -18,7 +17,7 @@ use Rattle.wm_lines.specs.declared.request.Request.{Request}
 use Rattle.wm_lines.specs.declared.request.Request.TheVariants.{Version, Watch, WatchDel, WatchList, TriggerList, TriggerDel, Listing, AgeOut, Clock, Unsubscribe}
 use Rattle.wm_lines.specs.AgeOutLines.{age_out_with}
 use Rattle.wm_lines.specs.Arguments.{only_root, root_named, text_at, count_of}
-use Rattle.wm_lines.specs.ClockLines.{may_be_clock, since_clock, since_root}
+use Rattle.wm_lines.specs.ClockLines.{clock_named, may_be_clock, since_clock, since_root}
 use Rattle.wm_lines.specs.ListingLines.{are_below, files_of, found, listing_with, subtree_of}
 use Rattle.wm_lines.specs.PairLines.{Pair, observe_with, pairs_of}
 use Rattle.wm_lines.specs.Lines.{command_of, plain_request, request_named, request_of, request_of_line, request_of_text, request_with, value_of_line}
@@ -85,7 +84,7 @@ since_plain _ _ clock = refl
 
 clock_at_plain : (o : Option Data) → tells_fault (clock_at o) ≡ false
 clock_at_plain None = refl
-clock_at_plain (Some d) = clock_read_plain (option_and_then spec_of (as_str d))
+clock_at_plain (Some d) = clock_read_plain (clock_named d)
   where
     clock_read_plain : (o : Option ClockSpec) → tells_fault (clock_read o) ≡ false
     clock_read_plain None = refl
@@ -197,7 +196,7 @@ command_plain d (Some name) =
     (either_command (request_named d) (bytes_eq name (codes "listing")) _ _ (either (is_none (at 5 d)) _ _ (listed_plain (text_at 1 d) (option_and_then count_of (at 2 d)) (text_at 3 d) (option_and_then files_of (at 4 d))) refl)
     (either_command (request_named d) (bytes_eq name (codes "age-out")) _ _ (either (is_none (at 3 d)) _ _ (aged_plain (text_at 1 d) (option_and_then count_of (at 2 d))) refl)
     (either_command (request_named d) (bytes_eq name (codes "clock")) _ _ (with_plain (λ path. Clock path) (only_root d) (alone_plain d))
-    (either_command (request_named d) (bytes_eq name (codes "since")) _ _ (either (is_none (at 3 d)) _ _ (since_plain (unwrap_or (option_map may_be_clock (at 2 d)) false) (text_at 1 d) (option_and_then spec_of (text_at 2 d))) refl)
+    (either_command (request_named d) (bytes_eq name (codes "since")) _ _ (either (is_none (at 3 d)) _ _ (since_plain (unwrap_or (option_map may_be_clock (at 2 d)) false) (text_at 1 d) (option_and_then clock_named (at 2 d))) refl)
     (either_command (request_named d) (bytes_eq name (codes "query")) _ _ (either (is_none (at 3 d)) _ _ (queried_plain (text_at 1 d) (object_at 2 d)) refl)
     (either_command (request_named d) (bytes_eq name (codes "subscribe")) _ _ (either (is_none (at 4 d)) _ _ (subscribed_plain (text_at 1 d) (text_at 2 d) (object_at 3 d)) refl)
     (either_command (request_named d) (bytes_eq name (codes "unsubscribe")) _ _ (either (is_none (at 3 d)) _ _ (unsubscribed_plain (text_at 1 d) (text_at 2 d)) refl) refl))))))))))))))
