@@ -7,12 +7,11 @@ use std::marker::Brand;
 use std::process::Abort;
 use std::sync::Wait;
 use wm_disk::Refusal;
-use wm_hall::{Forgetting, RootHall, Viewers};
+use wm_hall::{Change, Forgetting, RootHall, Seconds, Viewers};
 use wm_lines::{Inquiry, Request, reply};
 use wm_names::RootPath;
 use wm_share::{MAX_VIEWERS, Naming, Opened, Shares, Viewer};
 use wm_since::MAX_CURSORS;
-use wm_view::Op;
 
 /// Lines of two sessions, and what each is told. A root forgets nothing here by itself.
 const TOLD: &[(usize, &str, &str)] = &[
@@ -77,6 +76,12 @@ pub struct At {
     pub forgetting: Forgetting,
 }
 
+impl Seconds for At {
+    fn second(&self) -> u64 {
+        self.moment
+    }
+}
+
 /// Each operation is at one second, and nothing is forgotten by itself.
 const ALWAYS: At = At {
     moment: 10,
@@ -104,12 +109,12 @@ fn operate<J: Naming, R: Wait + Abort, K: Wait + Drop>(
     alloc: Global,
     hall: &RootHall<J, K>,
     at: At,
-    op: Op,
+    change: Change,
     out: &mut Vec<u8>,
 ) -> Result<(), Refusal> {
     out.try_reserve(reply::PROGRESS_ROOM).expect(rt, "memory");
-    let tells_floor = matches!(op, Op::AgeOut(_, _));
-    let met = hall.operate(rt, alloc, at.forgetting, op)?;
+    let tells_floor = matches!(change, Change::AgeOut(_));
+    let met = hall.operate(rt, alloc, at.forgetting, &at, change)?;
     if tells_floor {
         reply::put_floor(met.floor, out);
     } else {
@@ -157,25 +162,11 @@ fn meet<J: Naming, R: Wait + Abort, K: Wait + Drop>(
     out: &mut Vec<u8>,
 ) -> Result<(), Refusal> {
     match request {
-        Request::Observe(_, pairs) => operate(
-            rt,
-            alloc,
-            hall,
-            at,
-            Op::Observe(at.moment, pairs),
-            out,
-        ),
+        Request::Observe(_, pairs) => operate(rt, alloc, hall, at, Change::Observe(pairs), out),
         Request::Listing(_, begun_at, found) => {
-            operate(
-                rt,
-                alloc,
-                hall,
-                at,
-                Op::Recrawl(at.moment, begun_at, found),
-                out,
-            )
+            operate(rt, alloc, hall, at, Change::Recrawl(begun_at, found), out)
         }
-        Request::AgeOut(_, age) => operate(rt, alloc, hall, at, Op::AgeOut(at.moment, age), out),
+        Request::AgeOut(_, age) => operate(rt, alloc, hall, at, Change::AgeOut(age), out),
         Request::Clock(_) => tell_clock(rt, alloc, hall, viewers, out),
         Request::Query(_, inquiry) => tell_answer(rt, alloc, hall, viewers, inquiry, out),
         another => {
@@ -186,7 +177,7 @@ fn meet<J: Naming, R: Wait + Abort, K: Wait + Drop>(
 }
 
 /// Meets a line, after which the session's viewer knows of it.
-fn meet_line<J: Naming, R: Wait + Abort, K: Wait + Drop>(
+pub fn meet_line<J: Naming, R: Wait + Abort, K: Wait + Drop>(
     rt: &R,
     alloc: Global,
     hall: &RootHall<J, K>,

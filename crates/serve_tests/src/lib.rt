@@ -19,6 +19,8 @@ mod forgetting;
 #[cfg(test)]
 mod halls;
 #[cfg(test)]
+mod moments;
+#[cfg(test)]
 mod places;
 #[cfg(test)]
 mod requests;

@@ -1,2 +1,4 @@
+pub mod Changes
 pub mod Forgetting
 pub mod Readings
+pub mod Starts

@@ -3,7 +3,7 @@
 ghost use Rattle.std.specs.Prelude.{◌≡◌, ◌⊎◌, ◌++◌, ◌≤◌, true, false, IfOk, IfErr, OnErr, vec_capacity};
 ghost use Rattle.wm_expr.specs.Meanings.{holds};
 ghost use Rattle.wm_view.specs.Histories.{is_ready};
-ghost use Rattle.wm_since.specs.Answers.{answer_to, clock_of as clock_of_history, question};
+ghost use Rattle.wm_since.specs.Answers.{answer_to, clock_of as clock_of_history, question, from_clock};
 ghost use Rattle.wm_since.specs.Cursors.{cursor_at, has_room, moved_to};
 ghost use Rattle.wm_share.specs.PublishedLists.{Begins, disconnected, history};
 ghost use Rattle.wm_lines.specs.Replies.{line_text, query_reply};
@@ -13,7 +13,7 @@ use wm_clock::{ClockId, CursorName};
 use wm_disk::Refusal;
 use wm_lines::{Expression, reply};
 use wm_share::{Naming, Viewer};
-use wm_since::{Cursors, Every, Fields, Query};
+use wm_since::{Cursors, Every, Fields, Query, Since};
 
 /// Appends the answer to a question, and gives its clock. `NotReady` before the first whole listing, `NoPlace` if the root is
 /// gone, and `NoMemory`; nothing is appended then.
@@ -49,14 +49,14 @@ pub fn tell_by<J: Naming>(
     out: &mut Vec<u8>,
 ) -> Result<(), Refusal>
     ensures seen { Begins viewer.old.list viewer.new.list }
-    ensures told { IfOk result (λ _. out.new.items ≡ out.old.items ++ line_text (query_reply fields.now (answer_to (holds query.test) (history viewer.new.list) (record { since = cursor_at name cursors.old; empty_on_fresh = query.empty_on_fresh })))) }
+    ensures told { IfOk result (λ _. out.new.items ≡ out.old.items ++ line_text (query_reply fields.now (answer_to (holds query.test) (history viewer.new.list) (record { since = from_clock (cursor_at name cursors.old); empty_on_fresh = query.empty_on_fresh })))) }
     ensures ready { IfOk result (λ _. is_ready (history viewer.new.list) ≡ true) }
     ensures moved { IfOk result (λ _. cursors.new ≡ moved_to name (clock_of_history (history viewer.new.list)) cursors.old) }
     ensures refused { IfErr result (λ e. (e ≡ Refusal.NoMemory) ⊎ ((e ≡ Refusal.NoPlace) × (viewer.new ≡ disconnected viewer.old)) ⊎ ((e ≡ Refusal.NotReady) × (is_ready (history viewer.new.list) ≡ false)) ⊎ ((e ≡ Refusal.TooMany) × (is_ready (history viewer.new.list) ≡ true) × (has_room name cursors.old ≡ false))) }
     ensures err { OnErr result ((out.new.items ≡ out.old.items) × (cursors.new ≡ cursors.old)) }
     ensures room { vec_capacity out.old ≤ vec_capacity out.new }
 {
-    query.since = cursors.clock(&name);
+    query.since = Since::from_clock(cursors.clock(&name));
     let has_room = cursors.has_room(&name);
     match tell_with_room(alloc, viewer, has_room, &query, fields, out) {
         Ok(clock) => {
@@ -104,7 +104,7 @@ pub fn clock<J: Naming>(
     ensures refused { IfErr result (λ e. (e ≡ Refusal.NoMemory) ⊎ ((e ≡ Refusal.NoPlace) × (viewer.new ≡ disconnected viewer.old)) ⊎ ((e ≡ Refusal.NotReady) × (is_ready (history viewer.new.list) ≡ false))) }
 {
     let query = Query {
-        since: told,
+        since: Since::from_clock(told),
         test: Every,
         empty_on_fresh: true,
     };

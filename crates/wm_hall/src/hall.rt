@@ -3,8 +3,10 @@
 ghost use Rattle.std.specs.Prelude.{◌≡◌, IfErr};
 
 use crate::asking::{clock, tell, tell_by};
+use crate::change::{Change, Seconds};
 use crate::keeping::{Forgetting, Left, pay, progress_of, tick_of};
 use crate::reading::{Begun, Reading, operate_noted, take_in};
+use crate::starts::start_of;
 use crate::work::Work;
 use std::alloc::Global;
 use std::sync::{Condvar, Mutex, Wait};
@@ -17,7 +19,6 @@ use wm_registry::Trigger;
 use wm_share::{Naming, Pool, RootKeeper, Shown, Told, Viewer};
 use wm_since::{Cursors, Fields, Query};
 use wm_triggers::{DefinedTrigger, DefinedTriggers, TriggerTable};
-use wm_view::Op;
 
 /// One watched root.
 #[derive(Drop)]
@@ -143,15 +144,16 @@ impl<J: Naming, K: Wait + Drop> RootHall<J, K> {
 
     /// Hands in what a reading found, publishes it, and tells where the view stands then. Of each path that was observed since the
     /// reading began, the view gets what was observed last. `BadClock` if the reading has to be done again; and as [`Self::operate`].
-    pub fn take_in<R: Wait>(
+    pub fn take_in<R: Wait, S: Seconds>(
         &self,
         rt: &R,
         alloc: Global,
         forgetting: Forgetting,
-        moment: u64,
+        seconds: &S,
         found: Reading,
     ) -> Result<Progress, Refusal> {
         let mut keeper = self.keeper.lock(rt);
+        let moment = seconds.second();
         let mut left = self.left.lock(rt);
         let mut reading = self.reading.lock(rt);
         let paid = self.pay(rt, &mut keeper, &mut left);
@@ -178,17 +180,19 @@ impl<J: Naming, K: Wait + Drop> RootHall<J, K> {
         met
     }
 
-    /// Performs an operation, whose moment is in seconds, publishes it, and tells where the view stands then. What the view
-    /// refuses, `Exhausted`, and `NoMemory`, after which it may still be published before the next one; a reading that began
-    /// before that is refused `BadClock`, since what was observed before it would overtake it.
-    pub fn operate<R: Wait>(
+    /// Performs a change at its moment, which is read once the keeper is held, publishes it, and reports where the view stands
+    /// then. What the view refuses, `Exhausted`, and `NoMemory`, after which it may still be published before the next one; a
+    /// reading that began before that is refused `BadClock`, since what was observed before it would overtake it.
+    pub fn operate<R: Wait, S: Seconds>(
         &self,
         rt: &R,
         alloc: Global,
         forgetting: Forgetting,
-        op: Op,
+        seconds: &S,
+        change: Change,
     ) -> Result<Progress, Refusal> {
         let mut keeper = self.keeper.lock(rt);
+        let op = change.at(seconds.second());
         let mut left = self.left.lock(rt);
         let mut reading = self.reading.lock(rt);
         let paid = self.pay(rt, &mut keeper, &mut left);
@@ -304,7 +308,7 @@ impl<J: Naming, K: Wait + Drop> RootHall<J, K> {
             empty_on_fresh,
         } = inquiry;
         let query = Query {
-            since: clock_of(&since),
+            since: start_of(&since),
             test: expression,
             empty_on_fresh,
         };
@@ -312,9 +316,10 @@ impl<J: Naming, K: Wait + Drop> RootHall<J, K> {
             Some(ClockSpec::Cursor(name)) => {
                 self.inquire_by(rt, alloc, viewer, name, query, &fields, out)
             }
-            Some(ClockSpec::Clock(_)) | Some(ClockSpec::Another) | None => {
-                inquire_of(alloc, viewer, query, &fields, out)
-            }
+            Some(ClockSpec::Clock(_))
+            | Some(ClockSpec::Seconds(_))
+            | Some(ClockSpec::Another)
+            | None => { inquire_of(alloc, viewer, query, &fields, out) }
         }
     }
 
@@ -365,12 +370,4 @@ fn with_slot(bits: u64, slot: u64, is_set: bool) -> u64 {
     }
     let bit = 1u64 << slot;
     if is_set { bits | bit } else { bits & !bit }
-}
-
-/// The clock by which is asked, where it is one of this instance.
-fn clock_of(since: &Option<ClockSpec>) -> Option<ClockId> {
-    match since {
-        Some(ClockSpec::Clock(clock)) => Some(*clock),
-        Some(ClockSpec::Cursor(_)) | Some(ClockSpec::Another) | None => None,
-    }
 }

@@ -7,15 +7,19 @@
 #![tactic(auto)]
 
 mod asking;
+mod change;
 mod hall;
 mod keeping;
 mod reading;
+mod starts;
 mod viewers;
 mod work;
 
 pub use asking::{clock, tell, tell_by};
+pub use change::{Change, Seconds};
 pub use hall::RootHall;
 pub use keeping::Forgetting;
 pub use reading::{Begun, Reading};
+pub use starts::start_of;
 pub use viewers::Viewers;
 pub use work::Work;

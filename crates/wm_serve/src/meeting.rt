@@ -4,7 +4,7 @@ use crate::chair::Chair;
 use crate::commanding::command;
 use crate::place::Place;
 use crate::registrar::Registrar;
-use crate::second::second;
+use crate::second::SystemSeconds;
 use crate::seeing::{clock, inquire};
 use crate::shared::Shared;
 use crate::subscribing::{subscribe, unsubscribe};
@@ -12,13 +12,13 @@ use std::alloc::Global;
 use std::sync::Wait;
 use std::time::Clock;
 use wm_disk::{NoMemory, Refusal};
+use wm_hall::Change;
 use wm_lines::reply::{PROGRESS_ROOM, put_clock, put_floor};
 use wm_lines::{Progress, Request};
 use wm_names::RootPath;
 use wm_registry::{Command, Registry};
 use wm_server::{RegistryFront, Session};
 use wm_share::Naming;
-use wm_view::Op;
 
 /// Meets a request on a registry.
 fn meet_registry(
@@ -65,36 +65,36 @@ fn list_triggers<R: Wait, T: Registrar, J: Naming, K: Wait + Copy + Drop>(
     meet_registry(alloc, registry, Request::TriggerList(path), out)
 }
 
-/// Performs an operation. The session's viewer learns of it before that is told.
+/// Performs a change of a root. The session's viewer learns of it before that is reported.
 fn operate_on<R: Wait + Clock, T: Registrar, J: Naming, K: Wait + Copy + Drop>(
     rt: &R,
     alloc: Global,
     shared: &Shared<T, J, K>,
     chair: &Chair<J>,
     path: &RootPath,
-    op: Op,
+    change: Change,
 ) -> Result<Progress, Refusal> {
     let hall = shared.hall(rt, alloc, path)?;
-    let met = hall.operate(rt, alloc, shared.forgetting, op);
+    let met = hall.operate(rt, alloc, shared.forgetting, &SystemSeconds { rt }, change);
     chair.viewers.lock(rt).learn(rt, &hall);
     shared.ring(rt, &hall);
     drop(hall);
     met
 }
 
-/// Performs an operation, and appends where the view stands after it.
+/// Performs a change of a root, and appends where the view stands after it.
 fn operate<R: Wait + Clock, T: Registrar, J: Naming, K: Wait + Copy + Drop>(
     rt: &R,
     alloc: Global,
     shared: &Shared<T, J, K>,
     chair: &Chair<J>,
     path: &RootPath,
-    op: Op,
+    change: Change,
     out: &mut Vec<u8>,
 ) -> Result<(), Refusal> {
     out.try_reserve(PROGRESS_ROOM)?;
-    let tells_floor = matches!(op, Op::AgeOut(_, _));
-    let progress = operate_on(rt, alloc, shared, chair, path, op)?;
+    let tells_floor = matches!(change, Change::AgeOut(_));
+    let progress = operate_on(rt, alloc, shared, chair, path, change)?;
     if tells_floor {
         put_floor(progress.floor, out);
     } else {
@@ -149,16 +149,14 @@ pub fn meet<R: Wait + Clock, T: Registrar, J: Naming, K: Wait + Copy + Drop>(
             unsubscribe(rt, alloc, shared, chair, &root, &name, out)
         }
         Request::Observe(path, pairs) => {
-            let op = Op::Observe(second(rt), pairs);
-            operate(rt, alloc, shared, chair, &path, op, out)
+            operate(rt, alloc, shared, chair, &path, Change::Observe(pairs), out)
         }
         Request::Listing(path, begun_at, listing) => {
-            let op = Op::Recrawl(second(rt), begun_at, listing);
-            operate(rt, alloc, shared, chair, &path, op, out)
+            let change = Change::Recrawl(begun_at, listing);
+            operate(rt, alloc, shared, chair, &path, change, out)
         }
         Request::AgeOut(path, age) => {
-            let op = Op::AgeOut(second(rt), age);
-            operate(rt, alloc, shared, chair, &path, op, out)
+            operate(rt, alloc, shared, chair, &path, Change::AgeOut(age), out)
         }
         Request::Clock(path) => tell_clock(rt, alloc, shared, chair, &path, out),
         Request::Query(path, inquiry) => {

@@ -3,7 +3,7 @@
 use crate::answering::sit_on;
 use crate::house::{Crawl, House, Worker};
 use crate::registrar::Registrar;
-use crate::second::second;
+use crate::second::SystemSeconds;
 use crate::shared::Shared;
 use crate::telling::tell_for;
 use crate::triggering::trigger_for;
@@ -117,7 +117,7 @@ impl<T: Registrar, J: Naming, K: Wait + Copy + Drop> House for Shared<T, J, K> {
             drop(found);
             return Err(Refusal::NotWatched);
         };
-        let met = hall.take_in(rt, alloc, self.forgetting, second(rt), found);
+        let met = hall.take_in(rt, alloc, self.forgetting, &SystemSeconds { rt }, found);
         self.ring(rt, &hall);
         drop(hall);
         met

@@ -1,6 +1,7 @@
 //! `subscribe` and `unsubscribe` of a session.
 //! Tests: serve_tests/src/sessions.rt.
-ghost use Rattle.std.specs.Prelude.{◌≡◌, true};
+ghost use Rattle.std.specs.Prelude.{◌≡◌, true, false};
+ghost use Rattle.wm_hall.specs.Starts.{names_cursor, start_named};
 ghost use Rattle.wm_subs.specs.SessionLists.{may_subscribe};
 
 use crate::chair::Chair;
@@ -13,34 +14,35 @@ use std::alloc::Global;
 use std::sync::{Arc, Wait};
 use wm_clock::{ClockId, ClockSpec};
 use wm_disk::Refusal;
-use wm_hall::RootHall;
+use wm_hall::{RootHall, start_of};
 use wm_lines::{Expression, Inquiry, reply};
 use wm_names::RootPath;
 use wm_share::Naming;
-use wm_since::Query;
+use wm_since::{Query, Since};
 use wm_subs::{Subscribed, Subscription, SubscriptionName, Subscriptions};
 
-/// The clock since which is told first: a cursor's as it stands now, and none where it isn't there.
+/// Since when is told first: by a cursor since its clock as it stands now, and from nowhere where it isn't there.
 fn start<R: Wait, J: Naming, K: Wait + Drop>(
     rt: &R,
     hall: &RootHall<J, K>,
     since: &Option<ClockSpec>,
-) -> Option<ClockId> {
+) -> Option<Since>
+    ensures { names_cursor since.now ≡ false → result ≡ start_named since.now }
+{
     match since {
-        Some(ClockSpec::Clock(clock)) => Some(*clock),
-        Some(ClockSpec::Cursor(name)) => hall.cursor(rt, name),
-        Some(ClockSpec::Another) => None,
-        None => None,
+        Some(ClockSpec::Cursor(name)) => Since::from_clock(hall.cursor(rt, name)),
+        Some(ClockSpec::Clock(_)) | Some(ClockSpec::Seconds(_)) | Some(ClockSpec::Another) | None =>
+            start_of(since),
     }
 }
 
-/// What a subscription begins with: the hall of its root, the root's clock as the session's viewer sees it, and the clock since
+/// What a subscription begins with: the hall of its root, the root's clock as the session's viewer sees it, and since when
 /// which is told first.
 #[derive(Drop)]
 struct Beginning<J: Naming, K: Wait + Drop> {
     hall: Arc<RootHall<J, K>>,
     clock: ClockId,
-    since: Option<ClockId>,
+    since: Option<Since>,
 }
 
 /// What a subscription begins with.
@@ -104,12 +106,12 @@ fn put(
     met
 }
 
-/// What is subscribed to by an inquiry, since a clock.
+/// What is subscribed to by an inquiry, since a clock or a moment.
 fn subscribed_to(
     root: RootPath,
     name: SubscriptionName,
     inquiry: Inquiry,
-    since: Option<ClockId>,
+    since: Option<Since>,
 ) -> Subscribed<Expression> {
     let Inquiry {
         since: _,

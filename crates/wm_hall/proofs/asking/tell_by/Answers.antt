@@ -1,6 +1,6 @@
-use Rattle.std.proofs.Common.{◌≡◌, ◌++◌, subst}
+use Rattle.std.proofs.Common.{◌≡◌, ◌∙◌, ◌++◌, ap, subst}
 use Rattle.wm_expr.specs.Meanings.{holds}
-use Rattle.wm_since.specs.Answers.{answer_to}
+use Rattle.wm_since.specs.Answers.{answer_to, from_clock}
 use Rattle.wm_share.specs.PublishedLists.{history}
 use Rattle.wm_lines.specs.Replies.{line_text, query_reply}
 use Rattle.wm_hall.proofs.asking.tell_by.Goals as goal
@@ -10,5 +10,5 @@ pub returns-in-Ok-clause-told : goal.returns-in-Ok-clause-told
 returns-in-Ok-clause-told g c =
     subst
     (λ s. c.tell_with_room.new.out.items ≡ c.args.out.now.items ++ line_text (query_reply c.args.fields.now (answer_to (holds c.args.query.test) (history c.tell_with_room.new.viewer.list) (record { since = s; empty_on_fresh = c.args.query.empty_on_fresh }))))
-    c.clock-query.ensures
+    (c.from_clock-query.ensures ∙ ap from_clock c.clock.ensures)
     c.in-Ok.ensures.told
