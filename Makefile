@@ -30,7 +30,7 @@ help:
 	@echo "make install       puts watchmand, wmctl and wmfeed into PREFIX/bin (PREFIX=$(PREFIX)), with man pages, completion, systemd user units and"
 	@echo "                   docs (UNIT_PREFIX: where the units are to find the programs, if not in PREFIX); make uninstall takes them away"
 	@echo "make dist          makes dist/$(ARCHIVE).tar.gz and its .sha256 (tar, gzip, strip); make dist-use tries the archive"
-	@echo "make session       a first session by the built program; make examples: those of README.md and docs/QUERIES.md;"
+	@echo "make session       a first session, and one that asks since moments, by the built program; make examples: those of README.md and docs/QUERIES.md;"
 	@echo "                   make examples-use: the programs of examples/ and docs/GUIDE.md; docs/QUERIES.md and limits over a socket (cc,"
 	@echo "                   python3)"
 	@echo "make state-file    a file with two owners, a format that fails, a killed one; make file-calls: its calls (strace)"
@@ -139,7 +139,7 @@ dist-use: dist
 clean:
 	rm -rf $(wildcard crates/*/out) bench/out
 
-# A session from the first watch of a root to a deleted file that comes back, by the built program.
+# A session from the first watch of a root to a deleted file that comes back, and one that asks since moments, by the built program.
 session: $(PROGRAM)
 	tools/first_session.sh $(PROGRAM)
 
@@ -205,7 +205,7 @@ bench-crawl: $(PROGRAM)
 crawl-tree: $(PROGRAM)
 	tools/crawl_tree.sh $(PROGRAM)
 
-# How long lines about FILES files take, and the memory; also of a tenth.
+# How long lines about FILES files take, questions since a moment beside those since a clock, and the memory; also of a tenth.
 bench-view: $(PROGRAM)
 	bench/view.py $(PROGRAM) $(FILES)
 

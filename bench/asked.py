@@ -9,11 +9,12 @@ def ensure(holds, what):
 
 
 class Lines:
-    """A process of `watchmand lines` over a new state file in the folder."""
+    """A process of `watchmand lines` over a new state file in the folder. The moment of a line is its number."""
 
     def __init__(self, program, folder):
         subprocess.run([program, "format", f"{folder}/state"], check=True, stdout=subprocess.DEVNULL)
         self.process = subprocess.Popen([program, "lines", f"{folder}/state"], stdin=subprocess.PIPE, stdout=subprocess.PIPE, bufsize=0)
+        self.moment = 0
 
     def send(self, text):
         while text:
@@ -22,6 +23,7 @@ class Lines:
     def timed(self, *request):
         """The seconds from the write of a request to the end of its reply, which must be no refusal, and the reply."""
         line, parts = json.dumps(request).encode() + b"\n", []
+        self.moment += 1
         reads, begun = self.process.stdout.fileno(), time.perf_counter()
         self.send(line)
         while not parts or parts[-1][-1:] != b"\n":

@@ -3,9 +3,13 @@
 
 A root of FILES / 10 and one of FILES files (default 100,000, a multiple of 10,000), each told to a `watchmand lines` of its own and asked
 there: a table of microseconds from the write of a request to the end of its reply, medians where it is repeated, and of the
-process's memory. Paths have 40 bytes, folders 100 files; each answer is looked at. Where it waited for a processor, times are too long."""
-import statistics, sys
+process's memory. A question since a moment and the one since the clock that lists the same are asked in turn. A server, which keeps a view
+twice, is told of the same files: how much memory a file takes there. Paths have 40 bytes, folders 100 files; each answer is looked at. Where
+it waited for a processor, times are too long."""
+import pathlib, statistics, sys
+sys.path.insert(0, str(pathlib.Path(__file__).resolve().parent.parent / "tools"))
 from asked import ensure, lines
+from served import names, server
 
 ROOT, FOLDER, MANY, ROUNDS = "/r", 100, 1000, 11
 
@@ -19,11 +23,16 @@ def meta(size):
     return {"mtime_ms": 0, "size": size, "type": "f"}
 
 
+def folder_of(first):
+    """The path of a folder by the number of its first file, and what a listing of it tells."""
+    return path(first).rsplit("/", 1)[0], [[path(number), meta(0)] for number in range(first, first + FOLDER)]
+
+
 class Root:
     """A root with its files, whose listing is timed."""
 
     def __init__(self, asked, files):
-        self.asked, self.files, self.rows, self.size = asked, files, {}, 0
+        self.asked, self.files, self.rows, self.ratios, self.size = asked, files, {}, {}, 0
         asked.ask("watch", ROOT)
         took = self.told("listing", 0, "", [])
         for first in range(0, files, FOLDER):
@@ -42,8 +51,7 @@ class Root:
         return took
 
     def list_folder(self, first):
-        files = [[path(number), meta(0)] for number in range(first, first + FOLDER)]
-        return self.told("listing", self.tick, path(first).rsplit("/", 1)[0], files)
+        return self.told("listing", self.tick, *folder_of(first))
 
     def observe(self, pairs):
         """An operation that has to change something."""
@@ -56,10 +64,26 @@ class Root:
         self.size += 1
         return self.observe([[path(number), meta(self.size)] for number in numbers])
 
-    def answer(self, count, query):
+    def answered(self, count, query):
         took, answer = self.asked.timed("query", ROOT, query)
         ensure(len(answer["files"]) == count, f"{len(answer['files'])} files in place of {count}")
-        return took
+        return took, answer
+
+    def answer(self, count, query):
+        return self.answered(count, query)[0]
+
+    def since(self, count, moment):
+        """What changed last, asked since a clock and since a moment in turn. The line at this moment was the last change, and so was each before it then."""
+        clock, number = {"since": f"{self.front}:{self.tick - count}"}, {"since": moment - count + 1}
+        times = []
+        for _ in range(101 if count < MANY else ROUNDS):
+            (by_clock, one), (by_moment, other) = self.answered(count, clock), self.answered(count, number)
+            ensure(one == other, f"{count} files differ since a clock and since a moment")
+            times.append((by_clock, by_moment))
+        what = [f"`since` a {start}, {count:,} files changed" for start in ("clock", "moment")]
+        for named, taken in zip(what, zip(*times)):
+            self.row(named, taken)
+        self.ratios[count] = self.rows[what[1]] / self.rows[what[0]]
 
     def age_out(self, floor):
         took, answer = self.asked.timed("age-out", ROOT, 0)
@@ -76,9 +100,9 @@ def measured(asked, files):
     spread = range(0, files, files // MANY)  # a thousand files that lie far apart
     root.row("a folder of 100 files listed again, nothing new", [root.list_folder(3 * FOLDER) for _ in range(101)])
     root.row("an observation of one file", [root.change([number]) for number in spread])
-    for count in (0, 1, 10, MANY):
-        since = {"since": f"{root.front}:{root.tick - count}"}
-        root.row(f"`since`, {count:,} files changed", [root.answer(count, since) for _ in range(101 if count < MANY else ROUNDS)])
+    last = asked.moment
+    for count in (0, 1, 10, 100, MANY):
+        root.since(count, last)
     root.row("an observation of 1,000 files, changed", [root.change(spread) for _ in range(ROUNDS)])
     ten = {"expression": ["name", [path(number) for number in spread[:10]], "wholename"]}
     root.row("a query that finds 10 files by their names", [root.answer(10, ten) for _ in range(ROUNDS)])
@@ -95,7 +119,26 @@ def measured(asked, files):
     root.row("an age-out of none", [root.age_out(root.tick) for _ in range(101)])
     root.rows["memory at most in the end, MB"] = asked.memory("VmHWM") / 1e6
     root.rows["all in all, waiting for a processor"] = 1e6 * asked.waited()
-    return root.rows, root.resident
+    return root
+
+
+def resident_twice(program, files):
+    """What a server has in memory once it was told of so many files, and both copies of its view have taken them in."""
+    with server(program) as served:
+        client, root = served.client(), served.folder + "/none"
+        client.ask(["watch", root])
+        names(client, root)
+        requests = [["listing", root, 1, *folder_of(first)] for first in range(0, files, FOLDER)]
+        for request in requests + [["observe", root, [[path(0), meta(size)]]] for size in (1, 2)]:
+            ensure("clock" in client.tell(request), f"{request[0]} was refused")
+        told = client.tell(["query", root, {"fields": ["name"], "expression": ["suffix", "none"]}])
+        ensure(told["clock"].endswith(f":{files // FOLDER + 3}"), f"the clock is {told['clock']}")
+        return 1024 * served.memory()
+
+
+def bytes_twice(program, few, many):
+    """How much memory of a server each further file takes."""
+    return (resident_twice(program, many) - resident_twice(program, few)) / (many - few)
 
 
 def main():
@@ -107,11 +150,14 @@ def main():
     for count in counts:
         with lines(sys.argv[1]) as asked:
             found.append(measured(asked, count))
-    (few, less), (many, more) = found
+    few, many = found
     print(f"| µs | {counts[0]:,} files | {counts[1]:,} files |\n|---|---|---|")
-    for what in few:
-        print(f"| {what} | {few[what]:,.1f} | {many[what]:,.1f} |")
-    print(f"Each further file took {(more - less) / (counts[1] - counts[0]):.0f} bytes of memory behind the listing.")
+    for what in few.rows:
+        print(f"| {what} | {few.rows[what]:,.1f} | {many.rows[what]:,.1f} |")
+    for count in few.ratios:
+        print(f"`since` a moment, {count:,} files changed: {few.ratios[count]:.2f} and {many.ratios[count]:.2f} times as long as since the clock.")
+    once, twice = (many.resident - few.resident) / (counts[1] - counts[0]), bytes_twice(sys.argv[1], *counts)
+    print(f"Each further file took {once:.0f} bytes of memory behind the listing, and {twice:.0f} in a server, which keeps a view twice.")
 
 
 if __name__ == "__main__":

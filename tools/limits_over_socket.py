@@ -43,6 +43,7 @@ def lines(path, a, root):
 def clocks(path, a, root):
     check("a text that begins with c: is fresh", a.ask("since", root, "c:another")["is_fresh_instance"])
     check("another text is no clock", a.refused("since", root, "c") == 7)
+    check("a number of seconds to 2^63 - 1", [a.refused("since", root, number) for number in (0, 2**63 - 1, 2**63, -1, 1.5, "8", True)] == [0, 0, 7, 7, 7, 7, 3])
     check("256 cursors", all(a.refused("since", root, f"n:{name}") == 0 for name in range(256)))
     check("and no more, of which the others stay", (a.refused("since", root, "n:more"), a.refused("since", root, "n:255")) == (17, 0))
     check("a cursor's name of 0 and 65 bytes", [a.refused("since", root, "n:" + "a" * size) for size in (0, 65)] == [7, 7])

@@ -1,7 +1,7 @@
-"""Sessions beside each other, clients that are refused, and sockets, for tools/quick_use.py."""
+"""Sessions beside each other, clients that are refused, sockets, and questions since moments, for tools/quick_use.py."""
 import json, os, socket, subprocess, threading, time
 
-from served import Server, check, folder, names, server, tree, watched
+from served import Server, check, folder, names, server, tree, until, watched
 
 VERSION = b'{"version":"w1"}\n'
 TOO_MANY = b'{"error":"17 TooMany","version":"w1"}\n'
@@ -234,5 +234,80 @@ def socket_of_another_server_stays(programs):
             other.process.wait()
 
 
+def lines_that_ask_since_moments(programs):
+    """A session of `lines`, in which the moment of an operation is the number of its line."""
+    here = os.path.dirname(os.path.abspath(__file__))
+    with folder() as made, open(f"{here}/moments.lines", "rb") as lines, open(f"{here}/moments.replies", "rb") as replies:
+        subprocess.run([programs.watchmand, "format", made + "/state"], check=True, stdout=subprocess.DEVNULL)
+        ran = subprocess.run([programs.watchmand, "lines", made + "/state"], stdin=lines, capture_output=True, timeout=60)
+        wanted = replies.read()
+        wrong = [pair for pair in zip(ran.stdout.splitlines(), wanted.splitlines()) if pair[0] != pair[1]]
+        check("lines that ask since moments", (ran.returncode, ran.stderr, ran.stdout) == (0, b"", wanted), wrong[:1] or ran)
+
+
+def second():
+    return int(time.time())
+
+
+def next_second():
+    """Waits until a second begins."""
+    before = second()
+    return until(lambda: second() > before and second())
+
+
+def answered(client, *request):
+    """Whether an answer is fresh, and its files."""
+    seen = client.tell(list(request))
+    return seen.get("is_fresh_instance"), seen.get("files", seen)
+
+
+def questions_since_a_second(programs):
+    """The second of an operation is that in which the server took it in, whatever the file's own time is."""
+    with watched(programs.watchmand) as (s, top, a, b):
+        since = next_second()
+        a.ask(["observe", top, [["new", FILE], ["a", FILE]]])
+        both = [{"exists": True, "name": "a", "new": False, "size": 1}, {"exists": True, "name": "new", "new": True, "size": 1}]
+        seen = answered(b, "since", top, since)
+        check("since the second of an observation it is listed, and no crawl of a second before", seen == (False, both), seen)
+        seen = answered(b, "query", top, {"since": since, "fields": ["name"], "expression": ["name", "new"]})
+        check("and in a query", seen == (False, ["new"]), seen)
+        fresh, files = answered(b, "query", top, {"since": 0, "fields": ["name"]})
+        check("since a second before the first crawl all is fresh", (fresh, sorted(files)) == (True, ["a", "d", "d/b", "new"]), (fresh, files))
+        later = next_second()
+        seen = answered(b, "since", top, later)
+        check("since a later second nothing is listed", seen == (False, []), seen)
+        seen = [b.tell(["query", top, {"since": number}]).get("error") for number in (-1, 2**63, 1.5, "8", True)]
+        check("other numbers and values are refused", seen == ["7 BadClock"] * 4 + ["3 BadArguments"], seen)
+        subscribed_since(a, b, top, since, later)
+        forgotten_since(a, b, top, later)
+
+
+def subscribed_since(a, b, top, since, later):
+    """A subscription asks by its number once, and by clocks from then on."""
+    for name, number, first in (("s", since, ["a", "new"]), ("none", later + 1000, [])):
+        b.ask(["subscribe", top, name, {"since": number, "fields": ["name"]}])
+        line = json.loads(b.line())
+        is_right = (line["subscription"], line["is_fresh_instance"], line["files"]) == (name, False, first)
+        check(f"the first line of a subscription since a number lists {len(first)} files", is_right, line)
+    a.ask(["observe", top, [["more", FILE]]])
+    lines = [json.loads(b.line()) for _ in range(2)]
+    seen = [(line["subscription"], line["is_fresh_instance"], line["files"]) for line in lines]
+    check("a later line is since the one before", seen == [("s", False, ["more"]), ("none", False, ["more"])], seen)
+    for name in ("s", "none"):
+        b.ask(["unsubscribe", top, name])
+
+
+def forgotten_since(a, b, top, later):
+    """A deletion is listed until it is forgotten, and then the answer is fresh."""
+    a.ask(["observe", top, [["new", None]]])
+    fresh, files = answered(b, "query", top, {"since": later, "fields": ["name", "exists", "new"]})
+    check("a deletion is listed", not fresh and {"exists": False, "name": "new", "new": False} in files, (fresh, files))
+    a.ask(["age-out", top, 0])
+    fresh, files = answered(b, "query", top, {"since": later, "fields": ["name"]})
+    check("once it is forgotten all is fresh", (fresh, sorted(files)) == (True, ["a", "d", "d/b", "more"]), (fresh, files))
+    seen = answered(b, "since", top, second() + 1000)
+    check("but not since a second behind it", seen == (False, []), seen)
+
+
 CASES = [watch_list_and_questions_agree, long_question_delays_no_command, observations_wake_only_their_subscribers, commands_leave_no_memory,
-         socket_of_another_server_stays, refusal_17_reaches_the_client]
+         socket_of_another_server_stays, refusal_17_reaches_the_client, lines_that_ask_since_moments, questions_since_a_second]

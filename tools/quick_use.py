@@ -1,5 +1,5 @@
 #!/usr/bin/env python3
-"""What rough use of a server has found wrong, one case each: tools/quick_use.py WATCHMAND WMCTL [WMFEED] [--only CASE ..]
+"""What rough use of a server has found wrong, and questions since moments, one case each: tools/quick_use.py WATCHMAND WMCTL [WMFEED] [--only CASE ..]
 
 Each case starts a server of its own under a temporary folder, and prints for each thing that it checks whether it holds. What has to fall into a short
 time is tried until it did. The status is 1 if something doesn't hold. Some 45 seconds for all, 80 beside a dozen proofs."""
@@ -14,7 +14,7 @@ NAMED = {case.__name__: case for case in CASES}
 
 
 def words():
-    reader = argparse.ArgumentParser(description="Tries what rough use of a server has found wrong.")
+    reader = argparse.ArgumentParser(description="Tries what rough use of a server has found wrong, and questions since moments.")
     reader.add_argument("watchmand")
     reader.add_argument("wmctl")
     reader.add_argument("wmfeed", nargs="?")

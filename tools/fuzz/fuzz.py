@@ -72,7 +72,7 @@ def main():
     signal.signal(signal.SIGTERM, lambda *_: stopped.append(True))
     kinds = [asked.only] if asked.only else list(KINDS)
     wrong = fuzz_page.differences()
-    print("".join(f"DIFFERENCE of the model and docs/QUERIES.md, {problem}\n" for problem in wrong), end="")
+    print("".join(f"DIFFERENCE of the model and {problem}\n" for problem in wrong), end="")
     end, totals, differences, tries = time.time() + asked.seconds, {}, len(wrong), 0
     with own_folder() as folder:
         fuzz_sockets.PLACE = folder + "/run"

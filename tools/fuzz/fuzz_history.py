@@ -18,6 +18,7 @@ class History:
     def __init__(self, incarnation, number):
         self.incarnation, self.number = incarnation, number
         self.maps, self.moments, self.floor, self.kept = [{}], [0], 0, {}
+        self.moment_floor, self.forgotten = None, set()
 
     def tick(self):
         return len(self.maps) - 1
@@ -51,10 +52,11 @@ class History:
         return self.kept[now]
 
     def goes_to(self, moment, after):
-        """An operation that makes another map adds a tick; the first listing makes tick 1, whatever it lists."""
+        """An operation that makes another map adds a tick; the first listing makes tick 1, whatever it lists. A forgotten path that exists is known again."""
         if not self.is_ready() or after != self.maps[-1]:
             self.maps.append(after)
             self.moments.append(moment)
+            self.forgotten -= set(after)
 
     def needs_ready(self):
         if not self.is_ready():
@@ -83,14 +85,28 @@ class History:
         self.goes_to(moment, after)
 
     def age_out(self, now, age):
-        """The floor becomes the greatest last change of the paths that are gone for so long."""
+        """It forgets the paths that are gone for so long. The floor becomes the greatest last change of such a path, the moment floor the greatest moment of one."""
         self.needs_ready()
-        gone = [changed for path, exists, _, _, changed in self.entries(self.tick()) if not exists]
-        self.floor = max([self.floor] + [tick for tick in gone if self.moments[tick] + age <= now])
+        gone = {path: changed for path, exists, _, _, changed in self.entries(self.tick()) if not exists and self.moments[changed] + age <= now}
+        self.floor = max([self.floor, *gone.values()])
+        moments = [self.moments[changed] for changed in gone.values()] + ([] if self.moment_floor is None else [self.moment_floor])
+        self.moment_floor = max(moments, default=None)
+        self.forgotten |= set(gone)
 
     def is_fresh(self, since, now, floor):
-        """No clock, one of another incarnation or root number (None in the place of its tick), below the floor or above the tick."""
+        """No start; a moment before the first listing's, or up to the moment floor; a clock of another incarnation or root number, below the floor or above
+        the tick. A start is a clock's three numbers, or a moment, which is one number."""
+        if isinstance(since, int):
+            return since < self.moments[1] or self.moment_floor is not None and since <= self.moment_floor
         return since is None or since[:2] != (self.incarnation, self.number) or not floor <= since[2] <= now
+
+    def is_since(self, since, tick):
+        """Whether a tick is after a clock, or its moment at a moment or later. Nothing is at tick 0."""
+        return tick > 0 and self.moments[tick] >= since if isinstance(since, int) else tick > since[2]
+
+    def has_changed(self, since, path, changed):
+        """A path that was forgotten isn't listed since a moment."""
+        return self.is_since(since, changed) and not (isinstance(since, int) and path in self.forgotten)
 
     def answer(self, since, expression=None, empty=False, now=None, floor=None):
         """(clock, fresh, files); a file is a dict of all fields. The last change first, then in the order of the paths' bytes."""
@@ -98,9 +114,9 @@ class History:
         fresh = self.is_fresh(since, now, self.floor if floor is None else floor)
         files = []
         for path, exists, metadata, created, changed in self.entries(now):
-            asked = exists and not empty if fresh else changed > since[2]
+            asked = exists and not empty if fresh else self.has_changed(since, path, changed)
             if asked and (expression is None or holds(expression, (path, exists, metadata))):
-                told = {"name": path, "exists": exists, "new": fresh or created > since[2], "size": metadata[1], "type": metadata[0],
+                told = {"name": path, "exists": exists, "new": fresh or self.is_since(since, created), "size": metadata[1], "type": metadata[0],
                         "mtime_ms": metadata[2], "cclock": self.clock(created), "oclock": self.clock(changed)}
                 files.append((-changed, path.encode(), told))
         return self.clock(now), fresh, [file[2] for file in sorted(files, key=lambda file: file[:2])]

@@ -28,6 +28,8 @@ BAD_NUMBERS = [Raw(text) for text in ("-1", "-0", "1.0", "0.0", "1e0", "1E2", "9
                                       "Infinity", "1" * 400, "1.7976931348623158e308", "1.7976931348623159e308", str(2**1024 - 2**970), str(2**1024 - 2**970 - 1), "5e-324",
                                       "1" * 308, "-1e309", "1E+2", "1e", "1e+", "1.e1", "- 1", "1_0", "00", "-01", "0." + "0" * 400 + "1", "1e99999999999999999999", "0e99999999999999999999", "-")]
 BAD_VALUES = [None, True, False, "", "x", [], {}, [[]], {"a": 1}, -1, 0, Raw("1.5"), Raw("-0")]
+# In place of a moment: numbers and texts of digits that are none.
+BAD_MOMENTS = [-1, 2**63, Raw("1.5"), Raw("8.0"), "8", True] + BAD_NUMBERS
 
 
 class Maker:
@@ -37,6 +39,8 @@ class Maker:
         self.rng, self.session = rng, session
         self.roots, self.paths, self.names = (self.few(all_of) for all_of in (ROOTS, PATHS, NAMES))
         self.bad = rng.choice([0, 0, 0.01, 0.04, 0.04, 0.3])
+        # The numbers of `since`, if they aren't to be those of lines.
+        self.seconds = None
 
     def few(self, all_of):
         return self.rng.sample(all_of, min(len(all_of), self.rng.choice([1, 2, 3, 6, 30])))
@@ -93,9 +97,20 @@ class Maker:
         return self.some([text], ["c:", "c", "c:1:1", text + "\n", text + ":", "c:0" + text[2:], "c:+" + text[2:], "c: 1:1:1", "C:1:1:1", "c:1:1:" + "9" * 30,
                                   "c:1:1:9223372036854775807", "c:1:1:9223372036854775808", "c:\u0661:1:1", ""])
 
+    def moment(self, root):
+        """The moment of a tick, the moment floor, or one beside them; now and then one that is far from all."""
+        history = self.history(root)
+        floor, moments = (history.moment_floor, history.moments[1:]) if history else (None, [])
+        near = floor if floor is not None and self.rng.random() < 0.4 else self.rng.choice(moments + [self.session.moment])
+        near = max(0, near + self.rng.choice([-1, 0, 0, 1]))
+        return self.some(self.seconds or [near] * 12 + [0, 2**63 - 1], BAD_MOMENTS)
+
     def since(self, root):
-        if self.rng.random() < 0.25:
+        chance = self.rng.random()
+        if chance < 0.25:
             return "n:" + self.some(self.names, BAD_NAMES)
+        if chance < 0.5:
+            return self.moment(root)
         return self.clock(root) if self.rng.random() > self.bad else self.rng.choice(BAD_VALUES + BAD_NUMBERS + ["n:", "x:1", "12", 5])
 
     def name_term(self, word, texts):

@@ -131,8 +131,8 @@ class Session:
         return self.query(root, inquiry)
 
     def named(self, root, since):
-        """The clock that a clock or a cursor names; of an unknown cursor none."""
-        if since is None or since[0] == "clock":
+        """The clock or the moment that is asked from; of a cursor its clock, and of an unknown one none."""
+        if since is None or since[0] != "cursor":
             return since and since[1]
         return self.cursors[root].get(since[1])
 

@@ -1,10 +1,14 @@
-"""The fuzzer's model on the examples of docs/QUERIES.md, which are one session of `watchmand lines` (tools/fuzz/fuzz.py).
+"""The fuzzer's model on sessions of `watchmand lines` whose replies are written down: the examples of docs/QUERIES.md, and the sessions of tools/.
 
-So the model is held to what the page says, and not to the program alone."""
+So the model is held to what these say, and not to the program alone (tools/fuzz/fuzz.py)."""
 import os
+from fuzz_lines import place
 from fuzz_model import Session
 
-PAGE = os.path.join(os.path.dirname(os.path.abspath(__file__)), "../../docs/QUERIES.md")
+TOOLS = os.path.dirname(os.path.dirname(os.path.abspath(__file__)))
+PAGE = os.path.join(TOOLS, "../docs/QUERIES.md")
+# NAME.lines are the requests, NAME.replies what they are answered.
+SESSIONS = ("first_session", "moments")
 
 
 def examples():
@@ -22,8 +26,19 @@ def examples():
     return found
 
 
-def differences():
-    """What the model answers otherwise than the page says."""
+def differences_of_page():
     session = Session()
     answered = [(line, wanted, session.met(line)) for line, wanted in examples()]
-    return [f"to {line!r}:\n  the page says {wanted!r}\n  the model     {seen!r}" for line, wanted, seen in answered if seen != wanted]
+    return [f"docs/QUERIES.md, to {line!r}:\n  the page says {wanted!r}\n  the model     {seen!r}" for line, wanted, seen in answered if seen != wanted]
+
+
+def differences_of(name):
+    session = Session()
+    with open(f"{TOOLS}/{name}.lines", "rb") as lines, open(f"{TOOLS}/{name}.replies", "rb") as replies:
+        wanted, seen = replies.read(), b"".join(map(session.met, lines))
+    return [] if seen == wanted else [f"tools/{name}.replies, {place(seen, wanted)}"]
+
+
+def differences():
+    """What the model answers otherwise than is written down."""
+    return differences_of_page() + [problem for name in SESSIONS for problem in differences_of(name)]

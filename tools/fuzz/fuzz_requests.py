@@ -47,9 +47,12 @@ def clock_of(text):
 
 
 def since_of(value, faults):
-    """What a clock or a cursor names: ("clock", numbers) or ("cursor", name). A number is refused 7, another kind of value 3."""
+    """Where a question begins: ("clock", numbers), ("cursor", name), or of a whole number from 0 to 2^63 - 1 ("moment", number). Another number is refused 7,
+    another kind of value 3."""
     is_number = isinstance(value, (int, Float)) and not isinstance(value, bool)
     faults.needs(is_text(value) or is_number, 3)
+    if is_whole(value):
+        return ("moment", value)
     if not is_text(value) or not value.startswith(("c:", "n:")):
         faults.needs(False, 7)
         return None

@@ -4,14 +4,17 @@ A client is its lines and how it ends. Each whole reply is the model's, each lin
 and the watched roots and triggers, asked by a fresh client and read from the file behind a kill, are those that were acknowledged.
 
 After a kill the server is started again over its file. Each client asks it since the clocks of its earlier answers, and then goes on with the lines that
-weren't answered: each such clock is fresh, and none comes again."""
-import contextlib, json, os, random, re, shutil, signal, socket, stat, struct, threading
+weren't answered: each such clock is fresh, and none comes again.
+
+In which second the server performs an operation isn't known. So a question by a number is fresh if that lies before the server's start, lists nothing if it
+lies behind the present second, and in between is answered fresh, or as by some tick of the root."""
+import contextlib, json, os, random, re, shutil, signal, socket, stat, struct, threading, time
 import fuzz_files, fuzz_lines, fuzz_state
 from fuzz_history import History, Refused
 from fuzz_json import written
 from fuzz_lines import Difference, Session as Model, made_line
 from fuzz_make import Maker
-from fuzz_model import lines_of, trigger_shown
+from fuzz_model import line_of, lines_of, rendered, trigger_shown
 from fuzz_registry import with_watch
 from fuzz_requests import SERVED, request_of
 from served import Session, serving, until
@@ -26,6 +29,9 @@ KILLS = "kills the server"
 # How often the server is started at most in a run, and of how many clocks a client asks after a start.
 LIVES, OLD_CLOCKS = 3, 20
 CLOCK = re.compile(b'"clock":"(c:[0-9]+:[0-9]+:[0-9]+)"')
+# Ten numbers that stand for the seconds around that in which a client begins, so that a seed makes the same lines each time.
+NEAR_SECONDS = range(1111111110, 1111111120)
+NEAR = re.compile(rb"(?<![-+.0-9])111111111([0-9])(?![.0-9])")
 
 
 class Cut(Exception):
@@ -54,12 +60,19 @@ def crawled(root, top=""):
     return found
 
 
-class Server(Model):
-    """The model of a session that is alone on its root, which a server has crawled; the root has this number, and the server was started so often. After a
-    second start `roots` are the root and those below it, with their triggers."""
+def in_seconds(content):
+    """The content with the present seconds in the place of the numbers that stand for them."""
+    began = int(time.time()) - 5
+    return NEAR.sub(lambda found: b"%d" % (began + int(found[1])), content)
 
-    def __init__(self, root, number, files, life=1, roots=None):
+
+class Server(Model):
+    """The model of a session that is alone on its root, which a server has crawled; the root has this number, and the server was started so often, the last
+    time in the second `began` or later. After a second start `roots` are the root and those below it, with their triggers."""
+
+    def __init__(self, root, number, files, life=1, roots=None, began=0):
         super().__init__()
+        self.began = began
         self.state = (life, number + 1 + len(roots), roots) if roots else with_watch((life, number, {}), root)
         self.root, self.commands, self.floors, self.asked = root, SERVED, {0}, []
         self.histories, self.cursors = {path: History(life, number) for path in self.state[2]}, {path: {} for path in self.state[2]}
@@ -76,6 +89,28 @@ class Server(Model):
         self.floors.add(self.histories[self.root].floor)
         return reply
 
+    def starts(self, since, tick):
+        """From where a question up to a tick may be answered: from itself, if it isn't a moment. A moment is before all operations (None: fresh), behind all of
+        them (the tick), or may be either, or between any two."""
+        if not isinstance(since, int):
+            return [since]
+        history = self.histories[self.root]
+        ticks = [(history.incarnation, history.number, start) for start in range(tick + 1)]
+        return [None] if since < self.began else ticks[-1:] if since > time.time() else [None] + ticks
+
+    def by_moment(self, line):
+        """The replies that a question by a number may have, once one is there; none of any other line."""
+        try:
+            command, arguments = request_of(line, self.commands)
+        except Refused:
+            return []
+        if command not in ("since", "query") or not arguments[1][0] or arguments[1][0][0] != "moment":
+            return []
+        (_, moment), expression, fields, empty = arguments[1]
+        history = self.histories[self.root]
+        starts = self.starts(moment, history.tick())
+        return [line_of(rendered(history.answer(start, expression, empty), fields)) for start in starts]
+
     def is_answered(self):
         self.asked = list(self.subscriptions)
 
@@ -88,7 +123,8 @@ class Server(Model):
         tick = int(seen["clock"].rsplit(":", 1)[1])
         asked = [told for told in self.asked if (told.root, told.name) == (seen["root"], seen["subscription"])]
         for told in asked if 1 <= tick <= history.tick() else []:
-            answers = [history.answer(told.since, told.expression, told.empty, tick, floor) for floor in self.floors]
+            starts = self.starts(told.since, tick)
+            answers = [history.answer(start, told.expression, told.empty, tick, floor) for floor in self.floors for start in starts]
             if line in [told.told(answer) for answer in answers if told.is_due(answer)]:
                 told.since, told.is_first = (history.incarnation, history.number, tick), False
                 return
@@ -118,6 +154,7 @@ def client_by(rng, number):
     model = Server(f"{PLACE}/{NAMES[number]}", number + 1, {})
     maker, spoils, made = Maker(rng, model), rng.choice([0, 0.05, 0.2]), []
     maker.roots = [model.root, model.root + "/w", model.root + "/x"]
+    maker.seconds = [0, 1, 10**9, 10**11, 2**63 - 1, *NEAR_SECONDS]
     for _ in range(rng.choice([5, 20, 50])):
         line = made_line(maker, rng, spoils, made)
         if all(is_judged(part, model) for part in lines_of(line)):
@@ -136,12 +173,12 @@ def run_by(rng):
 class Client(threading.Thread):
     """One client: a thread that writes, another that reads and compares. Of all clients of a run one knows whether the server was killed."""
 
-    def __init__(self, path, root, number, life, killed, lines, end, roots=None, older=frozenset()):
+    def __init__(self, path, root, number, life, began, killed, lines, end, roots=None, older=frozenset()):
         super().__init__()
         self.session, self.killed, self.sure, self.clocks, self.older = Session(path, SECONDS), killed, 0, set(), older
-        self.fresh = lambda: Server(root, number, crawled(root), life, roots)
+        self.fresh = lambda: Server(root, number, crawled(root), life, roots, began)
         self.model, self.end, self.problem = self.fresh(), end, None
-        self.lines = [line for line in lines_of(b"".join(lines)) if line.endswith(b"\n")]
+        self.lines = [line for line in lines_of(in_seconds(b"".join(lines))) if line.endswith(b"\n")]
         self.states, self.sent = [self.model.state], []
 
     def run(self):
@@ -210,7 +247,7 @@ class Client(threading.Thread):
             seen = self.line()
         self.model.is_answered()
         self.sure += 1
-        if seen != wanted:
+        if seen not in (self.model.by_moment(line) or [wanted]):
             raise Difference(f"to {line[:1000]!r}:\n  expected {wanted[:1000]!r}\n  seen     {seen[:1000]!r}")
 
 
@@ -272,12 +309,13 @@ def run_all(threads):
         thread.join()
 
 
-def talked(path, place, life, clients, before):
-    """Runs all clients at once; then what a fresh one is told of the registry, unless the server was killed. A later life has to begin with the registry `before`."""
+def talked(path, place, life, began, clients, before):
+    """Runs all clients at once; then what a fresh one is told of the registry, unless the server was killed. A life begins in the second `began` or later, a
+    later one with the registry `before`."""
     roots = [f"{place}/{NAMES[number]}" for number in range(len(clients))]
     watched_first(path, roots) if life == 1 else started_again(path, roots, life, before)
     killed = threading.Event()
-    talks = [Client(path, root, number, life, killed, *client) for number, (root, client) in enumerate(zip(roots, clients), 1)]
+    talks = [Client(path, root, number, life, began, killed, *client) for number, (root, client) in enumerate(zip(roots, clients), 1)]
     run_all(talks)
     if killed.is_set():
         return talks, None
@@ -318,8 +356,9 @@ def lived(program, clients):
     """The lives of a server, each but the last ended by a kill; what its file holds then."""
     content = None
     for life in range(1, LIVES + 1):
+        began = int(time.time())
         with serving(program, PLACE) as path:
-            talks, told = talked(path, PLACE, life, clients, content and found(content))
+            talks, told = talked(path, PLACE, life, began, clients, content and found(content))
         with open(PLACE + "/state", "rb") as file:
             content = file.read()
         judge(talks, told, content)
