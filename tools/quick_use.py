@@ -6,10 +6,10 @@ time is tried until it did. The status is 1 if something doesn't hold. Some 45 s
 import argparse, sys
 
 sys.dont_write_bytecode = True
-import quick_crawls, quick_sessions, quick_triggers
+import quick_crawls, quick_files, quick_sessions, quick_triggers
 from served import failed
 
-CASES = [*quick_crawls.CASES, *quick_triggers.CASES, *quick_sessions.CASES]
+CASES = [*quick_crawls.CASES, *quick_triggers.CASES, *quick_sessions.CASES, *quick_files.CASES]
 NAMED = {case.__name__: case for case in CASES}
 
 
