@@ -30,9 +30,12 @@ type Shown = (&'static str, bool, u64, At, At);
 /// Whether a listed path is this one, and all that is known of it is this.
 fn is_shown(listed: &(RelPath, Known), shown: &Shown) -> bool {
     let (path, exists, size, creation, last_change) = *shown;
+    let meta = file(size);
     let known = Known {
         exists,
-        meta: file(size),
+        kind: meta.kind,
+        size: meta.size,
+        mtime_ms: meta.mtime_ms,
         last: last_change.0,
         created: creation.0,
         moment: last_change.1,

@@ -7,7 +7,7 @@ use Rattle.wm_clock.specs.declared.clock_id.ClockId.{ClockId}
 use Rattle.wm_view.specs.declared.known.Known.{Known}
 use Rattle.wm_view.specs.Files.{Paths, is_in}
 use Rattle.wm_view.specs.Histories.{History, tick_of, last_change, change_moment, creation, creation_moment, has_changed, exists_now, last_meta, ever, ready_moment}
-use Rattle.wm_view.specs.Summaries.{Knowns, Summary, changed_from_moment, changed_since, existing_now}
+use Rattle.wm_view.specs.Summaries.{Knowns, known_meta, Summary, changed_from_moment, changed_since, existing_now}
 use Rattle.wm_since.specs.declared.listed.Listed.{Listed}
 use Rattle.wm_since.specs.declared.query.Query.{Query}
 use Rattle.wm_since.specs.declared.query.Since.{Since}
@@ -120,7 +120,7 @@ changed_in s (Clock c) = changed_since s c.tick
 changed_in s (Moment m) = changed_from_moment s m
 
 abbrev pub entry_in : Path × Known → Entry
-entry_in e = record { path = e.0; exists = e.1.exists; meta = e.1.meta }
+entry_in e = record { path = e.0; exists = e.1.exists; meta = known_meta e.1 }
 
 abbrev pub listed_in : Option Since → Path × Known → Listed
 listed_in since e = record { entry = entry_in e; is_new = is_new since e.1; last = e.1.last; created = e.1.created }

@@ -34,7 +34,7 @@ fn listed_in(since: Option<Since>, path: RelPath, known: Known) -> Listed
         entry: Entry {
             path,
             exists: known.exists,
-            meta: known.meta,
+            meta: known.meta(),
         },
         is_new: is_new(since, &known),
         last: known.last,

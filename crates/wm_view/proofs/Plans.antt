@@ -11,7 +11,7 @@ use Rattle.wm_names.specs.Entries.{same_state, same_meta}
 use Rattle.wm_names.specs.declared.entry.Meta.{Meta}
 use Rattle.wm_view.specs.declared.known.Known.{Known}
 use Rattle.wm_view.specs.Files.{Files, IsMap, at, is_in, add_paths, same_files}
-use Rattle.wm_view.specs.Summaries.{Summary, Knowns, unknown, state_in, next_known, tagged}
+use Rattle.wm_view.specs.Summaries.{Summary, Knowns, known_meta, unknown, state_in, next_known, tagged}
 use Rattle.wm_view.specs.Steps.{present, keys, known_or, known_next, next_in, grown_in, spent_in, refused_in, done_in}
 use Rattle.wm_view.specs.Histories.{max_pairs, refuse_if, unless_refused, observed}
 use Rattle.wm_disk.specs.declared.refusal.Refusal.TheVariants.{Exhausted, NotReady, TooMany}
@@ -104,7 +104,7 @@ below_present : (p : Path) (ks : Knowns) → T (below_all path_cmp p ks) → T (
 below_present p [] h = tt
 below_present p (e ∷ es) h =
     let rest : T (below_all path_cmp p (present es)) = below_present p es (second (is_lt (path_cmp p e.0)) (below_all path_cmp p es) h) in
-    elim (e.1.exists) as (λ b. T (below_all path_cmp p (map (λ (e : Path × Known). (e.0, e.1.meta)) (cond b (e ∷ filter (λ e. e.1.exists) es) (filter (λ e. e.1.exists) es))))) [
+    elim (e.1.exists) as (λ b. T (below_all path_cmp p (map (λ (e : Path × Known). (e.0, known_meta e.1)) (cond b (e ∷ filter (λ e. e.1.exists) es) (filter (λ e. e.1.exists) es))))) [
       | true ↦ both (is_lt (path_cmp p e.0)) (below_all path_cmp p (present es)) (first (is_lt (path_cmp p e.0)) (below_all path_cmp p es) h) rest
       | false ↦ rest
     ]
@@ -113,7 +113,7 @@ pub present_sorted : (ks : Knowns) → T (is_sorted path_cmp ks) → T (is_sorte
 present_sorted [] s = tt
 present_sorted (e ∷ es) s =
     let rest : T (is_sorted path_cmp (present es)) = present_sorted es (tail e es s) in
-    elim (e.1.exists) as (λ b. T (is_sorted path_cmp (map (λ (e : Path × Known). (e.0, e.1.meta)) (cond b (e ∷ filter (λ e. e.1.exists) es) (filter (λ e. e.1.exists) es))))) [
+    elim (e.1.exists) as (λ b. T (is_sorted path_cmp (map (λ (e : Path × Known). (e.0, known_meta e.1)) (cond b (e ∷ filter (λ e. e.1.exists) es) (filter (λ e. e.1.exists) es))))) [
       | true ↦ both (below_all path_cmp e.0 (present es)) (is_sorted path_cmp (present es)) (below_present e.0 es (first (below_all path_cmp e.0 es) (is_sorted path_cmp es) s)) rest
       | false ↦ rest
     ]
@@ -125,13 +125,13 @@ at_present (e ∷ es) p s =
     elim (same_path p e.0) as (λ b. same_path p e.0 ≡ b → at (present (e ∷ es)) p ≡ state_in (unwrap_or (cond b (Some e.1) (find path_cmp p es)) unknown)) [
       | true ↦ λ same.
           let none : at (present es) p ≡ None = rest ∙ ap (λ o. state_in (unwrap_or o unknown)) (none_after p e es same s) in
-          elim (e.1.exists) as (λ b. at (map (λ (e : Path × Known). (e.0, e.1.meta)) (cond b (e ∷ filter (λ e. e.1.exists) es) (filter (λ e. e.1.exists) es))) p ≡ cond b (Some e.1.meta) None) [
-            | true ↦ ap (λ b. cond b (Some e.1.meta) (at (present es) p)) same
+          elim (e.1.exists) as (λ b. at (map (λ (e : Path × Known). (e.0, known_meta e.1)) (cond b (e ∷ filter (λ e. e.1.exists) es) (filter (λ e. e.1.exists) es))) p ≡ cond b (Some (known_meta e.1)) None) [
+            | true ↦ ap (λ b. cond b (Some (known_meta e.1)) (at (present es) p)) same
             | false ↦ none
           ]
       | false ↦ λ other.
-          elim (e.1.exists) as (λ b. at (map (λ (e : Path × Known). (e.0, e.1.meta)) (cond b (e ∷ filter (λ e. e.1.exists) es) (filter (λ e. e.1.exists) es))) p ≡ state_in (known_or es p)) [
-            | true ↦ ap (λ b. cond b (Some e.1.meta) (at (present es) p)) other ∙ rest
+          elim (e.1.exists) as (λ b. at (map (λ (e : Path × Known). (e.0, known_meta e.1)) (cond b (e ∷ filter (λ e. e.1.exists) es) (filter (λ e. e.1.exists) es))) p ≡ state_in (known_or es p)) [
+            | true ↦ ap (λ b. cond b (Some (known_meta e.1)) (at (present es) p)) other ∙ rest
             | false ↦ rest
           ]
     ] refl
@@ -203,7 +203,9 @@ in_keys p (e ∷ es) =
 abbrev next_new : Known → ℕ → ℕ → Option Meta → Known
 next_new k t m o = record {
   exists = is_some o;
-  meta = unwrap_or o k.meta;
+  kind = (unwrap_or o (known_meta k)).kind;
+  size = (unwrap_or o (known_meta k)).size;
+  mtime_ms = (unwrap_or o (known_meta k)).mtime_ms;
   last = t;
   created = cond (is_some o && not k.exists) t k.created;
   moment = m;

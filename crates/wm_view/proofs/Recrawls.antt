@@ -12,7 +12,7 @@ use Rattle.wm_view.specs.Files.{Files, IsMap, at, only}
 use Rattle.wm_view.specs.KnownPaths.{is_told}
 use Rattle.wm_view.specs.Listings.{Found, IsCovered}
 use Rattle.wm_view.specs.Steps.{known_or, present, recrawled_in, may_say_in}
-use Rattle.wm_view.specs.Summaries.{Knowns, Summary, unknown, next_known}
+use Rattle.wm_view.specs.Summaries.{Knowns, known_meta, Summary, unknown, next_known}
 use Rattle.wm_view.specs.declared.known.Known.{Known}
 use Rattle.wm_view.proofs.Ageing.{if_passes, find_passing}
 use Rattle.wm_view.proofs.Kept.{put_all_sorted}
@@ -42,7 +42,7 @@ with_none (Some x) = refl
 
 -- what doesn't exist stays so
 gone_stays : (k : Known) (t m : ℕ) → k.exists ≡ false → change_of k t m None ≡ None
-gone_stays k t m e = ap (λ b. cond (same_state None (cond b (Some k.meta) None)) None (Some (next_known k t m None))) e
+gone_stays k t m e = ap (λ b. cond (same_state None (cond b (Some (known_meta k)) None)) None (Some (next_known k t m None))) e
 
 module _ (b t m : ℕ) where
   -- by what is known of the path, by what is listed of it, and by whether it is covered

@@ -17,7 +17,9 @@ abbrev pub known_anew : History → ℕ → Path → Option Meta → Known
 known_anew h moment p state =
     record {
       exists = is_some state;
-      meta = unwrap_or state (last_meta h.ticks p);
+      kind = (unwrap_or state (last_meta h.ticks p)).kind;
+      size = (unwrap_or state (last_meta h.ticks p)).size;
+      mtime_ms = (unwrap_or state (last_meta h.ticks p)).mtime_ms;
       last = tick_of h + 1;
       created = cond (is_some state && not (exists_now h p)) (tick_of h + 1) (creation h p);
       moment = moment;

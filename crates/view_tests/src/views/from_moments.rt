@@ -27,7 +27,7 @@ fn is_told(file: &wm_since::Listed, wanted: &Listed, is_new: bool) -> bool {
     let (path, known) = wanted;
     let entry = &file.entry;
     entry.path.as_str() == *path
-        && (entry.exists, entry.meta) == (known.exists, known.meta)
+        && (entry.exists, entry.meta) == (known.exists, known.meta())
         && (file.last, file.created) == (known.last, known.created)
         && file.is_new == is_new
 }

@@ -92,7 +92,7 @@ fn with_metadata(rt: &impl Abort, alloc: Global, meta: Meta) -> View {
 /// Whether one path is listed, with this metadata.
 fn has_one(listed: &[(RelPath, Known)], meta: Meta) -> bool {
     match listed {
-        [entry] => entry.1.meta == meta,
+        [entry] => entry.1.meta() == meta,
         _ => false,
     }
 }

@@ -199,7 +199,9 @@ impl Reference {
         let meta = self.last_meta(path)?;
         Some(Known {
             exists: self.present(path).is_some(),
-            meta,
+            kind: meta.kind,
+            size: meta.size,
+            mtime_ms: meta.mtime_ms,
             last: self.last_change(path),
             created: self.creation(path),
             moment: self.change_moment(path),
