@@ -1,7 +1,7 @@
 -- The refusals: the number, the name and the text of each.
 use Rattle.std.specs.Prelude.{ℕ, ◌+◌, ◌/◌, ◌%◌, List, [], ◌∷◌, ◌++◌, nat_lt, if◌then◌else◌, codes}
 use Rattle.wm_disk.specs.declared.refusal.Refusal.{Refusal}
-use Rattle.wm_disk.specs.declared.refusal.Refusal.TheVariants.{BadLine, BadCommand, BadArguments, BadPath, NotWatched, NotReady, BadClock, BadExpression, BadField, BadTrigger, Full, StoreFailed, DeviceFailed, Damaged, Exhausted, NoMemory, TooMany, NoPlace, NoQuestion, Retired}
+use Rattle.wm_disk.specs.declared.refusal.Refusal.TheVariants.{BadLine, BadCommand, BadArguments, BadPath, NotWatched, NotReady, BadClock, BadExpression, BadField, BadTrigger, Full, StoreFailed, DeviceFailed, Damaged, Exhausted, NoMemory, TooMany, NoPlace, NoQuestion, Retired, OldVersion}
 
 abbrev pub refusal_number : Refusal → ℕ
 refusal_number BadLine = 1
@@ -24,6 +24,7 @@ refusal_number TooMany = 17
 refusal_number NoPlace = 18
 refusal_number NoQuestion = 19
 refusal_number Retired = 20
+refusal_number OldVersion = 21
 
 abbrev pub refusal_name : Refusal → List ℕ
 refusal_name BadLine = codes "BadLine"
@@ -46,6 +47,7 @@ refusal_name TooMany = codes "TooMany"
 refusal_name NoPlace = codes "NoPlace"
 refusal_name NoQuestion = codes "NoQuestion"
 refusal_name Retired = codes "Retired"
+refusal_name OldVersion = codes "OldVersion"
 
 -- a number of one or two digits, in decimal
 abbrev pub two_digits : ℕ → List ℕ

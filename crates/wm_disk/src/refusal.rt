@@ -74,6 +74,8 @@ pub enum Refusal {
     NoQuestion,
     /// The state file has been migrated to another.
     Retired,
+    /// What is to be kept has no place in a state file of this version.
+    OldVersion,
 }
 
 impl Refusal {
@@ -102,6 +104,7 @@ impl Refusal {
             Refusal::NoPlace => 18,
             Refusal::NoQuestion => 19,
             Refusal::Retired => 20,
+            Refusal::OldVersion => 21,
         }
     }
 
@@ -130,6 +133,7 @@ impl Refusal {
             Refusal::NoPlace => "NoPlace",
             Refusal::NoQuestion => "NoQuestion",
             Refusal::Retired => "Retired",
+            Refusal::OldVersion => "OldVersion",
         }
     }
 
@@ -158,6 +162,7 @@ impl Refusal {
             Refusal::NoPlace => "18 NoPlace",
             Refusal::NoQuestion => "19 NoQuestion",
             Refusal::Retired => "20 Retired",
+            Refusal::OldVersion => "21 OldVersion",
         }
     }
 }

@@ -31,6 +31,7 @@ const ROWS: &[(Refusal, u8, &str, &str)] = &[
     (Refusal::NoPlace, 18, "NoPlace", "18 NoPlace"),
     (Refusal::NoQuestion, 19, "NoQuestion", "19 NoQuestion"),
     (Refusal::Retired, 20, "Retired", "20 Retired"),
+    (Refusal::OldVersion, 21, "OldVersion", "21 OldVersion"),
 ];
 
 // Whether the refusal has this number, name and text, and is shown as the text.
