@@ -3,10 +3,10 @@ use Rattle.std.proofs.Common.{◌≡◌, ◌∷◌, ◌++◌, [], ℕ, Bool, tru
 use Rattle.std.specs.List.{list_any}
 use Rattle.wm_client.specs.RefusalLines.{IsRefusalOf, is_refused_by}
 use Rattle.wm_disk.specs.declared.refusal.Refusal.{Refusal}
-use Rattle.wm_disk.specs.declared.refusal.Refusal.TheVariants.{BadLine, BadCommand, BadArguments, BadPath, NotWatched, NotReady, BadClock, BadExpression, BadField, BadTrigger, Full, StoreFailed, DeviceFailed, Damaged, Exhausted, NoMemory, TooMany, NoPlace, NoQuestion, Retired}
+use Rattle.wm_disk.specs.declared.refusal.Refusal.TheVariants.{BadLine, BadCommand, BadArguments, BadPath, NotWatched, NotReady, BadClock, BadExpression, BadField, BadTrigger, Full, StoreFailed, DeviceFailed, Damaged, Exhausted, NoMemory, TooMany, NoPlace, NoQuestion, Retired, OldVersion}
 
 abbrev pub every_refusal : List Refusal
-every_refusal = BadLine ∷ BadCommand ∷ BadArguments ∷ BadPath ∷ NotWatched ∷ NotReady ∷ BadClock ∷ BadExpression ∷ BadField ∷ BadTrigger ∷ Full ∷ StoreFailed ∷ DeviceFailed ∷ Damaged ∷ Exhausted ∷ NoMemory ∷ TooMany ∷ NoPlace ∷ NoQuestion ∷ Retired ∷ []
+every_refusal = BadLine ∷ BadCommand ∷ BadArguments ∷ BadPath ∷ NotWatched ∷ NotReady ∷ BadClock ∷ BadExpression ∷ BadField ∷ BadTrigger ∷ Full ∷ StoreFailed ∷ DeviceFailed ∷ Damaged ∷ Exhausted ∷ NoMemory ∷ TooMany ∷ NoPlace ∷ NoQuestion ∷ Retired ∷ OldVersion ∷ []
 
 left_false : (a b : Bool) → (a || b) ≡ false → a ≡ false
 left_false true b either = either
@@ -41,6 +41,7 @@ none_of line none TooMany = none_at (λ r. is_refused_by r line) (take 16 every_
 none_of line none NoPlace = none_at (λ r. is_refused_by r line) (take 17 every_refusal) NoPlace (drop 18 every_refusal) none
 none_of line none NoQuestion = none_at (λ r. is_refused_by r line) (take 18 every_refusal) NoQuestion (drop 19 every_refusal) none
 none_of line none Retired = none_at (λ r. is_refused_by r line) (take 19 every_refusal) Retired (drop 20 every_refusal) none
+none_of line none OldVersion = none_at (λ r. is_refused_by r line) (take 20 every_refusal) OldVersion (drop 21 every_refusal) none
 
 pub named_of : (line : List ℕ) (found : Option Refusal) → MatchOption found (list_any (λ r. is_refused_by r line) every_refusal ≡ false) (λ r. is_refused_by r line ≡ true) → IsRefusalOf line found
 named_of line None none = none_of line none

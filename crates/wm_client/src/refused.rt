@@ -6,7 +6,7 @@ ghost use Rattle.wm_client.specs.RefusalLines.{IsRefusalOf, is_refused_by, start
 use wm_disk::Refusal;
 
 /// Every refusal.
-const REFUSALS: [Refusal; 20] = [
+const REFUSALS: [Refusal; 21] = [
     Refusal::BadLine,
     Refusal::BadCommand,
     Refusal::BadArguments,
@@ -27,6 +27,7 @@ const REFUSALS: [Refusal; 20] = [
     Refusal::NoPlace,
     Refusal::NoQuestion,
     Refusal::Retired,
+    Refusal::OldVersion,
 ];
 
 /// How the line of a refusal begins.
@@ -54,6 +55,7 @@ fn start_of(refusal: Refusal) -> &'static [u8]
         Refusal::NoPlace => b"{\"error\":\"18 NoPlace",
         Refusal::NoQuestion => b"{\"error\":\"19 NoQuestion",
         Refusal::Retired => b"{\"error\":\"20 Retired",
+        Refusal::OldVersion => b"{\"error\":\"21 OldVersion",
     }
 }
 
