@@ -21,5 +21,5 @@ mod write;
 
 pub use keeper::Keeper;
 pub use laws::every_content;
-pub use layout::{MAX_STATE_BYTES, Slot};
+pub use layout::{Layout, Slot, Version1, Version2};
 pub use machine::Machine;

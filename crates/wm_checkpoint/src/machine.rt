@@ -1,8 +1,7 @@
 //! A machine whose commands are kept in a journal.
 //! Definitions: specs/Machines.antt.
 //! Tests: file_tests/src/checkpoint/register.rt, file_tests/src/checkpoint/switch.rt.
-ghost use Rattle.std.specs.Prelude.{◌≡◌, ◌≢◌, ◌≤◌, Bool, true, false, length, IfOk, OnErr};
-ghost use Rattle.wm_checkpoint.specs.Layout.{max_state_bytes};
+ghost use Rattle.std.specs.Prelude.{◌≡◌, ◌≢◌, ◌≤◌, ℕ, Bool, true, false, length, IfOk, OnErr};
 
 use std::alloc::Global;
 use wm_disk::NoMemory;
@@ -25,6 +24,9 @@ pub trait Machine {
     /// The reply to a command.
     ghost reply: { Self.State → Self.Command → Self.Reply };
 
+    /// The most bytes of an encoded state that is within its limits.
+    ghost longest: { ℕ };
+
     /// Applies a command, and tells the reply and whether the state changed. It fails only where memory ran
     /// out, and then the state is as it was.
     fn apply(
@@ -45,6 +47,6 @@ pub trait Machine {
     /// What changes a state within its limits makes another of it.
     ghost alive: { (s : Self.State) (c : Self.Command) → Self.State.fits s → changes s c ≡ true → after s c ≢ s };
 
-    /// A state's limits bound its spelling: it has at most `MAX_STATE_BYTES`, as a slot's body.
-    ghost small: { (s : Self.State) → Self.State.fits s → length (Self.State.spelling s) ≤ max_state_bytes };
+    /// A state within its limits is encoded in at most `longest` bytes.
+    ghost small: { (s : Self.State) → Self.State.fits s → length (Self.State.spelling s) ≤ longest };
 }
