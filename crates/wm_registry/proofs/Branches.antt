@@ -6,7 +6,7 @@ use Rattle.std.proofs.lemmas.List.Quantifiers.{position-Some}
 use Rattle.std.specs.List.{list_any}
 use Rattle.wm_disk.specs.declared.refusal.Refusal.TheVariants.{Full, TooMany}
 use Rattle.wm_disk.specs.Counters.{max_counter}
-use Rattle.wm_registry.specs.Limits.{max_roots, max_triggers}
+use Rattle.wm_registry.specs.Limits.{max_roots, max_triggers, max_state_bytes}
 use Rattle.wm_registry.specs.Registry.{unless_full, watched, reply_to, reply_to_trigger}
 use Rattle.wm_registry.specs.Roots.{State, root_at, is_watched, with_triggers}
 use Rattle.wm_registry.specs.Spelling.{state_spelling, trigger_spelling}
@@ -16,7 +16,6 @@ use Rattle.wm_registry.specs.declared.reply.Reply.{Reply}
 use Rattle.wm_registry.specs.declared.reply.Reply.TheVariants.{Changed, Replaced, Refused}
 use Rattle.wm_registry.specs.declared.root.Root.{Root}
 use Rattle.wm_registry.proofs.Sizes.{length-defined-new, length-defined-old, length-with_triggers, triggers-le-state, none_passes}
-use Rattle.wm_checkpoint.specs.Layout.{max_state_bytes}
 
 -- what a list says of its items, an equal one says too
 pub same_any : {X : Type 0} (p : X → Bool) (xs ys : List X) (b : Bool) → xs ≡ ys → b ≡ list_any p xs → list_any p ys ≡ b

@@ -1,8 +1,7 @@
 -- A command that is accepted makes a state within its limits of one within them.
 use Rattle.std.proofs.Common.{◌≡◌, ℕ, ◌+◌, ◌-◌, ◌^◌, ◌<◌, ◌≤◌, Bool, true, false, cond, List, [], ◌∷◌, ◌++◌, length, nat_lt, ◌==◌, Option, Some, None, is_some, refl, sym, ap, subst, ◌∙◌, arith, true≢false}
-use Rattle.std.proofs.lemmas.List.{map-append}
+use Rattle.std.proofs.lemmas.List.{map-append, length-append}
 use Rattle.std.proofs.lemmas.Bool.{ltb-true, ltb-false, eqb-true}
-use Rattle.std.proofs.lemmas.List.{length-append}
 use Rattle.std.proofs.lemmas.Map.{none_passes_from_lookup, keys-set_value, length-set_value}
 use Rattle.std.proofs.lemmas.Map.Steps.{set_value_same}
 use Rattle.std.specs.List.{AllByRecursion, IsDistinct, list_any}
@@ -12,7 +11,7 @@ use Rattle.std.specs.Str.{bytes_eq}
 use Rattle.wm_disk.specs.declared.refusal.Refusal.TheVariants.{NotWatched, Full, Exhausted, TooMany}
 use Rattle.wm_disk.specs.Counters.{max_counter}
 use Rattle.wm_wire.specs.Spelling.{text, IsList, list_spelling}
-use Rattle.wm_registry.specs.Limits.{max_roots, max_triggers}
+use Rattle.wm_registry.specs.Limits.{max_roots, max_triggers, max_state_bytes}
 use Rattle.wm_registry.specs.PathSpelling.{IsPath}
 use Rattle.wm_registry.specs.declared.command.Command.TheVariants.{Watch, Trigger}
 use Rattle.wm_registry.specs.declared.reply.Reply.{Reply}
@@ -25,7 +24,6 @@ use Rattle.wm_registry.specs.Triggers.{Definition, has_trigger, same_definition,
 use Rattle.wm_registry.proofs.Entries.{AllByRecursion-each, AllByRecursion-map, AllByRecursion-push, AllByRecursion-remove_entry, AllByRecursion-set_value, Found, IsDistinct-push, IsDistinct-remove_entry, found, length-remove_entry, map-set_value}
 use Rattle.wm_registry.proofs.Lengths.{length-watched, length-with_triggers, length-without_root, length-triggers}
 use Rattle.wm_registry.proofs.Names.{apart-defined, apart-without, bytes_eq-flip, length-defined, length-defined-there, length-without}
-use Rattle.wm_checkpoint.specs.Layout.{max_state_bytes}
 
 -- ---- what an acceptance says
 

@@ -13,12 +13,11 @@ use Rattle.wm_wire.specs.Laws.{alone_u64}
 use Rattle.wm_wire.specs.ListLaws.{alone_list}
 use Rattle.wm_wire.specs.PairLaws.{alone_pair}
 use Rattle.wm_wire.specs.Spelling.{Alone, BeginsWith, NoneBegins, IsList, IsPair, list_spelling, pair_spelling}
-use Rattle.wm_registry.specs.Limits.{max_roots}
+use Rattle.wm_registry.specs.Limits.{max_roots, max_state_bytes}
 use Rattle.wm_registry.specs.Roots.{State}
 use Rattle.wm_registry.specs.Spelling.{AreRoots, IsRoot, IsState, numbers_of, root_spelling, state_spelling}
 use Rattle.wm_registry.specs.StateLaws.{alone_root}
 use Rattle.wm_registry.specs.declared.root.Root.{Root}
-use Rattle.wm_checkpoint.specs.Layout.{max_state_bytes}
 
 -- ---- tests of the roots, and of their paths and numbers
 

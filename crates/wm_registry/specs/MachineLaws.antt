@@ -5,7 +5,8 @@ use Rattle.wm_registry.specs.Registry.{after_command, changes}
 use Rattle.wm_registry.specs.ChangeLaws.{accepted_changes}
 use Rattle.wm_registry.specs.Commands.{IsCommand, command_spelling}
 use Rattle.wm_registry.specs.Spelling.{IsState, state_spelling}
-use Rattle.wm_checkpoint.specs.Layout.{max_state_bytes}
+use Rattle.wm_registry.specs.Limits.{max_state_bytes}
+use Rattle.wm_checkpoint.specs.Layout.{sizes_1}
 use Rattle.wm_checkpoint.specs.Machines.{Meaning}
 use Rattle.wm_registry.specs.declared.command.Command.{Command}
 
@@ -21,6 +22,7 @@ small_registry s h = h.short
 -- the registry as a machine: how states and commands are spelled, and what a command does
 abbrev pub watches : Meaning State Command
 watches = record {
+  sizes = sizes_1;
   state = record { fits = IsState; spelling = state_spelling };
   command = record { fits = IsCommand; spelling = command_spelling };
   after = after_command;

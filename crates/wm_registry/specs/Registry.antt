@@ -4,7 +4,7 @@ use Rattle.std.specs.List.{list_any}
 use Rattle.std.specs.Option.{option_map_or}
 use Rattle.wm_disk.specs.declared.refusal.Refusal.TheVariants.{NotWatched, Full, Exhausted, TooMany}
 use Rattle.wm_disk.specs.Counters.{max_counter}
-use Rattle.wm_registry.specs.Limits.{max_roots, max_triggers}
+use Rattle.wm_registry.specs.Limits.{max_roots, max_triggers, max_state_bytes}
 use Rattle.wm_registry.specs.declared.command.Command.{Command}
 use Rattle.wm_registry.specs.declared.command.Command.TheVariants.{Begin, Watch, WatchDel, Trigger, TriggerDel}
 use Rattle.wm_registry.specs.declared.reply.Reply.{Reply}
@@ -13,7 +13,6 @@ use Rattle.wm_registry.specs.declared.root.Root.{Root}
 use Rattle.wm_registry.specs.Roots.{State, root_at, is_watched, with_triggers, without_root}
 use Rattle.wm_registry.specs.Spelling.{state_spelling}
 use Rattle.wm_registry.specs.Triggers.{Definition, same_definition, has_trigger, defined, without}
-use Rattle.wm_checkpoint.specs.Layout.{max_state_bytes}
 
 -- that of a new file
 abbrev pub empty_registry : State

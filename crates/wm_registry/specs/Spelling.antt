@@ -6,14 +6,13 @@ use Rattle.std.specs.Str.{bytes_eq}
 use Rattle.byteorder.specs.Endian.{big_bytes}
 use Rattle.wm_disk.specs.Counters.{max_counter}
 use Rattle.wm_wire.specs.Spelling.{text, truth, IsText, IsList, IsOptional, list_spelling, optional_spelling}
-use Rattle.wm_registry.specs.Limits.{max_trigger_name, max_words, max_word, max_expression, max_triggers, max_roots}
+use Rattle.wm_registry.specs.Limits.{max_trigger_name, max_words, max_word, max_expression, max_triggers, max_roots, max_state_bytes}
 use Rattle.wm_registry.specs.PathSpelling.{IsPath}
 use Rattle.wm_registry.specs.Roots.{State}
 use Rattle.wm_registry.specs.Triggers.{Definition, has_program}
 use Rattle.wm_registry.specs.declared.stdin.Stdin.{Stdin}
 use Rattle.wm_registry.specs.declared.stdin.Stdin.TheVariants.{DevNull, NamePerLine}
 use Rattle.wm_registry.specs.declared.root.Root.{Root}
-use Rattle.wm_checkpoint.specs.Layout.{max_state_bytes}
 
 -- ---- triggers
 

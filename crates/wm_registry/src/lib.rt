@@ -29,7 +29,8 @@ pub use command::Command;
 pub use draft::Draft;
 pub use laws::every_registry;
 pub use limits::{
-    MAX_BATCH, MAX_EXPRESSION, MAX_ROOTS, MAX_TRIGGER_NAME, MAX_TRIGGERS, MAX_WORD, MAX_WORDS,
+    MAX_BATCH, MAX_EXPRESSION, MAX_ROOTS, MAX_STATE_BYTES, MAX_TRIGGER_NAME, MAX_TRIGGERS,
+    MAX_WORD, MAX_WORDS,
 };
 pub use registry::Registry;
 pub use reply::Reply;

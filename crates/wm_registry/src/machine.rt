@@ -1,6 +1,7 @@
 //! The registry as the state that a keeper keeps: wm_checkpoint applies and copies it by this.
 //! Definitions: specs/MachineLaws.antt. Tests: registry_tests/src/registries.rt.
 ghost use Rattle.wm_registry.specs.Registry.{after_command, changes as changes_lem, reply_to};
+ghost use Rattle.wm_registry.specs.Limits.{max_state_bytes};
 ghost use Rattle.wm_registry.specs.MachineLaws.{alive_registry, idle_registry, small_registry};
 
 use crate::command::Command;
@@ -22,6 +23,8 @@ impl Machine for Registry {
     ghost changes = { changes_lem };
 
     ghost reply = { reply_to };
+
+    ghost longest = { max_state_bytes };
 
     fn apply(
         alloc: Global,

@@ -7,16 +7,15 @@ ghost use Rattle.wm_registry.specs.Registry.{reply_to as reply_to_lem, reply_to_
 ghost use Rattle.wm_registry.specs.Roots.{is_watched, root_at};
 ghost use Rattle.wm_registry.specs.Spelling.{state_spelling};
 ghost use Rattle.wm_registry.specs.Triggers.{has_trigger};
-ghost use Rattle.wm_checkpoint.specs.Layout.{max_state_bytes};
+ghost use Rattle.wm_registry.specs.Limits.{max_state_bytes};
 
 use crate::command::Command;
-use crate::limits::{MAX_ROOTS, MAX_TRIGGERS};
+use crate::limits::{MAX_ROOTS, MAX_STATE_BYTES, MAX_TRIGGERS};
 use crate::path_spelling::path_size;
 use crate::registry::Registry;
 use crate::reply::Reply;
 use crate::root::{self, Root};
 use crate::trigger::Trigger;
-use wm_checkpoint::MAX_STATE_BYTES;
 use wm_disk::{MAX_COUNTER, Refusal};
 use wm_names::RootPath;
 use wm_wire::Wire;

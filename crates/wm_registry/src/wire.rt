@@ -7,12 +7,11 @@ ghost use Rattle.wm_registry.specs.Spelling.{AreRoots, IsState, state_spelling, 
 ghost use Rattle.wm_registry.specs.StateLaws.{alone_state, short_state};
 
 use crate::entry::Entry;
-use crate::limits::MAX_ROOTS;
+use crate::limits::{MAX_ROOTS, MAX_STATE_BYTES};
 use crate::registry::Registry;
 use crate::root::{Root, put_root};
 use indexmap::IndexMap;
 use std::alloc::Global;
-use wm_checkpoint::MAX_STATE_BYTES;
 use wm_disk::{MAX_COUNTER, NoMemory};
 use wm_names::RootPath;
 use wm_wire::{List, Pair, Wire};

@@ -4,7 +4,7 @@ use Rattle.wm_registry.specs.Spelling.{AreRoots, IsState}
 use Rattle.wm_registry.proofs.States.{PartsFit, parts_spelling, state_of, no_parts, no_state, is_state}
 use Rattle.wm_registry.proofs.wire.RegistryWire.take.Goals as goal
 use Rattle.wm_registry.proofs.wire.RegistryWire.take.Goals.{then-incarnation-gt-MAX_COUNTER-via-then-incarnation-gt-MAX_COUNTER, then-incarnation-gt-MAX_COUNTER-via-else-incarnation-gt-MAX_COUNTER+then-next-eq0, then-incarnation-gt-MAX_COUNTER-via-else-incarnation-gt-MAX_COUNTER+else-next-eq0+then-next-gt-MAX_COUNTER, then-incarnation-gt-MAX_COUNTER-via-else-incarnation-gt-MAX_COUNTER+else-next-eq0+else-next-gt-MAX_COUNTER+then-size-gt-MAX_STATE_BYTES}
-use Rattle.wm_checkpoint.specs.Layout.{max_state_bytes}
+use Rattle.wm_registry.specs.Limits.{max_state_bytes}
 
 pub returns-in_default : goal.returns-in_default
 returns-in_default c =
