@@ -17,6 +17,7 @@ use Rattle.wm_registry.specs.Registry.{after_command}
 use Rattle.wm_registry.specs.Roots.{State}
 use Rattle.wm_registry.specs.MachineLaws.{watches}
 use Rattle.wm_checkpoint.specs.laws.Numbering.{numbered_more}
+use Rattle.wm_checkpoint.specs.Layout.{sizes_1}
 use Rattle.wm_checkpoint.specs.Machines.{replay_on, Accepts}
 use Rattle.wm_checkpoint.specs.Meanings.{MeansState, MeansPrefix}
 use Rattle.wm_checkpoint.specs.Kept.{disk_of, state_of, has_failed, slot_number_of, room_left, Keeps}
@@ -159,7 +160,7 @@ module _ {D : Type 0} (disk : disks.Ghosts D) where
     most = subst (λ k. slot_number_of k ≤ slot_number_of old + n) (sym same) (omega arith);
     honest = λ h. subst (λ k. disk.honest (disk_of k)) same h;
     later = subst (λ k. disk.failures (disk_of old) ≤ disk.failures (disk_of k)) (sym same) (omega arith);
-    numbered = λ h m le all x left. numbered_more m (m + n) x (omega arith) (all x (subst (λ k. disk.may_leave (disk_of k) x) same left));
+    numbered = λ h m le all x left. numbered_more sizes_1 m (m + n) x (omega arith) (all x (subst (λ k. disk.may_leave (disk_of k) x) same left));
   }
 
   pub whole_none : (old new : K disk) → new ≡ old → Keeps watches old → has_failed old ≡ false → IsWhole disk old new
@@ -181,7 +182,7 @@ module _ {D : Type 0} (disk : disks.Ghosts D) where
     most = omega (arith, a.most, b.most);
     honest = λ h. a.honest (b.honest h);
     later = omega (arith, a.later, b.later);
-    numbered = λ h k le all x left. numbered_more ((k + m) + n) (k + (m + n)) x (omega arith) (b.numbered h (k + m) (omega (arith, a.most, le)) (a.numbered (b.honest h) k le all) x left);
+    numbered = λ h k le all x left. numbered_more sizes_1 ((k + m) + n) (k + (m + n)) x (omega arith) (b.numbered h (k + m) (omega (arith, a.most, le)) (a.numbered (b.honest h) k le all) x left);
   }
 
   pub calls_more : (m n : ℕ) (old new : K disk) → m ≤ n → AreCalls disk m old new → AreCalls disk n old new
@@ -190,7 +191,7 @@ module _ {D : Type 0} (disk : disks.Ghosts D) where
     most = omega (arith, a.most, le);
     honest = a.honest;
     later = a.later;
-    numbered = λ h k low all x left. numbered_more (k + m) (k + n) x (omega (arith, le)) (a.numbered h k low all x left);
+    numbered = λ h k low all x left. numbered_more sizes_1 (k + m) (k + n) x (omega (arith, le)) (a.numbered h k low all x left);
   }
 
   -- the same group on a keeper that is equal, or has the same state and room

@@ -15,8 +15,9 @@ use Rattle.wm_registry.specs.declared.reply.Reply.{Reply}
 use Rattle.wm_registry.specs.Roots.{State}
 use Rattle.wm_registry.specs.MachineLaws.{watches}
 use Rattle.wm_checkpoint.specs.Kept.{disk_of, state_of, slot_of, slot_number_of, has_failed, room_left, Keeps}
+use Rattle.wm_checkpoint.specs.declared.layout.Version1.{Version1}
 use Rattle.wm_checkpoint.specs.KeeperCalls.{StandsAsBefore, KeeperRefuses, CrashLeaves, HasCommitted, HasSwitched, SpentAt, LeavesState}
-use Rattle.wm_checkpoint.specs.Layout.{other_slot, empty_room}
+use Rattle.wm_checkpoint.specs.Layout.{other_slot, empty_room, sizes_1}
 use Rattle.wm_checkpoint.specs.Meanings.{MeansState, MeansPrefix}
 use Rattle.wm_checkpoint.specs.Numbers.{IsNumberedTo}
 use Rattle.wm_checkpoint.specs.declared.keeper.Keeper.{Keeper}
@@ -46,7 +47,7 @@ module _ (P : Type 0) where
   format_kinds (Err e) (inl d) = inl d
   format_kinds (Err e) (inr m) = inr m.0
 
-module _ {D : Type 0} {disk : disks.Ghosts D} (old new : Keeper D State State Command Reply disk) where
+module _ {D : Type 0} {disk : disks.Ghosts D} (old new : Keeper D State Version1 State Command Reply disk) where
   -- a refusal but `13`
   pub still_by : (others : Refusal → Type 0) (x : Refusal) → (x ≡ DeviceFailed → ⊥) → (r : Result Unit Refusal) → KeeperRefuses others old new r → IsErrOf r x → new ≡ old
   still_by others x differs (Ok u) k is = absurd cc
@@ -68,7 +69,7 @@ module _ {D : Type 0} {disk : disks.Ghosts D} (old new : Keeper D State State Co
   AtAnyMoment P = has_failed old ≡ false → disk.honest (disk_of new) → LeavesOnly disk.moment disk.left_since (disk_of old) (disk_of new) P
 
   abbrev Numbered : ℕ → Type 0
-  Numbered n = has_failed old ≡ false → disk.honest (disk_of new) → EachLeft disk (disk_of new) (IsNumberedTo n)
+  Numbered n = has_failed old ≡ false → disk.honest (disk_of new) → EachLeft disk (disk_of new) (IsNumberedTo sizes_1 n)
 
   -- ---- a commit
 
@@ -89,7 +90,7 @@ module _ {D : Type 0} {disk : disks.Ghosts D} (old new : Keeper D State State Co
     pub kinds : IfErr r (λ e. (e ≡ DeviceFailed) ⊎ (e ≡ NoMemory) ⊎ (e ≡ StoreFailed))
 
   abbrev Crash : (List ℕ → Type 0) → ℕ → Type 0
-  Crash P n = has_failed old ≡ false → disk.honest (disk_of new) → CrashLeaves old new P n
+  Crash P n = has_failed old ≡ false → disk.honest (disk_of new) → CrashLeaves sizes_1 old new P n
 
   commit_kinds : (e : Refusal) → (e ≡ DeviceFailed) ⊎ ((e ≡ StoreFailed) ⊎ (e ≡ NoMemory)) → (e ≡ DeviceFailed) ⊎ ((e ≡ NoMemory) ⊎ (e ≡ StoreFailed))
   commit_kinds e (inl h) = inl h

@@ -17,8 +17,10 @@ use Rattle.wm_registry.specs.Registry.{after_command, reply_to}
 use Rattle.wm_registry.specs.Roots.{State}
 use Rattle.wm_registry.specs.MachineLaws.{watches}
 use Rattle.wm_checkpoint.specs.Meanings.{Means, MeansState, MeansPrefix}
+use Rattle.wm_checkpoint.specs.declared.layout.Version1.{Version1}
 use Rattle.wm_checkpoint.specs.Kept.{disk_of, state_of, slot_number_of, room_left, IsKept, Keeps}
 use Rattle.wm_checkpoint.specs.Numbers.{IsNumberedTo}
+use Rattle.wm_checkpoint.specs.Layout.{sizes_1}
 use Rattle.wm_checkpoint.specs.laws.Numbering.{number_within}
 use Rattle.wm_checkpoint.specs.declared.keeper.Keeper.{Keeper}
 use Rattle.wm_store.specs.Beginnings.{IsUnbegun}
@@ -28,10 +30,10 @@ use Rattle.wm_store.specs.Stored.{Stored}
 use Rattle.wm_store.proofs.Runs.{Leaves}
 
 -- the journal's bytes: those that its commands take, and those that are left
-pub journal_is : {D : Type 0} (disk : disks.Ghosts D) (keeper : Keeper D State State Command Reply disk) → Keeps watches keeper → (k : IsKept watches keeper) → room_left keeper + taken command_spelling k.commands ≡ journal_room
+pub journal_is : {D : Type 0} (disk : disks.Ghosts D) (keeper : Keeper D State Version1 State Command Reply disk) → Keeps watches keeper → (k : IsKept watches keeper) → room_left keeper + taken command_spelling k.commands ≡ journal_room
 journal_is disk keeper kp k = omega (arith, kp.place.len_is, k.at_rest.read.end, keeper.region.within)
 
-module _ {D : Type 0} (disk : disks.Ghosts D) (old : D) (keeper : Keeper D State State Command Reply disk) (k : IsKept watches keeper) (seen : disk.seen (disk_of keeper) ≡ disk.seen old) where
+module _ {D : Type 0} (disk : disks.Ghosts D) (old : D) (keeper : Keeper D State Version1 State Command Reply disk) (k : IsKept watches keeper) (seen : disk.seen (disk_of keeper) ≡ disk.seen old) where
   -- what the disk means, with the number of its slot
   pub means_seen : MeansState watches (state_of keeper) (disk.seen old)
   means_seen = record {
@@ -74,7 +76,7 @@ module _ {D : Type 0} (disk : disks.Ghosts D) (old : D) (keeper : Keeper D State
     moves = λ over. moves (omega (arith, all, over));
   }
 
-  pub number_of_found : (n : ℕ) → IsNumberedTo n (disk.seen old) → slot_number_of keeper ≤ n
+  pub number_of_found : (n : ℕ) → IsNumberedTo sizes_1 n (disk.seen old) → slot_number_of keeper ≤ n
   unfolding means_seen
   number_of_found n all = number_within (disk.seen old) means_seen n all
 
@@ -121,7 +123,7 @@ if_err_both (Err e) f p q = f e p q
 
 -- ---- why an opening that found a registry is refused, and what it leaves
 
-module _ {D : Type 0} (disk : disks.Ghosts D) (old : D) (keeper : Keeper D State State Command Reply disk) (k : IsKept watches keeper) (seen : disk.seen (disk_of keeper) ≡ disk.seen old) (new : D) (e : Refusal)
+module _ {D : Type 0} (disk : disks.Ghosts D) (old : D) (keeper : Keeper D State Version1 State Command Reply disk) (k : IsKept watches keeper) (seen : disk.seen (disk_of keeper) ≡ disk.seen old) (new : D) (e : Refusal)
     (kind : (e ≡ DeviceFailed) ⊎ (e ≡ NoMemory) ⊎ (e ≡ Exhausted)) (b : IsUnbegun disk keeper e new) where
   pub why_refused : IsRefusedFor disk old new e
   why_refused = record {

@@ -1,14 +1,13 @@
 -- What holds of every reply of the registry, by cases on the command.
-use Rattle.std.proofs.Common.{◌≡◌, ◌≢◌, inl, inr, ⊎_elim, ◌⊎◌, Bool, true, false, cond, nat_lt, refl, sym, ◌∙◌, ap}
+use Rattle.std.proofs.Common.{◌≡◌, ◌≢◌, inl, inr, ⊎_elim, ◌⊎◌, Bool, true, false, cond, nat_lt, refl, sym, ◌∙◌, ap, ℕ, List, length, Option, Some, None}
 use Rattle.wm_disk.specs.declared.refusal.Refusal.{Refusal}
 use Rattle.wm_disk.specs.declared.refusal.Refusal.TheVariants.{BadArguments, NoMemory, Exhausted, Full, NotWatched, TooMany}
 use Rattle.wm_disk.specs.Counters.{max_counter}
-use Rattle.wm_registry.specs.Limits.{max_roots, max_triggers}
+use Rattle.wm_registry.specs.Limits.{max_roots, max_triggers, max_state_bytes}
 use Rattle.wm_registry.specs.declared.command.Command.{Command}
 use Rattle.wm_registry.specs.declared.command.Command.TheVariants.{Begin, Watch, WatchDel, Trigger, TriggerDel}
 use Rattle.wm_registry.specs.declared.reply.Reply.{Reply}
 use Rattle.wm_registry.specs.declared.reply.Reply.TheVariants.{Changed, Replaced, Unchanged, Refused}
-use Rattle.std.proofs.Common.{ℕ, List, length, Option, Some, None}
 use Rattle.std.specs.List.{list_any}
 use Rattle.std.specs.Option.{option_map_or}
 use Rattle.wm_registry.specs.declared.root.Root.{Root}
@@ -17,7 +16,6 @@ use Rattle.wm_registry.specs.Roots.{State, is_watched, root_at, with_triggers}
 use Rattle.wm_registry.specs.Spelling.{state_spelling}
 use Rattle.wm_registry.specs.Triggers.{Definition, defined, has_trigger, same_definition}
 use Rattle.wm_store.specs.Batches.{is_begin}
-use Rattle.wm_checkpoint.specs.Layout.{max_state_bytes}
 
 -- either of two replies
 either : (b : Bool) (x y : Reply) → (cond b x y ≡ x) ⊎ (cond b x y ≡ y)

@@ -11,6 +11,7 @@ use Rattle.wm_registry.specs.declared.reply.Reply.{Reply}
 use Rattle.wm_registry.specs.Roots.{State}
 use Rattle.wm_registry.specs.MachineLaws.{watches}
 use Rattle.wm_checkpoint.specs.Meanings.{MeansState, MeansPrefix}
+use Rattle.wm_checkpoint.specs.declared.layout.Version1.{Version1}
 use Rattle.wm_checkpoint.specs.Kept.{disk_of, state_of, has_failed, Keeps}
 use Rattle.wm_checkpoint.specs.declared.keeper.Keeper.{Keeper}
 use Rattle.wm_checkpoint.specs.laws.Uncalled.{untouched, prefix_none}
@@ -21,7 +22,7 @@ module _ {D : Type 0} (disk : disks.Ghosts D) where
   Leaves old new P = LeavesOnly disk.moment disk.left_since old new P
 
   -- no call of the disk
-  pub stood : OnlyNow disk → (keeper : Keeper D State State Command Reply disk) → Keeps watches keeper → has_failed keeper ≡ false → disk.honest (disk_of keeper) → Leaves (disk_of keeper) (disk_of keeper) (MeansState watches (state_of keeper))
+  pub stood : OnlyNow disk → (keeper : Keeper D State Version1 State Command Reply disk) → Keeps watches keeper → has_failed keeper ≡ false → disk.honest (disk_of keeper) → Leaves (disk_of keeper) (disk_of keeper) (MeansState watches (state_of keeper))
   stood only_now keeper kp alive h = untouched disk watches keeper (kp.kept alive h) (λ c left. only_now (disk_of keeper) c h left)
 
   -- of no command yet

@@ -11,6 +11,7 @@ use Rattle.wm_registry.specs.declared.reply.Reply.{Reply}
 use Rattle.wm_registry.specs.Roots.{State}
 use Rattle.wm_registry.specs.MachineLaws.{watches}
 use Rattle.wm_checkpoint.specs.Meanings.{Means, MeansState, MeansPrefix}
+use Rattle.wm_checkpoint.specs.declared.layout.Version1.{Version1}
 use Rattle.wm_checkpoint.specs.Kept.{disk_of, state_of, has_failed, slot_number_of, room_left, IsKept, Keeps}
 use Rattle.wm_checkpoint.specs.declared.keeper.Keeper.{Keeper}
 use Rattle.wm_checkpoint.specs.laws.Uncalled.{kept_means, prefix_none}
@@ -25,7 +26,7 @@ either_bool false = inr refl
 
 module _ {D : Type 0} (disk : disks.Ghosts D) where
   abbrev K : Type 0
-  K = Keeper D State State Command Reply disk
+  K = Keeper D State Version1 State Command Reply disk
 
   -- a store, by its fields
   abbrev pub stored : K → Option State → Bool → Stored D

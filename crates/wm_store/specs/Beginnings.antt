@@ -11,6 +11,7 @@ use Rattle.wm_registry.specs.Registry.{after_command, reply_to}
 use Rattle.wm_registry.specs.MachineLaws.{watches}
 use Rattle.wm_checkpoint.specs.Meanings.{MeansState, MeansPrefix}
 use Rattle.wm_checkpoint.specs.Numbers.{IsNumberedTo}
+use Rattle.wm_checkpoint.specs.Layout.{sizes_1}
 use Rattle.wm_checkpoint.specs.Kept.{disk_of, state_of, has_failed, slot_number_of, room_left, Keeps}
 use Rattle.wm_store.specs.Room.{journal_room, begin_len}
 use Rattle.wm_store.specs.Stored.{Stored}
@@ -66,4 +67,4 @@ module _ {D : Type 0} (disk : disks.Ghosts D) where
     pub unbegun : disk.honest new → refusal ≢ DeviceFailed → EachLeft disk new (λ c. MeansState watches (state_of keeper) c)
     pub still : refusal ≢ DeviceFailed → LeavesAtAnyMoment disk (disk_of keeper) new (λ c. MeansState watches (state_of keeper) c)
     pub exhausted : refusal ≡ Exhausted → IsSpent keeper × (new ≡ disk_of keeper)
-    pub numbered : disk.honest new → (n : ℕ) → slot_number_of keeper ≤ n → EachLeft disk (disk_of keeper) (λ c. IsNumberedTo n c) → EachLeft disk new (λ c. IsNumberedTo (n + 1) c)
+    pub numbered : disk.honest new → (n : ℕ) → slot_number_of keeper ≤ n → EachLeft disk (disk_of keeper) (λ c. IsNumberedTo sizes_1 n c) → EachLeft disk new (λ c. IsNumberedTo sizes_1 (n + 1) c)

@@ -6,6 +6,7 @@ use Rattle.wm_disk.specs.declared.refusal.Refusal.{Refusal}
 use Rattle.wm_disk.specs.declared.refusal.Refusal.TheVariants.{DeviceFailed, NoMemory, StoreFailed}
 use Rattle.wm_checkpoint.specs.Meanings.{MeansState}
 use Rattle.wm_checkpoint.specs.Numbers.{IsNumberedTo}
+use Rattle.wm_checkpoint.specs.Layout.{sizes_1}
 use Rattle.wm_registry.specs.MachineLaws.{watches}
 use Rattle.wm_store.specs.Stored.{Stored}
 
@@ -40,4 +41,4 @@ module _ {D : Type 0} (disk : disks.Ghosts D) where
     -- every content that a crash may leave means its registry
     pub means : disk.honest store.disk → EachLeft disk store.disk (λ c. MeansState watches store.registry c)
     -- and no slot that stands open there has a greater number
-    pub numbered : disk.honest store.disk → EachLeft disk store.disk (λ c. IsNumberedTo store.number c)
+    pub numbered : disk.honest store.disk → EachLeft disk store.disk (λ c. IsNumberedTo sizes_1 store.number c)

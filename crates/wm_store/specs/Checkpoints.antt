@@ -4,6 +4,7 @@ use Rattle.wm_disk.specs.Calls.{EachLeft, LeavesAtAnyMoment}
 use Rattle.wm_disk.specs.declared.disk.Disk as disks
 use Rattle.wm_checkpoint.specs.Meanings.{Means, MeansState}
 use Rattle.wm_checkpoint.specs.Numbers.{IsNumberedTo}
+use Rattle.wm_checkpoint.specs.Layout.{sizes_1}
 use Rattle.wm_checkpoint.specs.declared.layout.Slot.{Slot}
 use Rattle.wm_registry.specs.MachineLaws.{watches}
 use Rattle.wm_store.specs.Room.{journal_room}
@@ -25,4 +26,4 @@ module _ {D : Type 0} (disk : disks.Ghosts D) where
     -- the number that it raises is that of what every content means that a crash before it may leave
     pub counted : disk.honest old.disk → EachLeft disk old.disk (λ c. (m : MeansState watches old.registry c) × (m.number ≡ old.number))
     -- no slot that stands open in what a crash may leave then has a greater number than the next
-    pub numbered : disk.honest new.disk → EachLeft disk new.disk (λ c. IsNumberedTo (old.number + 1) c)
+    pub numbered : disk.honest new.disk → EachLeft disk new.disk (λ c. IsNumberedTo sizes_1 (old.number + 1) c)

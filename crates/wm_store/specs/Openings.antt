@@ -15,6 +15,7 @@ use Rattle.wm_registry.specs.Roots.{State}
 use Rattle.wm_registry.specs.MachineLaws.{watches}
 use Rattle.wm_checkpoint.specs.Meanings.{MeansState, MeansPrefix, IsDamaged, IsRetired}
 use Rattle.wm_checkpoint.specs.Numbers.{IsNumberedTo}
+use Rattle.wm_checkpoint.specs.Layout.{sizes_1}
 use Rattle.wm_store.specs.Room.{journal_room, begin_len}
 use Rattle.wm_store.specs.Stored.{Stored}
 
@@ -53,7 +54,7 @@ module _ {D : Type 0} (disk : disks.Ghosts D) (old new : D) where
   -- Why an opening is refused so.
   pub record IsRefusedFor (refusal : Refusal) : Type 0 where
     pub damaged : refusal ≡ Damaged → IsDamaged watches (disk.seen old)
-    pub retired : refusal ≡ Retired → IsRetired (disk.seen old)
+    pub retired : refusal ≡ Retired → IsRetired sizes_1 (disk.seen old)
     -- the incarnation of the registry that was found is spent, or the slot's number is
     pub exhausted : refusal ≡ Exhausted → (found : State) × (m : MeansState watches found (disk.seen old)) × ((reply_to found Begin ≡ Refused Exhausted) ⊎ (max_counter ≤ m.number))
 
@@ -71,4 +72,4 @@ module _ {D : Type 0} (disk : disks.Ghosts D) (old new : D) where
     -- the other refusals leave the disk as it reads
     pub seen : refusal ≢ DeviceFailed → refusal ≢ NoMemory → disk.seen new ≡ disk.seen old
     -- no slot that stands open in what a crash may leave then has a number that rose by more
-    pub numbered : (n : ℕ) → EachLeft disk old (λ c. IsNumberedTo n c) → EachLeft disk new (λ c. IsNumberedTo (n + 1) c)
+    pub numbered : (n : ℕ) → EachLeft disk old (λ c. IsNumberedTo sizes_1 n c) → EachLeft disk new (λ c. IsNumberedTo sizes_1 (n + 1) c)

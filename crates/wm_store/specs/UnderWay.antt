@@ -19,7 +19,9 @@ use Rattle.wm_registry.specs.MachineLaws.{watches}
 use Rattle.wm_checkpoint.specs.Machines.{Accepts, replay_on}
 use Rattle.wm_checkpoint.specs.Meanings.{MeansPrefix}
 use Rattle.wm_checkpoint.specs.Numbers.{IsNumberedTo}
+use Rattle.wm_checkpoint.specs.Layout.{sizes_1}
 use Rattle.wm_checkpoint.specs.Kept.{disk_of, state_of, has_failed, slot_number_of, room_left, Keeps}
+use Rattle.wm_checkpoint.specs.declared.layout.Version1.{Version1}
 use Rattle.wm_checkpoint.specs.declared.keeper.Keeper.{Keeper}
 use Rattle.wm_store.specs.Batches.{IsMet, IsOutOfMemory, IsWithoutRoom, AreAnswered, accepted_of, in_batch, is_begin, after_reply, unless_begin}
 use Rattle.wm_store.specs.Room.{journal_room}
@@ -107,7 +109,7 @@ pub record IsPushed (command : Command) (reply : Reply) (old new : Batch) : Type
 
 module _ {D : Type 0} (disk : disks.Ghosts D) where
   abbrev pub K : Type 0
-  K = Keeper D State State Command Reply disk
+  K = Keeper D State Version1 State Command Reply disk
 
   -- The keeper can commit the batch's group.
   pub record IsReady (keeper : K) (batch : Batch) : Type 0 where
@@ -160,8 +162,8 @@ module _ {D : Type 0} (disk : disks.Ghosts D) where
     pub honest : disk.honest (disk_of new) → disk.honest (disk_of old)
     pub later : disk.failures (disk_of old) ≤ disk.failures (disk_of new)
     -- no number of an open slot rises by more
-    pub numbered : disk.honest (disk_of new) → (n : ℕ) → slot_number_of old ≤ n → ((c : List ℕ) → disk.may_leave (disk_of old) c → IsNumberedTo n c)
-        → (c : List ℕ) → disk.may_leave (disk_of new) c → IsNumberedTo (n + checkpoints) c
+    pub numbered : disk.honest (disk_of new) → (n : ℕ) → slot_number_of old ≤ n → ((c : List ℕ) → disk.may_leave (disk_of old) c → IsNumberedTo sizes_1 n c)
+        → (c : List ℕ) → disk.may_leave (disk_of new) c → IsNumberedTo sizes_1 (n + checkpoints) c
 
   pub record IsWhole (old new : K) : Type 0 where
     pub kept : Keeps watches new

@@ -12,7 +12,7 @@ ghost use Rattle.wm_store.specs.Room.{group_bound};
 ghost use Rattle.wm_store.specs.UnderWay.{AreIdle, IsUnmoved, HasRoom, IsAsked, IsCutAtEnd, IsCutBatch, IsCutBehind, IsCutFor, IsDone, IsFinished, IsGroupDone, IsMetToo, IsNew, IsPushed, IsReady, IsRefused, IsRoomMade, UsesKeeper, refused_for_memory};
 
 use std::alloc::Global;
-use wm_checkpoint::Keeper;
+use wm_checkpoint::{Keeper, Version1};
 use wm_disk::{DeviceFailed, Disk, NoMemory, Refusal};
 use wm_registry::{Command, Draft, Registry, Reply};
 use wm_wire::Wire;
@@ -62,7 +62,7 @@ impl Batch {
     fn take<D: Disk + Drop>(
         &mut self,
         alloc: Global,
-        keeper: &mut Keeper<D, Registry>,
+        keeper: &mut Keeper<D, Registry, Version1>,
         command: Command,
     ) -> Result<(), DeviceFailed>
         requires ready { IsReady D.Disk keeper.old self.old }
@@ -85,7 +85,7 @@ impl Batch {
     fn admit<D: Disk + Drop>(
         &mut self,
         alloc: Global,
-        keeper: &mut Keeper<D, Registry>,
+        keeper: &mut Keeper<D, Registry, Version1>,
         command: &Command,
     ) -> Result<Option<Refusal>, DeviceFailed>
         requires ready { IsReady D.Disk keeper.old self.old }
@@ -133,7 +133,7 @@ impl Batch {
     fn make_room<D: Disk + Drop>(
         &mut self,
         alloc: Global,
-        keeper: &mut Keeper<D, Registry>,
+        keeper: &mut Keeper<D, Registry, Version1>,
     ) -> Result<(), DeviceFailed>
         requires ready { IsReady D.Disk keeper.old self.old }
         requires open_yet { self.old.refused ≡ None }
@@ -158,7 +158,7 @@ impl Batch {
     fn switch<D: Disk + Drop>(
         &mut self,
         alloc: Global,
-        keeper: &mut Keeper<D, Registry>,
+        keeper: &mut Keeper<D, Registry, Version1>,
     ) -> Result<(), DeviceFailed>
         requires ready { IsReady D.Disk keeper.old self.old }
         requires open_yet { self.old.refused ≡ None }
@@ -184,7 +184,7 @@ impl Batch {
     fn commit_so_far<D: Disk + Drop>(
         &mut self,
         alloc: Global,
-        keeper: &mut Keeper<D, Registry>,
+        keeper: &mut Keeper<D, Registry, Version1>,
     ) -> Result<(), DeviceFailed>
         requires ready { IsReady D.Disk keeper.old self.old }
         requires open_yet { self.old.refused ≡ None }
@@ -241,7 +241,7 @@ impl Batch {
     fn finish<D: Disk + Drop>(
         self,
         alloc: Global,
-        keeper: &mut Keeper<D, Registry>,
+        keeper: &mut Keeper<D, Registry, Version1>,
     ) -> Result<Vec<Reply>, Option<Registry>>
         requires ready { IsReady D.Disk keeper.old self }
         requires first { self.first ≤ vec_len self.replies }
@@ -302,7 +302,7 @@ fn refuse_from(replies: &mut Vec<Reply>, first: usize)
 /// before the batch, where one of its groups had been committed when the device failed.
 pub(crate) fn run<D: Disk + Drop>(
     alloc: Global,
-    keeper: &mut Keeper<D, Registry>,
+    keeper: &mut Keeper<D, Registry, Version1>,
     batch: Batch,
     commands: Vec<Command>,
 ) -> Result<Vec<Reply>, Option<Registry>>

@@ -9,7 +9,7 @@ ghost use Rattle.wm_store.specs.Beginnings.{CallsKeeper, HasBegun, HasRoomForBeg
 ghost use Rattle.wm_store.specs.Room.{begin_len};
 
 use std::alloc::Global;
-use wm_checkpoint::Keeper;
+use wm_checkpoint::{Keeper, Version1};
 use wm_disk::{Disk, Refusal};
 use wm_registry::{Command, Registry, Reply};
 
@@ -20,7 +20,7 @@ const BEGIN: u64 = 2;
 /// room for the command.
 pub(crate) fn begin_in<D: Disk + Drop>(
     alloc: Global,
-    keeper: &mut Keeper<D, Registry>,
+    keeper: &mut Keeper<D, Registry, Version1>,
 ) -> Result<(), Refusal>
     requires kept { Keeps watches keeper.old }
     requires whole { has_failed keeper.old ≡ false }
@@ -45,7 +45,10 @@ pub(crate) fn begin_in<D: Disk + Drop>(
 }
 
 /// Makes a checkpoint where the journal has no room for a `Begin`.
-fn find_room<D: Disk + Drop>(alloc: Global, keeper: &mut Keeper<D, Registry>) -> Result<(), Refusal>
+fn find_room<D: Disk + Drop>(
+    alloc: Global,
+    keeper: &mut Keeper<D, Registry, Version1>,
+) -> Result<(), Refusal>
     requires kept { Keeps watches keeper.old }
     requires whole { has_failed keeper.old ≡ false }
     ensures calls { CallsKeeper D.Disk 1 keeper.old keeper.new result }

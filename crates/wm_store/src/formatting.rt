@@ -5,13 +5,14 @@ ghost use Rattle.wm_disk.specs.Calls.{Calls};
 ghost use Rattle.wm_disk.specs.Contents.{Only};
 ghost use Rattle.wm_disk.specs.declared.refusal.Refusal.TheVariants.{DeviceFailed as device_failed, NoMemory as no_memory};
 ghost use Rattle.wm_checkpoint.specs.Meanings.{Means, slot_bytes};
+ghost use Rattle.wm_checkpoint.specs.Layout.{sizes_1};
 ghost use Rattle.wm_checkpoint.specs.FirstFile.{IsFirstFile};
 ghost use Rattle.wm_checkpoint.specs.declared.layout.Slot.TheVariants.{A};
 ghost use Rattle.wm_registry.specs.MachineLaws.{watches};
 ghost use Rattle.wm_registry.specs.Registry.{empty_registry};
 
 use std::alloc::Global;
-use wm_checkpoint::Keeper;
+use wm_checkpoint::{Keeper, Version1};
 use wm_disk::{Disk, Refusal};
 use wm_registry::Registry;
 
@@ -20,11 +21,11 @@ use wm_registry::Registry;
 /// mean anything or nothing. `16 NoMemory` when out of memory, with no call of the disk.
 pub fn format<D: Disk + Drop>(alloc: Global, disk: &mut D) -> Result<(), Refusal>
     ensures formatted { D.honest disk.new → OnOk result (Means watches (D.seen disk.new) A 1 empty_registry []) }
-    ensures first { D.honest disk.new → OnOk result (IsFirstFile (slot_bytes watches.state 1 empty_registry) (D.seen disk.new)) }
+    ensures first { D.honest disk.new → OnOk result (IsFirstFile sizes_1 (slot_bytes watches.state 1 empty_registry) (D.seen disk.new)) }
     ensures durable { D.honest disk.new → OnOk result (Only (D.seen disk.new) (D.may_leave disk.new)) }
     ensures memory { IsErrOf result no_memory → disk.new ≡ disk.old }
     ensures calls { Calls D.Disk disk.old disk.new result }
     ensures kinds { IfErr result (λ e. (e ≡ device_failed) ⊎ (e ≡ no_memory)) }
 {
-    Keeper::<D, Registry>::format(alloc, disk, &Registry::new(alloc))
+    Keeper::<D, Registry, Version1>::format(alloc, disk, &Registry::new(alloc))
 }

@@ -7,6 +7,7 @@ ghost use Rattle.wm_disk.specs.Counters.{max_counter};
 ghost use Rattle.wm_disk.specs.declared.refusal.Refusal.TheVariants.{DeviceFailed as device_failed, NoMemory as no_memory, Exhausted as exhausted, Damaged as damaged, Retired as retired, StoreFailed as store_failed};
 ghost use Rattle.wm_checkpoint.specs.Kept.{disk_of, state_of, has_failed, slot_number_of, room_left, Keeps};
 ghost use Rattle.wm_checkpoint.specs.Numbers.{IsNumberedTo};
+ghost use Rattle.wm_checkpoint.specs.Layout.{sizes_1};
 ghost use Rattle.wm_checkpoint.specs.Meanings.{MeansState};
 ghost use Rattle.wm_registry.specs.Limits.{max_batch};
 ghost use Rattle.wm_registry.specs.MachineLaws.{watches};
@@ -22,14 +23,14 @@ use crate::begin::begin_in;
 use crate::idle::idle_replies;
 use std::alloc::Global;
 use std::marker::Model;
-use wm_checkpoint::Keeper;
+use wm_checkpoint::{Keeper, Version1};
 use wm_disk::{Disk, Refusal};
 use wm_registry::{Command, Registry, Reply};
 
 /// A registry, and the disk that means it. Contracts see it as a `Stored`.
 #[derive(Drop)]
 pub struct Store<D: Disk + Drop> {
-    pub(crate) keeper: Keeper<D, Registry>,
+    pub(crate) keeper: Keeper<D, Registry, Version1>,
     // the registry before a batch that failed, where a group of its commands had been committed
     before: Option<Registry>,
     closed: bool,
@@ -115,7 +116,7 @@ impl<D: Disk + Drop> Store<D> {
         ensures cut { IfErr result (λ e. self.old.failed ≡ false → (replies : List Reply) × IsBatch D.Disk self.old self.new commands.items replies × (e ≡ device_failed → accepted_of commands.items replies ≡ [] → ⊥)) }
         ensures unchanged { OnErr result (self.new.registry ≡ self.old.registry) }
         // No slot that stands open in what a crash may leave then has a greater number.
-        ensures numbered { self.old.failed ≡ false → D.honest self.new.disk → EachLeft D.Disk self.new.disk (IsNumberedTo (self.old.number + length commands.items)) }
+        ensures numbered { self.old.failed ≡ false → D.honest self.new.disk → EachLeft D.Disk self.new.disk (IsNumberedTo sizes_1 (self.old.number + length commands.items)) }
         ensures number { (self.old.number ≤ self.new.number) × (self.new.number ≤ self.old.number + length commands.items) }
         ensures calls { CallsStore D.Disk self.old self.new result }
         ensures kinds { IfErr result (λ e. (e ≡ device_failed) ⊎ (e ≡ no_memory) ⊎ (e ≡ store_failed)) }
@@ -191,7 +192,7 @@ impl<D: Disk + Drop> Store<D> {
 /// Begins the next incarnation of a registry that was found.
 fn begin<D: Disk + Drop>(
     alloc: Global,
-    keeper: Keeper<D, Registry>,
+    keeper: Keeper<D, Registry, Version1>,
 ) -> Result<Store<D>, (Refusal, D)>
     requires kept { Keeps watches keeper }
     requires whole { has_failed keeper ≡ false }

@@ -2,6 +2,7 @@ use Rattle.std.proofs.Common.{◌+◌, ◌≡◌, ◌≢◌, ◌⊎◌, ⊎_elim
 use Rattle.std.specs.Prelude.{true, false}
 use Rattle.std.proofs.lemmas.Result.{on_ok_weaker}
 use Rattle.wm_checkpoint.specs.Kept.{disk_of, state_of, has_failed, slot_number_of, room_left}
+use Rattle.wm_checkpoint.specs.Layout.{sizes_1}
 use Rattle.wm_disk.specs.Contents.{Rose}
 use Rattle.wm_journal.specs.Records.{taken}
 use Rattle.wm_registry.specs.Commands.{command_spelling}
@@ -102,7 +103,7 @@ returns g c =
           most = omega (arith, m.slot.1);
           honest = m.honest;
           later = m.later;
-          numbered = λ h n le all x left. numbered_more (slot_number_of mid) (n + 0) x (omega (arith, le)) (m.numbered there h x left);
+          numbered = λ h n le all x left. numbered_more sizes_1 (slot_number_of mid) (n + 0) x (omega (arith, le)) (m.numbered there h x left);
         });
         device = record {
           honest = λ h. f.calls.device.honest (m.honest h);

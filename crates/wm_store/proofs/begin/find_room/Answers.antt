@@ -4,6 +4,7 @@ use Rattle.std.proofs.lemmas.Result.{on_ok_weaker, on_err_weaker}
 use Rattle.wm_disk.specs.declared.refusal.Refusal.{Refusal}
 use Rattle.wm_disk.specs.declared.refusal.Refusal.TheVariants.{DeviceFailed}
 use Rattle.wm_checkpoint.specs.Kept.{disk_of, has_failed, slot_number_of}
+use Rattle.wm_checkpoint.specs.Layout.{sizes_1}
 use Rattle.wm_checkpoint.specs.laws.Numbering.{numbered_more}
 use Rattle.wm_store.proofs.Keepers.{checkpoint_facts}
 use Rattle.wm_store.proofs.Beginning.{stands_still, uncalled}
@@ -47,7 +48,7 @@ returns g c =
           most = between.1;
           honest = k.honest;
           later = k.later;
-          numbered = λ h n le all x left. numbered_more (slot_number_of old + 1) (n + 1) x (omega (arith, le)) (k.numbered c.requires.whole h x left);
+          numbered = λ h n le all x left. numbered_more sizes_1 (slot_number_of old + 1) (n + 1) x (omega (arith, le)) (k.numbered c.requires.whole h x left);
         };
         device = record {
           honest = k.honest;

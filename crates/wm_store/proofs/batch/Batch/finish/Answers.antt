@@ -8,6 +8,7 @@ use Rattle.wm_registry.specs.declared.command.Command.{Command}
 use Rattle.wm_registry.specs.declared.reply.Reply.{Reply}
 use Rattle.wm_registry.specs.MachineLaws.{watches}
 use Rattle.wm_checkpoint.specs.Kept.{disk_of, state_of, room_left, slot_number_of}
+use Rattle.wm_checkpoint.specs.Layout.{sizes_1}
 use Rattle.wm_checkpoint.specs.Machines.{Accepts, replay_on}
 use Rattle.wm_checkpoint.specs.Meanings.{MeansPrefix}
 use Rattle.wm_checkpoint.specs.laws.Numbering.{numbered_more}
@@ -67,7 +68,7 @@ returns-in-Ok g c =
           (λ h. subst (λ (l : List Command). LeavesOnly D.moment D.left_since (disk_of old) (disk_of new) (MeansPrefix watches (state_of old) l)) group (k.any_moment ready.whole h));
       cut = tt;
       keeper = record {
-        calls = record { least = omega (arith, k.slot.1); most = omega (arith, k.slot.1); honest = k.honest; later = k.later; numbered = λ h n le all x left. numbered_more (slot_number_of old) (n + 0) x (omega (arith, le)) (k.numbered c.requires.ready.whole h x left) };
+        calls = record { least = omega (arith, k.slot.1); most = omega (arith, k.slot.1); honest = k.honest; later = k.later; numbered = λ h n le all x left. numbered_more sizes_1 (slot_number_of old) (n + 0) x (omega (arith, le)) (k.numbered c.requires.ready.whole h x left) };
         whole = record { kept = k.kept; up = k.state.1; count = k.whole };
         down = tt;
       };
@@ -112,7 +113,7 @@ returns-in_default g c =
         some = some_group b c.if-is_empty.ensures;
       };
       keeper = record {
-        calls = record { least = omega (arith, k.slot.1); most = omega (arith, k.slot.1); honest = k.honest; later = k.later; numbered = λ h n le all x left. numbered_more (slot_number_of old) (n + 0) x (omega (arith, le)) (k.numbered c.requires.ready.whole h x left) };
+        calls = record { least = omega (arith, k.slot.1); most = omega (arith, k.slot.1); honest = k.honest; later = k.later; numbered = λ h n le all x left. numbered_more sizes_1 (slot_number_of old) (n + 0) x (omega (arith, le)) (k.numbered c.requires.ready.whole h x left) };
         whole = tt;
         down = record { kept = k.kept; down = fell.1; rose = fell.0 };
       };

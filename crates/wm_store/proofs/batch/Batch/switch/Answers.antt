@@ -4,13 +4,14 @@ use Rattle.wm_disk.specs.declared.refusal.Refusal.{Refusal}
 use Rattle.wm_disk.specs.declared.refusal.Refusal.TheVariants.{DeviceFailed}
 use Rattle.wm_disk.specs.Counters.{max_counter}
 use Rattle.wm_checkpoint.specs.Kept.{slot_number_of}
+use Rattle.wm_checkpoint.specs.Layout.{sizes_1}
 use Rattle.wm_checkpoint.specs.laws.Numbering.{numbered_more}
 use Rattle.wm_store.proofs.Keepers.{checkpoint_facts}
 use Rattle.wm_store.proofs.Batching.{past_same, past_switched, spared_none, cut_switching, calls_none, whole_none, ready_on, ready_same, empty_size, is_device}
 use Rattle.wm_store.proofs.batch.Batch.switch.Goals as goal
 
 pub checkpoint-requires : goal.checkpoint-requires
-checkpoint-requires g c = record { kept = c.requires.ready.kept }
+checkpoint-requires g c = record { roomy = omega arith; kept = c.requires.ready.kept }
 
 pub returns-in-Ok : goal.returns-in-Ok
 returns-in-Ok g c =
@@ -31,7 +32,7 @@ returns-in-Ok g c =
       made = inl (c.requires.open_yet, none, k.slot.2);
       cut = tt;
       keeper = record {
-        calls = record { least = omega (arith, k.slot.1); most = omega (arith, k.slot.1); honest = k.honest; later = k.later; numbered = λ h n le all x left. numbered_more (slot_number_of old + 1) (n + 1) x (omega (arith, le)) (k.numbered c.requires.ready.whole h x left) };
+        calls = record { least = omega (arith, k.slot.1); most = omega (arith, k.slot.1); honest = k.honest; later = k.later; numbered = λ h n le all x left. numbered_more sizes_1 (slot_number_of old + 1) (n + 1) x (omega (arith, le)) (k.numbered c.requires.ready.whole h x left) };
         whole = record { kept = k.kept; up = k.slot.3; count = k.whole };
         down = tt;
       };
@@ -82,7 +83,7 @@ returns-in_default g c =
       made = tt;
       cut = λ start done p. cut_switching D start done old new b p c.requires.none k.state k.honest (k.any_moment c.requires.ready.whole);
       keeper = record {
-        calls = record { least = omega (arith, k.stays.1); most = omega (arith, k.stays.1); honest = k.honest; later = k.later; numbered = λ h n le all x left. numbered_more (slot_number_of old + 1) (n + 1) x (omega (arith, le)) (k.numbered c.requires.ready.whole h x left) };
+        calls = record { least = omega (arith, k.stays.1); most = omega (arith, k.stays.1); honest = k.honest; later = k.later; numbered = λ h n le all x left. numbered_more sizes_1 (slot_number_of old + 1) (n + 1) x (omega (arith, le)) (k.numbered c.requires.ready.whole h x left) };
         whole = tt;
         down = record { kept = k.kept; down = fell.1; rose = fell.0 };
       };

@@ -5,8 +5,8 @@ use Rattle.std.proofs.lemmas.Result.{on_ok_weaker, on_err_weaker}
 use Rattle.wm_registry.specs.Roots.{State}
 use Rattle.wm_registry.specs.MachineLaws.{watches}
 use Rattle.wm_checkpoint.specs.Meanings.{Means, MeansState}
+use Rattle.wm_checkpoint.specs.Layout.{sizes_1, other_slot}
 use Rattle.wm_checkpoint.specs.Kept.{disk_of, state_of, slot_of, slot_number_of, has_failed, room_left}
-use Rattle.wm_checkpoint.specs.Layout.{other_slot}
 use Rattle.wm_disk.specs.Moments.{LeavesOnly}
 use Rattle.wm_disk.specs.declared.refusal.Refusal.TheVariants.{StoreFailed}
 use Rattle.wm_store.specs.Checkpoints.{IsCheckpointed}
@@ -24,7 +24,7 @@ by_honest (Ok x) H P Q R f p q = f p q
 by_honest (Err e) H P Q R f p q = tt
 
 pub checkpoint-requires : goal.checkpoint-requires
-checkpoint-requires g c = record { kept = c.self.invariant.0 }
+checkpoint-requires g c = record { roomy = omega arith; kept = c.self.invariant.0 }
 
 pub invariant_of-self : goal.invariant_of-self
 invariant_of-self g c =
@@ -45,7 +45,7 @@ returns-then-self g c =
       throughout = λ alive. record {
         any_moment = λ h. subst (λ (b : Option State). LeavesOnly g.D.Disk.moment g.D.Disk.left_since (disk_of i.keeper) (disk_of i.keeper) (MeansState watches (unwrap_or b (state_of i.keeper)))) (sym (c.self.invariant.1 alive)) (stood g.D.Disk g.met.D.Disk.only_now i.keeper c.self.invariant.0 alive h);
         counted = λ h x left. counted_up g.D.Disk i.keeper c.self.invariant.0 alive i.before (c.self.invariant.1 alive) h x left;
-        numbered = λ h x left. numbered_more (slot_number_of i.keeper) (slot_number_of i.keeper + 1) x (omega arith) (kept_numbered g.D.Disk watches i.keeper (c.self.invariant.0.kept alive h) x left);
+        numbered = λ h x left. numbered_more sizes_1 (slot_number_of i.keeper) (slot_number_of i.keeper + 1) x (omega arith) (kept_numbered g.D.Disk watches i.keeper (c.self.invariant.0.kept alive h) x left);
       };
       exhausted = λ e. absurd cc;
       spent = λ alive shut. let clash : true ≡ false = sym c.if-self.true ∙ shut in absurd cc;

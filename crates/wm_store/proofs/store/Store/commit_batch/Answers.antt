@@ -9,6 +9,7 @@ use Rattle.wm_registry.specs.MachineLaws.{watches}
 use Rattle.wm_registry.specs.Commands.{command_spelling}
 use Rattle.wm_registry.specs.declared.command.Command.{Command}
 use Rattle.wm_checkpoint.specs.Meanings.{MeansPrefix, MeansState}
+use Rattle.wm_checkpoint.specs.Layout.{sizes_1}
 use Rattle.wm_checkpoint.specs.Kept.{disk_of, state_of, has_failed, slot_number_of}
 use Rattle.wm_checkpoint.specs.Machines.{replay_on}
 use Rattle.wm_checkpoint.specs.laws.Uncalled.{kept_numbered}
@@ -76,7 +77,7 @@ returns-then-self g c =
       committed = tt;
       cut = λ alive. (out_of_memory_replies commands, none_met D i.keeper i.before i.closed (c.self.invariant.1 alive) g.met.D.Disk.only_now c.self.invariant.0 alive commands, λ e. absurd cc);
       unchanged = refl;
-      numbered = λ alive h x left. numbered_more (slot_number_of i.keeper) (slot_number_of i.keeper + length commands) x (omega arith) (kept_numbered D watches i.keeper (c.self.invariant.0.kept alive h) x left);
+      numbered = λ alive h x left. numbered_more sizes_1 (slot_number_of i.keeper) (slot_number_of i.keeper + length commands) x (omega arith) (kept_numbered D watches i.keeper (c.self.invariant.0.kept alive h) x left);
       number = (omega arith, omega arith);
       calls = uncalled D (Err StoreFailed) (stored D i.keeper i.before i.closed) (λ e. absurd cc) tt (λ e. why) (λ over. refl);
       kinds = inr (inr refl);
@@ -92,7 +93,7 @@ returns-in_default g c =
       committed = tt;
       cut = λ _. (out_of_memory_replies commands, none_met D i.keeper i.before i.closed (c.self.invariant.1 alive) g.met.D.Disk.only_now c.self.invariant.0 alive commands, λ e. absurd cc);
       unchanged = refl;
-      numbered = λ alive h x left. numbered_more (slot_number_of i.keeper) (slot_number_of i.keeper + length commands) x (omega arith) (kept_numbered D watches i.keeper (c.self.invariant.0.kept alive h) x left);
+      numbered = λ alive h x left. numbered_more sizes_1 (slot_number_of i.keeper) (slot_number_of i.keeper + length commands) x (omega arith) (kept_numbered D watches i.keeper (c.self.invariant.0.kept alive h) x left);
       number = (omega arith, omega arith);
       calls = uncalled D (Err NoMemory) (stored D i.keeper i.before i.closed) (λ e. absurd cc) tt (λ e. absurd cc) (λ over. absurd (not_over D i.keeper i.before i.closed alive c.if-self.false over));
       kinds = inr (inl refl);
@@ -108,7 +109,7 @@ returns-in_default-new g c =
       committed = tt;
       cut = λ _. (out_of_memory_replies commands, none_met D i.keeper i.before i.closed (c.self.invariant.1 alive) g.met.D.Disk.only_now c.self.invariant.0 alive commands, λ e. absurd cc);
       unchanged = refl;
-      numbered = λ alive h x left. numbered_more (slot_number_of i.keeper) (slot_number_of i.keeper + length commands) x (omega arith) (kept_numbered D watches i.keeper (c.self.invariant.0.kept alive h) x left);
+      numbered = λ alive h x left. numbered_more sizes_1 (slot_number_of i.keeper) (slot_number_of i.keeper + length commands) x (omega arith) (kept_numbered D watches i.keeper (c.self.invariant.0.kept alive h) x left);
       number = (omega arith, omega arith);
       calls = uncalled D (Err NoMemory) (stored D i.keeper i.before i.closed) (λ e. absurd cc) tt (λ e. absurd cc) (λ over. absurd (not_over D i.keeper i.before i.closed alive c.if-self.false over));
       kinds = inr (inl refl);
@@ -140,7 +141,7 @@ returns-then-len g c =
       };
       cut = tt;
       unchanged = tt;
-      numbered = λ _ h x left. numbered_more (slot_number_of k) (slot_number_of k + length all) x (omega arith) (kept_numbered D watches k (c.self.invariant.0.kept alive h) x left);
+      numbered = λ _ h x left. numbered_more sizes_1 (slot_number_of k) (slot_number_of k + length all) x (omega arith) (kept_numbered D watches k (c.self.invariant.0.kept alive h) x left);
       number = (omega arith, omega arith);
       calls = uncalled D (Ok c.in-Ok.replies) (stored D k i.before i.closed) (λ e. absurd cc) alive (λ e. absurd cc) (λ over. absurd (not_over D k i.before i.closed alive c.if-self.false over));
       kinds = tt;

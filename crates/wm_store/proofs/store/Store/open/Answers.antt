@@ -4,6 +4,7 @@ use Rattle.wm_disk.specs.Contents.{Rose}
 use Rattle.wm_disk.specs.declared.refusal.Refusal.{Refusal}
 use Rattle.wm_disk.specs.declared.refusal.Refusal.TheVariants.{Exhausted, DeviceFailed, NoMemory}
 use Rattle.wm_checkpoint.specs.Kept.{disk_of}
+use Rattle.wm_checkpoint.specs.Layout.{sizes_1}
 use Rattle.wm_checkpoint.specs.laws.Numbering.{numbered_more}
 use Rattle.wm_disk.specs.laws.Runs.{left_after_run}
 use Rattle.wm_store.specs.Beginnings.{IsBegunFrom, IsUnbegun}
@@ -69,7 +70,7 @@ returns-in-Err g c =
         still = λ is. absurd (not_exhausted c.in-Err.refusal k.kinds is);
         short = λ is. inl (k.any_moment.1 h);
         seen = λ up room. k.seen.1 h;
-        numbered = λ n all x left. numbered_more n (n + 1) x (omega arith) (all x (left_after_run D g.met.D.Disk.counts_now c.args.disk c.in-Err.disk (D.may_leave c.args.disk) h (k.any_moment.1 h) x left));
+        numbered = λ n all x left. numbered_more sizes_1 n (n + 1) x (omega arith) (all x (left_after_run D g.met.D.Disk.counts_now c.args.disk c.in-Err.disk (D.may_leave c.args.disk) h (k.any_moment.1 h) x left));
       };
       calls = record { honest = (tt, k.device.honest.1); failures_grow = (tt, k.device.failures_grow.1); no_failure = tt; failed = k.device.failed; failures_kept = k.device.failures_kept };
       kinds = kinds_found c.in-Err.refusal k.kinds;
