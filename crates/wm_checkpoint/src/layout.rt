@@ -1,7 +1,7 @@
 //! Where the parts of a state file lie, in bytes, in each version of the file.
-//! Definitions: specs/Layout.antt. Tests: file_tests/src/checkpoint/files.rt.
+//! Definitions: specs/Layout.antt. Tests: file_tests/src/checkpoint/files.rt, file_tests/src/checkpoint/version_2.rt.
 ghost use Rattle.std.specs.Prelude.{◌≡◌, ◌+◌, ◌*◌};
-ghost use Rattle.wm_checkpoint.specs.Layout.{Sizes, AreLawful, file_len, max_slot_text, slot_len, slot_place as slot_place_of, journal_place as journal_place_of};
+ghost use Rattle.wm_checkpoint.specs.Layout.{Sizes, AreLawful, file_len, slot_len, slot_place as slot_place_of, journal_place as journal_place_of};
 ghost use Rattle.wm_checkpoint.specs.Formatting.{chunk_len, rest_len};
 
 /// How long the header is.

@@ -6,6 +6,8 @@
 //! gate last. A crash at any moment leaves a content that means the state after a prefix of the commands
 //! in flight, and [`Keeper::open`] finds it.
 //!
+//! A [`Layout`] says where the slots and journals of a version of the file lie, and how long a state may be.
+//!
 //! Tests: file_tests/src/checkpoint.
 #![tactic(auto)]
 
