@@ -7,8 +7,7 @@ use Rattle.wm_disk.specs.Counters.{max_counter}
 use Rattle.wm_disk.specs.Refusals.{refusal_number}
 use Rattle.wm_disk.specs.declared.refusal.Refusal.{Refusal}
 use Rattle.wm_disk.specs.declared.refusal.Refusal.TheVariants.{BadArguments, Exhausted, Full, NotWatched, TooMany}
-use Rattle.wm_checkpoint.specs.Layout.{max_state_bytes}
-use Rattle.wm_registry.specs.Limits.{max_roots, max_triggers}
+use Rattle.wm_registry.specs.Limits.{max_state_bytes, max_roots, max_triggers}
 use Rattle.wm_registry.specs.declared.command.Command.{Command}
 use Rattle.wm_registry.specs.declared.command.Command.TheVariants.{Begin, Watch, WatchDel, Trigger, TriggerDel}
 use Rattle.wm_registry.specs.declared.reply.Reply.{Reply}
