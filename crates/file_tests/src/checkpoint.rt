@@ -1,6 +1,7 @@
 //! Keepers of a register, on disks in memory.
 ghost use Rattle.std.specs.Prelude.{ℕ};
 ghost use Rattle.wm_checkpoint.specs.Kept.{state_of, Keeps};
+ghost use Rattle.wm_checkpoint.specs.Layout.{sizes_1};
 ghost use Rattle.wm_checkpoint.specs.Machines.{meaning};
 
 mod calls;
@@ -9,18 +10,19 @@ mod damage;
 mod files;
 mod register;
 mod switch;
+mod version_2;
 
 use crate::disks::{content_of, overwrite};
 use register::Register;
 use std::alloc::Global;
 use std::marker::Model;
 use std::process::Abort;
-use wm_checkpoint::{Keeper, Machine};
+use wm_checkpoint::{Keeper, Machine, Version1};
 use wm_disk::{MemDisk, Refusal};
 use wm_wire::Wire;
 
 /// A keeper of a register on a disk in memory.
-type RegisterKeeper = Keeper<MemDisk, Register>;
+type RegisterKeeper = Keeper<MemDisk, Register, Version1>;
 
 /// A keeper of a register, in tests always one that keeps to its disk.
 #[derive(Drop)]
@@ -33,7 +35,7 @@ impl Model for Kept {
 
     ghost view = { λ k. state_of k.keeper };
 
-    ghost invariant = { λ k. Keeps (meaning ⟦<Register as Machine>⟧ ⟦<u64 as Wire>⟧ ⟦<u64 as Wire>⟧) k.keeper };
+    ghost invariant = { λ k. Keeps (meaning ⟦<Register as Machine>⟧ ⟦<u64 as Wire>⟧ ⟦<u64 as Wire>⟧ sizes_1) k.keeper };
 }
 
 /// A disk with a formatted file.

@@ -22,6 +22,8 @@ impl Machine for Register {
 
     ghost reply = { changes_register };
 
+    ghost longest = { 8 };
+
     fn apply(_alloc: Global, state: &mut u64, command: &u64) -> Result<(bool, bool), NoMemory> {
         let differs = *state != *command;
         *state = *command;

@@ -7,7 +7,7 @@ use crate::checks::check;
 use crate::disks::{content_of, disk_of, overwrite};
 use std::alloc::Global;
 use std::process::Abort;
-use wm_checkpoint::{Keeper, Machine};
+use wm_checkpoint::{Keeper, Machine, Version1};
 use wm_disk::{MemDisk, NoMemory, Refusal};
 use wm_wire::Wire;
 
@@ -26,6 +26,8 @@ impl Machine for Switch {
     ghost changes = { λ s c. changes_register s (position c) };
 
     ghost reply = { λ s c. changes_register s (position c) };
+
+    ghost longest = { 8 };
 
     fn apply(_alloc: Global, state: &mut u64, command: &bool) -> Result<(bool, bool), NoMemory> {
         let to = if *command { 1 } else { 0 };
@@ -48,7 +50,7 @@ impl Machine for Switch {
 /// A disk with a new file, whose first journal begins with these bytes.
 fn with_journal(rt: &impl Abort, alloc: Global, journal: &[u8]) -> MemDisk {
     let mut disk = MemDisk::new(alloc, 0);
-    Keeper::<MemDisk, Switch>::format(alloc, &mut disk, &0).expect(rt, "a file");
+    Keeper::<MemDisk, Switch, Version1>::format(alloc, &mut disk, &0).expect(rt, "a file");
     let mut content = content_of(rt, alloc, disk);
     overwrite(rt, &mut content, 1_052_672, journal);
     disk_of(rt, alloc, 0, &content)
@@ -57,7 +59,7 @@ fn with_journal(rt: &impl Abort, alloc: Global, journal: &[u8]) -> MemDisk {
 /// The state that is found where the first file's journal begins with these bytes, or why none is.
 fn found(rt: &impl Abort, alloc: Global, journal: &[u8]) -> Result<u64, Refusal> {
     let disk = with_journal(rt, alloc, journal);
-    match Keeper::<MemDisk, Switch>::open(alloc, disk) {
+    match Keeper::<MemDisk, Switch, Version1>::open(alloc, disk) {
         Ok(keeper) => {
             let state = *keeper.state();
             drop(keeper);
