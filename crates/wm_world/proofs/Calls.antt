@@ -21,6 +21,7 @@ use Rattle.wm_view.specs.Histories.{History, after_operation}
 use Rattle.wm_view.specs.Steps.{step}
 use Rattle.wm_view.specs.Summaries.{Summary}
 use Rattle.wm_checkpoint.specs.Numbers.{IsNumberedTo}
+use Rattle.wm_checkpoint.specs.Layout.{sizes_1}
 use Rattle.wm_world.specs.declared.connection.Connection.{Connection}
 use Rattle.wm_world.specs.declared.world.World.{World as Running}
 use Rattle.wm_world.specs.declared.world.Server.{Server}
@@ -59,7 +60,7 @@ all_at {A = A} P xs n x all low is = subst P (sym is) (there xs n all low)
 pub prefix_same : (w v : World) (c : List ℕ) → v.kept ≡ w.kept → v.pending ≡ w.pending → v.slot ≡ w.slot → KeepsPrefix w c → KeepsPrefix v c
 prefix_same w v c kept pending slot k = record {
   means = subst (λ cs. MeansPrefix watches (replay cs) v.pending c) (sym kept) (subst (λ p. MeansPrefix watches (registry w) p c) (sym pending) k.means);
-  numbered = subst (λ n. IsNumberedTo n c) (sym slot) k.numbered;
+  numbered = subst (λ n. IsNumberedTo sizes_1 n c) (sym slot) k.numbered;
 }
 
 -- a state with nothing in flight

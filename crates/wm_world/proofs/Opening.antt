@@ -24,6 +24,7 @@ use Rattle.wm_store.specs.Stored.{Stored}
 use Rattle.wm_view.specs.Histories.{History, new_history}
 use Rattle.wm_view.specs.Summaries.{summary}
 use Rattle.wm_checkpoint.specs.Numbers.{IsNumberedTo}
+use Rattle.wm_checkpoint.specs.Layout.{sizes_1}
 use Rattle.wm_world.specs.declared.world.World.{World as Running}
 use Rattle.wm_world.specs.declared.world.Server.TheVariants.{Up, Down}
 use Rattle.wm_world.specs.Worlds.{World, begun_all, cannot_rise, registry, replay}
@@ -77,7 +78,7 @@ module _ {D : Type 0} (disk : disks.Ghosts D) where
       pub found : List Command
       pub finds : Finds w found
       pub means : MeansState watches (replay found) (disk.seen d)
-      pub numbered : IsNumberedTo w.slot (disk.seen d)
+      pub numbered : IsNumberedTo sizes_1 w.slot (disk.seen d)
 
     known : (w : World) → Refines disk old w → disk.honest d → Known w
     known w s h =
@@ -112,7 +113,7 @@ module _ {D : Type 0} (disk : disks.Ghosts D) where
         → (disk.honest fresh_store.disk → disk.honest d) → disk.failures fresh_store.disk ≡ disk.failures d → fresh_store.failed ≡ false → fresh_store.closed ≡ false
         → (disk.honest fresh_store.disk → IsBegun disk d fresh_store)
         → (disk.honest fresh_store.disk → (c : List ℕ) → disk.may_leave fresh_store.disk c → MeansState watches fresh_store.registry c)
-        → (disk.honest fresh_store.disk → (c : List ℕ) → disk.may_leave fresh_store.disk c → IsNumberedTo fresh_store.number c)
+        → (disk.honest fresh_store.disk → (c : List ℕ) → disk.may_leave fresh_store.disk c → IsNumberedTo sizes_1 fresh_store.number c)
         → Simulates disk opened (Leaves disk) old new
     open_done store server said clients views honest faults whole open_yet begins means numbered = record {
       honest = λ h. subst (λ x. disk.honest (disk_of_server disk x)) (sym is_down) (honest (subst (λ x. disk.honest (disk_of_server disk x)) server h));
@@ -142,7 +143,7 @@ module _ {D : Type 0} (disk : disks.Ghosts D) where
                 on = record {
                   prefix = λ c left. record {
                     means = none_yet (replay kept) [] c (subst (λ r. MeansState watches r c) led (means there c left));
-                    numbered = numbered_more store.number (w.slot + 1) c high (numbered there c left);
+                    numbered = numbered_more sizes_1 store.number (w.slot + 1) c high (numbered there c left);
                   };
                   faults = faults ∙ (down_of w s).on.faults;
                 };
@@ -192,7 +193,7 @@ module _ {D : Type 0} (disk : disks.Ghosts D) where
       -- after it was
       late : (w : World) → Refines disk old w → (h : disk.honest later_disk) → Rose (disk.failures d) (disk.failures later_disk) → disk.failures d ≤ disk.failures later_disk
           → (found : State) (f : FindsRegistry disk d later_disk found) → ((c : List ℕ) → disk.may_leave later_disk c → MeansPrefix watches found (Begin ∷ []) c)
-          → ((c : List ℕ) → disk.may_leave later_disk c → IsNumberedTo (w.slot + 1) c) → Open w
+          → ((c : List ℕ) → disk.may_leave later_disk c → IsNumberedTo sizes_1 (w.slot + 1) c) → Open w
       late w s h rose later found f left_means numbered =
           let down = down_of w s in
           let k = known w s (honest h) in
@@ -209,7 +210,7 @@ module _ {D : Type 0} (disk : disks.Ghosts D) where
       -- a counter is spent
       spent : (w : World) → Refines disk old w → (h : disk.honest later_disk) → disk.failures later_disk ≡ disk.failures d
           → (found : State) (m : MeansState watches found (disk.seen d)) → (reply_to found Begin ≡ Refused refusals.Exhausted) ⊎ (max_counter ≤ m.number)
-          → ((c : List ℕ) → disk.may_leave later_disk c → MeansState watches found c) → ((c : List ℕ) → disk.may_leave later_disk c → IsNumberedTo (w.slot + 1) c)
+          → ((c : List ℕ) → disk.may_leave later_disk c → MeansState watches found c) → ((c : List ℕ) → disk.may_leave later_disk c → IsNumberedTo sizes_1 (w.slot + 1) c)
           → LeavesOnly disk.moment disk.left_since d later_disk (λ c. disk.may_leave d c ⊎ MeansState watches found c) → Open w
       spent w s h stood found m why left_means numbered run =
           let down = down_of w s in
@@ -238,19 +239,19 @@ module _ {D : Type 0} (disk : disks.Ghosts D) where
       pub open_failed : CountsNow disk → (e : Refusal) → e ≢ refusals.NoMemory
           → (e ≡ refusals.DeviceFailed) ⊎ (e ≡ refusals.NoMemory) ⊎ (e ≡ refusals.Exhausted) ⊎ (e ≡ refusals.Damaged) ⊎ (e ≡ refusals.Retired)
           → (disk.honest later_disk → LeavesOnly disk.moment disk.left_since d later_disk (disk.may_leave d) ⊎ ((found : State) × FindsRegistry disk d later_disk found))
-          → (disk.honest later_disk → e ≡ refusals.Damaged → IsDamaged watches (disk.seen d)) → (disk.honest later_disk → e ≡ refusals.Retired → IsRetired (disk.seen d))
+          → (disk.honest later_disk → e ≡ refusals.Damaged → IsDamaged watches (disk.seen d)) → (disk.honest later_disk → e ≡ refusals.Retired → IsRetired sizes_1 (disk.seen d))
           → (disk.honest later_disk → e ≡ refusals.Exhausted → (found : State) × (m : MeansState watches found (disk.seen d)) × ((reply_to found Begin ≡ Refused refusals.Exhausted) ⊎ (max_counter ≤ m.number)))
           → (e ≡ refusals.DeviceFailed → Rose (disk.failures d) (disk.failures later_disk)) → (e ≢ refusals.DeviceFailed → disk.failures later_disk ≡ disk.failures d) → disk.failures d ≤ disk.failures later_disk
           → (disk.honest later_disk → e ≡ refusals.Exhausted → (found : State) × MeansState watches found (disk.seen d) × ((c : List ℕ) → disk.may_leave later_disk c → MeansState watches found c))
           → (disk.honest later_disk → e ≡ refusals.Exhausted → (found : State) × MeansState watches found (disk.seen d) × LeavesOnly disk.moment disk.left_since d later_disk (λ c. disk.may_leave d c ⊎ MeansState watches found c))
-          → (disk.honest later_disk → (n : ℕ) → ((c : List ℕ) → disk.may_leave d c → IsNumberedTo n c) → (c : List ℕ) → disk.may_leave later_disk c → IsNumberedTo (n + 1) c)
+          → (disk.honest later_disk → (n : ℕ) → ((c : List ℕ) → disk.may_leave d c → IsNumberedTo sizes_1 n c) → (c : List ℕ) → disk.may_leave later_disk c → IsNumberedTo sizes_1 (n + 1) c)
           → Simulates disk opened (Leaves disk) old new
       open_failed law e memory kinds cut damaged retired exhausted failed stood later only still numbered = record {
         honest = λ h. subst (λ x. disk.honest (disk_of_server disk x)) (sym is_down) (honest (subst (λ x. disk.honest (disk_of_server disk x)) server h));
         goes = λ h w reached s. by (subst (λ x. disk.honest (disk_of_server disk x)) server h) w s kinds;
       }
         where
-          all_numbered : (h : disk.honest later_disk) (w : World) → Refines disk old w → (c : List ℕ) → disk.may_leave later_disk c → IsNumberedTo (w.slot + 1) c
+          all_numbered : (h : disk.honest later_disk) (w : World) → Refines disk old w → (c : List ℕ) → disk.may_leave later_disk c → IsNumberedTo sizes_1 (w.slot + 1) c
           all_numbered h w s = numbered h w.slot (λ c left. ((down_of w s).on.prefix c left).numbered)
 
           device : (h : disk.honest later_disk) (w : World) → Refines disk old w → e ≡ refusals.DeviceFailed → LeavesOnly disk.moment disk.left_since d later_disk (disk.may_leave d) ⊎ ((found : State) × FindsRegistry disk d later_disk found) → Open w
@@ -281,4 +282,4 @@ module _ {D : Type 0} (disk : disks.Ghosts D) where
           by h w s (inr (inr (inr (inl is)))) = let k = known w s (honest h) in absurd ((damaged h is).0 (replay k.found) k.means)
           by h w s (inr (inr (inr (inr is)))) =
               let k = known w s (honest h) in
-              absurd (k.means.means.header.1 (one_header (area 0 4096 (disk.seen d)) k.means.means.header.0 165 k.means.means.header.2 (retired h is).1))
+              absurd (k.means.means.header.1 (one_header sizes_1 (area 0 4096 (disk.seen d)) k.means.means.header.0 165 k.means.means.header.2 (retired h is).1))

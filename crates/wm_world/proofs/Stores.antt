@@ -23,6 +23,7 @@ use Rattle.wm_store.specs.Stored.{Stored}
 use Rattle.wm_view.specs.Histories.{History, new_history}
 use Rattle.wm_view.specs.Summaries.{Summary, summary}
 use Rattle.wm_checkpoint.specs.Numbers.{IsNumberedTo}
+use Rattle.wm_checkpoint.specs.Layout.{sizes_1}
 use Rattle.wm_world.specs.declared.world.World.{World as Running}
 use Rattle.wm_world.specs.declared.world.Server.TheVariants.{Up, Down}
 use Rattle.wm_world.specs.Worlds.{World, begun_between, registry, replay, without_answer}
@@ -107,7 +108,7 @@ module _ {D : Type 0} (disk : disks.Ghosts D) where
         → (disk.honest after.disk → disk.honest before.disk) → disk.failures after.disk ≡ disk.failures before.disk
         → after.failed ≡ false → after.closed ≡ false → after.number ≤ before.number + length commands
         → (disk.honest after.disk → (c : List ℕ) → disk.may_leave after.disk c → MeansState watches after.registry c)
-        → (before.failed ≡ false → disk.honest after.disk → (c : List ℕ) → disk.may_leave after.disk c → IsNumberedTo (before.number + length commands) c)
+        → (before.failed ≡ false → disk.honest after.disk → (c : List ℕ) → disk.may_leave after.disk c → IsNumberedTo sizes_1 (before.number + length commands) c)
         → (disk.honest after.disk → LeavesOnly disk.moment disk.left_since before.disk after.disk (MeansPrefix watches before.registry (accepted_of commands replies)))
         → Simulates disk (batch commands) (Leaves disk) old new
     batch_done server said clients views answered long led honest faults whole open_yet number means numbered leaves = record {
@@ -139,7 +140,7 @@ module _ {D : Type 0} (disk : disks.Ghosts D) where
                 on = record {
                   prefix = λ c left. record {
                     means = none_yet (replay (w.kept ++ more)) w.pending c (subst (λ r. MeansState watches r c) led_to (means there c left));
-                    numbered = numbered_more (before.number + length commands) v.slot c (omega (arith, up.number)) (numbered up.whole there c left);
+                    numbered = numbered_more sizes_1 (before.number + length commands) v.slot c (omega (arith, up.number)) (numbered up.whole there c left);
                   };
                   faults = faults ∙ up.on.faults;
                 };
@@ -163,7 +164,7 @@ module _ {D : Type 0} (disk : disks.Ghosts D) where
 
     cut_stands : (w : World) (by : ℕ) (pending : List Command) → Refines disk old w
         → ((c : List ℕ) → disk.may_leave after.disk c → MeansPrefix watches before.registry pending c)
-        → ((c : List ℕ) → disk.may_leave after.disk c → IsNumberedTo (before.number + by) c) → Refines disk new (cut_to w by pending)
+        → ((c : List ℕ) → disk.may_leave after.disk c → IsNumberedTo sizes_1 (before.number + by) c) → Refines disk new (cut_to w by pending)
     cut_stands w by pending s means numbered =
         let up = up_of old before w is_up s in
         record {
@@ -173,7 +174,7 @@ module _ {D : Type 0} (disk : disks.Ghosts D) where
             on = record {
               prefix = λ c left. record {
                 means = subst (λ r. MeansPrefix watches r pending c) up.registry_is (means c left);
-                numbered = numbered_more (before.number + by) (w.slot + by) c (omega (arith, up.number)) (numbered c left);
+                numbered = numbered_more sizes_1 (before.number + by) (w.slot + by) c (omega (arith, up.number)) (numbered c left);
               };
               faults = refl;
             };
@@ -215,7 +216,7 @@ module _ {D : Type 0} (disk : disks.Ghosts D) where
         × (e ≡ refusals.DeviceFailed → accepted_of commands replies ≡ [] → ⊥)))
         → (e ≡ refusals.DeviceFailed → Rose (disk.failures before.disk) (disk.failures after.disk)) → disk.failures before.disk ≤ disk.failures after.disk
         → after.number ≤ before.number + length commands
-        → (before.failed ≡ false → disk.honest after.disk → (c : List ℕ) → disk.may_leave after.disk c → IsNumberedTo (before.number + length commands) c)
+        → (before.failed ≡ false → disk.honest after.disk → (c : List ℕ) → disk.may_leave after.disk c → IsNumberedTo sizes_1 (before.number + length commands) c)
         → Simulates disk (batch commands) (Leaves disk) old new
     batch_cut law commands e short kinds memory closed flight rose later number numbered = record {
       honest = is_honest;
@@ -243,7 +244,7 @@ module _ {D : Type 0} (disk : disks.Ghosts D) where
         → (e ≡ refusals.StoreFailed → (before.failed ≡ true) ⊎ (before.closed ≡ true))
         → (before.failed ≡ false → disk.honest after.disk → LeavesOnly disk.moment disk.left_since before.disk after.disk (MeansState watches before.registry))
         → (e ≡ refusals.DeviceFailed → Rose (disk.failures before.disk) (disk.failures after.disk)) → disk.failures before.disk ≤ disk.failures after.disk
-        → (before.failed ≡ false → disk.honest after.disk → (c : List ℕ) → disk.may_leave after.disk c → IsNumberedTo (before.number + 1) c)
+        → (before.failed ≡ false → disk.honest after.disk → (c : List ℕ) → disk.may_leave after.disk c → IsNumberedTo sizes_1 (before.number + 1) c)
         → Simulates disk checkpointed (Switches disk) old new
     checkpoint_cut law e kinds memory counter closed leaves rose later numbered = record {
       honest = is_honest;
@@ -306,7 +307,7 @@ module _ {D : Type 0} (disk : disks.Ghosts D) where
                 on = record {
                   prefix = λ c left. record {
                     means = none_yet (registry w) w.pending c (subst (λ r. MeansState watches r c) led (record { slot = m.0; number = after.number; base = after.registry; commands = []; means = m.1 c left; is = refl }));
-                    numbered = numbered_more after.number (w.slot + 1) c high (means_numbered watches c m.0 after.number after.registry [] (m.1 c left));
+                    numbered = numbered_more sizes_1 after.number (w.slot + 1) c high (means_numbered watches c m.0 after.number after.registry [] (m.1 c left));
                   };
                   faults = faults ∙ up.on.faults;
                 };

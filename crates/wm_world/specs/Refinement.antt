@@ -5,6 +5,7 @@ use Rattle.std.specs.Option.{option_map_or}
 use Rattle.wm_disk.specs.declared.disk.Disk as disks
 use Rattle.wm_checkpoint.specs.Meanings.{MeansPrefix}
 use Rattle.wm_checkpoint.specs.Numbers.{IsNumberedTo}
+use Rattle.wm_checkpoint.specs.Layout.{sizes_1}
 use Rattle.wm_names.specs.Paths.{Path}
 use Rattle.wm_disk.specs.declared.refusal.Refusal.TheVariants.{NoMemory}
 use Rattle.wm_registry.specs.declared.reply.Reply.{Reply}
@@ -50,7 +51,7 @@ is_out_of_memory _ = false
 -- The content means the replay of what is kept and a prefix of what is in flight.
 pub record KeepsPrefix (w : World) (content : List ℕ) : Type 0 where
   pub means : MeansPrefix watches (registry w) w.pending content
-  pub numbered : IsNumberedTo w.slot content
+  pub numbered : IsNumberedTo sizes_1 w.slot content
 
 -- ---- a world that runs
 

@@ -13,7 +13,7 @@ use crate::connection::Connection;
 use crate::event::Event;
 use crate::{connection, starting, views};
 use std::alloc::Global;
-use wm_checkpoint::every_content;
+use wm_checkpoint::{Version1, every_content};
 use wm_disk::{Crashed, NoMemory};
 use wm_expr::Expr;
 use wm_names::RootPath;
@@ -312,7 +312,7 @@ impl<D: Crashed + Drop> World<D> {
             }),
             Server::Down(disk) => disk,
         };
-        every_content::<Registry>();
+        every_content::<Registry, Version1>();
         every_registry();
         match Store::open(alloc, disk) {
             Ok(store) => {

@@ -7,6 +7,7 @@ use Rattle.wm_disk.specs.declared.refusal.Refusal.{Refusal}
 use Rattle.wm_disk.specs.declared.refusal.Refusal.TheVariants as refusals
 use Rattle.wm_disk.specs.Counters.{max_counter}
 use Rattle.wm_checkpoint.specs.Machines.{replay_on}
+use Rattle.wm_checkpoint.specs.Layout.{sizes_1}
 use Rattle.wm_checkpoint.specs.Meanings.{MeansState, MeansPrefix, IsDamaged, IsRetired}
 use Rattle.wm_server.specs.declared.local.root_views.RootView.{RootView}
 use Rattle.wm_registry.specs.declared.command.Command.{Command}
@@ -77,7 +78,7 @@ module _ {D : Type 0} where
   -- why a start was refused; that nothing was written where the file means no registry; and that it has no `Begin` where that is refused
   abbrev pub StartRefused : Ghosts D → Refusal → D → D → Type 0
   StartRefused disk refusals.Damaged old new = disk.honest new → (IsDamaged watches (disk.seen old) × WritesNothing disk old new) ⊎ KeepsNoExpression disk old new
-  StartRefused disk refusals.Retired old new = disk.honest new → IsRetired (disk.seen old) × WritesNothing disk old new
+  StartRefused disk refusals.Retired old new = disk.honest new → IsRetired sizes_1 (disk.seen old) × WritesNothing disk old new
   StartRefused disk refusals.Exhausted old new = disk.honest new → ((found : registry.State) × (m : MeansState watches found (disk.seen old)) × ((reply_to found Begin ≡ Refused refusals.Exhausted) ⊎ (max_counter ≤ m.number)))
       × ((found : registry.State) × MeansState watches found (disk.seen old) × IsKeptOn disk found new)
   StartRefused disk refusals.DeviceFailed old new = Rose (disk.failures old) (disk.failures new)

@@ -7,6 +7,7 @@ use Rattle.wm_disk.specs.declared.refusal.Refusal.{Refusal}
 use Rattle.wm_disk.specs.declared.refusal.Refusal.TheVariants as refusals
 use Rattle.wm_disk.specs.Counters.{max_counter}
 use Rattle.wm_checkpoint.specs.Meanings.{IsDamaged, IsHeaderWith, IsRetired, MeansState}
+use Rattle.wm_checkpoint.specs.Layout.{sizes_1}
 use Rattle.wm_registry.specs.declared.command.Command.TheVariants.{Begin}
 use Rattle.wm_registry.specs.declared.reply.Reply.TheVariants.{Changed, Refused}
 use Rattle.wm_registry.specs.MachineLaws.{watches}
@@ -26,10 +27,10 @@ expressions_after_begin s =
     ]
 
 -- the retired gate of a header is open or it isn't
-two_gates : (a b : ℕ) (bytes : List ℕ) → IsHeaderWith a bytes → IsHeaderWith b bytes → a ≡ b
+two_gates : (a b : ℕ) (bytes : List ℕ) → IsHeaderWith sizes_1 a bytes → IsHeaderWith sizes_1 b bytes → a ≡ b
 two_gates a b bytes first second = ap (λ (l : List ℕ). get_or l 12 0) (sym first.1 ∙ second.1)
 
-not_retired : (found : registry.State) (content : List ℕ) → MeansState watches found content → IsRetired content → ⊥
+not_retired : (found : registry.State) (content : List ℕ) → MeansState watches found content → IsRetired sizes_1 content → ⊥
 not_retired found content m retired = let header = m.means.header in header.1 (two_gates header.0 165 _ header.2 retired.1)
 
 module _ {D : Type 0} (disk : Ghosts D) (old new : D) (cut : disk.honest new → WritesNothing disk old new ⊎ ((found : registry.State) × FindsRegistry disk old new found)) where
@@ -40,12 +41,12 @@ module _ {D : Type 0} (disk : Ghosts D) (old new : D) (cut : disk.honest new →
   no_meaning : disk.honest new → IsDamaged watches (disk.seen old) → IsDamaged watches (disk.seen old) × WritesNothing disk old new
   no_meaning h damaged = (damaged, nothing_found h damaged.0)
 
-  no_more : disk.honest new → IsRetired (disk.seen old) → IsRetired (disk.seen old) × WritesNothing disk old new
+  no_more : disk.honest new → IsRetired sizes_1 (disk.seen old) → IsRetired sizes_1 (disk.seen old) × WritesNothing disk old new
   no_more h retired = (retired, nothing_found h (λ found m. not_retired found (disk.seen old) m retired))
 
 pub start_refused : {D : Type 0} (disk : Ghosts D) (old new : D) (e : Refusal)
     → (disk.honest new → WritesNothing disk old new ⊎ ((found : registry.State) × FindsRegistry disk old new found))
-    → (disk.honest new → e ≡ refusals.Damaged → IsDamaged watches (disk.seen old)) → (disk.honest new → e ≡ refusals.Retired → IsRetired (disk.seen old))
+    → (disk.honest new → e ≡ refusals.Damaged → IsDamaged watches (disk.seen old)) → (disk.honest new → e ≡ refusals.Retired → IsRetired sizes_1 (disk.seen old))
     → (disk.honest new → e ≡ refusals.Exhausted → (found : registry.State) × (m : MeansState watches found (disk.seen old)) × ((reply_to found Begin ≡ Refused refusals.Exhausted) ⊎ (max_counter ≤ m.number)))
     → (disk.honest new → e ≡ refusals.Exhausted → (found : registry.State) × MeansState watches found (disk.seen old) × ((c : List ℕ) → disk.may_leave new c → MeansState watches found c))
     → (e ≡ refusals.DeviceFailed → Rose (disk.failures old) (disk.failures new))
