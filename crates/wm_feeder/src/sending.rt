@@ -1,4 +1,9 @@
-//! A batch told to the server. Tests: feed_tests, tools/feed_use.py.
+//! A batch sent to the server, and what its refusals mean. Definitions: specs/ForNow.antt. Tests: feed_tests, tools/feed_use.py.
+ghost use Rattle.std.specs.Prelude.{◌≡◌, true, false, Err, IfOk};
+ghost use Rattle.wm_disk.specs.declared.refusal.Refusal.{Refusal};
+ghost use Rattle.wm_client.specs.RefusalLines.{is_refused_by};
+ghost use Rattle.wm_client.specs.Talks.{is_refusal_line};
+ghost use Rattle.wm_feeder.specs.ForNow.{is_for_now as is_for_now_lem};
 
 use crate::looking::Looking;
 use crate::server::{Asked, Server};
@@ -28,7 +33,9 @@ pub(crate) fn is_wide(batch: &Batch) -> bool {
 
 /// Whether the same request may be accepted later: the root isn't crawled yet, a crawl was overtaken by too many observations, the
 /// device failed, or memory ran out.
-pub(crate) fn is_for_now(refusal: Refusal) -> bool {
+pub(crate) fn is_for_now(refusal: Refusal) -> bool
+    ensures { result ≡ is_for_now_lem refusal }
+{
     matches!(
         refusal,
         Refusal::NotReady | Refusal::BadClock | Refusal::DeviceFailed | Refusal::NoMemory
@@ -40,7 +47,11 @@ pub(crate) fn hand_over<Y: System>(
     alloc: Global,
     server: &mut Server<Y>,
     request: &str,
-) -> Result<(), Stop> {
+) -> Result<(), Stop>
+    ensures accepted { IfOk result (λ _. is_refusal_line server.new.reply.items ≡ false) }
+    ensures later { (r : Refusal) → result ≡ Err (Stop.RefusedForNow r) → (is_for_now_lem r ≡ true) × (is_refused_by r server.new.reply.items ≡ true) }
+    ensures refused { (r : Refusal) → result ≡ Err (Stop.Refused r) → (is_for_now_lem r ≡ false) × (is_refused_by r server.new.reply.items ≡ true) }
+{
     match server.ask(alloc, request)? {
         Asked::Told => Ok(()),
         Asked::Refused(refusal) if is_for_now(refusal) => Err(Stop::RefusedForNow(refusal)),
