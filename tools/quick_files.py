@@ -1,8 +1,10 @@
 #!/usr/bin/env python3
 """State files that an earlier program made are served: what they keep is listed, and what is commanded is kept with it.
 
-The files lie in tools/kept_files, each made by the program of commit e707780 (28 November 2026): tools/quick_files.py --make PROGRAM FOLDER."""
+The files lie in tools/kept_files. A program built from commit e707780 (28 November 2026) made them: tools/quick_files.py --make PROGRAM FOLDER."""
 import gzip, json, os, subprocess, sys, tempfile
+
+from served import Client, check, serving
 
 HERE = os.path.dirname(os.path.abspath(__file__))
 KEPT = f"{HERE}/kept_files"
@@ -20,7 +22,7 @@ LONG = [trigger(f"{number:02}", ["x" * 1024] * 16) for number in range(64)]
 # More than two journals of 262,144 bytes hold, so that the commands behind the last checkpoint are few.
 AGAIN = [["trigger", "/src", trigger("again", ["x" * 1000, str(number)])] for number in range(600)]
 
-# Of each file the lines of each start that made it, and what it keeps: its roots with their triggers, and its last incarnation.
+# For each file: the lines of each start that made it, the roots that it keeps with their triggers, and its last incarnation.
 FILES = {
     "new": ([], {}, 0),
     "commands": ([[["watch", "/src"], ["watch", "/srv/\u00e4 b"], ["watch", "/gone"], ["trigger", "/src", MAKE], ["trigger", "/src", trigger("gone", ["false"])]],
@@ -32,14 +34,14 @@ FILES = {
 
 
 def replies(program, state, requests):
-    """What a start answers to these lines."""
-    told = subprocess.run([program, "lines", state], input="".join(json.dumps(request) + "\n" for request in requests), capture_output=True, text=True)
-    assert told.returncode == 0, told
-    return [json.loads(line) for line in told.stdout.splitlines()]
+    """What `watchmand lines` replies to these requests."""
+    ended = subprocess.run([program, "lines", state], input="".join(json.dumps(request) + "\n" for request in requests), capture_output=True, text=True)
+    assert ended.returncode == 0, ended
+    return [json.loads(line) for line in ended.stdout.splitlines()]
 
 
-def made(program, folder):
-    """Makes each file. A start is killed behind its last reply, as a server would be by the end of power."""
+def make(program, folder):
+    """Makes each file. Each start is killed right after its last reply."""
     os.makedirs(folder, exist_ok=True)
     for name, (starts, _, _) in FILES.items():
         with tempfile.TemporaryDirectory() as room:
@@ -57,8 +59,6 @@ def made(program, folder):
 
 
 def kept_files_are_served(programs):
-    from served import check
-
     for name, (_, roots, incarnation) in FILES.items():
         with tempfile.TemporaryDirectory() as room:
             state = f"{room}/state"
@@ -72,6 +72,8 @@ def kept_files_are_served(programs):
             wanted[0]["roots"].append("/later")
             *listed, told = replies(programs.watchmand, state, [*asked, listing])
             check(f"what is commanded is kept in {name}", listed == wanted, listed)
+            with serving(programs.watchmand, room) as path:
+                check(f"a server serves {name}", Client(path).tell(["watch-list"]) == wanted[0])
             clock = f"c:{incarnation + 2}:{told['clock'].split(':')[2]}:1"
             check(f"{name}'s incarnations go on", told["clock"] == clock, told)
             if name == "long":
@@ -82,4 +84,4 @@ def kept_files_are_served(programs):
 CASES = [kept_files_are_served]
 
 if __name__ == "__main__" and sys.argv[1:2] == ["--make"]:
-    made(*sys.argv[2:])
+    make(*sys.argv[2:])
