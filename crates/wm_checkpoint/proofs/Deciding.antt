@@ -1,5 +1,5 @@
 -- A content has one meaning, and where the readers find none it has none.
-use Rattle.std.proofs.Common.{◌≡◌, ◌≢◌, ◌⊎◌, inl, inr, ℕ, ◌+◌, ◌<◌, ◌≤◌, ◌^◌, List, ◌∷◌, ◌++◌, length, take, drop, refl, sym, ◌∙◌, ap, subst, arith, length-append}
+use Rattle.std.proofs.Common.{◌≡◌, ◌≢◌, ◌⊎◌, inl, inr, ℕ, zero, suc, min, ◌+◌, ◌<◌, ◌≤◌, ◌^◌, List, [], ◌∷◌, ◌++◌, length, take, drop, refl, sym, ◌∙◌, ap, subst, arith, length-append}
 use Rattle.std.specs.Prelude.{Result, Ok, Err, IfOk, IfErr, IsErrOf}
 use Rattle.std.proofs.lemmas.List.{take-take, drop-take, length-take-le, length-take}
 use Rattle.wm_disk.specs.Calls.{Calls}
@@ -13,7 +13,7 @@ use Rattle.wm_journal.specs.laws.OneList.{one_list}
 use Rattle.wm_checkpoint.specs.Machines.{Meaning, Accepts, replay_on}
 use Rattle.wm_checkpoint.specs.Layout.{Sizes, AreLawful, header_len, file_len, slot_place, slot_len, journal_place, other_slot, journal_len}
 use Rattle.wm_checkpoint.specs.Meanings.{Means, MeansState, IsDamaged, IsHeader, IsHeaderWith, IsRetired, IsNumbered, IsOutranked, IsOpenSlot}
-use Rattle.wm_checkpoint.specs.Found.{IsFound, IsChosen, ReadsDurably}
+use Rattle.wm_checkpoint.specs.Found.{IsFound, IsFrontOf, IsChosen, ReadsDurably}
 use Rattle.wm_checkpoint.specs.declared.layout.Slot.{Slot}
 use Rattle.wm_checkpoint.specs.declared.layout.Slot.TheVariants.{A, B}
 use Rattle.wm_checkpoint.proofs.Reading.{one_state}
@@ -142,6 +142,34 @@ if_ok (Err e) f h = tt
 pub found_whole : {S C : Type 0} (m : Meaning S C) (c : List ℕ) (slot : Slot) (n : ℕ) (s : S) (end : ℕ) → file_len m.sizes ≤ length c → IsFound m (take (file_len m.sizes) c) slot n s end → IsFound m c slot n s end
 found_whole m c slot n s end le f = record { base = f.base; commands = f.commands; means = means_whole m c le slot n f.base f.commands f.means; is = f.is; ends = f.ends }
 
+take_at_most : (most : ℕ) (c : List ℕ) → take (min (length c) most) c ≡ take most c
+take_at_most zero [] = refl
+take_at_most zero (x ∷ xs) =
+    let none : min (suc (length xs)) 0 ≡ 0 = omega arith in
+    ap (λ k. take k (x ∷ xs)) none
+take_at_most (suc n) [] =
+    let none : min 0 (suc n) ≡ 0 = omega arith in
+    ap (λ k. take k []) none
+take_at_most (suc n) (x ∷ xs) =
+    let less : min (suc (length xs)) (suc n) ≡ suc (min (length xs) n) = omega arith in
+    ap (λ k. take k (x ∷ xs)) less ∙ ap (λ l. x ∷ l) (take_at_most n xs)
+
+pub take_min : (n most : ℕ) (c : List ℕ) → n ≡ length c → take (min n most) c ≡ take most c
+take_min n most c is = ap (λ k. take (min k most) c) is ∙ take_at_most most c
+
+-- the front of a content is as long as the layout's file where the content is, and then its first bytes are those
+pub front_long : (l : Sizes) (b c : List ℕ) → IsFrontOf l b c → file_len l ≤ length b → file_len l ≤ length c
+front_long l b c f le = omega (arith, ap length f.2, length-take f.0 c, le)
+
+pub front_short : (l : Sizes) (b c : List ℕ) → IsFrontOf l b c → length b < file_len l → length c < file_len l
+front_short l b c f lt = omega (arith, ap length f.2, length-take f.0 c, f.1, lt)
+
+pub front_is : (l : Sizes) (b c : List ℕ) → IsFrontOf l b c → take (file_len l) b ≡ take (file_len l) c
+front_is l b c f = ap (take (file_len l)) f.2 ∙ take-take (file_len l) f.0 c f.1
+
+pub front_area : (l : Sizes) (b c : List ℕ) (at n : ℕ) → IsFrontOf l b c → at + n ≤ file_len l → area at n b ≡ area at n c
+front_area l b c at n f le = ap (area at n) f.2 ∙ area_front f.0 at n c (omega (arith, le, f.1))
+
 pub same_err : {T U E : Type 0} (e x : E) → IsErrOf {T = T} (Err e) x → IsErrOf {T = U} (Err e) x
 same_err e x h = let k : e ≡ x = cc in ap (λ y. Err y) k
 
@@ -163,7 +191,7 @@ not_device e (inl a) is = let x : NoMemory ≡ DeviceFailed = sym a ∙ is in ab
 not_device e (inr (inl a)) is = let x : Damaged ≡ DeviceFailed = sym a ∙ is in absurd cc
 not_device e (inr (inr a)) is = let x : Retired ≡ DeviceFailed = sym a ∙ is in absurd cc
 
-err_is : {T : Type 0} (e f : Refusal) → IsErrOf {T = T} (Err e) f → e ≡ f
+pub err_is : {T : Type 0} (e f : Refusal) → IsErrOf {T = T} (Err e) f → e ≡ f
 err_is e f is = cc
 
 module _ {D U : Type 0} (disk : disks.Ghosts D) (old new : D) (x : U) where

@@ -3,6 +3,7 @@ pub mod Halves
 pub mod Switching
 pub mod Reading
 pub mod Deciding
+pub mod Versions
 pub mod Keeping
 pub mod Numbering
 pub mod Committing

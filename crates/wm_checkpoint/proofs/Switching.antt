@@ -1,7 +1,7 @@
 -- What a file means while its other half is given the state.
 use Rattle.std.proofs.Common.{◌≡◌, ◌≢◌, inl, inr, ℕ, ◌+◌, ◌<◌, ◌≤◌, List, [], ◌∷◌, ◌++◌, length, drop, get_or, refl, sym, ◌∙◌, ap, subst, arith}
 use Rattle.std.proofs.lemmas.Bool.{cases_eq}
-use Rattle.std.specs.Int.{to_be_bytes, w32, w64}
+use Rattle.std.specs.Int.{to_be_bytes, w64}
 use Rattle.wm_disk.specs.Counters.{max_counter}
 use Rattle.wm_journal.specs.Areas.{area, SameOutside}
 use Rattle.wm_journal.specs.Records.{HoldsRecords}

@@ -1,3 +1,4 @@
+pub mod Either
 pub mod Machines
 pub mod Layout
 pub mod Meanings

@@ -70,6 +70,7 @@ pub trait Layout {
 }
 
 /// Version 1, with states of at most 1,048,563 bytes.
+#[derive(Drop)]
 pub struct Version1;
 
 impl Layout for Version1 {
@@ -116,6 +117,7 @@ impl Layout for Version1 {
 }
 
 /// Version 2, with states of at most 4,194,291 bytes.
+#[derive(Drop)]
 pub struct Version2;
 
 impl Layout for Version2 {

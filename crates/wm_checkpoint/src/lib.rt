@@ -12,6 +12,7 @@
 #![tactic(auto)]
 
 mod commit;
+mod either;
 mod format;
 mod keeper;
 mod laws;
@@ -21,6 +22,7 @@ mod read;
 mod slot_bytes;
 mod write;
 
+pub use either::EitherKeeper;
 pub use keeper::Keeper;
 pub use laws::every_content;
 pub use layout::{Layout, Slot, Version1, Version2};
