@@ -7,10 +7,11 @@ use Rattle.std.specs.Str.{bytes_eq}
 use Rattle.wm_registry.specs.declared.command.Command.TheVariants.{WatchDel}
 use Rattle.wm_registry.specs.declared.reply.Reply.TheVariants.{Changed}
 use Rattle.wm_registry.specs.declared.root.Root.{Root}
+use Rattle.wm_registry.specs.Placing.{ArePlaced}
 use Rattle.wm_registry.specs.Registry.{after_command, reply_to}
 use Rattle.wm_registry.specs.Roots.{State, root_at, without_first, without_root}
 use Rattle.wm_registry.specs.Spelling.{IsState, root_spelling, state_spelling}
-use Rattle.wm_registry.proofs.Changing.{IsState-without_root}
+use Rattle.wm_registry.proofs.Changing.{IsState-without_root, root_placed}
 use Rattle.wm_registry.proofs.Lengths.{length-without_root}
 
 at_front : {X : Type 0} (xs : List X) (k : ℕ) (x : X) → slice_get xs k ≡ Some x → drop k xs ≡ x ∷ drop (k + 1) xs
@@ -42,8 +43,11 @@ module _ (s : State) (k : ℕ) (path first : List ℕ) (root : Root) (at : slice
   pub first_after : after_command (without_first k s) (WatchDel path) ≡ without_first (k + 1) s
   first_after = rw first_found first_gone
 
-  pub first_size : length (state_spelling (without_first (k + 1) s)) + length (root_spelling (path, root)) ≡ length (state_spelling (without_first k s))
+  pub first_size : length (state_spelling (without_first (k + 1) s)) + length (root_spelling s.version (path, root)) ≡ length (state_spelling (without_first k s))
   first_size = omega (arith, length-without_root (without_first k s) path root first_found, ap (λ (t : State). length (state_spelling t)) first_gone)
 
   pub first_fits : IsState (without_first k s) → IsState (without_first (k + 1) s)
   first_fits h = subst IsState first_gone (IsState-without_root (without_first k s) path root first_found h)
+
+  pub first_placed : IsState (without_first k s) → ArePlaced s.version root.triggers
+  first_placed h = root_placed (without_first k s) path root first_found h

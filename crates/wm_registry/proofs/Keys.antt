@@ -12,20 +12,21 @@ use Rattle.wm_registry.specs.StateLaws.{short_root}
 use Rattle.wm_registry.specs.TriggerLaws.{alone_trigger}
 use Rattle.wm_registry.specs.Triggers.{Definition}
 use Rattle.wm_registry.specs.declared.root.Root.{Root}
+use Rattle.wm_registry.specs.declared.version.Version.{Version}
 
 -- ---- a path, and a number with triggers, as they are read one after another
 
-abbrev pub EndFits : ℕ × List Definition → Type 0
-EndFits = IsPair (λ n. n < 2 ^ 64) (big_bytes 8) (IsList 64 IsTrigger trigger_spelling) (list_spelling trigger_spelling)
+abbrev pub EndFits : Version → ℕ × List Definition → Type 0
+EndFits v = IsPair (λ n. n < 2 ^ 64) (big_bytes 8) (IsList 64 (IsTrigger v) (trigger_spelling v)) (list_spelling (trigger_spelling v))
 
-abbrev pub end_spelling : ℕ × List Definition → List ℕ
-end_spelling = pair_spelling (big_bytes 8) (list_spelling trigger_spelling)
+abbrev pub end_spelling : Version → ℕ × List Definition → List ℕ
+end_spelling v = pair_spelling (big_bytes 8) (list_spelling (trigger_spelling v))
 
-abbrev pub PartsFit : List ℕ × (ℕ × List Definition) → Type 0
-PartsFit = IsPair IsPath text EndFits end_spelling
+abbrev pub PartsFit : Version → List ℕ × (ℕ × List Definition) → Type 0
+PartsFit v = IsPair IsPath text (EndFits v) (end_spelling v)
 
-abbrev pub parts_spelling : List ℕ × (ℕ × List Definition) → List ℕ
-parts_spelling = pair_spelling text end_spelling
+abbrev pub parts_spelling : Version → List ℕ × (ℕ × List Definition) → List ℕ
+parts_spelling v = pair_spelling text (end_spelling v)
 
 -- the root of these parts, and the parts of a root
 abbrev pub root_of : List ℕ × (ℕ × List Definition) → List ℕ × Root
@@ -34,25 +35,25 @@ root_of p = (p.0, record { number = p.1.0; triggers = p.1.1 })
 abbrev pub parts_of : List ℕ × Root → List ℕ × (ℕ × List Definition)
 parts_of x = (x.0, (x.1.number, x.1.triggers))
 
-parts_fit : (x : List ℕ × Root) → IsRoot x → PartsFit (parts_of x)
-parts_fit x h =
-    let whole = short_root x h in
-    let behind = length-append (text x.0) (big_bytes 8 x.1.number ++ list_spelling trigger_spelling x.1.triggers) in
+parts_fit : (v : Version) (x : List ℕ × Root) → IsRoot v x → PartsFit v (parts_of x)
+parts_fit v x h =
+    let whole = short_root v x h in
+    let behind = length-append (text x.0) (big_bytes 8 x.1.number ++ list_spelling (trigger_spelling v) x.1.triggers) in
     record {
       first = h.path;
       second = record { first = omega (arith, h.number); second = h.triggers; short = omega (arith, whole, behind) };
       short = whole;
     }
 
-alone_parts : Alone PartsFit parts_spelling
-alone_parts = alone_pair IsPath text EndFits end_spelling alone_path
-    (alone_pair (λ n. n < 2 ^ 64) (big_bytes 8) (IsList 64 IsTrigger trigger_spelling) (list_spelling trigger_spelling) alone_u64 (alone_list 64 IsTrigger trigger_spelling alone_trigger))
+alone_parts : (v : Version) → Alone (PartsFit v) (parts_spelling v)
+alone_parts v = alone_pair IsPath text (EndFits v) (end_spelling v) alone_path
+    (alone_pair (λ n. n < 2 ^ 64) (big_bytes 8) (IsList 64 (IsTrigger v) (trigger_spelling v)) (list_spelling (trigger_spelling v)) alone_u64 (alone_list 64 (IsTrigger v) (trigger_spelling v) (alone_trigger v)))
 
-pub no_parts : (bytes : List ℕ) → NoneBegins PartsFit parts_spelling bytes → NoneBegins IsRoot root_spelling bytes
-no_parts bytes none x rest h e = none (parts_of x) rest (parts_fit x h) e
+pub no_parts : (v : Version) (bytes : List ℕ) → NoneBegins (PartsFit v) (parts_spelling v) bytes → NoneBegins (IsRoot v) (root_spelling v) bytes
+no_parts v bytes none x rest h e = none (parts_of x) rest (parts_fit v x h) e
 
 -- where the parts that were read are those of no root, no root begins the bytes
-pub no_root : (bytes : List ℕ) (p : List ℕ × (ℕ × List Definition)) (size : ℕ) → BeginsWith PartsFit parts_spelling bytes p size → (IsRoot (root_of p) → ⊥) → NoneBegins IsRoot root_spelling bytes
-no_root bytes p size b wrong x rest h e =
-    let same : parts_of x ≡ p = alone_parts (parts_of x) p rest (drop size bytes) (parts_fit x h) b.known (sym e ∙ b.parts) in
-    wrong (subst (λ q. IsRoot (root_of q)) same h)
+pub no_root : (v : Version) (bytes : List ℕ) (p : List ℕ × (ℕ × List Definition)) (size : ℕ) → BeginsWith (PartsFit v) (parts_spelling v) bytes p size → (IsRoot v (root_of p) → ⊥) → NoneBegins (IsRoot v) (root_spelling v) bytes
+no_root v bytes p size b wrong x rest h e =
+    let same : parts_of x ≡ p = alone_parts v (parts_of x) p rest (drop size bytes) (parts_fit v x h) b.known (sym e ∙ b.parts) in
+    wrong (subst (λ q. IsRoot v (root_of q)) same h)

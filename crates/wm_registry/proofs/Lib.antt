@@ -9,6 +9,7 @@ pub mod Named
 pub mod Names
 pub mod Numbers
 pub mod Parts
+pub mod Placed
 pub mod Sizes
 pub mod States
 pub mod TriggerParts

@@ -11,15 +11,15 @@ use Rattle.wm_registry.specs.declared.command.Command.TheVariants.{Begin, Watch,
 use Rattle.wm_registry.specs.declared.reply.Reply.TheVariants.{Changed, Refused}
 use Rattle.wm_disk.specs.declared.refusal.Refusal.TheVariants.{Exhausted}
 use Rattle.wm_registry.specs.declared.root.Root.{Root}
-use Rattle.wm_registry.specs.MachineLaws.{watches}
 use Rattle.wm_registry.specs.Numbers.{InOrder, Rises}
 use Rattle.wm_registry.specs.Registry.{after_command, changed, changes, empty_registry, is_change, watched}
 use Rattle.wm_registry.specs.Roots.{State, root_at, with_triggers, without_root}
 use Rattle.wm_registry.specs.Spelling.{numbers_of}
 use Rattle.wm_registry.specs.Triggers.{Definition, defined, without}
+use Rattle.wm_registry.specs.declared.version.Version.{Version}
 use Rattle.wm_registry.proofs.Changing.{may_watch}
 use Rattle.wm_registry.proofs.Entries.{AllByRecursion-each, AllByRecursion-push, AllByRecursion-remove_entry, AllByRecursion-set_value, IsDistinct-push, IsDistinct-remove_entry, map-set_value}
-use Rattle.wm_checkpoint.specs.Machines.{replay_on}
+use Rattle.wm_checkpoint.specs.Machines.{replayed}
 use Rattle.wm_checkpoint.specs.laws.Replays.{replayed_append}
 
 -- what a command makes of a registry
@@ -127,16 +127,18 @@ goes_then s t u a b = record {
   order = λ o. b.order (a.order o);
 }
 
-goes_replay : (s : State) (cs : List Command) → Goes s (replay_on watches s cs)
+goes_replay : (s : State) (cs : List Command) → Goes s (replayed after_command s cs)
 goes_replay s [] = goes_same s
-goes_replay s (c ∷ cs) = goes_then s (after_command s c) (replay_on watches (after_command s c) cs) (goes_after s c) (goes_replay (after_command s c) cs)
+goes_replay s (c ∷ cs) = goes_then s (after_command s c) (replayed after_command (after_command s c) cs) (goes_after s c) (goes_replay (after_command s c) cs)
 
-pub rises_more : (cs ds : List Command) → Rises (replay_on watches empty_registry cs) (replay_on watches empty_registry (cs ++ ds))
-rises_more cs ds = subst (λ t. Rises (replay_on watches empty_registry cs) t) (sym (replayed_append after_command empty_registry cs ds)) (goes_replay (replay_on watches empty_registry cs) ds).rises
+pub rises_more : (v : Version) (cs ds : List Command) → Rises (replayed after_command (empty_registry v) cs) (replayed after_command (empty_registry v) (cs ++ ds))
+rises_more v cs ds =
+    let now = replayed after_command (empty_registry v) cs in
+    subst (λ t. Rises now t) (sym (replayed_append after_command (empty_registry v) cs ds)) (goes_replay now ds).rises
 
-fresh_in_order : InOrder empty_registry
+fresh_in_order : (v : Version) → InOrder (empty_registry v)
 unfolding IsDistinct
-fresh_in_order = record { incarnation = omega arith; some = omega arith; next = omega arith; roots = tt; apart = tt }
+fresh_in_order v = record { incarnation = omega arith; some = omega arith; next = omega arith; roots = tt; apart = tt }
 
-pub in_order : (cs : List Command) → InOrder (replay_on watches empty_registry cs)
-in_order cs = (goes_replay empty_registry cs).order fresh_in_order
+pub in_order : (v : Version) (cs : List Command) → InOrder (replayed after_command (empty_registry v) cs)
+in_order v cs = (goes_replay (empty_registry v) cs).order (fresh_in_order v)

@@ -16,6 +16,7 @@ use Rattle.wm_registry.specs.Roots.{State, root_at, with_triggers, without_root}
 use Rattle.wm_registry.specs.Spelling.{root_spelling, state_spelling, trigger_spelling}
 use Rattle.wm_registry.specs.Triggers.{Definition, defined, has_trigger, is_named}
 use Rattle.wm_registry.specs.declared.root.Root.{Root}
+use Rattle.wm_registry.specs.declared.version.Version.{Version}
 
 -- ---- a value under a key
 
@@ -74,16 +75,16 @@ some_passes p [] i e = absurd cc
 some_passes p (x ∷ xs) i e = let hit = position-Some p (x ∷ xs) i x e in list_any_at p (x ∷ xs) i x hit.0 hit.1
 
 -- the trigger takes the place of that of its name
-pub length-defined-old : (t : Definition) (ts : List Definition) (i : ℕ) (d : Definition) → i < length ts → is_named t.name (get_or ts i d) ≡ true → ((k : ℕ) → k < i → is_named t.name (get_or ts k d) ≡ false)
-    → length (flat_map trigger_spelling (defined t ts)) + length (trigger_spelling (get_or ts i d)) ≡ length (flat_map trigger_spelling ts) + length (trigger_spelling t)
-length-defined-old t [] i d lt named before = absurd (omega arith)
-length-defined-old t (old ∷ rest) zero d lt named before =
-    let is = ap (λ b. length (flat_map trigger_spelling (if b then t ∷ rest else old ∷ defined t rest))) named in
-    omega (arith, is, length-append (trigger_spelling t) (flat_map trigger_spelling rest), length-append (trigger_spelling old) (flat_map trigger_spelling rest))
-length-defined-old t (old ∷ rest) (suc i) d lt named before =
-    let is = ap (λ b. length (flat_map trigger_spelling (if b then t ∷ rest else old ∷ defined t rest))) (before 0 (omega arith)) in
-    let more = length-defined-old t rest i d (omega arith) named (λ k below. before (suc k) (omega arith)) in
-    omega (arith, is, more, length-append (trigger_spelling old) (flat_map trigger_spelling (defined t rest)), length-append (trigger_spelling old) (flat_map trigger_spelling rest))
+pub length-defined-old : (v : Version) (t : Definition) (ts : List Definition) (i : ℕ) (d : Definition) → i < length ts → is_named t.name (get_or ts i d) ≡ true → ((k : ℕ) → k < i → is_named t.name (get_or ts k d) ≡ false)
+    → length (flat_map (trigger_spelling v) (defined t ts)) + length (trigger_spelling v (get_or ts i d)) ≡ length (flat_map (trigger_spelling v) ts) + length (trigger_spelling v t)
+length-defined-old v t [] i d lt named before = absurd (omega arith)
+length-defined-old v t (old ∷ rest) zero d lt named before =
+    let is = ap (λ b. length (flat_map (trigger_spelling v) (if b then t ∷ rest else old ∷ defined t rest))) named in
+    omega (arith, is, length-append (trigger_spelling v t) (flat_map (trigger_spelling v) rest), length-append (trigger_spelling v old) (flat_map (trigger_spelling v) rest))
+length-defined-old v t (old ∷ rest) (suc i) d lt named before =
+    let is = ap (λ b. length (flat_map (trigger_spelling v) (if b then t ∷ rest else old ∷ defined t rest))) (before 0 (omega arith)) in
+    let more = length-defined-old v t rest i d (omega arith) named (λ k below. before (suc k) (omega arith)) in
+    omega (arith, is, more, length-append (trigger_spelling v old) (flat_map (trigger_spelling v) (defined t rest)), length-append (trigger_spelling v old) (flat_map (trigger_spelling v) rest))
 
 -- where there is none of its name it goes last
 pub defined-new : (t : Definition) (ts : List Definition) → has_trigger t.name ts ≡ false → defined t ts ≡ ts ++ t ∷ []
@@ -94,41 +95,41 @@ defined-new t (old ∷ rest) none = by (is_named t.name old) refl (λ later. def
     by true p more = let there : true ≡ false = sym (ap (λ b. b || has_trigger t.name rest) p) ∙ none in absurd cc
     by false p more = let later : has_trigger t.name rest ≡ false = sym (ap (λ b. b || has_trigger t.name rest) p) ∙ none in ap (λ l. old ∷ l) (more later)
 
-pub length-defined-new : (t : Definition) (ts : List Definition) → has_trigger t.name ts ≡ false → length (flat_map trigger_spelling (defined t ts)) ≡ length (flat_map trigger_spelling ts) + length (trigger_spelling t)
-length-defined-new t ts none =
-    let parts = ap length (flat_map-append trigger_spelling ts (t ∷ [])) in
-    let is = ap (λ l. length (flat_map trigger_spelling l)) (defined-new t ts none) in
-    omega (arith, is, parts, length-append (flat_map trigger_spelling ts) (flat_map trigger_spelling (t ∷ [])), length-append (trigger_spelling t) [])
+pub length-defined-new : (v : Version) (t : Definition) (ts : List Definition) → has_trigger t.name ts ≡ false → length (flat_map (trigger_spelling v) (defined t ts)) ≡ length (flat_map (trigger_spelling v) ts) + length (trigger_spelling v t)
+length-defined-new v t ts none =
+    let parts = ap length (flat_map-append (trigger_spelling v) ts (t ∷ [])) in
+    let is = ap (λ l. length (flat_map (trigger_spelling v) l)) (defined-new t ts none) in
+    omega (arith, is, parts, length-append (flat_map (trigger_spelling v) ts) (flat_map (trigger_spelling v) (t ∷ [])), length-append (trigger_spelling v t) [])
 
 -- ---- states
 
-length-root : (path : List ℕ) (root : Root) → length (root_spelling (path, root)) ≡ length (text path) + 8 + length (list_spelling trigger_spelling root.triggers)
-length-root path root = omega (arith, length-append (text path) (big_bytes 8 root.number ++ list_spelling trigger_spelling root.triggers))
+length-root : (v : Version) (path : List ℕ) (root : Root) → length (root_spelling v (path, root)) ≡ length (text path) + 8 + length (list_spelling (trigger_spelling v) root.triggers)
+length-root v path root = omega (arith, length-append (text path) (big_bytes 8 root.number ++ list_spelling (trigger_spelling v) root.triggers))
 
 -- a new root comes with its path's spelling, its number and an empty list
 pub length-watched : (s : State) (path : List ℕ) → length (state_spelling (watched s path)) ≡ length (state_spelling s) + (length (text path) + 12)
 length-watched s path =
     let root : List ℕ × Root = (path, record { number = s.next; triggers = [] }) in
-    let parts = ap length (flat_map-append root_spelling s.roots (root ∷ [])) in
-    omega (arith, parts, length-append (flat_map root_spelling s.roots) (flat_map root_spelling (root ∷ [])), length-append (root_spelling root) [], length-root path root.1)
+    let parts = ap length (flat_map-append (root_spelling s.version) s.roots (root ∷ [])) in
+    omega (arith, parts, length-append (flat_map (root_spelling s.version) s.roots) (flat_map (root_spelling s.version) (root ∷ [])), length-append (root_spelling s.version root) [], length-root s.version path root.1)
 
 -- other triggers of a root come with their bytes in the place of the others'
 pub length-with_triggers : (s : State) (path : List ℕ) (root : Root) (triggers : List Definition) → root_at path s ≡ Some root
-    → length (state_spelling (with_triggers s path root triggers)) + length (list_spelling trigger_spelling root.triggers) ≡ length (state_spelling s) + length (list_spelling trigger_spelling triggers)
+    → length (state_spelling (with_triggers s path root triggers)) + length (list_spelling (trigger_spelling s.version) root.triggers) ≡ length (state_spelling s) + length (list_spelling (trigger_spelling s.version) triggers)
 length-with_triggers s path root triggers found =
     let new : Root = record root { triggers = triggers } in
-    let items = length-flat_map-set_value (bytes_eq path) root_spelling s.roots root new (length (list_spelling trigger_spelling root.triggers)) (length (list_spelling trigger_spelling triggers))
-    (λ k. omega (arith, length-root k root, length-root k new)) found in
+    let items = length-flat_map-set_value (bytes_eq path) (root_spelling s.version) s.roots root new (length (list_spelling (trigger_spelling s.version) root.triggers)) (length (list_spelling (trigger_spelling s.version) triggers))
+    (λ k. omega (arith, length-root s.version k root, length-root s.version k new)) found in
     omega (arith, items)
 
 -- without a root go its path's spelling, its number and its triggers
 pub length-without_root : (s : State) (path : List ℕ) (root : Root) → root_at path s ≡ Some root
-    → length (state_spelling (without_root s path)) + length (root_spelling (path, root)) ≡ length (state_spelling s)
+    → length (state_spelling (without_root s path)) + length (root_spelling s.version (path, root)) ≡ length (state_spelling s)
 length-without_root s path root found =
-    let items = length-flat_map-remove_entry (bytes_eq path) root_spelling s.roots root (length (root_spelling (path, root)))
-    (λ k same. ap (λ l. length (root_spelling (l, root))) (sym ((bytes_eq-Decides path k).0 same))) found in
+    let items = length-flat_map-remove_entry (bytes_eq path) (root_spelling s.version) s.roots root (length (root_spelling s.version (path, root)))
+    (λ k same. ap (λ l. length (root_spelling s.version (l, root))) (sym ((bytes_eq-Decides path k).0 same))) found in
     omega (arith, items)
 
 -- a root's triggers have no more bytes than the state
-pub triggers-le-state : (s : State) (path : List ℕ) (root : Root) → root_at path s ≡ Some root → length (flat_map trigger_spelling root.triggers) ≤ length (state_spelling s)
+pub triggers-le-state : (s : State) (path : List ℕ) (root : Root) → root_at path s ≡ Some root → length (flat_map (trigger_spelling s.version) root.triggers) ≤ length (state_spelling s)
 triggers-le-state s path root found = omega (arith, length-with_triggers s path root [] found)

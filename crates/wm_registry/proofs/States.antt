@@ -13,11 +13,13 @@ use Rattle.wm_wire.specs.Laws.{alone_u64}
 use Rattle.wm_wire.specs.ListLaws.{alone_list}
 use Rattle.wm_wire.specs.PairLaws.{alone_pair}
 use Rattle.wm_wire.specs.Spelling.{Alone, BeginsWith, NoneBegins, IsList, IsPair, list_spelling, pair_spelling}
-use Rattle.wm_registry.specs.Limits.{max_roots, max_state_bytes}
+use Rattle.wm_registry.specs.Limits.{max_roots}
 use Rattle.wm_registry.specs.Roots.{State}
-use Rattle.wm_registry.specs.Spelling.{AreRoots, IsRoot, IsState, numbers_of, root_spelling, state_spelling}
-use Rattle.wm_registry.specs.StateLaws.{alone_root}
+use Rattle.wm_registry.specs.Spelling.{AreRoots, IsRoot, IsState, IsStateIn, numbers_of, root_spelling, state_spelling}
+use Rattle.wm_registry.specs.StateLaws.{alone_root, small_state}
 use Rattle.wm_registry.specs.declared.root.Root.{Root}
+use Rattle.wm_registry.specs.Versions.{max_state_bytes}
+use Rattle.wm_registry.specs.declared.version.Version.{Version}
 
 -- ---- tests of the roots, and of their paths and numbers
 
@@ -105,70 +107,84 @@ next_may_follow next all xs x front lt is h =
 
 -- ---- an incarnation, and a number with roots, as they are read one after another
 
-abbrev pub EndFits : ℕ × List (List ℕ × Root) → Type 0
-EndFits = IsPair (λ n. n < 2 ^ 64) (big_bytes 8) (IsList max_roots IsRoot root_spelling) (list_spelling root_spelling)
+module _ (v : Version) where
+  abbrev pub EndFits : ℕ × List (List ℕ × Root) → Type 0
+  EndFits = IsPair (λ n. n < 2 ^ 64) (big_bytes 8) (IsList max_roots (IsRoot v) (root_spelling v)) (list_spelling (root_spelling v))
 
-abbrev pub end_spelling : ℕ × List (List ℕ × Root) → List ℕ
-end_spelling = pair_spelling (big_bytes 8) (list_spelling root_spelling)
+  abbrev pub end_spelling : ℕ × List (List ℕ × Root) → List ℕ
+  end_spelling = pair_spelling (big_bytes 8) (list_spelling (root_spelling v))
 
-abbrev pub PartsFit : ℕ × (ℕ × List (List ℕ × Root)) → Type 0
-PartsFit = IsPair (λ n. n < 2 ^ 64) (big_bytes 8) EndFits end_spelling
+  abbrev pub PartsFit : ℕ × (ℕ × List (List ℕ × Root)) → Type 0
+  PartsFit = IsPair (λ n. n < 2 ^ 64) (big_bytes 8) EndFits end_spelling
 
-abbrev pub parts_spelling : ℕ × (ℕ × List (List ℕ × Root)) → List ℕ
-parts_spelling = pair_spelling (big_bytes 8) end_spelling
+  abbrev pub parts_spelling : ℕ × (ℕ × List (List ℕ × Root)) → List ℕ
+  parts_spelling = pair_spelling (big_bytes 8) end_spelling
 
--- the state of these parts, and the parts of a state
-abbrev pub state_of : ℕ × (ℕ × List (List ℕ × Root)) → State
-state_of p = record { incarnation = p.0; next = p.1.0; roots = p.1.1 }
+  -- the state of these parts, and the parts of a state
+  abbrev pub state_of : ℕ × (ℕ × List (List ℕ × Root)) → State
+  state_of p = record { version = v; incarnation = p.0; next = p.1.0; roots = p.1.1 }
 
 abbrev pub parts_of : State → ℕ × (ℕ × List (List ℕ × Root))
 parts_of s = (s.incarnation, (s.next, s.roots))
 
-parts_fit : (s : State) → IsState s → PartsFit (parts_of s)
+parts_fit : (s : State) → IsState s → PartsFit s.version (parts_of s)
 parts_fit s h =
-    let whole : length (parts_spelling (parts_of s)) ≤ max_state_bytes = h.short in
-    let behind = length-append (big_bytes 8 s.incarnation) (end_spelling (s.next, s.roots)) in
+    let v = s.version in
+    let whole : length (parts_spelling v (parts_of s)) ≤ max_state_bytes v = h.short in
+    let behind = length-append (big_bytes 8 s.incarnation) (end_spelling v (s.next, s.roots)) in
     record {
       first = omega (arith, h.incarnation);
-      second = record { first = omega (arith, h.next); second = h.roots; short = omega (arith, whole, behind) };
-      short = omega (arith, whole);
+      second = record { first = omega (arith, h.next); second = h.roots; short = omega (arith, whole, behind, small_state v) };
+      short = omega (arith, whole, small_state v);
     }
 
-alone_parts : Alone PartsFit parts_spelling
-alone_parts = alone_pair (λ n. n < 2 ^ 64) (big_bytes 8) EndFits end_spelling alone_u64
-    (alone_pair (λ n. n < 2 ^ 64) (big_bytes 8) (IsList max_roots IsRoot root_spelling) (list_spelling root_spelling) alone_u64 (alone_list max_roots IsRoot root_spelling alone_root))
+alone_parts : (v : Version) → Alone (PartsFit v) (parts_spelling v)
+alone_parts v = alone_pair (λ n. n < 2 ^ 64) (big_bytes 8) (EndFits v) (end_spelling v) alone_u64
+    (alone_pair (λ n. n < 2 ^ 64) (big_bytes 8) (IsList max_roots (IsRoot v) (root_spelling v)) (list_spelling (root_spelling v)) alone_u64 (alone_list max_roots (IsRoot v) (root_spelling v) (alone_root v)))
 
-pub no_parts : (bytes : List ℕ) → NoneBegins PartsFit parts_spelling bytes → NoneBegins IsState state_spelling bytes
-no_parts bytes none s rest h e = none (parts_of s) rest (parts_fit s h) e
+-- a state of this version has the parts of one
+abbrev pub HasParts : Version → State → List ℕ → List ℕ → Type 0
+HasParts v s rest bytes = PartsFit v (parts_of s) × (bytes ≡ parts_spelling v (parts_of s) ++ rest) × (s ≡ state_of v (parts_of s))
+
+has_parts : (v : Version) (s : State) (rest bytes : List ℕ) → s.version ≡ v → IsState s → bytes ≡ state_spelling s ++ rest → HasParts v s rest bytes
+has_parts v s rest bytes is h e =
+    subst (λ u. HasParts u s rest bytes) is (parts_fit s h, e, refl)
+
+pub no_parts : (v : Version) (bytes : List ℕ) → NoneBegins (PartsFit v) (parts_spelling v) bytes → NoneBegins (IsStateIn v) state_spelling bytes
+no_parts v bytes none s rest h e =
+    let parts = has_parts v s rest bytes h.version h.state e in
+    none (parts_of s) rest parts.0 parts.1
 
 -- where the parts that were read are those of no state, no state begins the bytes
-pub no_state : (bytes : List ℕ) (p : ℕ × (ℕ × List (List ℕ × Root))) (size : ℕ) → BeginsWith PartsFit parts_spelling bytes p size → (IsState (state_of p) → ⊥) → NoneBegins IsState state_spelling bytes
-no_state bytes p size b wrong s rest h e =
-    let same : parts_of s ≡ p = alone_parts (parts_of s) p rest (drop size bytes) (parts_fit s h) b.known (sym e ∙ b.parts) in
-    wrong (subst (λ q. IsState (state_of q)) same h)
+pub no_state : (v : Version) (bytes : List ℕ) (p : ℕ × (ℕ × List (List ℕ × Root))) (size : ℕ) → BeginsWith (PartsFit v) (parts_spelling v) bytes p size → (IsState (state_of v p) → ⊥) → NoneBegins (IsStateIn v) state_spelling bytes
+no_state v bytes p size b wrong s rest h e =
+    let parts = has_parts v s rest bytes h.version h.state e in
+    let same : parts_of s ≡ p = alone_parts v (parts_of s) p rest (drop size bytes) parts.0 b.known (sym parts.1 ∙ b.parts) in
+    wrong (subst IsState (parts.2 ∙ ap (state_of v) same) h.state)
 
 -- what a state's parts are found to be once they are read
-pub record Checked (p : ℕ × (ℕ × List (List ℕ × Root))) (incarnation next : ℕ) (roots : List (List ℕ × Root)) (size : ℕ) : Type 0 where
+pub record Checked (v w : Version) (p : ℕ × (ℕ × List (List ℕ × Root))) (incarnation next : ℕ) (roots : List (List ℕ × Root)) (size : ℕ) : Type 0 where
+  pub version_is : w ≡ v
   pub incarnation_is : incarnation ≡ p.0
   pub next_is : next ≡ p.1.0
   pub roots_are : roots ≡ p.1.1
   pub last : incarnation ≤ max_counter
   pub some : 0 < next
   pub below : next ≤ max_counter
-  pub short : size ≤ max_state_bytes
+  pub short : size ≤ max_state_bytes w
   pub apart : AreRoots p.1.0 p.1.1
 
 -- the state of such parts begins the bytes
-pub is_state : (bytes : List ℕ) (p : ℕ × (ℕ × List (List ℕ × Root))) (incarnation next : ℕ) (roots : List (List ℕ × Root)) (size : ℕ) → BeginsWith PartsFit parts_spelling bytes p size → Checked p incarnation next roots size
-    → BeginsWith IsState state_spelling bytes (record { incarnation = incarnation; next = next; roots = roots }) size
-is_state bytes p incarnation next roots size b h =
-    let known : IsState (state_of p) = record {
+pub is_state : (v w : Version) (bytes : List ℕ) (p : ℕ × (ℕ × List (List ℕ × Root))) (incarnation next : ℕ) (roots : List (List ℕ × Root)) (size : ℕ) → BeginsWith (PartsFit v) (parts_spelling v) bytes p size → Checked v w p incarnation next roots size
+    → BeginsWith (IsStateIn v) state_spelling bytes (record { version = w; incarnation = incarnation; next = next; roots = roots }) size
+is_state v w bytes p incarnation next roots size b h =
+    let known : IsState (state_of v p) = record {
       incarnation = omega (arith, h.last, h.incarnation_is);
       some = omega (arith, h.some, h.next_is);
       next = omega (arith, h.below, h.next_is);
       roots = b.known.second.second;
       apart = h.apart;
-      short = omega (arith, b.whole, h.short);
+      short = omega (arith, b.whole, subst (λ u. size ≤ max_state_bytes u) h.version_is h.short);
     } in
-    let whole : BeginsWith IsState state_spelling bytes (state_of p) size = record { known = known; parts = b.parts; whole = b.whole } in
-    subst (λ s. BeginsWith IsState state_spelling bytes s size) (λ i. record { incarnation = sym h.incarnation_is i; next = sym h.next_is i; roots = sym h.roots_are i }) whole
+    let whole : BeginsWith (IsStateIn v) state_spelling bytes (state_of v p) size = record { known = record { version = refl; state = known }; parts = b.parts; whole = b.whole } in
+    subst (λ s. BeginsWith (IsStateIn v) state_spelling bytes s size) (λ i. record { version = sym h.version_is i; incarnation = sym h.incarnation_is i; next = sym h.next_is i; roots = sym h.roots_are i }) whole

@@ -1,14 +1,16 @@
 -- A command that is accepted makes another state of the one that it meets.
 -- For proofs and the ghost members of impls: a reader of definitions may skip it.
-use Rattle.std.proofs.Common.{◌≡◌, ◌≢◌, ℕ, ◌+◌, Bool, true, false, cond, ◌||◌, List, [], ◌∷◌, length, nat_lt, Option, Some, None, is_some, refl, sym, ap, subst, ◌∙◌, arith, true≢false}
+use Rattle.std.proofs.Common.{◌≡◌, ◌≢◌, ℕ, ◌+◌, Bool, true, false, cond, ◌==◌, ◌||◌, List, [], ◌∷◌, length, nat_lt, Option, Some, None, is_some, refl, sym, ap, subst, ◌∙◌, arith, true≢false}
 use Rattle.std.proofs.lemmas.Bool.{and_from, or_right}
 use Rattle.std.proofs.lemmas.Slice.Eq.{bytes_eq-Decides}
+use Rattle.std.proofs.lemmas.Cmp.{nat_eq_equiv}
 use Rattle.std.specs.Cmp.Lexicographic.{pointwise_decides}
 use Rattle.std.specs.List.{list_any}
 use Rattle.std.specs.Map.{lookup, set_value, remove_entry}
 use Rattle.std.specs.Option.{option_eq, option_map_or}
 use Rattle.std.specs.Str.{bytes_eq}
-use Rattle.wm_disk.specs.declared.refusal.Refusal.TheVariants.{NotWatched, TooMany}
+use Rattle.wm_disk.specs.declared.refusal.Refusal.TheVariants.{NotWatched, OldVersion, TooMany}
+use Rattle.wm_registry.specs.Endings.{count_fits}
 use Rattle.wm_registry.specs.Limits.{max_triggers}
 use Rattle.wm_registry.specs.Registry.{after_command, changed, changes, is_change, reply_to_trigger, unless_full}
 use Rattle.wm_registry.specs.Roots.{State, root_at, is_watched, with_triggers}
@@ -35,12 +37,17 @@ expression_itself : (a : Option (List ℕ)) → option_eq bytes_eq a a ≡ true
 expression_itself None = refl
 expression_itself (Some x) = (bytes_eq-Decides x x).1 refl
 
+count_itself : (a : Option ℕ) → option_eq ◌==◌ a a ≡ true
+count_itself None = refl
+count_itself (Some n) = nat_eq_equiv.refl n
+
 pub itself : (a : Definition) → same_definition a a ≡ true
 itself a =
     and_from _ _ ((bytes_eq-Decides a.name a.name).1 refl)
     (and_from _ _ ((pointwise_decides bytes_eq-Decides a.command a.command).1 refl)
     (and_from _ _ (expression_itself a.expression)
-    (and_from _ _ (flag_itself a.append_files) (stdin_itself a.stdin))))
+    (and_from _ _ (flag_itself a.append_files)
+    (and_from _ _ (stdin_itself a.stdin) (count_itself a.max_files_stdin)))))
 
 -- ---- a trigger that is put, and one that goes
 
@@ -101,14 +108,15 @@ at_root s path reply f h each = by (root_at path s) refl h
 
 -- a trigger that is accepted isn't there yet
 not_there : (s : State) (path : List ℕ) (t : Definition) (root : Root) → is_change (reply_to_trigger s path t root) ≡ true → list_any (same_definition t) root.triggers ≡ false
-not_there s path t root h = by (list_any (same_definition t) root.triggers) h
+not_there s path t root h = by (count_fits s.version t.max_files_stdin) (list_any (same_definition t) root.triggers) h
   where
     new : State
     new = with_triggers s path root (defined t root.triggers)
 
-    by : (b : Bool) → is_change (cond b Unchanged (cond (has_trigger t.name root.triggers) (unless_full new Replaced) (cond (nat_lt (length root.triggers) max_triggers) (unless_full new Changed) (Refused TooMany)))) ≡ true → b ≡ false
-    by true q = absurd (true≢false (sym q))
-    by false q = refl
+    by : (p b : Bool) → is_change (cond p (cond b Unchanged (cond (has_trigger t.name root.triggers) (unless_full new Replaced) (cond (nat_lt (length root.triggers) max_triggers) (unless_full new Changed) (Refused TooMany)))) (Refused OldVersion)) ≡ true → b ≡ false
+    by false b q = absurd (true≢false (sym q))
+    by true true q = absurd (true≢false (sym q))
+    by true false q = refl
 
 defined_is_other : (s : State) (path : List ℕ) (t : Definition) (root : Root) → root_at path s ≡ Some root → is_change (reply_to_trigger s path t root) ≡ true → with_triggers s path root (defined t root.triggers) ≢ s
 defined_is_other s path t root at h e =

@@ -28,7 +28,3 @@ max_expression = 4096
 -- the most commands of a batch
 abbrev pub max_batch : ℕ
 max_batch = 64
-
--- the most bytes of an encoded registry: as many as a slot of a state file of version 1 holds
-abbrev pub max_state_bytes : ℕ
-max_state_bytes = 1048563

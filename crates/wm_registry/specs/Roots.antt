@@ -4,9 +4,11 @@ use Rattle.std.specs.Map.{lookup, set_value, remove_entry}
 use Rattle.std.specs.Str.{bytes_eq}
 use Rattle.wm_registry.specs.declared.root.Root.{Root}
 use Rattle.wm_registry.specs.Triggers.{Definition}
+use Rattle.wm_registry.specs.declared.version.Version.{Version}
 
--- the incarnation, the next root number, and the roots by their paths, in order of watching
+-- the version of the file that it is kept in, the incarnation, the next root number, and the roots by their paths, in order of watching
 pub record State : Type 0 where
+  pub version : Version
   pub incarnation : ℕ
   pub next : ℕ
   pub roots : List (List ℕ × Root)

@@ -1,9 +1,10 @@
 -- Triggers, and the triggers of a root: each name is there once, in order of first definition.
-use Rattle.std.specs.Prelude.{ℕ, Bool, true, false, ◌&&◌, List, [], ◌∷◌, length, nat_lt, nat_le, if◌then◌else◌, Option, Some, None}
+use Rattle.std.specs.Prelude.{ℕ, Bool, true, false, ◌&&◌, List, [], ◌∷◌, ◌==◌, length, nat_lt, nat_le, if◌then◌else◌, Option, Some, None}
 use Rattle.std.specs.List.{list_any, list_all}
 use Rattle.std.specs.Str.{bytes_eq}
 use Rattle.std.specs.Option.{option_eq}
 use Rattle.std.specs.Cmp.Lexicographic.{pointwise}
+use Rattle.wm_registry.specs.Endings.{is_file_count}
 use Rattle.wm_registry.specs.Limits.{max_trigger_name, max_words, max_word, max_expression}
 use Rattle.wm_registry.specs.declared.stdin.Stdin.{Stdin}
 use Rattle.wm_registry.specs.declared.stdin.Stdin.TheVariants.{DevNull, NamePerLine}
@@ -15,6 +16,8 @@ pub record Definition : Type 0 where
   pub expression : Option (List ℕ)
   pub append_files : Bool
   pub stdin : Stdin
+  -- the most names that it tells the program by its standard input
+  pub max_files_stdin : Option ℕ
 
 -- the first word isn't empty
 abbrev pub has_program : List (List ℕ) → Bool
@@ -37,7 +40,7 @@ same_stdin NamePerLine NamePerLine = true
 abbrev pub same_definition : Definition → Definition → Bool
 same_definition a b =
     bytes_eq a.name b.name && (pointwise bytes_eq a.command b.command && (option_eq bytes_eq a.expression b.expression
-    && (same_flag a.append_files b.append_files && same_stdin a.stdin b.stdin)))
+    && (same_flag a.append_files b.append_files && (same_stdin a.stdin b.stdin && option_eq ◌==◌ a.max_files_stdin b.max_files_stdin))))
 
 -- the trigger has the name
 abbrev pub is_named : List ℕ → Definition → Bool
@@ -72,8 +75,8 @@ is_expression_text None = true
 is_expression_text (Some text) = nat_le (length text) max_expression
 
 abbrev pub is_trigger : Definition → Bool
-is_trigger t = is_name t.name && (is_command t.command && is_expression_text t.expression)
+is_trigger t = is_name t.name && (is_command t.command && (is_expression_text t.expression && is_file_count t.max_files_stdin))
 
-abbrev pub definition : List ℕ → List (List ℕ) → Option (List ℕ) → Bool → Stdin → Definition
-definition name command expression append_files stdin =
-    record { name = name; command = command; expression = expression; append_files = append_files; stdin = stdin }
+abbrev pub definition : List ℕ → List (List ℕ) → Option (List ℕ) → Bool → Stdin → Option ℕ → Definition
+definition name command expression append_files stdin most =
+    record { name = name; command = command; expression = expression; append_files = append_files; stdin = stdin; max_files_stdin = most }

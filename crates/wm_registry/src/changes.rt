@@ -9,14 +9,14 @@ ghost use Rattle.wm_registry.specs.Registry.{after_command, changed, is_change, 
 use crate::path_spelling::path_size;
 use crate::registry::Registry;
 use crate::reply::Reply;
-use crate::root::{self, Root};
+use crate::root::{self, Root, triggers_size};
 use crate::roots::put_new;
 use crate::trigger::Trigger;
 use crate::trigger_name::TriggerName;
 use std::alloc::Global;
 use wm_disk::{NoMemory, Refusal};
 use wm_names::RootPath;
-use wm_wire::{List, Wire};
+use wm_wire::List;
 
 impl Registry {
     /// Begins the next incarnation, where it isn't the last.
@@ -64,7 +64,7 @@ impl Registry {
     {
         match self.roots.shift_remove(path) {
             Some(root) => {
-                self.size -= root::root_size(path, &root);
+                self.size -= root::root_size(self.version, path, &root);
                 Reply::Changed
             }
             None => Reply::Refused(Refusal::NotWatched),
@@ -95,9 +95,9 @@ impl Registry {
     {
         let trigger = trigger.copy()?;
         if let Some(root) = self.roots.get_mut(path) {
-            let before = root.triggers.size();
+            let before = triggers_size(self.version, &root.triggers);
             root::define(&mut root.triggers, trigger)?;
-            self.size = self.size - before + root.triggers.size();
+            self.size = self.size - before + triggers_size(self.version, &root.triggers);
         }
         Ok(())
     }
@@ -107,9 +107,9 @@ impl Registry {
         ensures { self.new ≡ changed self.old (commands.TriggerDel path.now name.now) }
     {
         if let Some(root) = self.roots.get_mut(path) {
-            let before = root.triggers.size();
+            let before = triggers_size(self.version, &root.triggers);
             root::forget(&mut root.triggers, name.as_str());
-            self.size = self.size - before + root.triggers.size();
+            self.size = self.size - before + triggers_size(self.version, &root.triggers);
         }
     }
 }

@@ -15,7 +15,6 @@ use std::alloc::Global;
 use std::marker::Model;
 use wm_disk::{NoMemory, Refusal};
 use wm_names::RootPath;
-use wm_wire::Wire;
 
 /// A registry under commands that are tried one after another. Roots that go from the front one after
 /// another are taken out together, since each that goes alone moves all behind it. Contracts see the
@@ -84,7 +83,7 @@ impl Draft {
         if path != first {
             return false;
         }
-        self.less += root::root_size(path, root);
+        self.less += root::root_size(self.registry.version(), path, root);
         self.gone += 1;
         true
     }

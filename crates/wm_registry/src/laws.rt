@@ -1,6 +1,6 @@
 //! What holds of every registry: a function that does nothing, there for its contract alone.
 //! Definitions: specs/Laws.antt.
-ghost use Rattle.wm_registry.specs.Laws.{AcceptedChanges, NumbersInOrder, NumbersRise, OthersLeave, SameIsEqual};
+ghost use Rattle.wm_registry.specs.Laws.{AcceptedArePlaced, AcceptedChanges, NumbersInOrder, NumbersRise, OthersLeave, SameIsEqual, VersionStays};
 
 /// What holds of every registry, whatever the commands are.
 pub fn every_registry()
@@ -12,4 +12,6 @@ pub fn every_registry()
     // A command is accepted exactly where it changes the registry.
     ensures accepted { AcceptedChanges }
     ensures others { OthersLeave }
+    ensures version { VersionStays }
+    ensures placed { AcceptedArePlaced }
 {}

@@ -21,6 +21,3 @@ pub const MAX_EXPRESSION: u16 = 4096;
 
 /// The most commands of a batch.
 pub const MAX_BATCH: usize = 64;
-
-/// The most bytes of an encoded registry: as many as a slot of a state file of version 1 holds.
-pub const MAX_STATE_BYTES: u64 = 1_048_563;

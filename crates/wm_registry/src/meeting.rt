@@ -7,10 +7,10 @@ ghost use Rattle.wm_registry.specs.Registry.{reply_to as reply_to_lem, reply_to_
 ghost use Rattle.wm_registry.specs.Roots.{is_watched, root_at};
 ghost use Rattle.wm_registry.specs.Spelling.{state_spelling};
 ghost use Rattle.wm_registry.specs.Triggers.{has_trigger};
-ghost use Rattle.wm_registry.specs.Limits.{max_state_bytes};
+ghost use Rattle.wm_registry.specs.Versions.{max_state_bytes};
 
 use crate::command::Command;
-use crate::limits::{MAX_ROOTS, MAX_STATE_BYTES, MAX_TRIGGERS};
+use crate::limits::{MAX_ROOTS, MAX_TRIGGERS};
 use crate::path_spelling::path_size;
 use crate::registry::Registry;
 use crate::reply::Reply;
@@ -18,7 +18,6 @@ use crate::root::{self, Root};
 use crate::trigger::Trigger;
 use wm_disk::{MAX_COUNTER, Refusal};
 use wm_names::RootPath;
-use wm_wire::Wire;
 
 /// How the name of a trigger that is to go is met.
 fn reply_to_trigger_del(root: &Root, name: &str) -> Reply
@@ -31,10 +30,11 @@ fn reply_to_trigger_del(root: &Root, name: &str) -> Reply
 }
 
 impl Registry {
-    /// How a command would be met. `NotWatched` where its root isn't watched, `TooMany` where
-    /// `MAX_ROOTS` roots are watched or the root has `MAX_TRIGGERS` triggers, `Exhausted` where the
-    /// incarnation or the next root number is spent, `Full` where the new registry's spelling would have
-    /// more than `MAX_STATE_BYTES`.
+    /// How a command would be met. `NotWatched` where its root isn't watched, `OldVersion` where a
+    /// trigger has a number of files and the version is 1, `TooMany` where `MAX_ROOTS` roots are watched
+    /// or the root has `MAX_TRIGGERS` triggers, `Exhausted` where the incarnation or the next root number
+    /// is spent, `Full` where the new registry's spelling would have more bytes than the version's
+    /// `max_state_bytes`.
     pub fn reply_to(&self, command: &Command) -> Reply
         ensures { result ≡ reply_to_lem self.now command.now }
     {
@@ -63,9 +63,9 @@ impl Registry {
     fn unless_full(&self, more: u64, less: u64, reply: Reply) -> Reply
         requires more { more < 2 ^ 33 }
         requires less { less ≤ length (state_spelling self.now) }
-        ensures { result ≡ (if nat_lt max_state_bytes (length (state_spelling self.now) + more - less) then Reply.Refused Refusal.Full else reply) }
+        ensures { result ≡ (if nat_lt (max_state_bytes self.now.version) (length (state_spelling self.now) + more - less) then Reply.Refused Refusal.Full else reply) }
     {
-        if self.size + more - less > MAX_STATE_BYTES {
+        if self.size + more - less > self.version.max_state_bytes() {
             Reply::Refused(Refusal::Full)
         } else {
             reply
@@ -108,20 +108,23 @@ impl Registry {
         requires { root_at path.now self.now ≡ Some root.now }
         ensures { result ≡ reply_to_trigger_lem self.now path.now trigger.now root.now }
     {
+        if !trigger.fits_version(self.version) {
+            return Reply::Refused(Refusal::OldVersion);
+        }
         let triggers = root.triggers.as_slice();
         if root::is_defined(triggers, trigger) {
             return Reply::Unchanged;
         }
         match root::place_of(triggers, trigger.name()) {
             Some(place) => {
-                let old = triggers[place].size();
-                self.unless_full(trigger.size(), old, Reply::Replaced)
+                let old = triggers[place].size_as(self.version);
+                self.unless_full(trigger.size_as(self.version), old, Reply::Replaced)
             }
             None => {
                 if triggers.len() >= MAX_TRIGGERS as usize {
                     return Reply::Refused(Refusal::TooMany);
                 }
-                self.unless_full(trigger.size(), 0, Reply::Changed)
+                self.unless_full(trigger.size_as(self.version), 0, Reply::Changed)
             }
         }
     }

@@ -1,26 +1,29 @@
 //! The watched roots with the counters beside them, and the one call that changes them.
 //! Definitions: specs/Registry.antt, specs/Roots.antt. Tests: registry_tests/src/registries.rt.
-ghost use Rattle.std.specs.Prelude.{◌≡◌, ◌≢◌, [], true, IfOk, OnOk};
+ghost use Rattle.std.specs.Prelude.{◌≡◌, ◌≢◌, [], true, length, IfOk, OnOk};
 
 use crate::command::Command;
 use crate::limits::MAX_BATCH;
 use crate::reply::Reply;
 use crate::root::Root;
 use crate::roots::put_new;
+use crate::version::Version;
 use indexmap::IndexMap;
 use std::alloc::Global;
 use std::marker::Model;
 use wm_disk::{NoMemory, Refusal};
 use wm_names::RootPath;
 
-/// The watched roots in order of watching, each with its triggers, the next root number, and the
-/// incarnation: how often the server has begun. Contracts see it as a `State`.
+/// The watched roots in order of watching, each with its triggers, the next root number, the
+/// incarnation, which is how often the server has begun, and the version of the state file, which no
+/// command changes. Contracts see it as a `State`.
 #[derive(Drop)]
 pub struct Registry {
+    pub(crate) version: Version,
     pub(crate) incarnation: u64,
     pub(crate) next: u64,
     pub(crate) roots: IndexMap<RootPath, Root>,
-    // how many bytes the spelling has
+    // how many bytes the spelling has in a file of the version
     pub(crate) size: u64,
 }
 
@@ -31,9 +34,9 @@ impl Model for Registry {
 
     ghost Value = { State };
 
-    ghost view = { λ r. record { incarnation = r.incarnation; next = r.next; roots = r.roots.entries } };
+    ghost view = { λ r. record { version = r.version; incarnation = r.incarnation; next = r.next; roots = r.roots.entries } };
 
-    ghost invariant = { λ r. IsState (record { incarnation = r.incarnation; next = r.next; roots = r.roots.entries }) × (r.size ≡ length (state_spelling (record { incarnation = r.incarnation; next = r.next; roots = r.roots.entries }))) };
+    ghost invariant = { λ r. IsState (record { version = r.version; incarnation = r.incarnation; next = r.next; roots = r.roots.entries }) × (r.size ≡ length (state_spelling (record { version = r.version; incarnation = r.incarnation; next = r.next; roots = r.roots.entries }))) };
 }
 
 /// The same roots again.
@@ -67,17 +70,34 @@ fn put_copies(
 
 impl Registry {
     ghost use Rattle.wm_registry.specs.Registry.{after_command, empty_registry, is_change, reply_to};
+    ghost use Rattle.wm_registry.specs.Spelling.{IsState, state_spelling};
 
-    /// The registry of a new file: no roots, incarnation 0, and 1 as the next root number.
-    pub fn new(alloc: Global) -> Registry
-        ensures { result ≡ empty_registry }
+    /// The registry of a new file of the version: no roots, incarnation 0, and 1 as the next root number.
+    pub fn new(alloc: Global, version: Version) -> Registry
+        ensures { result ≡ empty_registry version }
     {
         Registry {
+            version,
             incarnation: 0,
             next: 1,
             roots: IndexMap::new(alloc),
             size: 20,
         }
+    }
+
+    /// The version of the state file.
+    pub fn version(&self) -> Version
+        ensures { result ≡ self.now.version }
+    {
+        self.version
+    }
+
+    /// How many bytes the spelling has in a file of the version.
+    pub fn size(&self) -> u64
+        ensures exact { result ≡ length (state_spelling self.now) }
+        ensures fits { IsState self.now }
+    {
+        self.size
     }
 
     /// How often the server has begun.
@@ -107,6 +127,7 @@ impl Registry {
     {
         let roots = copied(alloc, &self.roots)?;
         Ok(Registry {
+            version: self.version,
             incarnation: self.incarnation,
             next: self.next,
             roots,

@@ -8,12 +8,15 @@ ghost use Rattle.std.specs.List.{list_any, IsDistinct};
 ghost use Rattle.wm_wire.specs.Spelling.{IsList, list_spelling};
 ghost use Rattle.wm_registry.specs.Limits.{max_triggers};
 ghost use Rattle.wm_registry.specs.PathSpelling.{IsPath};
+ghost use Rattle.wm_registry.specs.Placing.{ArePlaced};
 ghost use Rattle.wm_registry.specs.Spelling.{IsTrigger, names_of, root_spelling, trigger_spelling};
+ghost use Rattle.wm_registry.specs.declared.version.Version.TheVariants.{Two};
 ghost use Rattle.wm_registry.specs.Triggers.{defined, is_named, same_definition, without};
 
 use crate::limits::MAX_TRIGGERS;
 use crate::path_spelling::{path_size, put_path};
 use crate::trigger::Trigger;
+use crate::version::Version;
 use std::alloc::Global;
 use wm_disk::NoMemory;
 use wm_names::RootPath;
@@ -47,7 +50,7 @@ pub(crate) fn define(
     trigger: Trigger,
 ) -> Result<(), NoMemory>
     requires count { length (defined trigger triggers.old) ≤ max_triggers }
-    requires short { length (list_spelling trigger_spelling (defined trigger triggers.old)) < 2 ^ 32 }
+    requires short { length (list_spelling (trigger_spelling Two) (defined trigger triggers.old)) < 2 ^ 32 }
     ensures ok { OnOk result (triggers.new ≡ defined trigger triggers.old) }
     ensures err { OnErr result (triggers.new ≡ triggers.old) }
 {
@@ -102,24 +105,62 @@ impl Root {
     }
 }
 
-/// How many bytes the spelling of a path with its root has.
-pub(crate) fn root_size(path: &RootPath, root: &Root) -> u64
-    ensures exact { result ≡ length (root_spelling (path.now, root.now)) }
+/// How many bytes the spelling of a root's triggers has in a file of the version, which has a place for each.
+pub(crate) fn triggers_size(version: Version, triggers: &List<Trigger, MAX_TRIGGERS>) -> u64
+    requires { ArePlaced version triggers.now }
+    ensures exact { result ≡ length (list_spelling (trigger_spelling version) triggers.now) }
+    ensures fits { IsList max_triggers (IsTrigger version) (trigger_spelling version) triggers.now }
+{
+    let size = triggers.size();
+    match version {
+        // in version 2 each has one byte more
+        Version::One => size - triggers.len() as u64,
+        Version::Two => size,
+    }
+}
+
+/// How many bytes the spelling of a path with its root has in a file of the version, which has a place
+/// for each of its triggers.
+pub(crate) fn root_size(version: Version, path: &RootPath, root: &Root) -> u64
+    requires { ArePlaced version root.now.triggers }
+    ensures exact { result ≡ length (root_spelling version (path.now, root.now)) }
     ensures fits { IsPath path.now }
-    ensures triggers { IsList max_triggers IsTrigger trigger_spelling root.now.triggers }
+    ensures triggers { IsList max_triggers (IsTrigger version) (trigger_spelling version) root.now.triggers }
     ensures short { result < 2 ^ 33 }
 {
-    path_size(path) + 8 + root.triggers.size()
+    path_size(path) + 8 + triggers_size(version, &root.triggers)
+}
+
+/// Appends the spelling of a root's triggers in a file of the version, and may stop between two.
+fn put_triggers(
+    version: Version,
+    triggers: &List<Trigger, MAX_TRIGGERS>,
+    out: &mut Vec<u8>,
+) -> Result<(), NoMemory>
+    ensures ok { OnOk result (out.new.items ≡ out.old.items ++ list_spelling (trigger_spelling version) triggers.now) }
+    ensures err { OnErr result (take (length out.old.items) out.new.items ≡ out.old.items) }
+{
+    let items = triggers.as_slice();
+    (items.len() as u32).put(out)?;
+    for trigger in items {
+        trigger.put_as(version, out)?;
+    }
+    Ok(())
 }
 
 /// Appends the spelling of a path with its root, and may stop between two parts.
-pub(crate) fn put_root(path: &RootPath, root: &Root, out: &mut Vec<u8>) -> Result<(), NoMemory>
-    ensures ok { OnOk result (out.new.items ≡ out.old.items ++ root_spelling (path.now, root.now)) }
+pub(crate) fn put_root(
+    version: Version,
+    path: &RootPath,
+    root: &Root,
+    out: &mut Vec<u8>,
+) -> Result<(), NoMemory>
+    ensures ok { OnOk result (out.new.items ≡ out.old.items ++ root_spelling version (path.now, root.now)) }
     ensures err { OnErr result (take (length out.old.items) out.new.items ≡ out.old.items) }
 {
     put_path(path, out)?;
     root.number.put(out)?;
-    root.triggers.put(out)
+    put_triggers(version, &root.triggers, out)
 }
 
 /// Whether no two triggers have one name.

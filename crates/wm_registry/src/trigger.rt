@@ -1,64 +1,69 @@
 //! A trigger: the program that is to be started where files change, within its limits.
-//! Definitions: specs/Triggers.antt, specs/Spelling.antt.
+//! Definitions: specs/Triggers.antt, specs/Endings.antt.
 //! Tests: registry_tests/src/triggers.rt, registry_tests/src/trigger_lengths.rt.
-ghost use Rattle.std.specs.Prelude.{◌≡◌, ◌≢◌, ◌↔◌, ◌++◌, List, true, false, take, length, map, nat_le, OnOk, OnErr, IfOk, IfErr, IsErrOf};
+ghost use Rattle.std.specs.Prelude.{◌≡◌, ◌≢◌, ◌↔◌, List, true, false, length, map, nat_le, IfOk, IfErr, IsErrOf};
 ghost use Rattle.std.specs.List.{list_all};
 ghost use Rattle.std.specs.Option.{option_map};
+ghost use Rattle.wm_registry.specs.Endings.{count_fits, is_file_count as is_file_count_lem};
 ghost use Rattle.wm_registry.specs.Limits.{max_word};
-ghost use Rattle.wm_registry.specs.Spelling.{IsTrigger, trigger_spelling};
-ghost use Rattle.wm_registry.specs.TriggerLaws.{alone_trigger, short_trigger};
+ghost use Rattle.wm_registry.specs.Spelling.{IsTrigger};
+ghost use Rattle.wm_registry.specs.declared.version.Version.TheVariants.{Two};
 ghost use Rattle.wm_registry.specs.Triggers.{has_program as has_program_lem, is_command as is_command_lem, is_expression_text, is_trigger, same_definition};
 
+use crate::ending::{fits_version, is_file_count};
 use crate::limits::{MAX_EXPRESSION, MAX_WORD, MAX_WORDS};
 use crate::stdin::Stdin;
 use crate::trigger_name::{TriggerName, is_name};
+use crate::version::Version;
 use std::alloc::Global;
 use std::marker::Model;
 use std::sync::Arc;
 use wm_disk::{NoMemory, Refusal};
-use wm_wire::{List, Optional, Pair, Text, Wire};
+use wm_wire::{List, Optional, Text};
 
 /// A word of a command.
 pub type Word = Text<MAX_WORD>;
 
 /// The words of a command.
-type Words = List<Word, MAX_WORDS>;
+pub(crate) type Words = List<Word, MAX_WORDS>;
 
 /// The text of an expression, which may be missing.
-type Expression = Optional<Text<MAX_EXPRESSION>>;
+pub(crate) type Expression = Optional<Text<MAX_EXPRESSION>>;
 
 /// A program that is to be started where files of a root change: 1 to 16 words of at most 1,024 bytes,
-/// the first of them not empty, and perhaps an expression of at most 4,096 bytes, which chooses the
-/// files. A trigger and its copies share their parts, also in several threads. Contracts see it as a
+/// the first of them not empty; perhaps an expression of at most 4,096 bytes, which chooses the files;
+/// and perhaps the most files that the program's standard input names, at least 1. A trigger and its copies share their parts, also in several threads. Contracts see it as a
 /// `Definition`.
 #[derive(Drop)]
 pub struct Trigger {
-    parts: Arc<Parts>,
+    pub(crate) parts: Arc<Parts>,
 }
 
 /// The parts of a trigger.
 #[derive(Drop)]
-struct Parts {
-    name: TriggerName,
-    command: Words,
-    expression: Expression,
-    append_files: bool,
-    stdin: Stdin,
+pub(crate) struct Parts {
+    pub(crate) name: TriggerName,
+    pub(crate) command: Words,
+    pub(crate) expression: Expression,
+    pub(crate) append_files: bool,
+    pub(crate) stdin: Stdin,
+    pub(crate) max_files_stdin: Optional<u32>,
 }
 
 impl Model for Trigger {
+    ghost use Rattle.wm_registry.specs.Endings.{is_file_count};
     ghost use Rattle.wm_registry.specs.Triggers.{Definition, has_program};
     ghost use Rattle.std.specs.Prelude.{◌≡◌, true};
 
     ghost Value = { Definition };
 
-    ghost view = { λ t. record { name = t.parts.value.name; command = t.parts.value.command; expression = t.parts.value.expression; append_files = t.parts.value.append_files; stdin = t.parts.value.stdin } };
+    ghost view = { λ t. record { name = t.parts.value.name; command = t.parts.value.command; expression = t.parts.value.expression; append_files = t.parts.value.append_files; stdin = t.parts.value.stdin; max_files_stdin = t.parts.value.max_files_stdin } };
 
-    ghost invariant = { λ t. has_program t.parts.value.command ≡ true };
+    ghost invariant = { λ t. (has_program t.parts.value.command ≡ true) × (is_file_count t.parts.value.max_files_stdin ≡ true) };
 }
 
 /// Whether there is a first word, and it isn't empty.
-fn has_program(words: &[Word]) -> bool
+pub(crate) fn has_program(words: &[Word]) -> bool
     ensures { result ≡ has_program_lem words.now }
 {
     match words {
@@ -70,10 +75,11 @@ fn has_program(words: &[Word]) -> bool
 impl Trigger {
     ghost use Rattle.wm_registry.specs.Triggers.{definition};
 
-    /// The trigger with this name, this command of a program and its words, and this expression.
-    /// `BadTrigger` where a rule is broken: the name has 1 to 64 bytes, the command 1 to 16 words of at
-    /// most 1,024 bytes with the first not empty, the expression at most 4,096 bytes. The rules come
-    /// first, so that `NoMemory` is for a trigger that keeps them.
+    /// The trigger with this name, this command of a program and its words, this expression, and the
+    /// most files whose names the program is to read, if there is such a number. `BadTrigger` where a
+    /// rule is broken: the name has 1 to 64 bytes, the command 1 to 16 words of at most 1,024 bytes
+    /// with the first not empty, the expression at most 4,096 bytes, and the number isn't 0. The rules
+    /// come first, so that `NoMemory` is for a trigger that keeps them.
     pub fn new(
         alloc: Global,
         name: &str,
@@ -81,32 +87,40 @@ impl Trigger {
         expression: Option<&str>,
         append_files: bool,
         stdin: Stdin,
+        max_files_stdin: Option<u32>,
     ) -> Result<Trigger, Refusal>
-        ensures ok { IfOk result (λ t. t ≡ definition name.now (map (λ w. w.now) command.now) (option_map (λ t. t.now) expression.entry) append_files stdin) }
-        ensures fits { IfOk result IsTrigger }
-        ensures refused { IsErrOf result Refusal.BadTrigger ↔ (is_trigger (definition name.now (map (λ w. w.now) command.now) (option_map (λ t. t.now) expression.entry) append_files stdin) ≡ false) }
+        ensures ok { IfOk result (λ t. t ≡ definition name.now (map (λ w. w.now) command.now) (option_map (λ t. t.now) expression.entry) append_files stdin max_files_stdin) }
+        ensures fits { IfOk result (IsTrigger Two) }
+        ensures refused { IsErrOf result Refusal.BadTrigger ↔ (is_trigger (definition name.now (map (λ w. w.now) command.now) (option_map (λ t. t.now) expression.entry) append_files stdin max_files_stdin) ≡ false) }
         ensures kinds { IfErr result (λ e. e ≢ Refusal.NoMemory → e ≡ Refusal.BadTrigger) }
     {
-        if !is_name(name) || !is_command(command) || !is_expression(expression) {
+        if !is_name(name)
+            || !is_command(command)
+            || !is_expression(expression)
+            || !is_file_count(max_files_stdin)
+        {
             return Err(Refusal::BadTrigger);
         }
         let name = TriggerName::read(alloc, name)?;
         let command = read_words(alloc, command)?;
         let expression = read_expression(alloc, expression)?;
+        let max_files_stdin = read_count(max_files_stdin)?;
         let parts = Parts {
             name,
             command,
             expression,
             append_files,
             stdin,
+            max_files_stdin,
         };
         Ok(Trigger::of(alloc, parts)?)
     }
 
     /// The trigger of these parts.
-    fn of(alloc: Global, parts: Parts) -> Result<Trigger, NoMemory>
-        requires { has_program_lem parts.command ≡ true }
-        ensures { IfOk result (λ t. t ≡ definition parts.name parts.command parts.expression parts.append_files parts.stdin) }
+    pub(crate) fn of(alloc: Global, parts: Parts) -> Result<Trigger, NoMemory>
+        requires program { has_program_lem parts.command ≡ true }
+        requires count { is_file_count_lem parts.max_files_stdin ≡ true }
+        ensures { IfOk result (λ t. t ≡ definition parts.name parts.command parts.expression parts.append_files parts.stdin parts.max_files_stdin) }
     {
         let parts = Arc::new(alloc, parts)?;
         Ok(Trigger { parts })
@@ -150,6 +164,21 @@ impl Trigger {
         self.parts.stdin
     }
 
+    /// The most files whose names the program is to read from its standard input, the first ones of an
+    /// answer: at least 1. `None` for all of them.
+    pub fn max_files_stdin(&self) -> Option<u32>
+        ensures { result ≡ self.now.max_files_stdin }
+    {
+        self.parts.max_files_stdin.as_option().copied()
+    }
+
+    /// Whether a file of the version has a place for it: a number of files has none in version 1.
+    pub(crate) fn fits_version(&self, version: Version) -> bool
+        ensures { result ≡ count_fits version self.now.max_files_stdin }
+    {
+        fits_version(version, self.max_files_stdin())
+    }
+
     /// Whether the other is defined in the same way.
     pub fn is_same(&self, other: &Trigger) -> bool
         ensures { result ≡ same_definition self.now other.now }
@@ -159,6 +188,7 @@ impl Trigger {
             && self.expression() == other.expression()
             && self.parts.append_files == other.parts.append_files
             && self.parts.stdin.is_same(other.parts.stdin)
+            && self.max_files_stdin() == other.max_files_stdin()
     }
 
     /// The same trigger again, which shares its parts. `NoMemory` comes only where they have 2^63 - 1
@@ -169,66 +199,6 @@ impl Trigger {
         let parts = self.parts.clone()?;
         Ok(Trigger { parts })
     }
-
-    /// Appends the parts one after another, and may stop between two.
-    fn put_parts(&self, out: &mut Vec<u8>) -> Result<(), NoMemory>
-        ensures ok { OnOk result (out.new.items ≡ out.old.items ++ trigger_spelling self.now) }
-        ensures err { OnErr result (take (length out.old.items) out.new.items ≡ out.old.items) }
-    {
-        self.parts.name.put(out)?;
-        self.parts.command.put(out)?;
-        self.parts.expression.put(out)?;
-        self.parts.append_files.put(out)?;
-        self.parts.stdin.put(out)
-    }
-}
-
-/// The parts of a trigger, in the order of its spelling.
-type Spelled = Pair<TriggerName, Pair<Words, Pair<Expression, Pair<bool, Stdin>>>>;
-
-impl Wire for Trigger {
-    ghost fits = { IsTrigger };
-
-    ghost spelling = { trigger_spelling };
-
-    fn put(&self, out: &mut Vec<u8>) -> Result<(), NoMemory> {
-        let start = out.len();
-        if self.put_parts(out).is_err() {
-            out.truncate(start);
-            return Err(NoMemory);
-        }
-        Ok(())
-    }
-
-    fn size(&self) -> u64 {
-        self.parts.name.size() + self.parts.command.size() + self.parts.expression.size() + 2
-    }
-
-    fn take(alloc: Global, bytes: &[u8]) -> Result<Option<(Self, usize)>, NoMemory> {
-        let Some((parts, size)) = Spelled::take(alloc, bytes)? else {
-            return Ok(None);
-        };
-        let (name, rest) = parts.into_parts();
-        let (command, rest) = rest.into_parts();
-        let (expression, rest) = rest.into_parts();
-        let (append_files, stdin) = rest.into_parts();
-        if !has_program(command.as_slice()) {
-            return Ok(None);
-        }
-        let parts = Parts {
-            name,
-            command,
-            expression,
-            append_files,
-            stdin,
-        };
-        let trigger = Trigger::of(alloc, parts)?;
-        Ok(Some((trigger, size)))
-    }
-
-    ghost alone = { alone_trigger };
-
-    ghost short = { short_trigger };
 }
 
 /// Whether these are 1 to 16 words of at most 1,024 bytes, the first of them not empty.
@@ -283,6 +253,19 @@ fn read_expression(alloc: Global, text: Option<&str>) -> Result<Expression, NoMe
     };
     match Optional::some(Text::new(alloc, text)?) {
         Ok(expression) => Ok(expression),
+        Err(_) => Err(NoMemory),
+    }
+}
+
+/// The number, where there is one.
+fn read_count(count: Option<u32>) -> Result<Optional<u32>, NoMemory>
+    ensures { IfOk result (λ o. o ≡ count) }
+{
+    let Some(count) = count else {
+        return Ok(Optional::none());
+    };
+    match Optional::some(count) {
+        Ok(count) => Ok(count),
         Err(_) => Err(NoMemory),
     }
 }

@@ -1,5 +1,6 @@
 use Rattle.wm_registry.specs.ChangeLaws.{accepted_changes}
 use Rattle.wm_registry.specs.MachineLaws.{idle_registry}
+use Rattle.wm_registry.specs.VersionLaws.{accepted_placed, same_version}
 use Rattle.wm_registry.proofs.Definitions.{equal_definitions}
 use Rattle.wm_registry.proofs.Numbers.{in_order, rises_more}
 use Rattle.wm_registry.proofs.laws.every_registry.Goals as goal
@@ -18,3 +19,9 @@ returns-clause-accepted c = accepted_changes
 
 pub returns-clause-others : goal.returns-clause-others
 returns-clause-others c = idle_registry
+
+pub returns-clause-version : goal.returns-clause-version
+returns-clause-version c = same_version
+
+pub returns-clause-placed : goal.returns-clause-placed
+returns-clause-placed c = accepted_placed

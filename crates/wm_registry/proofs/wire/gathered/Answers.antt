@@ -14,10 +14,10 @@ use Rattle.wm_registry.proofs.wire.gathered.Goals as goal
 use Rattle.wm_registry.proofs.wire.gathered.Goals.{then-root-next-via-then-root-next, then-root-next-via-else-root-next+then-contains_key, then-root-next-via-else-root-next+else-contains_key+then-has_number}
 
 pub loop-entry-init : goal.loop-entry-init
-loop-entry-init c = record { gathered = c.in_ok-roots.ensures.empty; apart = AreRoots-none c.args.next }
+loop-entry-init g c = record { gathered = c.in_ok-roots.ensures.empty; apart = AreRoots-none c.args.next }
 
 pub returns-then-root-next-clause-none : goal.returns-then-root-next-clause-none
-returns-then-root-next-clause-none c =
+returns-then-root-next-clause-none g c =
     let all = c.args.entries in
     let seen = c.loop-entry.yielded in
     let given = c.into_iter-entry-iterator.ensures.into_iter_gives in
@@ -39,7 +39,7 @@ returns-then-root-next-clause-none c =
     ]
 
 pub loop-entry-preserved : goal.loop-entry-preserved
-loop-entry-preserved c =
+loop-entry-preserved g c =
     let seen = c.loop-entry.yielded in
     let roots = c.loop-entry.roots in
     let gathered = c.loop-entry.invariant.gathered in

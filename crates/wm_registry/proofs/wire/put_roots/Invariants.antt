@@ -4,6 +4,6 @@ use Rattle.wm_registry.proofs.wire.put_roots.Given as goal
 
 abbrev pub invariant-loop-path : goal.invariant-loop-path
 invariant-loop-path l = record {
-  whole : l.out.items ++ flat_map root_spelling l.path-iterator ≡ l.fn.out.items ++ flat_map root_spelling l.roots.entries;
+  whole : l.out.items ++ flat_map (root_spelling l.version) l.path-iterator ≡ l.fn.out.items ++ flat_map (root_spelling l.version) l.roots.entries;
   front : take (length l.fn.out.items) l.out.items ≡ l.fn.out.items;
 }

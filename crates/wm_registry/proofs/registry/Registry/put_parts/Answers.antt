@@ -11,7 +11,7 @@ returns-clause-ok c =
     let count : c.put-3.new.out.items ≡ c.put-2.new.out.items ++ big_bytes 4 (length s.roots.entries) = c.in_ok-put-3.ensures.ok ∙ ap (λ n. c.put-2.new.out.items ++ big_bytes 4 n) c.len.ensures.len in
     rw (← c.self.view_is)
     (on_ok_weaker c.put_roots.result
-    (four_parts c.args.out.now.items (big_bytes 8 s.incarnation) (big_bytes 8 s.next) (big_bytes 4 (length s.roots.entries)) (flat_map root_spelling s.roots.entries)
+    (four_parts c.args.out.now.items (big_bytes 8 s.incarnation) (big_bytes 8 s.next) (big_bytes 4 (length s.roots.entries)) (flat_map (root_spelling s.version) s.roots.entries)
     c.put.new.out.items c.put-2.new.out.items c.put-3.new.out.items c.put_roots.new.out.items c.in_ok-put.ensures.ok c.in_ok-put-2.ensures.ok count)
     c.put_roots.ensures.ok)
 

@@ -8,7 +8,7 @@ use Rattle.wm_registry.proofs.registry.Registry.watch.Goals as goal
 
 pub invariant_of-self : goal.invariant_of-self
 invariant_of-self c =
-    let s : State = record { incarnation = c.self.inside.incarnation; next = c.self.inside.next; roots = c.self.inside.roots.entries } in
+    let s : State = record { version = c.self.inside.version; incarnation = c.self.inside.incarnation; next = c.self.inside.next; roots = c.self.inside.roots.entries } in
     let path = c.args.path.now in
     let put = c.in-Ok-true.ensures.added c.in-Ok-true.field-0-test in
     let new : is_watched path c.args.self.now ≡ false = ap (is_watched path) (sym c.self.view_is) ∙ ap is_some put.0 in
