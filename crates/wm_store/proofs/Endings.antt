@@ -13,8 +13,8 @@ use Rattle.wm_registry.specs.declared.reply.Reply.{Reply}
 use Rattle.wm_registry.specs.declared.reply.Reply.TheVariants.{Refused}
 use Rattle.wm_registry.specs.Registry.{after_command, is_change, reply_to}
 use Rattle.wm_registry.specs.Roots.{State}
-use Rattle.wm_registry.specs.MachineLaws.{watches}
-use Rattle.wm_checkpoint.specs.Machines.{replay_on, Accepts}
+use Rattle.wm_registry.specs.MachineLaws.{watches_in}
+use Rattle.wm_checkpoint.specs.Machines.{AllChange, replayed}
 use Rattle.wm_checkpoint.specs.Meanings.{MeansPrefix}
 use Rattle.wm_checkpoint.specs.Kept.{disk_of, state_of, has_failed, slot_number_of, room_left, Keeps}
 use Rattle.wm_checkpoint.specs.laws.Replays.{replayed_append}
@@ -25,6 +25,12 @@ use Rattle.wm_store.proofs.Batching.{calls_more, calls_none, calls_then, whole_n
 use Rattle.wm_store.proofs.Replying.{accepted_append, all_out_of_memory, answered_met, met_append, out_of_memory_append, out_of_memory_last, out_of_memory_replies}
 use Rattle.wm_store.proofs.Runs.{Leaves, stood, unbegun}
 use Rattle.wm_store.proofs.Stores.{stored}
+use Rattle.wm_registry.specs.declared.version.Version.{Version}
+use Rattle.wm_checkpoint.specs.Layout.{Sizes}
+use Rattle.wm_registry.specs.Registry.{changes}
+use Rattle.wm_registry.specs.Versions.{sizes_of}
+use Rattle.wm_store.specs.Meant.{MeansAfter}
+use Rattle.wm_store.proofs.Meant.{means_after}
 
 -- ---- commands and replies
 
@@ -72,33 +78,38 @@ len_behind n all seen le = (
   omega (arith, ap (λ (l : List Command). length l) (take-append-drop n all), length-append (take n all) (drop n all), length-take-le n all le),
 )
 
-module _ {D : Type 0} (disk : disks.Ghosts D) where
+-- The device failed in the midst of the batch: the replies are those so far, then that to a command that was to be accepted.
+cut_replies : {V : Type 0} (done : Batch V) (c : Command) (rest : List Command) → List Reply
+cut_replies a c rest = a.replies.items ++ (reply_to a.next c ∷ out_of_memory_replies rest)
+
+module _ {D M V : Type 0} (disk : disks.Ghosts D) (sizes : Sizes) (version : Version) where
   -- Of a batch of commands from start on, some were met, and the device hasn't failed.
-  pub record IsUnderWay (start : K disk) (commands done : List Command) (keeper : K disk) (batch : Batch) : Type 0 where
-    pub ready : IsReady disk keeper batch
-    pub past : IsPast disk start done keeper batch
-    pub so_far : IsSoFar (slot_number_of keeper) (room_left keeper) (state_of start) done batch
-    pub slot : IsSparing disk start done batch.replies.items keeper batch.group.items
+  pub record IsUnderWay (start : K M V disk) (commands done : List Command) (keeper : K M V disk) (batch : Batch V) : Type 0 where
+    pub ready : IsReady disk sizes version keeper batch
+    pub past : IsPast disk sizes version start done keeper batch
+    pub so_far : IsSoFar version (slot_number_of keeper) (room_left keeper) (state_of start) done batch
+    pub slot : IsSparing disk sizes version start done batch.replies.items keeper batch.group.items
     pub idle : accepted_of done batch.replies.items ≡ [] → (keeper ≡ start) ⊎ IsOutOfMemory batch.replies.items
-    pub calls : AreCalls disk (length done) start keeper
-    pub whole : IsWhole disk start keeper
+    pub calls : AreCalls disk sizes version (length done) start keeper
+    pub whole : IsWhole disk sizes version start keeper
     pub len : vec_len batch.replies ≡ length done
     pub replies : length commands ≤ vec_capacity batch.replies
     pub group : length commands ≤ vec_capacity batch.group
 
   -- the first commands are answered, and none of them is accepted
-  pub idle_yet : (start : K disk) (commands : List Command) (batch : Batch) → Keeps watches start → has_failed start ≡ false → AreIdle (state_of start) commands batch.replies → IsNew (state_of start) batch.replies (length commands) batch
-      → (disk.honest (disk_of start) → Leaves disk (disk_of start) (disk_of start) (MeansPrefix watches (state_of start) [])) → IsUnderWay start commands (take (vec_len batch.replies) commands) start batch
-  idle_yet start commands batch kp alive idle new standing =
+  pub idle_yet : (start : K M V disk) (commands : List Command) (batch : Batch V) → Keeps (watches_in sizes version) start → has_failed start ≡ false → (state_of start).version ≡ version → AreIdle (state_of start) commands batch.replies → IsNew (state_of start) batch.replies (length commands) batch
+      → (disk.honest (disk_of start) → Leaves disk (disk_of start) (disk_of start) (MeansPrefix (watches_in sizes version) (state_of start) [])) → IsUnderWay start commands (take (vec_len batch.replies) commands) start batch
+  idle_yet start commands batch kp alive is idle new standing =
       let done : List Command = take (vec_len batch.replies) commands in
       let len : length done ≡ vec_len batch.replies = length-take-le (vec_len batch.replies) commands idle.within in
       record {
         ready = record {
           kept = kp;
           whole = alive;
-          accepted = subst (λ (l : List Command). Accepts watches (state_of start) l) (sym new.group) tt;
-          next = new.next ∙ ap (λ (l : List Command). replay_on watches (state_of start) l) (sym new.group);
-          size = new.size ∙ ap (λ (l : List Command). taken command_spelling l) (sym new.group);
+          version = ap (λ (s : State). s.version) new.next ∙ is;
+          accepted = subst (λ (l : List Command). AllChange after_command changes (state_of start) l) (sym new.group) tt;
+          next = new.next ∙ ap (λ (l : List Command). replayed after_command (state_of start) l) (sym new.group);
+          size = new.size ∙ ap (λ (l : List Command). taken (command_spelling version) l) (sym new.group);
           fits = omega (arith, new.size);
           len = omega (arith, new.group_len);
         };
@@ -115,18 +126,18 @@ module _ {D : Type 0} (disk : disks.Ghosts D) where
         so_far = inl (new.refused, idle.met);
         slot = inl (record {
           number = refl;
-          room = ap (λ (l : List Command). room_left start + taken command_spelling l) (idle.none ∙ sym new.group);
+          room = ap (λ (l : List Command). room_left start + taken (command_spelling version) l) (idle.none ∙ sym new.group);
         });
         idle = λ _. inl refl;
-        calls = calls_more disk 0 (length done) start start (omega arith) (calls_none disk 0 start start refl);
-        whole = whole_none disk start start refl kp alive;
+        calls = calls_more disk sizes version 0 (length done) start start (omega arith) (calls_none disk sizes version 0 start start refl);
+        whole = whole_none disk sizes version start start refl kp alive;
         len = sym len;
         replies = omega (arith, idle.room);
         group = omega (arith, new.group_room);
       }
 
   -- one command more
-  module _ (start : K disk) (commands done : List Command) (old new : K disk) (a b : Batch) (c : Command) (u : IsUnderWay start commands done old a) where
+  module _ (start : K M V disk) (commands done : List Command) (old new : K M V disk) (a b : Batch V) (c : Command) (u : IsUnderWay start commands done old a) where
     still_idle : (q : Reply) → b.replies.items ≡ a.replies.items ++ (q ∷ []) → (is_change q ≡ false → a.group.items ≡ [] → (new ≡ old) ⊎ (q ≡ Refused NoMemory)) → accepted_of (done ++ (c ∷ [])) b.replies.items ≡ [] → (new ≡ start) ⊎ IsOutOfMemory b.replies.items
     still_idle q is same none =
         let both : accepted_of done a.replies.items ++ accepted_of (c ∷ []) (q ∷ []) ≡ [] = sym (accepted_append done (c ∷ []) a.replies.items (q ∷ []) u.past.len) ∙ ap (λ (l : List Reply). accepted_of (done ++ (c ∷ [])) l) (sym is) ∙ none in
@@ -141,7 +152,7 @@ module _ {D : Type 0} (disk : disks.Ghosts D) where
         (λ k. inr (subst (λ (l : List Reply). IsOutOfMemory l) (sym is) (out_of_memory_last a.replies.items q k)))
         (same idle group)
 
-    pub one_more : IsMetToo disk c old a new b → AreCalls disk 1 old new → IsWhole disk old new → IsUnderWay start commands (done ++ (c ∷ [])) new b
+    pub one_more : IsMetToo disk sizes version c old a new b → AreCalls disk sizes version 1 old new → IsWhole disk sizes version old new → IsUnderWay start commands (done ++ (c ∷ [])) new b
     one_more m calls whole =
         let one : length (done ++ (c ∷ [])) ≡ length done + 1 = length-append done (c ∷ []) in
         record {
@@ -150,31 +161,27 @@ module _ {D : Type 0} (disk : disks.Ghosts D) where
           so_far = m.so_far start done u.past u.so_far;
           slot = m.slot start done u.past u.slot;
           idle = still_idle m.reply m.replies m.idle;
-          calls = subst (λ (n : ℕ). AreCalls disk n start new) (sym one) (calls_then disk (length done) 1 start old new u.calls calls);
-          whole = whole_then disk start old new u.whole whole;
+          calls = subst (λ (n : ℕ). AreCalls disk sizes version n start new) (sym one) (calls_then disk sizes version (length done) 1 start old new u.calls calls);
+          whole = whole_then disk sizes version start old new u.whole whole;
           len = omega (arith, m.len, u.len, one);
           replies = omega (arith, m.room.replies, u.replies);
           group = omega (arith, m.room.group, u.group);
         }
 
-  -- The device failed in the midst of the batch: the replies are those so far, then that to a command that was to be accepted.
-  cut_replies : (done : Batch) (c : Command) (rest : List Command) → List Reply
-  cut_replies a c rest = a.replies.items ++ (reply_to a.next c ∷ out_of_memory_replies rest)
-
   -- Unless the slot's number is spent, all commands so far were met.
-  all_met : (start : K disk) (commands done : List Command) (old : K disk) (a : Batch) → IsUnderWay start commands done old a → (a.refused ≡ None) ⊎ (a.group.items ≡ [] → ⊥) → AreMet (state_of start) done a.replies.items
+  all_met : (start : K M V disk) (commands done : List Command) (old : K M V disk) (a : Batch V) → IsUnderWay start commands done old a → (a.refused ≡ None) ⊎ (a.group.items ≡ [] → ⊥) → AreMet (state_of start) done a.replies.items
   all_met start commands done old a u why = ⊎_elim (λ h. h.1)
       (λ w. ⊎_elim (λ h. h.1)
       (λ h. ⊎_elim (λ n. absurd (let clash : Some Exhausted ≡ None = sym h.0 ∙ n in cc)) (λ some. absurd (some h.1)) why) w) u.so_far
 
   -- the batch's registry is that behind the commands accepted so far
-  next_is : (start : K disk) (commands done : List Command) (old : K disk) (a : Batch) → IsUnderWay start commands done old a → a.next ≡ replay_on watches (state_of start) (accepted_of done a.replies.items)
+  next_is : (start : K M V disk) (commands done : List Command) (old : K M V disk) (a : Batch V) → IsUnderWay start commands done old a → a.next ≡ replayed after_command (state_of start) (accepted_of done a.replies.items)
   next_is start commands done old a u =
-      u.ready.next ∙ ap (λ (s : State). replay_on watches s a.group.items) u.past.led ∙ sym (replayed_append after_command (state_of start) u.past.committed a.group.items)
-      ∙ ap (λ (l : List Command). replay_on watches (state_of start) l) (sym u.past.accepted)
+      u.ready.next ∙ ap (λ (s : State). replayed after_command s a.group.items) u.past.led ∙ sym (replayed_append after_command (state_of start) u.past.committed a.group.items)
+      ∙ ap (λ (l : List Command). replayed after_command (state_of start) l) (sym u.past.accepted)
 
-  module _ (start : K disk) (commands done : List Command) (old new : K disk) (a : Batch) (c : Command) (rest : List Command) (before : Option State)
-      (u : IsUnderWay start commands done old a) (all : commands ≡ done ++ (c ∷ rest)) (cut : IsCut disk start done a.replies.items new before)
+  module _ (start : K M V disk) (commands done : List Command) (old new : K M V disk) (a : Batch V) (c : Command) (rest : List Command) (before : Option State)
+      (u : IsUnderWay start commands done old a) (all : commands ≡ done ++ (c ∷ rest)) (cut : IsCut disk sizes version start done a.replies.items new before)
       (none : a.refused ≡ None) (other : is_begin c ≡ false) (accepts : is_change (reply_to a.next c) ≡ true) where
     accepted_cut : accepted_of commands (cut_replies a c rest) ≡ accepted_of done a.replies.items ++ accepted_of (c ∷ rest) (reply_to a.next c ∷ out_of_memory_replies rest)
     unfolding cut_replies
@@ -187,7 +194,7 @@ module _ {D : Type 0} (disk : disks.Ghosts D) where
       all_out_of_memory (after_reply s c (reply_to a.next c)) rest,
     )
 
-    pub cut_at : IsCutBatch disk start commands new before
+    pub cut_at : IsCutBatch disk sizes version start commands new before
     unfolding cut_replies
     cut_at =
         let replies : List Reply = cut_replies a c rest in
@@ -196,69 +203,82 @@ module _ {D : Type 0} (disk : disks.Ghosts D) where
         record {
           replies = replies;
           met = subst (λ (l : List Command). AreMet (state_of start) l replies) (sym all)
-              (met_append (state_of start) done (c ∷ rest) a.replies.items (reply_to a.next c ∷ out_of_memory_replies rest) (all_met start commands done old a u (inl none)) (last_met (replay_on watches (state_of start) front) (next_is start commands done old a u)));
+              (met_append (state_of start) done (c ∷ rest) a.replies.items (reply_to a.next c ∷ out_of_memory_replies rest) (all_met start commands done old a u (inl none)) (last_met (replayed after_command (state_of start) front) (next_is start commands done old a u)));
           cut = record {
             was = cut.was;
-            run = λ h. subst (λ (l : List Command). Leaves disk (disk_of start) (disk_of new) (MeansPrefix watches (state_of start) l)) (sym accepted_cut)
-                (weaker disk.moment disk.left_since (disk_of start) (disk_of new) (MeansPrefix watches (state_of start) front) (MeansPrefix watches (state_of start) (front ++ back)) (cut.run h) (longer (state_of start) front back));
+            run = λ h. subst (λ (l : List Command). Leaves disk (disk_of start) (disk_of new) (MeansPrefix (watches_in sizes version) (state_of start) l)) (sym accepted_cut)
+                (weaker disk.moment disk.left_since (disk_of start) (disk_of new) (MeansPrefix (watches_in sizes version) (state_of start) front) (MeansPrefix (watches_in sizes version) (state_of start) (front ++ back)) (cut.run h) (longer sizes version (state_of start) front back));
           };
           some = λ e. one_accepted (is_change (reply_to a.next c)) c (accepted_of rest (out_of_memory_replies rest)) (accepted_of rest (out_of_memory_replies rest)) accepts (none_right front back (sym accepted_cut ∙ e));
         }
 
   -- It failed at the end.
-  pub cut_last : (start : K disk) (commands done : List Command) (old new : K disk) (a : Batch) (before : Option State) → IsUnderWay start commands done old a → done ≡ commands
-      → IsCut disk start done a.replies.items new before → (a.group.items ≡ [] → ⊥) → IsCutBatch disk start commands new before
+  pub cut_last : (start : K M V disk) (commands done : List Command) (old new : K M V disk) (a : Batch V) (before : Option State) → IsUnderWay start commands done old a → done ≡ commands
+      → IsCut disk sizes version start done a.replies.items new before → (a.group.items ≡ [] → ⊥) → IsCutBatch disk sizes version start commands new before
   cut_last start commands done old new a before u all cut some = subst
-      (λ (l : List Command). IsCutBatch disk start l new before) all
+      (λ (l : List Command). IsCutBatch disk sizes version start l new before) all
       (record { replies = a.replies.items; met = all_met start commands done old a u (inr some); cut = cut; some = λ e. some (none_right u.past.committed a.group.items (sym u.past.accepted ∙ e)) })
 
-  -- ---- what a store has of it
+-- ---- what a store has of it
 
-  module _ (start : K disk) (before : Option State) (closed : Bool) (none : before ≡ None) where
-    pub registry_is : unwrap_or before (state_of start) ≡ state_of start
-    registry_is = ap (λ (o : Option State). unwrap_or o (state_of start)) none
+module _ {D M V : Type 0} (disk : disks.Ghosts D) (l : Sizes) (v : Version) (laid : l ≡ sizes_of v) (start : K M V disk) (before : Option State) (closed : Bool) (none : before ≡ None) where
+  pub registry_is : unwrap_or before (state_of start) ≡ state_of start
+  registry_is = ap (λ (o : Option State). unwrap_or o (state_of start)) none
 
-    -- from the store's registry on
-    from_registry : (new : D) (cs : List Command) → Leaves disk (disk_of start) new (MeansPrefix watches (state_of start) cs) → Leaves disk (disk_of start) new (MeansPrefix watches (unwrap_or before (state_of start)) cs)
-    from_registry new cs run = subst (λ (s : State). Leaves disk (disk_of start) new (MeansPrefix watches s cs)) (sym registry_is) run
+  -- from the store's registry on
+  from_registry : (new : D) (cs : List Command) → Leaves disk (disk_of start) new (MeansPrefix (watches_in l v) (state_of start) cs) → Leaves disk (disk_of start) new (MeansAfter (unwrap_or before (state_of start)) cs)
+  from_registry new cs run =
+      subst (λ (s : State). Leaves disk (disk_of start) new (MeansAfter s cs)) (sym registry_is)
+      (weaker disk.moment disk.left_since (disk_of start) new (MeansPrefix (watches_in l v) (state_of start) cs) (MeansAfter (state_of start) cs) run (means_after l v laid (state_of start) cs))
 
-    -- nothing was done
-    pub still_met : OnlyNow disk → Keeps watches start → has_failed start ≡ false → (commands : List Command) (replies : List Reply) → AreMet (unwrap_or before (state_of start)) commands replies
-        → IsBatch disk (stored disk start before closed) (stored disk start before closed) commands replies
-    still_met only_now kp alive commands replies met =
-        record {
-          answered = answered_met (slot_number_of start) (room_left start) (unwrap_or before (state_of start)) commands replies met;
-          any_moment = λ h. from_registry (disk_of start) (accepted_of commands replies) (unbegun disk (disk_of start) (disk_of start) (state_of start) (accepted_of commands replies) (stood disk only_now start kp alive h));
-        }
-
-    -- no command was met
-    pub none_met : OnlyNow disk → Keeps watches start → has_failed start ≡ false → (commands : List Command) → IsBatch disk (stored disk start before closed) (stored disk start before closed) commands (out_of_memory_replies commands)
-    none_met only_now kp alive commands = still_met only_now kp alive commands (out_of_memory_replies commands) (all_out_of_memory (unwrap_or before (state_of start)) commands)
-
-    -- the device failed
-    module _ (new : K disk) (commands : List Command) (replies : List Reply) (was : Option State) (cut : IsCut disk start commands replies new was) where
-      pub cut_batch : AreMet (state_of start) commands replies → IsBatch disk (stored disk start before closed) (stored disk new was closed) commands replies
-      cut_batch met = record {
-        answered = subst (λ (s : State). AreAnswered (slot_number_of new) (room_left new) s commands replies) (sym registry_is) (answered_met (slot_number_of new) (room_left new) (state_of start) commands replies met);
-        any_moment = λ h. from_registry (disk_of new) (accepted_of commands replies) (cut.run h);
+  -- nothing was done
+  pub still_met : OnlyNow disk → Keeps (watches_in l v) start → has_failed start ≡ false → (commands : List Command) (replies : List Reply) → AreMet (unwrap_or before (state_of start)) commands replies
+      → IsBatch disk (stored disk start before closed) (stored disk start before closed) commands replies
+  still_met only_now kp alive commands replies met =
+      record {
+        answered = answered_met (unwrap_or before (state_of start)).version (slot_number_of start) (room_left start) (unwrap_or before (state_of start)) commands replies met;
+        any_moment = λ h. from_registry (disk_of start) (accepted_of commands replies) (unbegun disk l v (disk_of start) (disk_of start) (state_of start) (accepted_of commands replies) (stood disk l v only_now start kp alive h));
       }
 
-      pub cut_registry : unwrap_or was (state_of new) ≡ unwrap_or before (state_of start)
-      cut_registry = cut.was ∙ sym registry_is
+  -- no command was met
+  pub none_met : OnlyNow disk → Keeps (watches_in l v) start → has_failed start ≡ false → (commands : List Command) → IsBatch disk (stored disk start before closed) (stored disk start before closed) commands (out_of_memory_replies commands)
+  none_met only_now kp alive commands = still_met only_now kp alive commands (out_of_memory_replies commands) (all_out_of_memory (unwrap_or before (state_of start)) commands)
 
-    -- all is done
-    module _ (new : K disk) (commands : List Command) (replies : List Reply) (d : IsDone disk start commands new replies) where
-      pub done_batch : IsBatch disk (stored disk start before closed) (stored disk new before closed) commands replies
-      done_batch = record {
-        answered = subst (λ (s : State). AreAnswered (slot_number_of new) (room_left new) s commands replies) (sym registry_is) d.answered;
-        any_moment = λ h. from_registry (disk_of new) (accepted_of commands replies) (d.run h);
-      }
+  -- the answers are those of the registry's version
+  answered_by : (is : (state_of start).version ≡ v) (n room : ℕ) (commands : List Command) (replies : List Reply) → AreAnswered v n room (state_of start) commands replies
+      → AreAnswered (unwrap_or before (state_of start)).version n room (unwrap_or before (state_of start)) commands replies
+  answered_by is n room commands replies answered =
+      subst (λ (s : State). AreAnswered s.version n room s commands replies) (sym registry_is)
+      (subst (λ (u : Version). AreAnswered u n room (state_of start) commands replies) (sym is) answered)
 
-      pub done_registry : unwrap_or before (state_of new) ≡ replay_on watches (unwrap_or before (state_of start)) (accepted_of commands replies)
-      done_registry = ap (λ (o : Option State). unwrap_or o (state_of new)) none ∙ d.led ∙ ap (λ (s : State). replay_on watches s (accepted_of commands replies)) (sym registry_is)
+  -- the device failed
+  module _ (new : K M V disk) (commands : List Command) (replies : List Reply) (was : Option State) (cut : IsCut disk l v start commands replies new was) where
+    pub cut_batch : AreMet (state_of start) commands replies → IsBatch disk (stored disk start before closed) (stored disk new was closed) commands replies
+    cut_batch met = record {
+      answered = subst (λ (s : State). AreAnswered s.version (slot_number_of new) (room_left new) s commands replies) (sym registry_is) (answered_met (state_of start).version (slot_number_of new) (room_left new) (state_of start) commands replies met);
+      any_moment = λ h. from_registry (disk_of new) (accepted_of commands replies) (cut.run h);
+    }
 
-      pub done_slot : IsOutOfMemory replies ⊎ (taken command_spelling (accepted_of commands replies) ≤ room_left start → (slot_number_of new ≡ slot_number_of start) × (room_left new + taken command_spelling (accepted_of commands replies) ≡ room_left start))
-      done_slot = ⊎_elim (λ h. inr (λ fits. (h.number, omega (arith, h.room)))) (λ w. ⊎_elim (λ h. inr (λ fits. absurd (omega (arith, h, fits)))) (λ h. inl h) w) d.slot
+    pub cut_registry : unwrap_or was (state_of new) ≡ unwrap_or before (state_of start)
+    cut_registry = cut.was ∙ sym registry_is
 
-      pub done_idle : accepted_of commands replies ≡ [] → (stored disk new before closed ≡ stored disk start before closed) ⊎ IsOutOfMemory replies
-      done_idle e = ⊎_elim (λ k. inl (ap (λ (x : K disk). stored disk x before closed) k)) (λ short. inr short) (d.idle e)
+  -- all is done
+  module _ (is : (state_of start).version ≡ v) (new : K M V disk) (commands : List Command) (replies : List Reply) (d : IsDone disk l v start commands new replies) where
+    pub done_batch : IsBatch disk (stored disk start before closed) (stored disk new before closed) commands replies
+    done_batch = record {
+      answered = answered_by is (slot_number_of new) (room_left new) commands replies d.answered;
+      any_moment = λ h. from_registry (disk_of new) (accepted_of commands replies) (d.run h);
+    }
+
+    pub done_registry : unwrap_or before (state_of new) ≡ replayed after_command (unwrap_or before (state_of start)) (accepted_of commands replies)
+    done_registry = ap (λ (o : Option State). unwrap_or o (state_of new)) none ∙ d.led ∙ ap (λ (s : State). replayed after_command s (accepted_of commands replies)) (sym registry_is)
+
+    abbrev IsSlot : Version → Type 0
+    IsSlot u = IsOutOfMemory replies ⊎ (taken (command_spelling u) (accepted_of commands replies) ≤ room_left start → (slot_number_of new ≡ slot_number_of start) × (room_left new + taken (command_spelling u) (accepted_of commands replies) ≡ room_left start))
+
+    pub done_slot : IsSlot (unwrap_or before (state_of start)).version
+    done_slot = subst IsSlot (sym (ap (λ (s : State). s.version) registry_is ∙ is))
+        (⊎_elim (λ h. inr (λ fits. (h.number, omega (arith, h.room)))) (λ w. ⊎_elim (λ h. inr (λ fits. absurd (omega (arith, h, fits)))) (λ h. inl h) w) d.slot)
+
+    pub done_idle : accepted_of commands replies ≡ [] → (stored disk new before closed ≡ stored disk start before closed) ⊎ IsOutOfMemory replies
+    done_idle e = ⊎_elim (λ k. inl (ap (λ (x : K M V disk). stored disk x before closed) k)) (λ short. inr short) (d.idle e)

@@ -13,14 +13,15 @@ use Rattle.wm_registry.specs.Commands.{command_spelling}
 use Rattle.wm_registry.specs.declared.command.Command.{Command}
 use Rattle.wm_registry.specs.declared.reply.Reply.{Reply}
 use Rattle.wm_registry.specs.Roots.{State}
-use Rattle.wm_registry.specs.MachineLaws.{watches}
+use Rattle.wm_registry.specs.MachineLaws.{watches_in}
 use Rattle.wm_checkpoint.specs.Kept.{disk_of, state_of, slot_of, slot_number_of, has_failed, room_left, Keeps}
-use Rattle.wm_checkpoint.specs.declared.layout.Version1.{Version1}
 use Rattle.wm_checkpoint.specs.KeeperCalls.{StandsAsBefore, KeeperRefuses, CrashLeaves, HasCommitted, HasSwitched, SpentAt, LeavesState}
-use Rattle.wm_checkpoint.specs.Layout.{other_slot, empty_room, sizes_1}
+use Rattle.wm_checkpoint.specs.Layout.{other_slot, empty_room}
 use Rattle.wm_checkpoint.specs.Meanings.{MeansState, MeansPrefix}
 use Rattle.wm_checkpoint.specs.Numbers.{IsNumberedTo}
 use Rattle.wm_checkpoint.specs.declared.keeper.Keeper.{Keeper}
+use Rattle.wm_registry.specs.declared.version.Version.{Version}
+use Rattle.wm_checkpoint.specs.Layout.{Sizes}
 
 err_is : {T : Type 0} (e f : Refusal) → IsErrOf {T = T} (Err e) f → e ≡ f
 err_is e f is = cc
@@ -47,7 +48,7 @@ module _ (P : Type 0) where
   format_kinds (Err e) (inl d) = inl d
   format_kinds (Err e) (inr m) = inr m.0
 
-module _ {D : Type 0} {disk : disks.Ghosts D} (old new : Keeper D State Version1 State Command Reply disk) where
+module _ {D M V : Type 0} {disk : disks.Ghosts D} (sizes : Sizes) (version : Version) (old new : Keeper D M V State Command Reply disk) where
   -- a refusal but `13`
   pub still_by : (others : Refusal → Type 0) (x : Refusal) → (x ≡ DeviceFailed → ⊥) → (r : Result Unit Refusal) → KeeperRefuses others old new r → IsErrOf r x → new ≡ old
   still_by others x differs (Ok u) k is = absurd cc
@@ -69,17 +70,17 @@ module _ {D : Type 0} {disk : disks.Ghosts D} (old new : Keeper D State Version1
   AtAnyMoment P = has_failed old ≡ false → disk.honest (disk_of new) → LeavesOnly disk.moment disk.left_since (disk_of old) (disk_of new) P
 
   abbrev Numbered : ℕ → Type 0
-  Numbered n = has_failed old ≡ false → disk.honest (disk_of new) → EachLeft disk (disk_of new) (IsNumberedTo sizes_1 n)
+  Numbered n = has_failed old ≡ false → disk.honest (disk_of new) → EachLeft disk (disk_of new) (IsNumberedTo sizes n)
 
   -- ---- a commit
 
   pub record CommitFacts (commands : List Command) (next : State) (r : Result Unit Refusal) : Type 0 where
-    pub kept : Keeps watches new
+    pub kept : Keeps (watches_in sizes version) new
     pub state : OnOk r ((state_of new ≡ next) × (has_failed new ≡ false))
     pub slot : (slot_of new ≡ slot_of old) × (slot_number_of new ≡ slot_number_of old)
-    pub room : OnOk r (room_left new + taken command_spelling commands ≡ room_left old)
+    pub room : OnOk r (room_left new + taken (command_spelling version) commands ≡ room_left old)
     pub unchanged : OnErr r (state_of new ≡ state_of old)
-    pub any_moment : AtAnyMoment (MeansPrefix watches (state_of old) commands)
+    pub any_moment : AtAnyMoment (MeansPrefix (watches_in sizes version) (state_of old) commands)
     pub numbered : Numbered (slot_number_of old)
     pub memory : IsErrOf r NoMemory → new ≡ old
     pub down : IsErrOf r StoreFailed → (has_failed old ≡ true) × (new ≡ old)
@@ -90,14 +91,14 @@ module _ {D : Type 0} {disk : disks.Ghosts D} (old new : Keeper D State Version1
     pub kinds : IfErr r (λ e. (e ≡ DeviceFailed) ⊎ (e ≡ NoMemory) ⊎ (e ≡ StoreFailed))
 
   abbrev Crash : (List ℕ → Type 0) → ℕ → Type 0
-  Crash P n = has_failed old ≡ false → disk.honest (disk_of new) → CrashLeaves sizes_1 old new P n
+  Crash P n = has_failed old ≡ false → disk.honest (disk_of new) → CrashLeaves sizes old new P n
 
   commit_kinds : (e : Refusal) → (e ≡ DeviceFailed) ⊎ ((e ≡ StoreFailed) ⊎ (e ≡ NoMemory)) → (e ≡ DeviceFailed) ⊎ ((e ≡ NoMemory) ⊎ (e ≡ StoreFailed))
   commit_kinds e (inl h) = inl h
   commit_kinds e (inr (inl h)) = inr (inr h)
   commit_kinds e (inr (inr h)) = inr (inl h)
 
-  pub commit_facts : (commands : List Command) (next : State) (r : Result Unit Refusal) → Keeps watches new → OnOk r (HasCommitted watches commands next old new) → Crash (MeansPrefix watches (state_of old) commands) (slot_number_of old)
+  pub commit_facts : (commands : List Command) (next : State) (r : Result Unit Refusal) → Keeps (watches_in sizes version) new → OnOk r (HasCommitted (watches_in sizes version) commands next old new) → Crash (MeansPrefix (watches_in sizes version) (state_of old) commands) (slot_number_of old)
       → Calls disk (disk_of old) (disk_of new) r → KeeperRefuses (λ e. e ≡ NoMemory) old new r → CommitFacts commands next r
   commit_facts commands next (Ok u) kept done crash calls k = record {
     kept = kept;
@@ -135,11 +136,11 @@ module _ {D : Type 0} {disk : disks.Ghosts D} (old new : Keeper D State Version1
   -- ---- a checkpoint
 
   pub record CheckpointFacts (r : Result Unit Refusal) : Type 0 where
-    pub kept : Keeps watches new
+    pub kept : Keeps (watches_in sizes version) new
     pub state : state_of new ≡ state_of old
     pub slot : OnOk r ((slot_of new ≡ other_slot (slot_of old)) × (slot_number_of new ≡ slot_number_of old + 1) × (room_left new ≡ empty_room) × (has_failed new ≡ false))
     pub stays : OnErr r ((slot_of new ≡ slot_of old) × (slot_number_of new ≡ slot_number_of old))
-    pub any_moment : AtAnyMoment (MeansState watches (state_of old))
+    pub any_moment : AtAnyMoment (MeansState (watches_in sizes version) (state_of old))
     pub numbered : Numbered (slot_number_of old + 1)
     pub exhausted : IsErrOf r Exhausted → (max_counter ≤ slot_number_of old) × (new ≡ old)
     pub spent : has_failed old ≡ false → max_counter ≤ slot_number_of old → IsErrOf r Exhausted
@@ -158,7 +159,7 @@ module _ {D : Type 0} {disk : disks.Ghosts D} (old new : Keeper D State Version1
   checkpoint_kinds e (inr (inr (inl h))) = inr (inl h)
   checkpoint_kinds e (inr (inr (inr h))) = inr (inr (inl h))
 
-  pub checkpoint_facts : (r : Result Unit Refusal) → Keeps watches new → OnOk r (HasSwitched watches old new) → Crash (MeansState watches (state_of old)) (slot_number_of old + 1)
+  pub checkpoint_facts : (r : Result Unit Refusal) → Keeps (watches_in sizes version) new → OnOk r (HasSwitched (watches_in sizes version) old new) → Crash (MeansState (watches_in sizes version) (state_of old)) (slot_number_of old + 1)
       → Calls disk (disk_of old) (disk_of new) r → KeeperRefuses (λ e. (e ≡ NoMemory) ⊎ (e ≡ Exhausted)) old new r → SpentAt old r → CheckpointFacts r
   checkpoint_facts (Ok u) kept done crash calls k s = record {
     kept = kept;
@@ -200,12 +201,12 @@ module _ {D : Type 0} {disk : disks.Ghosts D} (old new : Keeper D State Version1
   -- ---- a sync
 
   pub record SyncFacts (r : Result Unit Refusal) : Type 0 where
-    pub kept : Keeps watches new
-    pub means : OnOk r (LeavesState watches new)
+    pub kept : Keeps (watches_in sizes version) new
+    pub means : OnOk r (LeavesState (watches_in sizes version) new)
     pub ok : OnOk r (has_failed new ≡ false)
     pub state : state_of new ≡ state_of old
     pub slot : (slot_of new ≡ slot_of old) × (slot_number_of new ≡ slot_number_of old) × (room_left new ≡ room_left old)
-    pub any_moment : AtAnyMoment (MeansState watches (state_of old))
+    pub any_moment : AtAnyMoment (MeansState (watches_in sizes version) (state_of old))
     pub down : IsErrOf r StoreFailed → (has_failed old ≡ true) × (new ≡ old)
     pub stays_down : has_failed old ≡ true → IsErrOf r StoreFailed
     pub honest : disk.honest (disk_of new) → disk.honest (disk_of old)
@@ -219,7 +220,7 @@ module _ {D : Type 0} {disk : disks.Ghosts D} (old new : Keeper D State Version1
   sync_kinds e (inr (inl h)) = inr h
   sync_kinds e (inr (inr none)) = absurd none
 
-  pub sync_facts : (r : Result Unit Refusal) → Keeps watches new → StandsAsBefore old new × (room_left new ≡ room_left old) → OnOk r ((has_failed new ≡ false) × LeavesState watches new) → AtAnyMoment (MeansState watches (state_of old))
+  pub sync_facts : (r : Result Unit Refusal) → Keeps (watches_in sizes version) new → StandsAsBefore old new × (room_left new ≡ room_left old) → OnOk r ((has_failed new ≡ false) × LeavesState (watches_in sizes version) new) → AtAnyMoment (MeansState (watches_in sizes version) (state_of old))
       → Calls disk (disk_of old) (disk_of new) r → KeeperRefuses (λ e. ⊥) old new r → SyncFacts r
   sync_facts (Ok u) kept same done run calls k = record {
     kept = kept;

@@ -3,6 +3,7 @@ pub mod Beginning
 pub mod Endings
 pub mod Finishing
 pub mod Keepers
+pub mod Meant
 pub mod Opened
 pub mod Replies
 pub mod Replying

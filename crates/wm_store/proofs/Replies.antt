@@ -1,13 +1,14 @@
 -- What holds of every reply of the registry, by cases on the command.
-use Rattle.std.proofs.Common.{◌≡◌, ◌≢◌, inl, inr, ⊎_elim, ◌⊎◌, Bool, true, false, cond, nat_lt, refl, sym, ◌∙◌, ap, ℕ, List, length, Option, Some, None}
+use Rattle.std.proofs.Common.{◌≡◌, ◌≢◌, inl, inr, ⊎_elim, ◌⊎◌, Bool, true, false, cond, nat_lt, refl, sym, ◌∙◌, ap}
 use Rattle.wm_disk.specs.declared.refusal.Refusal.{Refusal}
-use Rattle.wm_disk.specs.declared.refusal.Refusal.TheVariants.{BadArguments, NoMemory, Exhausted, Full, NotWatched, TooMany}
+use Rattle.wm_disk.specs.declared.refusal.Refusal.TheVariants.{BadArguments, NoMemory, Exhausted, Full, NotWatched, OldVersion, TooMany}
 use Rattle.wm_disk.specs.Counters.{max_counter}
-use Rattle.wm_registry.specs.Limits.{max_roots, max_triggers, max_state_bytes}
+use Rattle.wm_registry.specs.Limits.{max_roots, max_triggers}
 use Rattle.wm_registry.specs.declared.command.Command.{Command}
 use Rattle.wm_registry.specs.declared.command.Command.TheVariants.{Begin, Watch, WatchDel, Trigger, TriggerDel}
 use Rattle.wm_registry.specs.declared.reply.Reply.{Reply}
 use Rattle.wm_registry.specs.declared.reply.Reply.TheVariants.{Changed, Replaced, Unchanged, Refused}
+use Rattle.std.proofs.Common.{ℕ, List, length, Option, Some, None}
 use Rattle.std.specs.List.{list_any}
 use Rattle.std.specs.Option.{option_map_or}
 use Rattle.wm_registry.specs.declared.root.Root.{Root}
@@ -16,6 +17,8 @@ use Rattle.wm_registry.specs.Roots.{State, is_watched, root_at, with_triggers}
 use Rattle.wm_registry.specs.Spelling.{state_spelling}
 use Rattle.wm_registry.specs.Triggers.{Definition, defined, has_trigger, same_definition}
 use Rattle.wm_store.specs.Batches.{is_begin}
+use Rattle.wm_registry.specs.Endings.{count_fits}
+use Rattle.wm_registry.specs.Versions.{max_state_bytes}
 
 -- either of two replies
 either : (b : Bool) (x y : Reply) → (cond b x y ≡ x) ⊎ (cond b x y ≡ y)
@@ -55,16 +58,21 @@ usual_not_watched = (λ e. absurd cc, λ e. absurd cc)
 usual_too_many : IsUsual (Refused TooMany)
 usual_too_many = (λ e. absurd cc, λ e. absurd cc)
 
+usual_old : IsUsual (Refused OldVersion)
+usual_old = (λ e. absurd cc, λ e. absurd cc)
+
 usual_unless_full : (new : State) (reply : Reply) → IsUsual reply → IsUsual (unless_full new reply)
-usual_unless_full new reply p = usual_if (nat_lt max_state_bytes (length (state_spelling new))) (Refused Full) reply usual_full p
+usual_unless_full new reply p = usual_if (nat_lt (max_state_bytes new.version) (length (state_spelling new))) (Refused Full) reply usual_full p
 
 usual_trigger : (s : State) (path : List ℕ) (trigger : Definition) (root : Root) → IsUsual (reply_to_trigger s path trigger root)
 usual_trigger s path trigger root =
     let new = with_triggers s path root (defined trigger root.triggers) in
     let fits = usual_unless_full new Changed usual_changed in
-    usual_if (list_any (same_definition trigger) root.triggers) Unchanged _ usual_unchanged
+    usual_if (count_fits s.version trigger.max_files_stdin) _ (Refused OldVersion)
+    (usual_if (list_any (same_definition trigger) root.triggers) Unchanged _ usual_unchanged
     (usual_if (has_trigger trigger.name root.triggers) (unless_full new Replaced) _ (usual_unless_full new Replaced usual_replaced)
-    (usual_if (nat_lt (length root.triggers) max_triggers) (unless_full new Changed) (Refused TooMany) fits usual_too_many))
+    (usual_if (nat_lt (length root.triggers) max_triggers) (unless_full new Changed) (Refused TooMany) fits usual_too_many)))
+    usual_old
 
 usual_at : (f : Root → Reply) → ((root : Root) → IsUsual (f root)) → (root : Option Root) → IsUsual (option_map_or f root (Refused NotWatched))
 usual_at f usual None = usual_not_watched

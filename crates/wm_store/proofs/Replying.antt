@@ -10,12 +10,12 @@ use Rattle.wm_registry.specs.declared.reply.Reply.{Reply}
 use Rattle.wm_registry.specs.declared.reply.Reply.TheVariants.{Refused}
 use Rattle.wm_registry.specs.Registry.{after_command, changed, changes, is_change, reply_to}
 use Rattle.wm_registry.specs.Roots.{State}
-use Rattle.wm_registry.specs.MachineLaws.{watches}
-use Rattle.wm_checkpoint.specs.Machines.{replay_on}
+use Rattle.wm_checkpoint.specs.Machines.{replayed}
 use Rattle.wm_store.specs.Batches.{IsMet, IsOutOfMemory, IsWithoutRoom, AreAnswered, accepted_of, in_batch, is_begin, after_reply, unless_begin}
 use Rattle.wm_store.specs.UnderWay.{AreMet, AreSpent, refused_for_memory, spent, with_command}
 use Rattle.wm_store.proofs.Replies.{never_bad}
 use Rattle.wm_store.specs.laws.Replies.{changes_met, refusal_stays}
+use Rattle.wm_registry.specs.declared.version.Version.{Version}
 
 -- ---- one reply
 
@@ -23,11 +23,11 @@ after_changes : (s : State) (c : Command) → changes s c ≡ true → after_com
 after_changes s c h = rw h refl
 
 -- the commands accepted by one reply lead to the state behind it
-met_is : (b : Bool) (s : State) (c : Command) → (b ≡ true → after_command s c ≡ changed s c) → replay_on watches s (if b then c ∷ [] else []) ≡ (if b then changed s c else s)
+met_is : (b : Bool) (s : State) (c : Command) → (b ≡ true → after_command s c ≡ changed s c) → replayed after_command s (if b then c ∷ [] else []) ≡ (if b then changed s c else s)
 met_is true s c h = h refl
 met_is false s c h = refl
 
-pub one_met : (s : State) (c : Command) (r : Reply) → IsMet s c r → replay_on watches s (with_command [] c r) ≡ after_reply s c r
+pub one_met : (s : State) (c : Command) (r : Reply) → IsMet s c r → replayed after_command s (with_command [] c r) ≡ after_reply s c r
 one_met s c r m = met_is (is_change r) s c (λ h. after_changes s c (changes_met s c r m h))
 
 stays_met : (b : Bool) (s t : State) → b ≡ false → (if b then t else s) ≡ s
@@ -54,21 +54,21 @@ if_nil : (b : Bool) (c : Command) (l : List Command) → b ≡ false → (if b t
 if_nil true c l h = absurd cc
 if_nil false c l h = refl
 
-replay_first : (b : Bool) (s : State) (c : Command) (l : List Command) → replay_on watches s (if b then c ∷ l else l) ≡ replay_on watches (replay_on watches s (if b then c ∷ [] else [])) l
+replay_first : (b : Bool) (s : State) (c : Command) (l : List Command) → replayed after_command s (if b then c ∷ l else l) ≡ replayed after_command (replayed after_command s (if b then c ∷ [] else [])) l
 replay_first true s c l = refl
 replay_first false s c l = refl
 
-replay_met : (s : State) (c : Command) (r : Reply) (l : List Command) → IsMet s c r → replay_on watches s (if is_change r then c ∷ l else l) ≡ replay_on watches (after_reply s c r) l
-replay_met s c r l m = replay_first (is_change r) s c l ∙ ap (λ (t : State). replay_on watches t l) (one_met s c r m)
+replay_met : (s : State) (c : Command) (r : Reply) (l : List Command) → IsMet s c r → replayed after_command s (if is_change r then c ∷ l else l) ≡ replayed after_command (after_reply s c r) l
+replay_met s c r l m = replay_first (is_change r) s c l ∙ ap (λ (t : State). replayed after_command t l) (one_met s c r m)
 
-pub met_append : (s : State) (cs ds : List Command) (rs qs : List Reply) → AreMet s cs rs → AreMet (replay_on watches s (accepted_of cs rs)) ds qs → AreMet s (cs ++ ds) (rs ++ qs)
+pub met_append : (s : State) (cs ds : List Command) (rs qs : List Reply) → AreMet s cs rs → AreMet (replayed after_command s (accepted_of cs rs)) ds qs → AreMet s (cs ++ ds) (rs ++ qs)
 met_append s [] ds [] qs h k = k
 met_append s [] ds (r ∷ rs) qs h k = absurd h
 met_append s (c ∷ cs) ds [] qs h k = absurd h
 met_append s (c ∷ cs) ds (r ∷ rs) qs h k =
     (h.0, met_append (after_reply s c r) cs ds rs qs h.1 (subst (λ (t : State). AreMet t ds qs) (replay_met s c r (accepted_of cs rs) h.0) k))
 
-pub met_more : (s : State) (cs : List Command) (rs : List Reply) (d : Command) (q : Reply) → AreMet s cs rs → IsMet (replay_on watches s (accepted_of cs rs)) d q → AreMet s (cs ++ (d ∷ [])) (rs ++ (q ∷ []))
+pub met_more : (s : State) (cs : List Command) (rs : List Reply) (d : Command) (q : Reply) → AreMet s cs rs → IsMet (replayed after_command s (accepted_of cs rs)) d q → AreMet s (cs ++ (d ∷ [])) (rs ++ (q ∷ []))
 met_more s cs rs d q h k = met_append s cs (d ∷ []) rs (q ∷ []) h (k, tt)
 
 pub met_len : (s : State) (cs : List Command) (rs : List Reply) → AreMet s cs rs → length cs ≡ length rs
@@ -81,40 +81,40 @@ met_len s (c ∷ cs) (r ∷ rs) h = omega (arith, met_len (after_reply s c r) cs
 pub idle_more : (s : State) (cs : List Command) (rs : List Reply) (d : Command) (q : Reply) → AreMet s cs rs → accepted_of cs rs ≡ [] → q ≡ in_batch s d → is_change q ≡ false
     → AreMet s (cs ++ (d ∷ [])) (rs ++ (q ∷ [])) × (accepted_of (cs ++ (d ∷ [])) (rs ++ (q ∷ [])) ≡ [])
 idle_more s cs rs d q met none is idle = (
-  met_more s cs rs d q met (subst (λ (l : List Command). IsMet (replay_on watches s l) d q) (sym none) (inl is)),
+  met_more s cs rs d q met (subst (λ (l : List Command). IsMet (replayed after_command s l) d q) (sym none) (inl is)),
   accepted_append cs (d ∷ []) rs (q ∷ []) (met_len s cs rs met) ∙ ap (λ (l : List Command). l ++ accepted_of (d ∷ []) (q ∷ [])) none ∙ if_nil (is_change q) d [] idle,
 )
 
-pub answered_met : (n room : ℕ) (s : State) (cs : List Command) (rs : List Reply) → AreMet s cs rs → AreAnswered n room s cs rs
-answered_met n room s [] [] h = tt
-answered_met n room s [] (r ∷ rs) h = absurd h
-answered_met n room s (c ∷ cs) [] h = absurd h
-answered_met n room s (c ∷ cs) (r ∷ rs) h = inl (h.0, answered_met n room (after_reply s c r) cs rs h.1)
+pub answered_met : (version : Version) (n room : ℕ) (s : State) (cs : List Command) (rs : List Reply) → AreMet s cs rs → AreAnswered version n room s cs rs
+answered_met version n room s [] [] h = tt
+answered_met version n room s [] (r ∷ rs) h = absurd h
+answered_met version n room s (c ∷ cs) [] h = absurd h
+answered_met version n room s (c ∷ cs) (r ∷ rs) h = inl (h.0, answered_met version n room (after_reply s c r) cs rs h.1)
 
 -- ---- a spent number
 
-pub answered_spent : (n room : ℕ) (s : State) (cs : List Command) (rs : List Reply) → AreSpent n room s cs rs → AreAnswered n room s cs rs
-answered_spent n room s [] rs h = absurd h
-answered_spent n room s (c ∷ cs) [] h = absurd h
-answered_spent n room s (c ∷ cs) (r ∷ rs) (inl h) = inl (h.0, answered_spent n room (after_reply s c r) cs rs h.1)
-answered_spent n room s (c ∷ cs) (r ∷ rs) (inr h) = inr h
+pub answered_spent : (version : Version) (n room : ℕ) (s : State) (cs : List Command) (rs : List Reply) → AreSpent version n room s cs rs → AreAnswered version n room s cs rs
+answered_spent version n room s [] rs h = absurd h
+answered_spent version n room s (c ∷ cs) [] h = absurd h
+answered_spent version n room s (c ∷ cs) (r ∷ rs) (inl h) = inl (h.0, answered_spent version n room (after_reply s c r) cs rs h.1)
+answered_spent version n room s (c ∷ cs) (r ∷ rs) (inr h) = inr h
 
 spent_append : (cs : List Command) (d : Command) → spent (cs ++ (d ∷ [])) ≡ spent cs ++ (unless_begin d (Refused Exhausted) ∷ [])
 spent_append [] d = refl
 spent_append (c ∷ cs) d = ap (λ (l : List Reply). unless_begin c (Refused Exhausted) ∷ l) (spent_append cs d)
 
-pub spent_more : (n room : ℕ) (s : State) (cs : List Command) (rs : List Reply) (d : Command) → AreSpent n room s cs rs → AreSpent n room s (cs ++ (d ∷ [])) (rs ++ (unless_begin d (Refused Exhausted) ∷ []))
-spent_more n room s [] rs d h = absurd h
-spent_more n room s (c ∷ cs) [] d h = absurd h
-spent_more n room s (c ∷ cs) (r ∷ rs) d (inl h) = inl (h.0, spent_more n room (after_reply s c r) cs rs d h.1)
-spent_more n room s (c ∷ cs) (r ∷ rs) d (inr h) = inr (h.0, h.1, ap (λ (l : List Reply). l ++ (unless_begin d (Refused Exhausted) ∷ [])) h.2 ∙ sym (spent_append (c ∷ cs) d))
+pub spent_more : (version : Version) (n room : ℕ) (s : State) (cs : List Command) (rs : List Reply) (d : Command) → AreSpent version n room s cs rs → AreSpent version n room s (cs ++ (d ∷ [])) (rs ++ (unless_begin d (Refused Exhausted) ∷ []))
+spent_more version n room s [] rs d h = absurd h
+spent_more version n room s (c ∷ cs) [] d h = absurd h
+spent_more version n room s (c ∷ cs) (r ∷ rs) d (inl h) = inl (h.0, spent_more version n room (after_reply s c r) cs rs d h.1)
+spent_more version n room s (c ∷ cs) (r ∷ rs) d (inr h) = inr (h.0, h.1, ap (λ (l : List Reply). l ++ (unless_begin d (Refused Exhausted) ∷ [])) h.2 ∙ sym (spent_append (c ∷ cs) d))
 
-pub spent_first : (n room : ℕ) (s : State) (cs : List Command) (rs : List Reply) (d : Command) → AreMet s cs rs → IsWithoutRoom n room d → is_change (in_batch (replay_on watches s (accepted_of cs rs)) d) ≡ true → AreSpent n room s (cs ++ (d ∷ [])) (rs ++ (unless_begin d (Refused Exhausted) ∷ []))
-spent_first n room s [] [] d h less is = inr (less, is, refl)
-spent_first n room s [] (r ∷ rs) d h less is = absurd h
-spent_first n room s (c ∷ cs) [] d h less is = absurd h
-spent_first n room s (c ∷ cs) (r ∷ rs) d h less is =
-    inl (h.0, spent_first n room (after_reply s c r) cs rs d h.1 less (subst (λ (t : State). is_change (in_batch t d) ≡ true) (replay_met s c r (accepted_of cs rs) h.0) is))
+pub spent_first : (version : Version) (n room : ℕ) (s : State) (cs : List Command) (rs : List Reply) (d : Command) → AreMet s cs rs → IsWithoutRoom version n room d → is_change (in_batch (replayed after_command s (accepted_of cs rs)) d) ≡ true → AreSpent version n room s (cs ++ (d ∷ [])) (rs ++ (unless_begin d (Refused Exhausted) ∷ []))
+spent_first version n room s [] [] d h less is = inr (less, is, refl)
+spent_first version n room s [] (r ∷ rs) d h less is = absurd h
+spent_first version n room s (c ∷ cs) [] d h less is = absurd h
+spent_first version n room s (c ∷ cs) (r ∷ rs) d h less is =
+    inl (h.0, spent_first version n room (after_reply s c r) cs rs d h.1 less (subst (λ (t : State). is_change (in_batch t d) ≡ true) (replay_met s c r (accepted_of cs rs) h.0) is))
 
 -- ---- refusals when out of memory
 
@@ -194,6 +194,6 @@ out_of_memory_last (r ∷ rs) q h = inr (out_of_memory_last rs q h)
 
 -- ---- the group
 
-pub taken_append : (cs ds : List Command) → taken command_spelling (cs ++ ds) ≡ taken command_spelling cs + taken command_spelling ds
-taken_append [] ds = omega arith
-taken_append (c ∷ cs) ds = omega (arith, taken_append cs ds)
+pub taken_append : (version : Version) (cs ds : List Command) → taken (command_spelling version) (cs ++ ds) ≡ taken (command_spelling version) cs + taken (command_spelling version) ds
+taken_append version [] ds = omega arith
+taken_append version (c ∷ cs) ds = omega (arith, taken_append version cs ds)

@@ -9,31 +9,34 @@ use Rattle.wm_disk.specs.laws.Runs.{weaker, OnlyNow}
 use Rattle.wm_registry.specs.declared.command.Command.{Command}
 use Rattle.wm_registry.specs.declared.reply.Reply.{Reply}
 use Rattle.wm_registry.specs.Roots.{State}
-use Rattle.wm_registry.specs.MachineLaws.{watches}
+use Rattle.wm_registry.specs.MachineLaws.{watches_in}
 use Rattle.wm_checkpoint.specs.Meanings.{MeansState, MeansPrefix}
-use Rattle.wm_checkpoint.specs.declared.layout.Version1.{Version1}
 use Rattle.wm_checkpoint.specs.Kept.{disk_of, state_of, has_failed, Keeps}
 use Rattle.wm_checkpoint.specs.declared.keeper.Keeper.{Keeper}
 use Rattle.wm_checkpoint.specs.laws.Uncalled.{untouched, prefix_none}
+use Rattle.wm_registry.specs.declared.version.Version.{Version}
+use Rattle.wm_checkpoint.specs.Layout.{Sizes}
 
 module _ {D : Type 0} (disk : disks.Ghosts D) where
   -- what a crash at a moment from old to new leaves
   abbrev pub Leaves : D → D → (List ℕ → Type 0) → Type 0
   Leaves old new P = LeavesOnly disk.moment disk.left_since old new P
 
+module _ {D M V : Type 0} (disk : disks.Ghosts D) (sizes : Sizes) (version : Version) where
   -- no call of the disk
-  pub stood : OnlyNow disk → (keeper : Keeper D State Version1 State Command Reply disk) → Keeps watches keeper → has_failed keeper ≡ false → disk.honest (disk_of keeper) → Leaves (disk_of keeper) (disk_of keeper) (MeansState watches (state_of keeper))
-  stood only_now keeper kp alive h = untouched disk watches keeper (kp.kept alive h) (λ c left. only_now (disk_of keeper) c h left)
+  pub stood : OnlyNow disk → (keeper : Keeper D M V State Command Reply disk) → Keeps (watches_in sizes version) keeper → has_failed keeper ≡ false → disk.honest (disk_of keeper) → Leaves disk (disk_of keeper) (disk_of keeper) (MeansState (watches_in sizes version) (state_of keeper))
+  stood only_now keeper kp alive h = untouched disk (watches_in sizes version) keeper (kp.kept alive h) (λ c left. only_now (disk_of keeper) c h left)
 
+module _ {D : Type 0} (disk : disks.Ghosts D) (sizes : Sizes) (version : Version) where
   -- of no command yet
-  pub unbegun : (old new : D) (s : State) (cs : List Command) → Leaves old new (MeansState watches s) → Leaves old new (MeansPrefix watches s cs)
-  unbegun old new s cs run = weaker disk.moment disk.left_since old new (MeansState watches s) (MeansPrefix watches s cs) run (λ c m. prefix_none watches s cs c m)
+  pub unbegun : (old new : D) (s : State) (cs : List Command) → Leaves disk old new (MeansState (watches_in sizes version) s) → Leaves disk old new (MeansPrefix (watches_in sizes version) s cs)
+  unbegun old new s cs run = weaker disk.moment disk.left_since old new (MeansState (watches_in sizes version) s) (MeansPrefix (watches_in sizes version) s cs) run (λ c m. prefix_none (watches_in sizes version) s cs c m)
 
   -- first a run that leaves the state, then one of commands
-  pub then_begun : (old mid new : D) (s t : State) (cs : List Command) → t ≡ s → Leaves old mid (MeansState watches s) → Leaves mid new (MeansPrefix watches t cs) → Leaves old new (MeansPrefix watches s cs)
+  pub then_begun : (old mid new : D) (s t : State) (cs : List Command) → t ≡ s → Leaves disk old mid (MeansState (watches_in sizes version) s) → Leaves disk mid new (MeansPrefix (watches_in sizes version) t cs) → Leaves disk old new (MeansPrefix (watches_in sizes version) s cs)
   then_begun old mid new s t cs same first second =
-      then_runs disk.moment disk.left_since old mid new (MeansPrefix watches s cs) (MeansPrefix watches t cs) (unbegun old mid s cs first) second
-      (λ c m. subst (λ (x : State). MeansPrefix watches x cs c) same m)
+      then_runs disk.moment disk.left_since old mid new (MeansPrefix (watches_in sizes version) s cs) (MeansPrefix (watches_in sizes version) t cs) (unbegun old mid s cs first) second
+      (λ c m. subst (λ (x : State). MeansPrefix (watches_in sizes version) x cs c) same m)
 
 -- an answer of a keeper that is up
 pub kinds_up : (r : Result Unit Refusal) → IfErr r (λ e. (e ≡ DeviceFailed) ⊎ (e ≡ NoMemory) ⊎ (e ≡ Exhausted) ⊎ (e ≡ StoreFailed)) → (IsErrOf r StoreFailed → ⊥) → IfErr r (λ e. (e ≡ DeviceFailed) ⊎ (e ≡ NoMemory) ⊎ (e ≡ Exhausted))

@@ -11,10 +11,10 @@ use Rattle.wm_registry.specs.declared.command.Command.TheVariants.{Begin, Watch,
 use Rattle.wm_registry.specs.declared.reply.Reply.{Reply}
 use Rattle.wm_registry.specs.declared.reply.Reply.TheVariants.{Refused}
 use Rattle.wm_registry.specs.Roots.{State}
-use Rattle.wm_registry.specs.Registry.{changed, is_change, reply_to}
-use Rattle.wm_registry.specs.MachineLaws.{watches}
-use Rattle.wm_checkpoint.specs.Machines.{replay_on}
-use Rattle.wm_checkpoint.specs.Meanings.{MeansPrefix, MeansState}
+use Rattle.wm_registry.specs.Registry.{after_command, changed, is_change, reply_to}
+use Rattle.wm_registry.specs.declared.version.Version.{Version}
+use Rattle.wm_checkpoint.specs.Machines.{replayed}
+use Rattle.wm_store.specs.Meant.{MeansAfter, MeansRegistry}
 use Rattle.wm_store.specs.Stored.{Stored}
 
 abbrev pub is_begin : Command → Bool
@@ -40,19 +40,19 @@ IsMet s command reply = (reply ≡ in_batch s command) ⊎ (reply ≡ unless_beg
 abbrev pub after_reply : State → Command → Reply → State
 after_reply s command reply = if is_change reply then changed s command else s
 
--- The command doesn't fit into what the journal has left, and the slot's number is spent.
-abbrev pub IsWithoutRoom : ℕ → ℕ → Command → Type 0
-IsWithoutRoom number room command = (max_counter ≤ number) × (room < taken command_spelling (command ∷ []))
+-- The command doesn't fit into what the journal of a file of the version has left, and the slot's number is spent.
+abbrev pub IsWithoutRoom : Version → ℕ → ℕ → Command → Type 0
+IsWithoutRoom v number room command = (max_counter ≤ number) × (room < taken (command_spelling v) (command ∷ []))
 
 -- Each command is met in the state that those before it leave. One that the registry accepts, and for which a slot with this number and
 -- room has no room and can't be left, is refused for that, with all behind it.
-abbrev pub AreAnswered : ℕ → ℕ → State → List Command → List Reply → Type 0
-AreAnswered number room s [] [] = Unit {0}
-AreAnswered number room s [] (reply ∷ replies) = ⊥
-AreAnswered number room s (command ∷ commands) [] = ⊥
-AreAnswered number room s (command ∷ commands) (reply ∷ replies) =
-    (IsMet s command reply × AreAnswered number room (after_reply s command reply) commands replies)
-    ⊎ (IsWithoutRoom number room command × (is_change (in_batch s command) ≡ true)
+abbrev pub AreAnswered : Version → ℕ → ℕ → State → List Command → List Reply → Type 0
+AreAnswered v number room s [] [] = Unit {0}
+AreAnswered v number room s [] (reply ∷ replies) = ⊥
+AreAnswered v number room s (command ∷ commands) [] = ⊥
+AreAnswered v number room s (command ∷ commands) (reply ∷ replies) =
+    (IsMet s command reply × AreAnswered v number room (after_reply s command reply) commands replies)
+    ⊎ (IsWithoutRoom v number room command × (is_change (in_batch s command) ≡ true)
     × (reply ∷ replies ≡ map (λ c. unless_begin c (Refused Exhausted)) (command ∷ commands)))
 
 -- those of the commands that changed the registry, by their replies
@@ -70,18 +70,18 @@ IsOutOfMemory (reply ∷ replies) = (reply ≡ Refused NoMemory) ⊎ IsOutOfMemo
 module _ {D : Type 0} (disk : disks.Ghosts D) (old new : Stored D) (commands : List Command) (replies : List Reply) where
   -- A batch from old to new, with these replies; a crash at any moment of it leaves the registry after a prefix of those accepted.
   pub record IsBatch : Type 0 where
-    pub answered : AreAnswered new.number new.room old.registry commands replies
-    pub any_moment : LeavesAtAnyMoment disk old.disk new.disk (λ c. MeansPrefix watches old.registry (accepted_of commands replies) c)
+    pub answered : AreAnswered old.registry.version new.number new.room old.registry commands replies
+    pub any_moment : LeavesAtAnyMoment disk old.disk new.disk (λ c. MeansAfter old.registry (accepted_of commands replies) c)
 
   -- A batch that was answered.
   pub record IsCommitted : Type 0 where
     pub batch : IsBatch
-    pub registry : new.registry ≡ replay_on watches old.registry (accepted_of commands replies)
+    pub registry : new.registry ≡ replayed after_command old.registry (accepted_of commands replies)
     pub open_yet : new.closed ≡ false
     -- every content that a crash may leave then means the registry
-    pub means : disk.honest new.disk → EachLeft disk new.disk (λ c. MeansState watches new.registry c)
+    pub means : disk.honest new.disk → EachLeft disk new.disk (λ c. MeansRegistry new.registry c)
     -- where none is accepted nothing was done, but for a checkpoint before a group that found no memory
     pub idle : accepted_of commands replies ≡ [] → (new ≡ old) ⊎ IsOutOfMemory replies
     -- unless memory ran out, no checkpoint was made for commands that the journal had room for
-    pub slot : IsOutOfMemory replies ⊎ (taken command_spelling (accepted_of commands replies) ≤ old.room
-        → (new.number ≡ old.number) × (new.room + taken command_spelling (accepted_of commands replies) ≡ old.room))
+    pub slot : IsOutOfMemory replies ⊎ (taken (command_spelling old.registry.version) (accepted_of commands replies) ≤ old.room
+        → (new.number ≡ old.number) × (new.room + taken (command_spelling old.registry.version) (accepted_of commands replies) ≡ old.room))

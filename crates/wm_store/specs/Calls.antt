@@ -4,10 +4,9 @@ use Rattle.wm_disk.specs.Calls.{Calls, CallsWith, EachLeft}
 use Rattle.wm_disk.specs.declared.disk.Disk as disks
 use Rattle.wm_disk.specs.declared.refusal.Refusal.{Refusal}
 use Rattle.wm_disk.specs.declared.refusal.Refusal.TheVariants.{DeviceFailed, NoMemory, StoreFailed}
-use Rattle.wm_checkpoint.specs.Meanings.{MeansState}
 use Rattle.wm_checkpoint.specs.Numbers.{IsNumberedTo}
-use Rattle.wm_checkpoint.specs.Layout.{sizes_1}
-use Rattle.wm_registry.specs.MachineLaws.{watches}
+use Rattle.wm_registry.specs.Versions.{sizes_of}
+use Rattle.wm_store.specs.Meant.{MeansRegistry}
 use Rattle.wm_store.specs.Stored.{Stored}
 
 -- a call was answered 13, or the store was closed
@@ -39,6 +38,6 @@ module _ {D : Type 0} (disk : disks.Ghosts D) where
     pub up : store.failed ≡ false
     pub open_yet : store.closed ≡ false
     -- every content that a crash may leave means its registry
-    pub means : disk.honest store.disk → EachLeft disk store.disk (λ c. MeansState watches store.registry c)
+    pub means : disk.honest store.disk → EachLeft disk store.disk (λ c. MeansRegistry store.registry c)
     -- and no slot that stands open there has a greater number
-    pub numbered : disk.honest store.disk → EachLeft disk store.disk (λ c. IsNumberedTo sizes_1 store.number c)
+    pub numbered : disk.honest store.disk → EachLeft disk store.disk (λ c. IsNumberedTo (sizes_of store.registry.version) store.number c)

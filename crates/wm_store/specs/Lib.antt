@@ -2,8 +2,11 @@ pub mod Batches
 pub mod Beginnings
 pub mod Calls
 pub mod Checkpoints
+pub mod KeptStores
+pub mod Meant
 pub mod Openings
 pub mod Room
 pub mod Stored
+pub mod Takings
 pub mod UnderWay
 pub mod laws

@@ -1,29 +1,29 @@
 //! A batch from its first accepted command on: each command is met on a copy of the registry,
 //! and the accepted ones are committed in groups.
 //! Definitions: specs/Batches.antt, specs/UnderWay.antt. Tests: file_tests/src/store/calls.rt.
-ghost use Rattle.std.specs.Prelude.{◌≡◌, ◌⊎◌, ◌+◌, ◌≤◌, ◌<◌, ◌++◌, false, [], length, map, take, drop, Option, Some, None, IfOk, IfErr, OnOk, OnErr, IfSome, vec_len};
+ghost use Rattle.std.specs.Prelude.{◌≡◌, ◌⊎◌, ◌+◌, ◌≤◌, ◌<◌, ◌++◌, true, false, [], length, map, take, drop, Option, Some, None, IfOk, IfErr, OnOk, OnErr, IfSome, vec_len};
 ghost use Rattle.wm_disk.specs.declared.refusal.Refusal.TheVariants.{NoMemory as no_memory, Exhausted as exhausted};
 ghost use Rattle.wm_disk.specs.Moments.{LeavesOnly};
 ghost use Rattle.wm_checkpoint.specs.Meanings.{MeansPrefix};
-ghost use Rattle.wm_registry.specs.MachineLaws.{watches};
+ghost use Rattle.wm_registry.specs.Commands.{FitsVersion};
+ghost use Rattle.wm_registry.specs.MachineLaws.{watches_in};
 ghost use Rattle.wm_checkpoint.specs.Kept.{disk_of, state_of, has_failed, Keeps};
 ghost use Rattle.wm_registry.specs.Registry.{after_command, is_change, reply_to};
 ghost use Rattle.wm_store.specs.Room.{group_bound};
 ghost use Rattle.wm_store.specs.UnderWay.{AreIdle, IsUnmoved, HasRoom, IsAsked, IsCutAtEnd, IsCutBatch, IsCutBehind, IsCutFor, IsDone, IsFinished, IsGroupDone, IsMetToo, IsNew, IsPushed, IsReady, IsRefused, IsRoomMade, UsesKeeper, refused_for_memory};
 
 use std::alloc::Global;
-use wm_checkpoint::{Keeper, Version1};
+use wm_checkpoint::Keeper;
 use wm_disk::{DeviceFailed, Disk, NoMemory, Refusal};
-use wm_registry::{Command, Draft, Registry, Reply};
-use wm_wire::Wire;
+use wm_registry::{Command, Draft, Filed, FiledCommand, FiledRegistry, Registry, Reply, Watches};
 
-/// A batch, as far as its commands were met.
+/// A batch on a file of this version, as far as its commands were met.
 #[derive(Drop)]
-pub(crate) struct Batch {
+pub(crate) struct Batch<V: Filed> {
     // the registry that the commands so far have made
     next: Draft,
     // the accepted commands that aren't committed yet, and how many bytes they take in the journal
-    group: Vec<Command>,
+    group: Vec<FiledCommand<V>>,
     size: u64,
     // the replies so far, and how many stood there when the group began
     replies: Vec<Reply>,
@@ -34,7 +34,7 @@ pub(crate) struct Batch {
     before: Option<Registry>,
 }
 
-impl Batch {
+impl<V: Filed> Batch<V> {
     /// A batch of so many commands on this registry, which accepted none of the first, those that have
     /// these replies.
     pub(crate) fn new(
@@ -42,7 +42,7 @@ impl Batch {
         registry: &Registry,
         replies: Vec<Reply>,
         len: usize,
-    ) -> Result<Batch, NoMemory>
+    ) -> Result<Self, NoMemory>
         ensures { IfOk result (IsNew registry.now replies len) }
     {
         let next = Draft::new(alloc, registry)?;
@@ -62,15 +62,15 @@ impl Batch {
     fn take<D: Disk + Drop>(
         &mut self,
         alloc: Global,
-        keeper: &mut Keeper<D, Registry, Version1>,
+        keeper: &mut Keeper<D, Watches<V>, V>,
         command: Command,
     ) -> Result<(), DeviceFailed>
-        requires ready { IsReady D.Disk keeper.old self.old }
+        requires ready { IsReady D.Disk V.sizes V.version keeper.old self.old }
         requires refused { (self.old.refused ≡ None) ⊎ (self.old.refused ≡ Some no_memory) ⊎ (self.old.refused ≡ Some exhausted) }
         requires room { HasRoom self.old }
-        ensures met { OnOk result (IsMetToo D.Disk command keeper.old self.old keeper.new self.new) }
-        ensures cut { OnErr result (IsCutFor D.Disk command keeper.old self.old keeper.new self.new) }
-        ensures keeper { UsesKeeper D.Disk 1 keeper.old keeper.new result }
+        ensures met { OnOk result (IsMetToo D.Disk V.sizes V.version command keeper.old self.old keeper.new self.new) }
+        ensures cut { OnErr result (IsCutFor D.Disk V.sizes V.version command keeper.old self.old keeper.new self.new) }
+        ensures keeper { UsesKeeper D.Disk V.sizes V.version 1 keeper.old keeper.new result }
     {
         let Ok(refusal) = self.admit(alloc, keeper, &command) else {
             return Err(DeviceFailed);
@@ -85,16 +85,16 @@ impl Batch {
     fn admit<D: Disk + Drop>(
         &mut self,
         alloc: Global,
-        keeper: &mut Keeper<D, Registry, Version1>,
+        keeper: &mut Keeper<D, Watches<V>, V>,
         command: &Command,
     ) -> Result<Option<Refusal>, DeviceFailed>
-        requires ready { IsReady D.Disk keeper.old self.old }
+        requires ready { IsReady D.Disk V.sizes V.version keeper.old self.old }
         requires refused { (self.old.refused ≡ None) ⊎ (self.old.refused ≡ Some no_memory) ⊎ (self.old.refused ≡ Some exhausted) }
-        ensures goes_on { OnOk result (IsUnmoved D.Disk keeper.old self.old keeper.new self.new) }
-        ensures asked { IfOk result (λ o. o ≡ None → IsAsked D.Disk command.now keeper.old self.old keeper.new self.new) }
-        ensures refused { IfOk result (λ o. (r : Refusal) → o ≡ Some r → IsRefused D.Disk command.now keeper.old self.old keeper.new self.new r) }
-        ensures cut { OnErr result (IsCutFor D.Disk command.now keeper.old self.old keeper.new self.new) }
-        ensures keeper { UsesKeeper D.Disk 1 keeper.old keeper.new result }
+        ensures goes_on { OnOk result (IsUnmoved D.Disk V.sizes V.version keeper.old self.old keeper.new self.new) }
+        ensures asked { IfOk result (λ o. o ≡ None → IsAsked D.Disk V.sizes V.version command.now keeper.old self.old keeper.new self.new) }
+        ensures refused { IfOk result (λ o. (r : Refusal) → o ≡ Some r → IsRefused D.Disk V.sizes V.version command.now keeper.old self.old keeper.new self.new r) }
+        ensures cut { OnErr result (IsCutFor D.Disk V.sizes V.version command.now keeper.old self.old keeper.new self.new) }
+        ensures keeper { UsesKeeper D.Disk V.sizes V.version 1 keeper.old keeper.new result }
     {
         if let Command::Begin = command {
             return Ok(Some(Refusal::BadArguments));
@@ -102,7 +102,7 @@ impl Batch {
         if let Some(refusal) = self.refused {
             return Ok(Some(refusal));
         }
-        if self.size + command.size() + 1 <= keeper.room() {
+        if self.size + command.size_as(V::kept_version()) + 1 <= keeper.room() {
             return Ok(None);
         }
         if !self.next.reply_to(command).is_change() {
@@ -119,28 +119,29 @@ impl Batch {
         requires room { HasRoom self.old }
         requires len { vec_len self.old.group ≤ vec_len self.old.replies }
         requires small { self.old.size ≤ group_bound }
-        ensures { IsPushed command reply self.old self.new }
+        requires placed { is_change reply ≡ true → FitsVersion V.version command }
+        ensures { IsPushed V.version command reply self.old self.new }
     {
         self.replies.push_reserved(reply);
         if !reply.is_change() {
             return;
         }
-        self.size += command.size() + 1;
-        self.group.push_reserved(command);
+        self.size += command.size_as(V::kept_version()) + 1;
+        self.group.push_reserved(FiledCommand::new(command));
     }
 
     /// Commits the group and makes a checkpoint; or refuses the rest of the batch.
     fn make_room<D: Disk + Drop>(
         &mut self,
         alloc: Global,
-        keeper: &mut Keeper<D, Registry, Version1>,
+        keeper: &mut Keeper<D, Watches<V>, V>,
     ) -> Result<(), DeviceFailed>
-        requires ready { IsReady D.Disk keeper.old self.old }
+        requires ready { IsReady D.Disk V.sizes V.version keeper.old self.old }
         requires open_yet { self.old.refused ≡ None }
-        ensures goes_on { OnOk result (IsUnmoved D.Disk keeper.old self.old keeper.new self.new) }
-        ensures made { OnOk result (IsRoomMade D.Disk keeper.old self.old keeper.new self.new) }
-        ensures cut { OnErr result (IsCutBehind D.Disk keeper.old self.old keeper.new self.new.before) }
-        ensures keeper { UsesKeeper D.Disk 1 keeper.old keeper.new result }
+        ensures goes_on { OnOk result (IsUnmoved D.Disk V.sizes V.version keeper.old self.old keeper.new self.new) }
+        ensures made { OnOk result (IsRoomMade D.Disk V.sizes V.version keeper.old self.old keeper.new self.new) }
+        ensures cut { OnErr result (IsCutBehind D.Disk V.sizes V.version keeper.old self.old keeper.new self.new.before) }
+        ensures keeper { UsesKeeper D.Disk V.sizes V.version 1 keeper.old keeper.new result }
     {
         if self.group.is_empty() {
             return self.switch(alloc, keeper);
@@ -158,15 +159,15 @@ impl Batch {
     fn switch<D: Disk + Drop>(
         &mut self,
         alloc: Global,
-        keeper: &mut Keeper<D, Registry, Version1>,
+        keeper: &mut Keeper<D, Watches<V>, V>,
     ) -> Result<(), DeviceFailed>
-        requires ready { IsReady D.Disk keeper.old self.old }
+        requires ready { IsReady D.Disk V.sizes V.version keeper.old self.old }
         requires open_yet { self.old.refused ≡ None }
         requires none { self.old.group.items ≡ [] }
-        ensures goes_on { OnOk result (IsUnmoved D.Disk keeper.old self.old keeper.new self.new) }
-        ensures made { OnOk result (IsRoomMade D.Disk keeper.old self.old keeper.new self.new) }
-        ensures cut { OnErr result (IsCutBehind D.Disk keeper.old self.old keeper.new self.new.before) }
-        ensures keeper { UsesKeeper D.Disk 1 keeper.old keeper.new result }
+        ensures goes_on { OnOk result (IsUnmoved D.Disk V.sizes V.version keeper.old self.old keeper.new self.new) }
+        ensures made { OnOk result (IsRoomMade D.Disk V.sizes V.version keeper.old self.old keeper.new self.new) }
+        ensures cut { OnErr result (IsCutBehind D.Disk V.sizes V.version keeper.old self.old keeper.new self.new.before) }
+        ensures keeper { UsesKeeper D.Disk V.sizes V.version 1 keeper.old keeper.new result }
     {
         match keeper.checkpoint(alloc) {
             Ok(()) => Ok(()),
@@ -184,24 +185,24 @@ impl Batch {
     fn commit_so_far<D: Disk + Drop>(
         &mut self,
         alloc: Global,
-        keeper: &mut Keeper<D, Registry, Version1>,
+        keeper: &mut Keeper<D, Watches<V>, V>,
     ) -> Result<(), DeviceFailed>
-        requires ready { IsReady D.Disk keeper.old self.old }
+        requires ready { IsReady D.Disk V.sizes V.version keeper.old self.old }
         requires open_yet { self.old.refused ≡ None }
-        ensures goes_on { OnOk result (IsUnmoved D.Disk keeper.old self.old keeper.new self.new) }
-        ensures made { OnOk result (IsGroupDone D.Disk keeper.old self.old keeper.new self.new) }
-        ensures cut { OnErr result (IsCutBehind D.Disk keeper.old self.old keeper.new self.new.before) }
-        ensures keeper { UsesKeeper D.Disk 0 keeper.old keeper.new result }
+        ensures goes_on { OnOk result (IsUnmoved D.Disk V.sizes V.version keeper.old self.old keeper.new self.new) }
+        ensures made { OnOk result (IsGroupDone D.Disk V.sizes V.version keeper.old self.old keeper.new self.new) }
+        ensures cut { OnErr result (IsCutBehind D.Disk V.sizes V.version keeper.old self.old keeper.new self.new.before) }
+        ensures keeper { UsesKeeper D.Disk V.sizes V.version 0 keeper.old keeper.new result }
     {
         let Ok(next) = self.next.copy(alloc) else {
             self.refused = Some(Refusal::NoMemory);
             return Ok(());
         };
-        let Ok(()) = self.remember(alloc, keeper.state()) else {
+        let Ok(()) = self.remember(alloc, keeper.state().registry()) else {
             self.refused = Some(Refusal::NoMemory);
             return Ok(());
         };
-        match keeper.commit(alloc, &self.group, next) {
+        match keeper.commit(alloc, &self.group, FiledRegistry::new(next)) {
             Ok(()) => {
                 self.group.clear();
                 self.size = 0;
@@ -241,20 +242,21 @@ impl Batch {
     fn finish<D: Disk + Drop>(
         self,
         alloc: Global,
-        keeper: &mut Keeper<D, Registry, Version1>,
+        keeper: &mut Keeper<D, Watches<V>, V>,
     ) -> Result<Vec<Reply>, Option<Registry>>
-        requires ready { IsReady D.Disk keeper.old self }
+        requires ready { IsReady D.Disk V.sizes V.version keeper.old self }
         requires first { self.first ≤ vec_len self.replies }
-        ensures done { IfOk result (λ replies. IsFinished D.Disk keeper.old self keeper.new replies.items) }
-        ensures cut { IfErr result (λ before. IsCutAtEnd D.Disk keeper.old self keeper.new before) }
-        ensures keeper { UsesKeeper D.Disk 0 keeper.old keeper.new result }
+        ensures done { IfOk result (λ replies. IsFinished D.Disk V.sizes V.version keeper.old self keeper.new replies.items) }
+        ensures cut { IfErr result (λ before. IsCutAtEnd D.Disk V.sizes V.version keeper.old self keeper.new before) }
+        ensures keeper { UsesKeeper D.Disk V.sizes V.version 0 keeper.old keeper.new result }
     {
         let mut replies = self.replies;
         let group = self.group;
         if group.is_empty() {
             return Ok(replies);
         }
-        match keeper.commit(alloc, &group, self.next.into_registry()) {
+        let next = FiledRegistry::new(self.next.into_registry());
+        match keeper.commit(alloc, &group, next) {
             Ok(()) => Ok(replies),
             Err(refusal) => match refusal {
                 Refusal::NoMemory => {
@@ -300,20 +302,21 @@ fn refuse_from(replies: &mut Vec<Reply>, first: usize)
 
 /// Meets the commands of a batch that aren't answered yet, and gives the replies to all; or the registry
 /// before the batch, where one of its groups had been committed when the device failed.
-pub(crate) fn run<D: Disk + Drop>(
+pub(crate) fn run<D: Disk + Drop, V: Filed>(
     alloc: Global,
-    keeper: &mut Keeper<D, Registry, Version1>,
-    batch: Batch,
+    keeper: &mut Keeper<D, Watches<V>, V>,
+    batch: Batch<V>,
     commands: Vec<Command>,
 ) -> Result<Vec<Reply>, Option<Registry>>
-    requires kept { Keeps watches keeper.old }
+    requires kept { Keeps (watches_in V.sizes V.version) keeper.old }
     requires whole { has_failed keeper.old ≡ false }
+    requires version { (state_of keeper.old).version ≡ V.version }
     requires idle { AreIdle (state_of keeper.old) commands.items batch.replies }
     requires new { IsNew (state_of keeper.old) batch.replies (length commands.items) batch }
-    requires standing { D.honest (disk_of keeper.old) → LeavesOnly D.moment D.left_since (disk_of keeper.old) (disk_of keeper.old) (MeansPrefix watches (state_of keeper.old) []) }
-    ensures done { IfOk result (λ replies. IsDone D.Disk keeper.old commands.items keeper.new replies.items) }
-    ensures cut { IfErr result (λ before. IsCutBatch D.Disk keeper.old commands.items keeper.new before) }
-    ensures keeper { UsesKeeper D.Disk (length commands.items) keeper.old keeper.new result }
+    requires standing { D.honest (disk_of keeper.old) → LeavesOnly D.moment D.left_since (disk_of keeper.old) (disk_of keeper.old) (MeansPrefix (watches_in V.sizes V.version) (state_of keeper.old) []) }
+    ensures done { IfOk result (λ replies. IsDone D.Disk V.sizes V.version keeper.old commands.items keeper.new replies.items) }
+    ensures cut { IfErr result (λ before. IsCutBatch D.Disk V.sizes V.version keeper.old commands.items keeper.new before) }
+    ensures keeper { UsesKeeper D.Disk V.sizes V.version (length commands.items) keeper.old keeper.new result }
 {
     let mut batch = batch;
     let answered = batch.replies.len();

@@ -10,9 +10,12 @@
 mod arming;
 mod batch;
 mod begin;
+mod filed_store;
 mod formatting;
 mod idle;
+mod laws;
 mod store;
 
 pub use formatting::format;
+pub use laws::every_file;
 pub use store::Store;

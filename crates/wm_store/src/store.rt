@@ -1,54 +1,47 @@
-//! A registry on a disk: it is opened, takes batches of commands, and is closed.
-//! Definitions: Stored, Calls, Openings, Batches and Checkpoints of specs/.
+//! A registry on a disk: it is opened, takes batches of commands, and is closed. The version of its file is the registry's.
+//! Definitions: Stored, Meant, Calls, Openings, Batches and Checkpoints of specs/.
 //! Tests: file_tests/src/store.
 ghost use Rattle.std.specs.Prelude.{◌≡◌, ◌⊎◌, ◌≤◌, ◌+◌, true, false, List, [], length, IfOk, IfErr, OnOk, OnErr, IsErrOf};
 ghost use Rattle.wm_disk.specs.Calls.{EachLeft, LeavesAtAnyMoment};
 ghost use Rattle.wm_disk.specs.Counters.{max_counter};
 ghost use Rattle.wm_disk.specs.declared.refusal.Refusal.TheVariants.{DeviceFailed as device_failed, NoMemory as no_memory, Exhausted as exhausted, Damaged as damaged, Retired as retired, StoreFailed as store_failed};
-ghost use Rattle.wm_checkpoint.specs.Kept.{disk_of, state_of, has_failed, slot_number_of, room_left, Keeps};
 ghost use Rattle.wm_checkpoint.specs.Numbers.{IsNumberedTo};
-ghost use Rattle.wm_checkpoint.specs.Layout.{sizes_1};
-ghost use Rattle.wm_checkpoint.specs.Meanings.{MeansState};
 ghost use Rattle.wm_registry.specs.Limits.{max_batch};
-ghost use Rattle.wm_registry.specs.MachineLaws.{watches};
 ghost use Rattle.wm_store.specs.Batches.{IsBatch, IsCommitted, accepted_of};
-ghost use Rattle.wm_store.specs.Beginnings.{IsBegunFrom, IsUnbegun};
 ghost use Rattle.wm_store.specs.Calls.{CallsForStore, CallsStore, IsWorking};
 ghost use Rattle.wm_store.specs.Checkpoints.{IsMeantThroughout, IsCheckpointed};
 ghost use Rattle.wm_store.specs.Openings.{IsBegun, IsLeftBy, IsRefusedFor};
+ghost use Rattle.wm_store.specs.Meant.{MeansRegistry};
 ghost use Rattle.wm_store.specs.Stored.{IsStored};
+ghost use Rattle.wm_registry.specs.Versions.{sizes_of};
 
-use crate::batch::{Batch, run};
-use crate::begin::begin_in;
-use crate::idle::idle_replies;
+use crate::filed_store::{FiledStore, take_up};
 use std::alloc::Global;
 use std::marker::Model;
-use wm_checkpoint::{Keeper, Version1};
+use wm_checkpoint::{EitherKeeper, Version1, Version2};
 use wm_disk::{Disk, Refusal};
-use wm_registry::{Command, Registry, Reply};
+use wm_registry::{Command, Registry, Reply, Version, Watches};
 
 /// A registry, and the disk that means it. Contracts see it as a `Stored`.
 #[derive(Drop)]
 pub struct Store<D: Disk + Drop> {
-    pub(crate) keeper: Keeper<D, Registry, Version1>,
-    // the registry before a batch that failed, where a group of its commands had been committed
-    before: Option<Registry>,
-    closed: bool,
+    pub(crate) kept: KeptStore<D>,
+}
+
+/// A store by the version of its file.
+#[derive(Drop)]
+pub(crate) enum KeptStore<D: Disk + Drop> {
+    One(FiledStore<D, Version1>),
+    Two(FiledStore<D, Version2>),
 }
 
 impl<D: Disk + Drop> Model for Store<D> {
-    ghost use Rattle.std.specs.Prelude.{◌≡◌, false, None};
-    ghost use Rattle.std.specs.Option.{unwrap_or};
-    ghost use Rattle.wm_checkpoint.specs.Kept.{disk_of, state_of, has_failed, slot_number_of, room_left, Keeps};
-    ghost use Rattle.wm_registry.specs.MachineLaws.{watches};
-    ghost use Rattle.wm_store.specs.Stored.{Stored, IsStored};
+    ghost use Rattle.wm_store.specs.KeptStores.{stored_in};
+    ghost use Rattle.wm_store.specs.Stored.{Stored};
 
     ghost Value = { Stored D };
 
-    ghost view = { λ s. record { disk = disk_of s.keeper; registry = unwrap_or s.before (state_of s.keeper); failed = has_failed s.keeper; closed = s.closed; number = slot_number_of s.keeper; room = room_left s.keeper } };
-
-    ghost invariant = { λ s. Keeps watches s.keeper × (has_failed s.keeper ≡ false → s.before ≡ None)
-        × IsStored D.Disk (record { disk = disk_of s.keeper; registry = unwrap_or s.before (state_of s.keeper); failed = has_failed s.keeper; closed = s.closed; number = slot_number_of s.keeper; room = room_left s.keeper }) };
+    ghost view = { λ s. stored_in s.kept };
 }
 
 impl<D: Disk + Drop> Store<D> {
@@ -66,8 +59,19 @@ impl<D: Disk + Drop> Store<D> {
         ensures calls { CallsForStore D.Disk disk result }
         ensures kinds { IfErr result (λ e. (e.0 ≡ device_failed) ⊎ (e.0 ≡ no_memory) ⊎ (e.0 ≡ exhausted) ⊎ (e.0 ≡ damaged) ⊎ (e.0 ≡ retired)) }
     {
-        match Keeper::open(alloc, disk) {
-            Ok(keeper) => begin(alloc, keeper),
+        match EitherKeeper::<D, Watches<Version1>, Watches<Version2>>::open(alloc, disk) {
+            Ok(EitherKeeper::One(keeper)) => match take_up(alloc, keeper) {
+                Ok(store) => Ok(Store {
+                    kept: KeptStore::One(store),
+                }),
+                Err(e) => Err(e),
+            },
+            Ok(EitherKeeper::Two(keeper)) => match take_up(alloc, keeper) {
+                Ok(store) => Ok(Store {
+                    kept: KeptStore::Two(store),
+                }),
+                Err(e) => Err(e),
+            },
             Err((refusal, disk)) => Err((refusal, disk)),
         }
     }
@@ -77,10 +81,18 @@ impl<D: Disk + Drop> Store<D> {
         ensures value { result.now ≡ self.now.registry }
         ensures stored { IsStored D.Disk self.now }
     {
-        match &self.before {
-            Some(registry) => registry,
-            None => self.keeper.state(),
+        match &self.kept {
+            KeptStore::One(store) => store.registry(),
+            KeptStore::Two(store) => store.registry(),
         }
+    }
+
+    /// The version of its file, which no call changes.
+    pub fn version(&self) -> Version
+        ensures value { result ≡ self.now.registry.version }
+        ensures stored { IsStored D.Disk self.now }
+    {
+        self.registry().version()
     }
 
     /// The disk.
@@ -88,7 +100,10 @@ impl<D: Disk + Drop> Store<D> {
         ensures value { result ≡ self.disk }
         ensures stored { IsStored D.Disk self }
     {
-        self.keeper.into_disk()
+        match self.kept {
+            KeptStore::One(store) => store.into_disk(),
+            KeptStore::Two(store) => store.into_disk(),
+        }
     }
 
     /// Meets the commands in their order, and answers them when all that it accepted are durable: each as
@@ -116,30 +131,14 @@ impl<D: Disk + Drop> Store<D> {
         ensures cut { IfErr result (λ e. self.old.failed ≡ false → (replies : List Reply) × IsBatch D.Disk self.old self.new commands.items replies × (e ≡ device_failed → accepted_of commands.items replies ≡ [] → ⊥)) }
         ensures unchanged { OnErr result (self.new.registry ≡ self.old.registry) }
         // No slot that stands open in what a crash may leave then has a greater number.
-        ensures numbered { self.old.failed ≡ false → D.honest self.new.disk → EachLeft D.Disk self.new.disk (IsNumberedTo sizes_1 (self.old.number + length commands.items)) }
+        ensures numbered { self.old.failed ≡ false → D.honest self.new.disk → EachLeft D.Disk self.new.disk (IsNumberedTo (sizes_of self.old.registry.version) (self.old.number + length commands.items)) }
         ensures number { (self.old.number ≤ self.new.number) × (self.new.number ≤ self.old.number + length commands.items) }
         ensures calls { CallsStore D.Disk self.old self.new result }
         ensures kinds { IfErr result (λ e. (e ≡ device_failed) ⊎ (e ≡ no_memory) ⊎ (e ≡ store_failed)) }
     {
-        if self.closed || self.keeper.has_failed() {
-            return Err(Refusal::StoreFailed);
-        }
-        let registry = self.keeper.state();
-        let Ok(replies) = idle_replies(alloc, registry, &commands) else {
-            return Err(Refusal::NoMemory);
-        };
-        if replies.len() == commands.len() {
-            return Ok(replies);
-        }
-        let Ok(batch) = Batch::new(alloc, registry, replies, commands.len()) else {
-            return Err(Refusal::NoMemory);
-        };
-        match run(alloc, &mut self.keeper, batch, commands) {
-            Ok(replies) => Ok(replies),
-            Err(before) => {
-                self.before = before;
-                Err(Refusal::DeviceFailed)
-            }
+        match &mut self.kept {
+            KeptStore::One(store) => store.commit_batch(alloc, commands),
+            KeptStore::Two(store) => store.commit_batch(alloc, commands),
         }
     }
 
@@ -157,10 +156,10 @@ impl<D: Disk + Drop> Store<D> {
         ensures calls { CallsStore D.Disk self.old self.new result }
         ensures kinds { IfErr result (λ e. (e ≡ device_failed) ⊎ (e ≡ no_memory) ⊎ (e ≡ exhausted) ⊎ (e ≡ store_failed)) }
     {
-        if self.closed {
-            return Err(Refusal::StoreFailed);
+        match &mut self.kept {
+            KeptStore::One(store) => store.checkpoint(alloc),
+            KeptStore::Two(store) => store.checkpoint(alloc),
         }
-        self.keeper.checkpoint(alloc)
     }
 
     /// Makes all durable with a last sync; every later call is answered `12`. `12 StoreFailed` as in
@@ -170,45 +169,15 @@ impl<D: Disk + Drop> Store<D> {
         ensures closed { OnOk result (self.new.closed ≡ true) }
         ensures room { self.new.room ≡ self.old.room }
         ensures registry { (self.new.registry ≡ self.old.registry) × (self.new.number ≡ self.old.number) }
-        ensures means { D.honest self.new.disk → OnOk result (EachLeft D.Disk self.new.disk (MeansState watches self.new.registry)) }
+        ensures means { D.honest self.new.disk → OnOk result (EachLeft D.Disk self.new.disk (MeansRegistry self.new.registry)) }
         // A crash at any moment of the call leaves the registry.
-        ensures any_moment { self.old.failed ≡ false → LeavesAtAnyMoment D.Disk self.old.disk self.new.disk (MeansState watches self.old.registry) }
+        ensures any_moment { self.old.failed ≡ false → LeavesAtAnyMoment D.Disk self.old.disk self.new.disk (MeansRegistry self.old.registry) }
         ensures calls { CallsStore D.Disk self.old self.new result }
         ensures kinds { IfErr result (λ e. (e ≡ device_failed) ⊎ (e ≡ store_failed)) }
     {
-        if self.closed {
-            return Err(Refusal::StoreFailed);
+        match &mut self.kept {
+            KeptStore::One(store) => store.close(),
+            KeptStore::Two(store) => store.close(),
         }
-        match self.keeper.sync() {
-            Ok(()) => {
-                self.closed = true;
-                Ok(())
-            }
-            Err(refusal) => Err(refusal),
-        }
-    }
-}
-
-/// Begins the next incarnation of a registry that was found.
-fn begin<D: Disk + Drop>(
-    alloc: Global,
-    keeper: Keeper<D, Registry, Version1>,
-) -> Result<Store<D>, (Refusal, D)>
-    requires kept { Keeps watches keeper }
-    requires whole { has_failed keeper ≡ false }
-    ensures begun { IfOk result (λ s. IsBegunFrom D.Disk keeper s) }
-    ensures works { IfOk result (λ s. IsWorking D.Disk s) }
-    ensures unbegun { IfErr result (λ e. IsUnbegun D.Disk keeper e.0 e.1) }
-    ensures calls { CallsForStore D.Disk (disk_of keeper) result }
-    ensures kinds { IfErr result (λ e. (e.0 ≡ device_failed) ⊎ (e.0 ≡ no_memory) ⊎ (e.0 ≡ exhausted)) }
-{
-    let mut keeper = keeper;
-    match begin_in(alloc, &mut keeper) {
-        Ok(()) => Ok(Store {
-            keeper,
-            before: None,
-            closed: false,
-        }),
-        Err(refusal) => Err((refusal, keeper.into_disk())),
     }
 }

@@ -14,8 +14,8 @@ pub loop-command-init : goal.loop-command-init
 loop-command-init g c =
     let all = c.args.commands.items in
     let start = c.args.keeper.now in
-    subst (λ (done : List Command). IsUnderWay g.D.Disk start all done start c.args.batch) (sym (append-nil (take (vec_len c.args.batch.replies) all)))
-    (idle_yet g.D.Disk start all c.args.batch c.requires.kept c.requires.whole c.requires.idle c.requires.new c.requires.standing)
+    subst (λ (done : List Command). IsUnderWay g.D.Disk g.V.Layout.sizes g.V.Filed.version start all done start c.args.batch) (sym (append-nil (take (vec_len c.args.batch.replies) all)))
+    (idle_yet g.D.Disk g.V.Layout.sizes g.V.Filed.version start all c.args.batch c.requires.kept c.requires.whole c.requires.version c.requires.idle c.requires.new c.requires.standing)
 
 pub loop-command-preserved : goal.loop-command-preserved
 loop-command-preserved g c =
@@ -23,8 +23,8 @@ loop-command-preserved g c =
     let m = c.in-Ok.ensures in
     let all = c.args.commands.items in
     let first = take (vec_len c.args.batch.replies) all in
-    subst (λ (done : List Command). IsUnderWay g.D.Disk c.args.keeper.now all done c.take.new.keeper c.take.new.self) (append_assoc first l.yielded (c.in-Some.command ∷ []))
-    (one_more g.D.Disk c.args.keeper.now all (first ++ l.yielded) l.keeper c.take.new.keeper l.batch c.take.new.self c.in-Some.command l.invariant m.met m.keeper.calls m.keeper.whole)
+    subst (λ (done : List Command). IsUnderWay g.D.Disk g.V.Layout.sizes g.V.Filed.version c.args.keeper.now all done c.take.new.keeper c.take.new.self) (append_assoc first l.yielded (c.in-Some.command ∷ []))
+    (one_more g.D.Disk g.V.Layout.sizes g.V.Filed.version c.args.keeper.now all (first ++ l.yielded) l.keeper c.take.new.keeper l.batch c.take.new.self c.in-Some.command l.invariant m.met m.keeper.calls m.keeper.whole)
 
 pub take-requires : goal.take-requires
 take-requires g c =
@@ -73,11 +73,11 @@ returns-in_default g c =
     let len = len_behind n all seen c.requires.idle.within in
     record {
       done = tt;
-      cut = cut_at D start all done l.keeper new l.batch command (drop (suc (length seen)) behind) c.take.new.self.before u (at_turn_behind n all seen command (sym (map-id seen) ∙ front) turn.0 turn.1) (m.cut.cut start done u.past) m.cut.open_yet m.cut.plain m.cut.accepted;
+      cut = cut_at D g.V.Layout.sizes g.V.Filed.version start all done l.keeper new l.batch command (drop (suc (length seen)) behind) c.take.new.self.before u (at_turn_behind n all seen command (sym (map-id seen) ∙ front) turn.0 turn.1) (m.cut.cut start done u.past) m.cut.open_yet m.cut.plain m.cut.accepted;
       keeper = record {
-        calls = calls_more D (length done + 1) (length all) start new (omega (arith, turn.0, len.0, len.1)) (calls_then D (length done) 1 start l.keeper new u.calls m.keeper.calls);
+        calls = calls_more D g.V.Layout.sizes g.V.Filed.version (length done + 1) (length all) start new (omega (arith, turn.0, len.0, len.1)) (calls_then D g.V.Layout.sizes g.V.Filed.version (length done) 1 start l.keeper new u.calls m.keeper.calls);
         whole = tt;
-        down = down_then D start l.keeper new u.whole m.keeper.down;
+        down = down_then D g.V.Layout.sizes g.V.Filed.version start l.keeper new u.whole m.keeper.down;
       };
     }
 
@@ -107,13 +107,13 @@ returns g c =
     let behind = drop n all in
     let end : (map (λ x. x) l.yielded ≡ behind) × (length l.yielded ≡ length behind) = YieldsList-end road l.yielded l.command-iterator l.yielded_by c.next.result c.next.new.self c.in-None.is c.next.ensures.steps in
     let ended : take n all ++ l.yielded ≡ all = ap (λ (x : List Command). take n all ++ x) (sym (map-id l.yielded) ∙ end.0) ∙ take-append-drop n all in
-    let u : IsUnderWay D start all all old l.batch = subst (λ (cs : List Command). IsUnderWay D start all cs old l.batch) ended l.invariant in
+    let u : IsUnderWay D g.V.Layout.sizes g.V.Filed.version start all all old l.batch = subst (λ (cs : List Command). IsUnderWay D g.V.Layout.sizes g.V.Filed.version start all cs old l.batch) ended l.invariant in
     record {
       done = IfOk-weaker r _ _ (λ replies h. h start all u.past u.so_far u.idle u.slot) f.done;
-      cut = IfErr-weaker r _ _ (λ before h. cut_last D start all all old new l.batch before u refl (h.cut start all u.past) h.some) f.cut;
+      cut = IfErr-weaker r _ _ (λ before h. cut_last D g.V.Layout.sizes g.V.Filed.version start all all old new l.batch before u refl (h.cut start all u.past) h.some) f.cut;
       keeper = record {
-        calls = calls_more D (length all + 0) (length all) start new (omega arith) (calls_then D (length all) 0 start old new u.calls f.keeper.calls);
-        whole = on_ok_weaker r (λ (w : IsWhole D old new). whole_then D start old new u.whole w) f.keeper.whole;
-        down = on_err_weaker r (λ (w : WentDown D old new). down_then D start old new u.whole w) f.keeper.down;
+        calls = calls_more D g.V.Layout.sizes g.V.Filed.version (length all + 0) (length all) start new (omega arith) (calls_then D g.V.Layout.sizes g.V.Filed.version (length all) 0 start old new u.calls f.keeper.calls);
+        whole = on_ok_weaker r (λ (w : IsWhole D g.V.Layout.sizes g.V.Filed.version old new). whole_then D g.V.Layout.sizes g.V.Filed.version start old new u.whole w) f.keeper.whole;
+        down = on_err_weaker r (λ (w : WentDown D g.V.Layout.sizes g.V.Filed.version old new). down_then D g.V.Layout.sizes g.V.Filed.version start old new u.whole w) f.keeper.down;
       };
     }

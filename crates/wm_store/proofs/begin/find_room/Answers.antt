@@ -4,8 +4,8 @@ use Rattle.std.proofs.lemmas.Result.{on_ok_weaker, on_err_weaker}
 use Rattle.wm_disk.specs.declared.refusal.Refusal.{Refusal}
 use Rattle.wm_disk.specs.declared.refusal.Refusal.TheVariants.{DeviceFailed}
 use Rattle.wm_checkpoint.specs.Kept.{disk_of, has_failed, slot_number_of}
-use Rattle.wm_checkpoint.specs.Layout.{sizes_1}
 use Rattle.wm_checkpoint.specs.laws.Numbering.{numbered_more}
+use Rattle.wm_store.proofs.Meant.{roomy}
 use Rattle.wm_store.proofs.Keepers.{checkpoint_facts}
 use Rattle.wm_store.proofs.Beginning.{stands_still, uncalled}
 use Rattle.wm_store.proofs.Runs.{kinds_up, told_four}
@@ -17,8 +17,8 @@ not_failed (Err x) none e = none
 
 pub returns-then-room-ge-BEGIN : goal.returns-then-room-ge-BEGIN
 returns-then-room-ge-BEGIN g c = record {
-  calls = uncalled g.D.Disk (Ok tt) c.args.keeper.now c.requires.kept c.requires.whole (not_failed (Ok tt) tt);
-  still = stands_still g.D.Disk g.met.D.Disk.only_now c.args.keeper.now c.requires.kept c.requires.whole;
+  calls = uncalled g.D.Disk g.V.Layout.sizes g.V.Filed.version (Ok tt) c.args.keeper.now c.requires.kept c.requires.whole (not_failed (Ok tt) tt);
+  still = stands_still g.D.Disk g.V.Layout.sizes g.V.Filed.version g.met.D.Disk.only_now c.args.keeper.now c.requires.kept c.requires.whole;
   stays = λ le. refl;
   found = record {
     room = omega (arith, c.room.ensures, c.if-room-ge-BEGIN.true);
@@ -27,6 +27,9 @@ returns-then-room-ge-BEGIN g c = record {
   exhausted = λ e. absurd cc;
   kinds = tt;
 }
+
+pub checkpoint-requires : goal.checkpoint-requires
+checkpoint-requires g c = record { roomy = roomy g.V.Filed.version g.V.Layout.sizes g.met.V.Filed.laid_out; kept = c.requires.kept }
 
 one_more_at_most : {T E : Type 0} (r : Result T E) (m n : ℕ) → OnOk r (n ≡ m + 1) → OnErr r (n ≡ m) → (m ≤ n) × (n ≤ m + 1)
 one_more_at_most (Ok x) m n a b = (omega (arith, a), omega (arith, a))
@@ -38,7 +41,7 @@ returns g c =
     let old = c.args.keeper.now in
     let new = c.checkpoint.new.self in
     let e = c.checkpoint.ensures in
-    let k = checkpoint_facts old new c.checkpoint.result e.kept e.switched e.crash e.device e.refusals e.exhausted in
+    let k = checkpoint_facts g.V.Layout.sizes g.V.Filed.version old new c.checkpoint.result e.kept e.switched e.crash e.device e.refusals e.exhausted in
     let between = one_more_at_most c.checkpoint.result (slot_number_of old) (slot_number_of new) (on_ok_weaker c.checkpoint.result (λ h. h.1) k.slot) (on_err_weaker c.checkpoint.result (λ h. h.1) k.stays) in
     record {
       calls = record {
@@ -48,7 +51,7 @@ returns g c =
           most = between.1;
           honest = k.honest;
           later = k.later;
-          numbered = λ h n le all x left. numbered_more sizes_1 (slot_number_of old + 1) (n + 1) x (omega (arith, le)) (k.numbered c.requires.whole h x left);
+          numbered = λ h n le all x left. numbered_more g.V.Layout.sizes (slot_number_of old + 1) (n + 1) x (omega (arith, le)) (k.numbered c.requires.whole h x left);
         };
         device = record {
           honest = k.honest;

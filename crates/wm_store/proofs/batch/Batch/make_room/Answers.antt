@@ -29,9 +29,9 @@ returns-then-is_empty g c = let s = c.switch.ensures in record { goes_on = s.goe
 pub returns-in_default : goal.returns-in_default
 returns-in_default g c =
     let m = c.in_default.ensures in
-    record { goes_on = tt; made = tt; cut = m.cut; keeper = record { calls = calls_more g.D.Disk 0 1 _ _ (omega arith) m.keeper.calls; whole = tt; down = m.keeper.down } }
+    record { goes_on = tt; made = tt; cut = m.cut; keeper = record { calls = calls_more g.D.Disk g.V.Layout.sizes g.V.Filed.version 0 1 _ _ (omega arith) m.keeper.calls; whole = tt; down = m.keeper.down } }
 
-some_group : (a : Batch) → false ≡ (vec_len a.group == 0) → a.group.items ≡ [] → ⊥
+some_group : {V : Type 0} (a : Batch V) → false ≡ (vec_len a.group == 0) → a.group.items ≡ [] → ⊥
 some_group a h none = not_empty (vec_len a.group) h (a.group.ok.0 ∙ ap length none)
 
 pub returns-in-Some : goal.returns-in-Some
@@ -45,7 +45,7 @@ returns-in-Some g c =
           m.made;
       cut = tt;
       keeper = record {
-        calls = calls_more g.D.Disk 0 1 _ _ (omega arith) m.keeper.calls;
+        calls = calls_more g.D.Disk g.V.Layout.sizes g.V.Filed.version 0 1 _ _ (omega arith) m.keeper.calls;
         whole = m.keeper.whole;
         down = tt;
       };
@@ -73,22 +73,22 @@ returns-in-None g c =
     let s = c.switch-in-None.ensures in
     let r = c.switch-in-None.result in
     let some : a.group.items ≡ [] → ⊥ = some_group a c.if-is_empty.ensures in
-    let made : (b.group.items ≡ []) × IsSpared D old a.group.items mid [] = ⊎_elim (λ h. (h.1, h.2)) (λ h. let clash = sym h ∙ c.in-None.is in absurd cc) m.made in
+    let made : (b.group.items ≡ []) × IsSpared D g.V.Layout.sizes g.V.Filed.version old a.group.items mid [] = ⊎_elim (λ h. (h.1, h.2)) (λ h. let clash = sym h ∙ c.in-None.is in absurd cc) m.made in
     record {
       goes_on = on_ok_weaker r
-          (λ (x : IsUnmoved D mid b new e). record {
+          (λ (x : IsUnmoved D g.V.Layout.sizes g.V.Filed.version mid b new e). record {
             ready = x.ready;
             same = (x.same.0 ∙ m.goes_on.same.0, x.same.1 ∙ m.goes_on.same.1);
             room = keeps_room a b e m.goes_on.room x.room;
             past = λ start done p. x.past start done (m.goes_on.past start done p);
           })
           s.goes_on;
-      made = on_ok_weaker r (λ (x : IsRoomMade D mid b new e). made_later D old mid new a b e made.1 made.0 x some) s.made;
-      cut = on_err_weaker r (λ (f : IsCutBehind D mid b new e.before). λ start done p.
-          subst (λ v. IsCut D start done v.items new e.before) m.goes_on.same.1 (f start done (m.goes_on.past start done p))) s.cut;
+      made = on_ok_weaker r (λ (x : IsRoomMade D g.V.Layout.sizes g.V.Filed.version mid b new e). made_later D g.V.Layout.sizes g.V.Filed.version old mid new a b e made.1 made.0 x some) s.made;
+      cut = on_err_weaker r (λ (f : IsCutBehind D g.V.Layout.sizes g.V.Filed.version mid b new e.before). λ start done p.
+          subst (λ v. IsCut D g.V.Layout.sizes g.V.Filed.version start done v.items new e.before) m.goes_on.same.1 (f start done (m.goes_on.past start done p))) s.cut;
       keeper = record {
-        calls = calls_then D 0 1 old mid new m.keeper.calls s.keeper.calls;
-        whole = on_ok_weaker r (λ (w : IsWhole D mid new). whole_then D old mid new m.keeper.whole w) s.keeper.whole;
-        down = on_err_weaker r (λ (w : WentDown D mid new). down_then D old mid new m.keeper.whole w) s.keeper.down;
+        calls = calls_then D g.V.Layout.sizes g.V.Filed.version 0 1 old mid new m.keeper.calls s.keeper.calls;
+        whole = on_ok_weaker r (λ (w : IsWhole D g.V.Layout.sizes g.V.Filed.version mid new). whole_then D g.V.Layout.sizes g.V.Filed.version old mid new m.keeper.whole w) s.keeper.whole;
+        down = on_err_weaker r (λ (w : WentDown D g.V.Layout.sizes g.V.Filed.version mid new). down_then D g.V.Layout.sizes g.V.Filed.version old mid new m.keeper.whole w) s.keeper.down;
       };
     }

@@ -15,21 +15,21 @@ returns g c =
     let command = c.args.command in
     let reply = c.answer-reply.result in
     let next = c.answer-reply.new.next in
-    let mid : Batch = record b { next = next } in
+    let mid : Batch g.row.V.Denot = record b { next = next } in
     let m = c.in-Ok.ensures in
     let p = c.push.ensures in
-    let t = taken_answered D command old a new b reply next c.in-Ok.refusal c.requires.refused m.goes_on.same.0 m.asked m.refused c.answer-reply.ensures.refused c.answer-reply.ensures.asked in
+    let t = taken_answered D g.V.Layout.sizes g.V.Filed.version command old a new b reply next c.in-Ok.refusal c.requires.refused m.goes_on.same.0 m.asked m.refused c.answer-reply.ensures.refused c.answer-reply.ensures.asked in
     record {
       met = record {
-        ready = ready_taken D command old a new b mid e reply next t m.goes_on.ready m.goes_on.same.0 refl refl refl p;
+        ready = ready_taken D g.V.Layout.sizes g.V.Filed.version command old a new b mid e reply next t m.goes_on.ready m.goes_on.same.0 refl refl refl p;
         reply = reply;
         replies = p.replies ∙ ap (λ v. v.items ++ (reply ∷ [])) m.goes_on.same.1;
         len = omega (arith, p.len, ap (λ v. vec_len v) m.goes_on.same.1);
         room = keeps_room a b e m.goes_on.room (record { replies = p.room.replies; group = p.room.group });
         idle = t.idle;
-        past = λ start done q. past_taken D start done new b mid e command reply (m.goes_on.past start done q) refl refl refl refl p;
-        so_far = λ start done q f. so_far_taken D start done command old a new b mid e reply next t q c.requires.ready m.goes_on.same.1 refl refl refl p f;
-        slot = λ start done q was. slot_taken D start done command old a new b mid e reply next t q m.goes_on.same.1 refl refl p was;
+        past = λ start done q. past_taken D g.V.Layout.sizes g.V.Filed.version start done new b mid e command reply (m.goes_on.past start done q) refl refl refl refl p;
+        so_far = λ start done q f. so_far_taken D g.V.Layout.sizes g.V.Filed.version start done command old a new b mid e reply next t q c.requires.ready m.goes_on.same.1 refl refl refl p f;
+        slot = λ start done q was. slot_taken D g.V.Layout.sizes g.V.Filed.version start done command old a new b mid e reply next t q m.goes_on.same.1 refl refl p was;
       };
       cut = tt;
       keeper = record { calls = m.keeper.calls; whole = m.keeper.whole; down = tt };

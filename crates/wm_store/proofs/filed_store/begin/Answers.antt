@@ -1,18 +1,18 @@
 use Rattle.std.proofs.Common.{refl, ap, subst}
-use Rattle.std.specs.Prelude.{false, Err}
+use Rattle.std.specs.Prelude.{false, Err, None}
 use Rattle.wm_registry.specs.Roots.{State}
-use Rattle.wm_registry.specs.MachineLaws.{watches}
+use Rattle.wm_registry.specs.MachineLaws.{watches_in}
 use Rattle.wm_checkpoint.specs.Meanings.{MeansState}
 use Rattle.wm_checkpoint.specs.Kept.{disk_of}
 use Rattle.wm_checkpoint.specs.laws.Uncalled.{kept_numbered}
-use Rattle.wm_store.proofs.Stores.{up, means_up}
-use Rattle.wm_store.proofs.store.begin.Goals as goal
+use Rattle.wm_store.proofs.Stores.{means_kept, means_up, numbered_up, up}
+use Rattle.wm_store.proofs.filed_store.begin.Goals as goal
 
 pub begin_in-requires : goal.begin_in-requires
 begin_in-requires g c = c.requires
 
 pub invariant_of-result : goal.invariant_of-result
-invariant_of-result g c = up g.D.Disk c.begin_in.new.keeper c.in-Ok.ensures.calls.kept c.in-Ok.ensures.calls.works false
+invariant_of-result g c = up g.D.Disk g.V.Layout.sizes g.V.Filed.version g.met.V.Filed.laid_out c.begin_in.new.keeper c.in-Ok.ensures.calls.kept c.in-Ok.ensures.calls.works false
 
 pub returns-in-Ok : goal.returns-in-Ok
 returns-in-Ok g c =
@@ -31,8 +31,8 @@ returns-in-Ok g c =
       works = record {
         up = k.calls.works;
         open_yet = refl;
-        means = λ h x left. means_up D new k.calls.kept k.calls.works h x left;
-        numbered = λ h x left. kept_numbered D watches new (k.calls.kept.kept k.calls.works h) x left;
+        means = λ h x left. means_up D g.V.Layout.sizes g.V.Filed.version g.met.V.Filed.laid_out new k.calls.kept k.calls.works h x left;
+        numbered = λ h x left. numbered_up D g.V.Layout.sizes g.V.Filed.version g.met.V.Filed.laid_out new k.calls.kept k.calls.works None (λ _. refl) h _ x (kept_numbered D (watches_in g.V.Layout.sizes g.V.Filed.version) new (k.calls.kept.kept k.calls.works h) x left);
       };
       unbegun = tt;
       calls = record {
@@ -56,7 +56,7 @@ returns-in-Err g c =
       works = tt;
       unbegun = record {
         cut = k.any_moment;
-        unbegun = λ h no x left. subst (λ (t : State). MeansState watches t x) (k.unbegun no).state (means_up D new k.calls.kept (k.calls.unfailed no) h x left);
+        unbegun = λ h no x left. subst (λ (t : State). MeansState (watches_in g.V.Layout.sizes g.V.Filed.version) t x) (k.unbegun no).state (means_kept D g.V.Layout.sizes g.V.Filed.version g.met.V.Filed.laid_out new k.calls.kept (k.calls.unfailed no) h x left);
         still = λ no. (k.unbegun no).any_moment;
         exhausted = λ e. let x = k.exhausted (ap (λ y. Err y) e) in (x.0, ap (λ y. disk_of y) x.1);
         numbered = λ h n le all x left. k.calls.calls.numbered h n le all x left;
