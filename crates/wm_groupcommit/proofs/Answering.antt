@@ -3,13 +3,13 @@ use Rattle.std.proofs.Common.{◌≡◌, ◌≤◌, ◌<◌, ◌+◌, ℕ, get_o
 use Rattle.std.specs.Prelude.{slice_get}
 use Rattle.wm_disk.specs.declared.refusal.Refusal.{Refusal}
 use Rattle.wm_disk.specs.declared.refusal.Refusal.TheVariants.{Exhausted, NoMemory}
-use Rattle.wm_checkpoint.specs.Machines.{replay_on}
+use Rattle.wm_checkpoint.specs.Machines.{replayed}
 use Rattle.wm_registry.specs.declared.command.Command.{Command}
 use Rattle.wm_registry.specs.declared.command.Command.TheVariants.{Begin, Watch, WatchDel, Trigger, TriggerDel}
 use Rattle.wm_registry.specs.declared.reply.Reply.{Reply}
 use Rattle.wm_registry.specs.declared.reply.Reply.TheVariants.{Changed, Replaced, Unchanged, Refused}
-use Rattle.wm_registry.specs.MachineLaws.{watches}
 use Rattle.wm_registry.specs.Registry.{after_command, changed, is_change}
+use Rattle.wm_registry.specs.declared.version.Version.{Version}
 use Rattle.wm_registry.specs.Roots.{State}
 use Rattle.wm_store.specs.Batches.{AreAnswered, IsMet, accepted_of, in_batch, after_reply, unless_begin}
 use Rattle.wm_groupcommit.specs.declared.queued.Call.{Call}
@@ -41,15 +41,15 @@ commands_of-append : (h t : List Call) → commands_of (h ++ t) ≡ commands_of 
 commands_of-append [] t = refl
 commands_of-append (x ∷ h) t = ap (λ l. x.command ∷ l) (commands_of-append h t)
 
-replay-append : (s : State) (cs ds : List Command) → replay_on watches s (cs ++ ds) ≡ replay_on watches (replay_on watches s cs) ds
+replay-append : (s : State) (cs ds : List Command) → replayed after_command s (cs ++ ds) ≡ replayed after_command (replayed after_command s cs) ds
 replay-append s [] ds = refl
 replay-append s (c ∷ cs) ds = replay-append (after_command s c) cs ds
 
-state-push : (base : State) (h : List Call) (c : Call) → replay_on watches base (commands_of (h ++ c ∷ [])) ≡ after_command (replay_on watches base (commands_of h)) c.command
-state-push base h c = ap (replay_on watches base) (commands_of-append h (c ∷ [])) ∙ replay-append base (commands_of h) (c.command ∷ [])
+state-push : (base : State) (h : List Call) (c : Call) → replayed after_command base (commands_of (h ++ c ∷ [])) ≡ after_command (replayed after_command base (commands_of h)) c.command
+state-push base h c = ap (replayed after_command base) (commands_of-append h (c ∷ [])) ∙ replay-append base (commands_of h) (c.command ∷ [])
 
 pub Right-front : (base : State) (h t : List Call) (a : Answer) → Right base h a → Right base (h ++ t) a
-Right-front base h t a r = ⊎_elim (λ f. inl f) (λ (k : RightReply base h a). inr (omega (arith, k.0, length-append h t), k.1 ∙ ap (λ l. in_batch (replay_on watches base (commands_of l)) a.call.command) (sym (take_less a.at h t k.0)), λ e. get_front h t a.at a.call (k.2 e))) r
+Right-front base h t a r = ⊎_elim (λ f. inl f) (λ (k : RightReply base h a). inr (omega (arith, k.0, length-append h t), k.1 ∙ ap (λ l. in_batch (replayed after_command base (commands_of l)) a.call.command) (sym (take_less a.at h t k.0)), λ e. get_front h t a.at a.call (k.2 e))) r
 
 pub AllRight-front : (base : State) (h t : List Call) (xs : List Answer) → AllRight base h xs → AllRight base (h ++ t) xs
 AllRight-front base h t [] r = tt
@@ -88,12 +88,12 @@ all_spent s (c ∷ cs) = (fair_spent s c, all_spent (after_reply s c (unless_beg
 fair_met : (s : State) (c : Command) (r : Reply) → IsMet s c r → Fair s c r
 fair_met s c r m = ⊎_elim (λ e. inr e) (λ (e : r ≡ unless_begin c (Refused NoMemory)). subst (Fair s c) (sym e) (fair_short s c)) m
 
-pub all_fair : (number room : ℕ) (s : State) (cs : List Command) (rs : List Reply) → AreAnswered number room s cs rs → AllFair s cs rs
-all_fair number room s [] [] h = tt
-all_fair number room s [] (r ∷ rs) h = absurd h
-all_fair number room s (c ∷ cs) [] h = absurd h
-all_fair number room s (c ∷ cs) (r ∷ rs) h =
-    ⊎_elim (λ (k : IsMet s c r × AreAnswered number room (after_reply s c r) cs rs). (fair_met s c r k.0, all_fair number room (after_reply s c r) cs rs k.1))
+pub all_fair : (v : Version) (number room : ℕ) (s : State) (cs : List Command) (rs : List Reply) → AreAnswered v number room s cs rs → AllFair s cs rs
+all_fair v number room s [] [] h = tt
+all_fair v number room s [] (r ∷ rs) h = absurd h
+all_fair v number room s (c ∷ cs) [] h = absurd h
+all_fair v number room s (c ∷ cs) (r ∷ rs) h =
+    ⊎_elim (λ (k : IsMet s c r × AreAnswered v number room (after_reply s c r) cs rs). (fair_met s c r k.0, all_fair v number room (after_reply s c r) cs rs k.1))
     (λ k. subst (λ qs. AllFair s (c ∷ cs) qs) (sym k.2) (all_spent s (c ∷ cs)))
     h
 
@@ -108,9 +108,9 @@ met_changed s (TriggerDel p n) r e h = rw (sym e) (rw h refl)
 taken : (s : State) (c : Command) (r : Reply) → Fair s c r → is_change r ≡ true → r ≡ in_batch s c
 taken s c r f h = ⊎_elim (λ (k : IsFailed r). absurd (off (sym (ap is_change k.1) ∙ h))) (λ e. e) f
 
-here : (base : State) (h t : List Call) (c : Call) (r : Reply) → Fair (replay_on watches base (commands_of h)) c.command r → (is_change r ≡ true → slice_get (h ++ t) (length h) ≡ Some c) → Right base (h ++ t) (answer c (length h) r)
+here : (base : State) (h t : List Call) (c : Call) (r : Reply) → Fair (replayed after_command base (commands_of h)) c.command r → (is_change r ≡ true → slice_get (h ++ t) (length h) ≡ Some c) → Right base (h ++ t) (answer c (length h) r)
 here base h t c r f stands =
-    ⊎_elim (λ k. inl k) (λ (is : r ≡ in_batch (replay_on watches base (commands_of h)) c.command). inr (omega (arith, length-append h t), is ∙ ap (λ l. in_batch (replay_on watches base (commands_of l)) c.command) (sym (take_front h t)), stands)) f
+    ⊎_elim (λ k. inl k) (λ (is : r ≡ in_batch (replayed after_command base (commands_of h)) c.command). inr (omega (arith, length-append h t), is ∙ ap (λ l. in_batch (replayed after_command base (commands_of l)) c.command) (sym (take_front h t)), stands)) f
 
 -- the rest of the answers, behind one that was accepted
 behind : (base : State) (h : List Call) (c : Call) (cs : List Call) (rs : List Reply) → AllRight base ((h ++ c ∷ []) ++ accepted_calls cs rs) (answers_from (length (h ++ c ∷ [])) cs rs) → AllRight base (h ++ c ∷ accepted_calls cs rs) (answers_from (length h + 1) cs rs)
@@ -118,12 +118,12 @@ behind base h c cs rs ih =
     let len : length (h ++ c ∷ []) ≡ length h + 1 = omega (arith, length-append h (c ∷ [])) in
     subst (λ (p : List Call × ℕ). AllRight base p.0 (answers_from p.1 cs rs)) (λ i. (append_assoc h (c ∷ []) (accepted_calls cs rs) i, len i)) ih
 
-grown : (base : State) (h : List Call) (c : Call) (r : Reply) (cs : List Call) (rs : List Reply) → Fair (replay_on watches base (commands_of h)) c.command r → is_change r ≡ true → AllFair (changed (replay_on watches base (commands_of h)) c.command) (commands_of cs) rs → AllFair (replay_on watches base (commands_of (h ++ c ∷ []))) (commands_of cs) rs
+grown : (base : State) (h : List Call) (c : Call) (r : Reply) (cs : List Call) (rs : List Reply) → Fair (replayed after_command base (commands_of h)) c.command r → is_change r ≡ true → AllFair (changed (replayed after_command base (commands_of h)) c.command) (commands_of cs) rs → AllFair (replayed after_command base (commands_of (h ++ c ∷ []))) (commands_of cs) rs
 grown base h c r cs rs f k rest =
-    let s = replay_on watches base (commands_of h) in
+    let s = replayed after_command base (commands_of h) in
     subst (λ t. AllFair t (commands_of cs) rs) (sym (state-push base h c ∙ met_changed s c.command r (taken s c.command r f k) k)) rest
 
-pub answers_right : (base : State) (h : List Call) (cs : List Call) (rs : List Reply) → AllFair (replay_on watches base (commands_of h)) (commands_of cs) rs → AllRight base (h ++ accepted_calls cs rs) (answers_from (length h) cs rs)
+pub answers_right : (base : State) (h : List Call) (cs : List Call) (rs : List Reply) → AllFair (replayed after_command base (commands_of h)) (commands_of cs) rs → AllRight base (h ++ accepted_calls cs rs) (answers_from (length h) cs rs)
 answers_right base h [] rs k = tt
 answers_right base h (c ∷ cs) [] k = absurd k
 answers_right base h (c ∷ cs) (Changed ∷ rs) k =
@@ -148,11 +148,11 @@ commands_of-accepted_calls (c ∷ cs) (Unchanged ∷ rs) = commands_of-accepted_
 commands_of-accepted_calls (c ∷ cs) (Refused e ∷ rs) = commands_of-accepted_calls cs rs
 
 -- the registry after the accepted ones
-pub state_after : (base : State) (h cs : List Call) (rs : List Reply) → replay_on watches (replay_on watches base (commands_of h)) (accepted_of (commands_of cs) rs) ≡ replay_on watches base (commands_of (h ++ accepted_calls cs rs))
+pub state_after : (base : State) (h cs : List Call) (rs : List Reply) → replayed after_command (replayed after_command base (commands_of h)) (accepted_of (commands_of cs) rs) ≡ replayed after_command base (commands_of (h ++ accepted_calls cs rs))
 state_after base h cs rs =
-    ap (replay_on watches (replay_on watches base (commands_of h))) (sym (commands_of-accepted_calls cs rs))
+    ap (replayed after_command (replayed after_command base (commands_of h))) (sym (commands_of-accepted_calls cs rs))
     ∙ sym (replay-append base (commands_of h) (commands_of (accepted_calls cs rs)))
-    ∙ ap (replay_on watches base) (sym (commands_of-append h (accepted_calls cs rs)))
+    ∙ ap (replayed after_command base) (sym (commands_of-append h (accepted_calls cs rs)))
 
 -- refusals that don't speak of the registry are right for any list
 pub refused_right : (base : State) (h : List Call) (n : ℕ) (e : Refusal) (cs : List Call) → IsFailure e → AllRight base h (all_refused n e cs)

@@ -2,8 +2,10 @@
 use Rattle.std.proofs.Common.{◌≡◌, ◌≢◌, ℕ, true, false, true≢false, List, [], ◌∷◌, ap, sym, ◌∙◌, refl, ⊎_elim}
 use mathlib.Core.Bool.{beq}
 use Rattle.std.proofs.lemmas.Slice.Eq.{bytes_eq-Decides}
-use Rattle.std.proofs.lemmas.Bool.{cases_Bool}
-use Rattle.std.specs.Prelude.{Bool, Some, MatchBool, not, ◌&&◌}
+use Rattle.std.proofs.lemmas.Bool.{cases_Bool, eqb-true}
+use Rattle.std.proofs.lemmas.Cmp.{nat_eq_equiv}
+use Rattle.std.specs.Option.{option_eq}
+use Rattle.std.specs.Prelude.{Bool, Option, Some, None, ◌==◌, MatchBool, not, ◌&&◌}
 use Rattle.std.specs.Str.{bytes_eq}
 use Rattle.std.specs.Cmp.Lexicographic.{pointwise}
 use Rattle.wm_registry.specs.Triggers.{Definition}
@@ -23,9 +25,9 @@ pub told_some : (a b : List ℕ) (r : Bool) → r ≡ bytes_eq a b → MatchBool
 told_some a b true e = ap (λ t. Some t) ((bytes_eq-Decides a b).0 (sym e))
 told_some a b false e = λ h. true≢false (sym (bytes_self a) ∙ ap (bytes_eq a) (cc) ∙ sym e)
 
-pub told_trigger : (a b : Definition) (r : Bool) → a.name ≡ b.name → a.command ≡ b.command → a.expression ≡ b.expression → a.append_files ≡ b.append_files → MatchBool r (a.stdin ≡ b.stdin) (a.stdin ≢ b.stdin) → MatchBool r (a ≡ b) (a ≢ b)
-told_trigger a b true n c e f s = λ i. record { name = n i; command = c i; expression = e i; append_files = f i; stdin = s i }
-told_trigger a b false n c e f s = λ h. s (ap (λ d. d.stdin) h)
+pub told_trigger : (a b : Definition) (r : Bool) → a.name ≡ b.name → a.command ≡ b.command → a.expression ≡ b.expression → a.append_files ≡ b.append_files → a.max_files_stdin ≡ b.max_files_stdin → MatchBool r (a.stdin ≡ b.stdin) (a.stdin ≢ b.stdin) → MatchBool r (a ≡ b) (a ≢ b)
+told_trigger a b true n c e f m s = λ i. record { name = n i; command = c i; expression = e i; append_files = f i; stdin = s i; max_files_stdin = m i }
+told_trigger a b false n c e f m s = λ h. s (ap (λ d. d.stdin) h)
 
 pub same_bytes : (a b : List ℕ) → false ≡ not (bytes_eq a b) → a ≡ b
 same_bytes a b e = ⊎_elim (λ y. (bytes_eq-Decides a b).0 y) (λ n. absurd (true≢false (sym (e ∙ ap not n)))) (cases_Bool (bytes_eq a b))
@@ -47,3 +49,13 @@ same_flags true true e = refl
 same_flags true false e = absurd (true≢false e)
 same_flags false true e = absurd (true≢false e)
 same_flags false false e = refl
+
+pub count_self : (a : Option ℕ) → option_eq ◌==◌ a a ≡ true
+count_self None = refl
+count_self (Some n) = nat_eq_equiv.refl n
+
+pub same_counts : (a b : Option ℕ) → false ≡ not (option_eq ◌==◌ a b) → a ≡ b
+same_counts None None e = refl
+same_counts None (Some y) e = absurd (true≢false (sym e))
+same_counts (Some x) None e = absurd (true≢false (sym e))
+same_counts (Some x) (Some y) e = ⊎_elim (λ h. ap (λ n. Some n) (eqb-true x y h)) (λ n. absurd (true≢false (sym (e ∙ ap not n)))) (cases_Bool (x == y))

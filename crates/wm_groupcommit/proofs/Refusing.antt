@@ -6,8 +6,10 @@ use Rattle.std.specs.Option.{option_map_or}
 use Rattle.wm_disk.specs.Counters.{max_counter}
 use Rattle.wm_disk.specs.Refusals.{refusal_number}
 use Rattle.wm_disk.specs.declared.refusal.Refusal.{Refusal}
-use Rattle.wm_disk.specs.declared.refusal.Refusal.TheVariants.{BadArguments, Exhausted, Full, NotWatched, TooMany}
-use Rattle.wm_registry.specs.Limits.{max_state_bytes, max_roots, max_triggers}
+use Rattle.wm_disk.specs.declared.refusal.Refusal.TheVariants.{BadArguments, Exhausted, Full, NotWatched, OldVersion, TooMany}
+use Rattle.wm_registry.specs.Endings.{count_fits}
+use Rattle.wm_registry.specs.Versions.{max_state_bytes}
+use Rattle.wm_registry.specs.Limits.{max_roots, max_triggers}
 use Rattle.wm_registry.specs.declared.command.Command.{Command}
 use Rattle.wm_registry.specs.declared.command.Command.TheVariants.{Begin, Watch, WatchDel, Trigger, TriggerDel}
 use Rattle.wm_registry.specs.declared.reply.Reply.{Reply}
@@ -34,14 +36,14 @@ not_failure e r f =
     let most : refusal_number e ≤ 16 = (failure_number e f).1 in
     ⊎_elim (λ x. let n : refusal_number e ≡ 5 = ap refusal_number x in omega (arith, n, few))
     (λ s. ⊎_elim (λ x. let n : refusal_number e ≡ 10 = ap refusal_number x in omega (arith, n, few))
-    (λ t. ⊎_elim (λ x. let n : refusal_number e ≡ 11 = ap refusal_number x in omega (arith, n, few)) (λ x. let n : refusal_number e ≡ 17 = ap refusal_number x in omega (arith, n, most)) t) s) r
+    (λ t. ⊎_elim (λ x. let n : refusal_number e ≡ 11 = ap refusal_number x in omega (arith, n, few)) (λ u. ⊎_elim (λ x. let n : refusal_number e ≡ 17 = ap refusal_number x in omega (arith, n, most)) (λ x. let n : refusal_number e ≡ 21 = ap refusal_number x in omega (arith, n, most)) u) t) s) r
 
 not_three : (e : Refusal) → IsOfRegistry e → e ≡ BadArguments → ⊥
 not_three e r b =
     let three : refusal_number e ≡ 3 = ap refusal_number b in
     ⊎_elim (λ x. let n : refusal_number e ≡ 5 = ap refusal_number x in omega (arith, n, three))
     (λ s. ⊎_elim (λ x. let n : refusal_number e ≡ 10 = ap refusal_number x in omega (arith, n, three))
-    (λ t. ⊎_elim (λ x. let n : refusal_number e ≡ 11 = ap refusal_number x in omega (arith, n, three)) (λ x. let n : refusal_number e ≡ 17 = ap refusal_number x in omega (arith, n, three)) t) s) r
+    (λ t. ⊎_elim (λ x. let n : refusal_number e ≡ 11 = ap refusal_number x in omega (arith, n, three)) (λ u. ⊎_elim (λ x. let n : refusal_number e ≡ 17 = ap refusal_number x in omega (arith, n, three)) (λ x. let n : refusal_number e ≡ 21 = ap refusal_number x in omega (arith, n, three)) u) t) s) r
 
 pub three_is_none : IsFailure BadArguments → ⊥
 three_is_none f = let few : 12 ≤ 3 = (failure_number BadArguments f).0 in omega (arith, few)
@@ -71,14 +73,16 @@ other_if true x y p q = p
 other_if false x y p q = q
 
 other_full : (new : State) (reply : Reply) → IsOther reply → IsOther (unless_full new reply)
-other_full new reply p = other_if (nat_lt max_state_bytes (length (state_spelling new))) (Refused Full) reply (λ e. absurd cc) p
+other_full new reply p = other_if (nat_lt (max_state_bytes new.version) (length (state_spelling new))) (Refused Full) reply (λ e. absurd cc) p
 
 other_trigger : (s : State) (path : List ℕ) (trigger : Definition) (root : Root) → IsOther (reply_to_trigger s path trigger root)
 other_trigger s path trigger root =
     let new = with_triggers s path root (defined trigger root.triggers) in
-    other_if (list_any (same_definition trigger) root.triggers) Unchanged _ (λ e. absurd cc)
+    other_if (count_fits s.version trigger.max_files_stdin) _ (Refused OldVersion)
+    (other_if (list_any (same_definition trigger) root.triggers) Unchanged _ (λ e. absurd cc)
     (other_if (has_trigger trigger.name root.triggers) (unless_full new Replaced) _ (other_full new Replaced (λ e. absurd cc))
-    (other_if (nat_lt (length root.triggers) max_triggers) (unless_full new Changed) (Refused TooMany) (other_full new Changed (λ e. absurd cc)) (λ e. absurd cc)))
+    (other_if (nat_lt (length root.triggers) max_triggers) (unless_full new Changed) (Refused TooMany) (other_full new Changed (λ e. absurd cc)) (λ e. absurd cc))))
+    (λ e. absurd cc)
 
 other_at : (f : Root → Reply) → ((root : Root) → IsOther (f root)) → (root : Option Root) → IsOther (option_map_or f root (Refused NotWatched))
 other_at f other None = λ e. absurd cc

@@ -2,12 +2,11 @@
 use Rattle.std.specs.Prelude.{◌≡◌, ◌≤◌, ◌+◌, ℕ, true, cond, List, [], ◌∷◌, length, map, take, Some, slice_get, ◌⊎◌}
 use Rattle.wm_disk.specs.declared.refusal.Refusal.{Refusal}
 use Rattle.wm_disk.specs.declared.refusal.Refusal.TheVariants.{StoreFailed, DeviceFailed, Exhausted, NoMemory}
-use Rattle.wm_checkpoint.specs.Machines.{replay_on}
+use Rattle.wm_checkpoint.specs.Machines.{replayed}
 use Rattle.wm_registry.specs.declared.command.Command.{Command}
 use Rattle.wm_registry.specs.declared.reply.Reply.{Reply}
 use Rattle.wm_registry.specs.declared.reply.Reply.TheVariants.{Refused}
-use Rattle.wm_registry.specs.MachineLaws.{watches}
-use Rattle.wm_registry.specs.Registry.{is_change}
+use Rattle.wm_registry.specs.Registry.{after_command, is_change}
 use Rattle.wm_registry.specs.Roots.{State}
 use Rattle.wm_store.specs.Batches.{in_batch}
 use Rattle.wm_groupcommit.specs.declared.queued.Call.{Call}
@@ -18,7 +17,7 @@ commands_of calls = map (λ c. c.command) calls
 
 -- the registry after the first n of the list
 abbrev pub state_at : State → List Call → ℕ → State
-state_at base list n = replay_on watches base (commands_of (take n list))
+state_at base list n = replayed after_command base (commands_of (take n list))
 
 -- a refusal that speaks of the store, the device, the slot's number or memory, and not of the registry
 abbrev pub IsFailure : Refusal → Type 0

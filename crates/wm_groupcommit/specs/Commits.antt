@@ -23,7 +23,7 @@ module _ {D : Type 0} (disk : disks.Ghosts D) where
   -- the store works; the accepted calls are appended in their order, and the answers are the store's replies one after the other
   abbrev pub IsMetAll : BookState D → BookState D → List Call → List Answer → Type 0
   IsMetAll old new calls answers =
-      (rs : List Reply) × (IsOver old.store → ⊥) × AreAnswered new.store.number new.store.room old.store.registry (commands_of calls) rs
+      (rs : List Reply) × (IsOver old.store → ⊥) × AreAnswered old.store.registry.version new.store.number new.store.room old.store.registry (commands_of calls) rs
       × (new.list ≡ old.list ++ accepted_calls calls rs) × (answers ≡ answers_from (length old.list) calls rs)
 
   -- no call is accepted, and all are refused for one cause

@@ -2,7 +2,7 @@
 use Rattle.std.specs.Prelude.{◌≡◌, ◌≤◌, ◌+◌, ◌⊎◌, ℕ, true, Some, List, [], ◌∷◌, ◌++◌, length, max, slice_get}
 use Rattle.crossbeam_queue.specs.SegTies.{IsSegPassOf}
 use Rattle.wm_disk.specs.declared.refusal.Refusal.{Refusal}
-use Rattle.wm_disk.specs.declared.refusal.Refusal.TheVariants.{NotWatched, BadTrigger, Full, TooMany}
+use Rattle.wm_disk.specs.declared.refusal.Refusal.TheVariants.{NotWatched, OldVersion, BadTrigger, Full, TooMany}
 use Rattle.wm_registry.specs.declared.command.Command.{Command}
 use Rattle.wm_registry.specs.declared.reply.Reply.{Reply}
 use Rattle.wm_registry.specs.declared.reply.Reply.TheVariants.{Refused}
@@ -85,7 +85,7 @@ pub record IsTurned (old new : Seat) (command : Command) (e : Refusal) : Type 0 
 
 -- a refusal that the registry alone gives
 abbrev pub IsOfRegistry : Refusal → Type 0
-IsOfRegistry e = (e ≡ NotWatched) ⊎ (e ≡ BadTrigger) ⊎ (e ≡ Full) ⊎ (e ≡ TooMany)
+IsOfRegistry e = (e ≡ NotWatched) ⊎ (e ≡ BadTrigger) ⊎ (e ≡ Full) ⊎ (e ≡ TooMany) ⊎ (e ≡ OldVersion)
 
 -- The registry refuses the command so after a prefix of the list that the seat then knows, not before what it had seen.
 pub record IsRefusedAfter (old new : Seat) (command : Command) (e : Refusal) : Type 0 where

@@ -32,8 +32,8 @@ pub struct Book<D: Disk + Drop> {
 
 impl<D: Disk + Drop> Model for Book<D> {
     ghost use Rattle.std.specs.Prelude.{◌≡◌, length};
-    ghost use Rattle.wm_checkpoint.specs.Machines.{replay_on};
-    ghost use Rattle.wm_registry.specs.MachineLaws.{watches};
+    ghost use Rattle.wm_checkpoint.specs.Machines.{replayed};
+    ghost use Rattle.wm_registry.specs.Registry.{after_command};
     ghost use Rattle.wm_groupcommit.specs.BookState.{BookState};
     ghost use Rattle.wm_groupcommit.specs.Books.{commands_of};
 
@@ -41,7 +41,7 @@ impl<D: Disk + Drop> Model for Book<D> {
 
     ghost view = { λ b. record { base = b.history.base; list = b.history.list; store = b.store } };
 
-    ghost invariant = { λ b. (b.store.registry ≡ replay_on watches b.history.base (commands_of b.history.list)) × (b.accepted ≡ length b.history.list) };
+    ghost invariant = { λ b. (b.store.registry ≡ replayed after_command b.history.base (commands_of b.history.list)) × (b.accepted ≡ length b.history.list) };
 }
 
 impl<D: Disk + Drop> Book<D> {

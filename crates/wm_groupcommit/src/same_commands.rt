@@ -70,6 +70,9 @@ fn same_trigger(one: &Trigger, other: &Trigger) -> bool
     if one.append_files() != other.append_files() {
         return false;
     }
+    if one.max_files_stdin() != other.max_files_stdin() {
+        return false;
+    }
     same_stdin(one.stdin(), other.stdin())
 }
 
