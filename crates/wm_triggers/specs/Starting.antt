@@ -1,5 +1,5 @@
 -- How the program of a run is started, and how its starts are counted.
-use Rattle.std.specs.Prelude.{◌≡◌, ◌≢◌, ◌≤◌, ℕ, List, [], ◌∷◌, ◌++◌, map, drop, Option, Some, None, Result, IfErr, OnOk, IsErrOf, if◌then◌else◌}
+use Rattle.std.specs.Prelude.{◌≡◌, ◌≢◌, ◌≤◌, ℕ, List, [], ◌∷◌, ◌++◌, map, drop, take, Option, Some, None, Result, IfErr, OnOk, IsErrOf, if◌then◌else◌}
 use Rattle.std.specs.List.{flat_map}
 use Rattle.std.specs.Process.{command_args, command_dir, command_program}
 use Rattle.std.specs.declared.process.command.Command.{Command}
@@ -32,10 +32,19 @@ words_for t run = drop 1 t.command ++ (if t.append_files then file_paths run.fil
 abbrev pub path_lines : List Path → List ℕ
 path_lines paths = flat_map (λ path. path ++ 10 ∷ []) paths
 
--- what it reads; with none it reads `/dev/null`
-abbrev pub input_for : Stdin → Answer → Option (List ℕ)
-input_for DevNull run = None
-input_for NamePerLine run = Some (path_lines (file_paths run.files))
+-- the first files, as many as the number says; all of them, where there is no number
+abbrev pub first_files : Option ℕ → List Listed → List Listed
+first_files None files = files
+first_files (Some n) files = take n files
+
+-- what names these files is read; with none it reads `/dev/null`
+abbrev pub input_of : Stdin → List Listed → Option (List ℕ)
+input_of DevNull files = None
+input_of NamePerLine files = Some (path_lines (file_paths files))
+
+-- what it reads: the first files of the run, as many as its trigger says
+abbrev pub input_for : Definition → Answer → Option (List ℕ)
+input_for t run = input_of t.stdin (first_files t.max_files_stdin run.files)
 
 -- a program as it is started: its name, its words, its working folder, and what it reads
 pub record Launch : Type 0 where
@@ -46,7 +55,7 @@ pub record Launch : Type 0 where
 
 -- that of a run of the trigger of a root
 abbrev pub launch_for : Path → Definition → Answer → Launch
-launch_for root t run = record { program = program_in t.command; words = words_for t run; folder = Some root; input = input_for t.stdin run }
+launch_for root t run = record { program = program_in t.command; words = words_for t run; folder = Some root; input = input_for t run }
 
 -- that of a command, where its program reads this
 abbrev pub launch_by : {A : Type 0} → Command A → Option (List ℕ) → Launch

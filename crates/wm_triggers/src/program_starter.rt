@@ -71,7 +71,7 @@ impl<L: Launcher> Starter for ProgramStarter<L> {
         run: &Run,
     ) -> Result<(), Refusal> {
         let command = run_command(alloc, root, trigger, run)?;
-        let input = run_input(alloc, trigger.stdin(), run)?;
+        let input = run_input(alloc, trigger, run)?;
         match self.launcher.launch(command, input) {
             Ok(()) => Ok(()),
             Err(error) if is_memory(&error) => Err(Refusal::NoMemory),

@@ -2,7 +2,7 @@
 //! Definitions: specs/Starting.antt. Tests: registry_tests/src/trigger_runs/commands.rt.
 ghost use Rattle.std.specs.Prelude.{◌≡◌, ◌++◌, ℕ, List, Some, None, false, drop, option_map, IfOk, OnOk};
 ghost use Rattle.std.specs.Process.{SameDir, SameEnv, clears_env, command_args, command_dir, command_program, command_var};
-ghost use Rattle.wm_triggers.specs.Starting.{input_for, path_lines, file_paths, program_in, words_for};
+ghost use Rattle.wm_triggers.specs.Starting.{first_files as first_files_lem, input_for, path_lines, file_paths, program_in, words_for};
 
 use crate::run::Run;
 use std::alloc::Global;
@@ -94,14 +94,26 @@ fn path_lines(alloc: Global, files: &[Listed]) -> Result<Vec<u8>, NoMemory>
     Ok(lines)
 }
 
-/// What the program of a run reads, and `None` where it reads `/dev/null`. `NoMemory`.
-pub fn run_input(alloc: Global, stdin: Stdin, run: &Run) -> Result<Option<Vec<u8>>, NoMemory>
-    ensures { IfOk result (λ input. option_map (λ i. i.items) input ≡ input_for stdin run.now) }
+/// The first files, as many as the number says, and all of them if there is no number.
+fn first_files(count: Option<u32>, files: &[Listed]) -> &[Listed]
+    ensures { result.now ≡ first_files_lem count files.now }
 {
-    match stdin {
+    match count {
+        Some(count) if (count as usize) < files.len() => &files[..count as usize],
+        _ => files,
+    }
+}
+
+/// What the program of a run reads, and `None` if it reads `/dev/null`: the path of each file, or of
+/// the first ones alone, if the trigger says how many. `NoMemory`.
+pub fn run_input(alloc: Global, trigger: &Trigger, run: &Run) -> Result<Option<Vec<u8>>, NoMemory>
+    ensures { IfOk result (λ input. option_map (λ i. i.items) input ≡ input_for trigger.now run.now) }
+{
+    match trigger.stdin() {
         Stdin::DevNull => Ok(None),
         Stdin::NamePerLine => {
-            let lines = path_lines(alloc, run.files())?;
+            let files = first_files(trigger.max_files_stdin(), run.files());
+            let lines = path_lines(alloc, files)?;
             Ok(Some(lines))
         }
     }
