@@ -1,11 +1,13 @@
 //! The spellings of commands.
 use crate::checks::check;
+use crate::filed::command_first;
 use crate::lines::named;
 use crate::spelling::{is_spelled, taken};
 use std::alloc::Global;
 use std::process::Abort;
+use wm_checkpoint::Version1;
 use wm_names::RootPath;
-use wm_registry::{Command, Stdin, Trigger};
+use wm_registry::{Command, FiledCommand, Stdin, Trigger};
 
 /// A command by its verb, its path, its trigger's name and its program, and its spelling.
 type Row = (
@@ -66,17 +68,17 @@ fn is_row(command: &Command, row: &Row) -> bool {
 // Whether the row's command is spelled so, and no cut of its spelling is one.
 fn is_put(rt: &impl Abort, alloc: Global, row: &Row) -> bool {
     let (verb, path, name, program, want) = *row;
-    let command = named(rt, alloc, verb, path, name, program);
-    let is_put = is_row(&command, row) && is_spelled(rt, alloc, &command, want);
+    let command = command_first(rt, named(rt, alloc, verb, path, name, program));
+    let is_put = is_row(command.command(), row) && is_spelled(rt, alloc, &command, want);
     drop(command);
     is_put
 }
 
 // Whether the row's command is taken from the bytes.
 fn is_taken(rt: &impl Abort, alloc: Global, row: &Row) -> bool {
-    match taken::<Command>(rt, alloc, row.4) {
+    match taken::<FiledCommand<Version1>>(rt, alloc, row.4) {
         Some(command) => {
-            let is_row = is_row(&command, row);
+            let is_row = is_row(command.command(), row);
             drop(command);
             is_row
         }

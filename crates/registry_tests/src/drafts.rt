@@ -5,7 +5,7 @@ use crate::registries::Row;
 use std::alloc::Global;
 use std::process::Abort;
 use wm_disk::Refusal;
-use wm_registry::{Command, Draft, Registry, Reply};
+use wm_registry::{Command, Draft, Registry, Reply, Version};
 
 /// What the draft is of.
 const FOUR: &[(&str, Reply)] = &[
@@ -31,7 +31,7 @@ const ROWS: &[Row] = &[
 
 // A draft of the four roots.
 fn begun(rt: &impl Abort, alloc: Global) -> Draft {
-    let mut registry = Registry::new(alloc);
+    let mut registry = Registry::new(alloc, Version::One);
     apply_all(rt, alloc, &mut registry, FOUR);
     let draft = Draft::new(alloc, &registry).expect(rt, "memory");
     drop(registry);

@@ -12,6 +12,8 @@ mod commands;
 #[cfg(test)]
 mod drafts;
 #[cfg(test)]
+mod filed;
+#[cfg(test)]
 mod lines;
 #[cfg(test)]
 mod long_states;
@@ -37,3 +39,5 @@ mod trigger_lengths;
 mod trigger_runs;
 #[cfg(test)]
 mod triggers;
+#[cfg(test)]
+mod versions;

@@ -22,7 +22,7 @@ pub(crate) fn named(
         "watch" => Command::Watch(path),
         "watch-del" => Command::WatchDel(path),
         "trigger" => {
-            let made = Trigger::new(alloc, name, &[program], None, false, Stdin::DevNull);
+            let made = Trigger::new(alloc, name, &[program], None, false, Stdin::DevNull, None);
             Command::Trigger(path, made.expect(rt, "a trigger"))
         }
         _ => Command::TriggerDel(path, TriggerName::read(alloc, name).expect(rt, "a name")),

@@ -3,7 +3,8 @@ use crate::checks::check;
 use crate::spelling::{spells, taken, takes};
 use std::alloc::Global;
 use std::process::Abort;
-use wm_registry::Registry;
+use wm_checkpoint::Version1;
+use wm_registry::FiledRegistry;
 use wm_wire::Wire;
 
 // The bytes of so many roots, which have paths and numbers of their own.
@@ -27,10 +28,11 @@ fn crowd(rt: &impl Abort, alloc: Global, count: u8, more: u8) -> Vec<u8> {
 
 // Whether the bytes are those of a state of 256 roots.
 fn is_crowded(rt: &impl Abort, alloc: Global, bytes: &[u8]) -> bool {
-    let Some(registry) = taken::<Registry>(rt, alloc, bytes) else {
+    let Some(registry) = taken::<FiledRegistry<Version1>>(rt, alloc, bytes) else {
         return false;
     };
-    let is_crowded = registry.roots().len() == 256 && spells(rt, alloc, &registry, bytes);
+    let is_crowded = registry.registry().roots().len() == 256
+        && spells(rt, alloc, &registry, bytes);
     drop(registry);
     is_crowded
 }
@@ -46,7 +48,7 @@ fn is_crowd(rt: &impl Abort, alloc: Global, more: u8) -> bool {
 // Whether a state of 257 roots is taken.
 fn is_crowd_too_many(rt: &impl Abort, alloc: Global) -> bool {
     let bytes = crowd(rt, alloc, 255, 2);
-    let takes = takes::<Registry>(rt, alloc, &bytes);
+    let takes = takes::<FiledRegistry<Version1>>(rt, alloc, &bytes);
     drop(bytes);
     takes
 }
@@ -110,7 +112,7 @@ fn long_state(rt: &impl Abort, alloc: Global, expression: u32) -> Vec<u8> {
 
 // Whether the bytes are so many, and those of a state that knows how many.
 fn is_long(rt: &impl Abort, alloc: Global, bytes: &[u8], size: u64) -> bool {
-    match taken::<Registry>(rt, alloc, bytes) {
+    match taken::<FiledRegistry<Version1>>(rt, alloc, bytes) {
         Some(registry) => {
             let is_long = bytes.len() as u64 == size && registry.size() == size;
             drop(registry);
@@ -131,7 +133,8 @@ fn is_longest(rt: &impl Abort, alloc: Global) -> bool {
 // Whether a state has one byte too many, and isn't taken.
 fn is_too_long(rt: &impl Abort, alloc: Global) -> bool {
     let bytes = long_state(rt, alloc, 138);
-    let is_too_long = bytes.len() == 1_048_564 && !takes::<Registry>(rt, alloc, &bytes);
+    let is_too_long = bytes.len() == 1_048_564
+        && !takes::<FiledRegistry<Version1>>(rt, alloc, &bytes);
     drop(bytes);
     is_too_long
 }

@@ -13,6 +13,7 @@ pub(crate) struct Plan<'a> {
     pub(crate) expression: Option<&'a str>,
     pub(crate) append_files: bool,
     pub(crate) stdin: Stdin,
+    pub(crate) max_files_stdin: Option<u32>,
 }
 
 /// The least trigger.
@@ -22,6 +23,7 @@ pub(crate) const LEAST: Plan<'static> = Plan {
     expression: None,
     append_files: false,
     stdin: Stdin::DevNull,
+    max_files_stdin: None,
 };
 
 /// A trigger with something of each.
@@ -31,6 +33,7 @@ pub(crate) const MORE: Plan<'static> = Plan {
     expression: Some("[]"),
     append_files: true,
     stdin: Stdin::NamePerLine,
+    max_files_stdin: None,
 };
 
 /// The trigger of that plan.
@@ -42,6 +45,7 @@ pub(crate) fn made(alloc: Global, plan: Plan<'_>) -> Result<Trigger, Refusal> {
         plan.expression,
         plan.append_files,
         plan.stdin,
+        plan.max_files_stdin,
     )
 }
 
@@ -77,4 +81,5 @@ pub(crate) fn is_of(trigger: &Trigger, plan: Plan<'_>) -> bool {
         && trigger.expression() == plan.expression
         && trigger.append_files() == plan.append_files
         && is_same_stdin(trigger.stdin(), plan.stdin)
+        && trigger.max_files_stdin() == plan.max_files_stdin
 }

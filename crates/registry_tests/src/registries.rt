@@ -1,12 +1,13 @@
 //! Registries under commands, each with what it leaves, and their copies.
 use crate::checks::check;
+use crate::filed::{command_first, filed_copy, filed_first};
 use crate::lines::{applied, is_shown};
 use crate::roots::{PLACES, TRIGGERS, TWO, TWO_LEFT};
 use std::alloc::Global;
 use std::process::Abort;
-use wm_checkpoint::Machine;
+use wm_checkpoint::{Machine, Version1};
 use wm_disk::Refusal;
-use wm_registry::{Command, Registry, Reply};
+use wm_registry::{Command, FiledRegistry, Registry, Reply, Version, Watches};
 use wm_wire::Wire;
 
 /// A command, how it is met, and what it leaves.
@@ -16,15 +17,15 @@ pub(crate) type Row = (&'static str, Reply, &'static str);
 const UNKNOWN: Reply = Reply::Refused(Refusal::NotWatched);
 
 // Whether the registry is that.
-fn is_left(rt: &impl Abort, alloc: Global, registry: Registry, state: &str) -> bool {
-    let is_shown = is_shown(rt, alloc, &registry, state);
+fn is_left(rt: &impl Abort, alloc: Global, registry: FiledRegistry<Version1>, state: &str) -> bool {
+    let is_shown = is_shown(rt, alloc, registry.registry(), state);
     drop(registry);
     is_shown
 }
 
 // Whether the bytes are all of the spelling of that registry.
 fn are_bytes_of(rt: &impl Abort, alloc: Global, bytes: &[u8], state: &str) -> bool {
-    match Registry::take(alloc, bytes).expect(rt, "memory") {
+    match FiledRegistry::<Version1>::take(alloc, bytes).expect(rt, "memory") {
         Some((registry, size)) => {
             let is_left = is_left(rt, alloc, registry, state);
             size == bytes.len() && is_left
@@ -36,7 +37,9 @@ fn are_bytes_of(rt: &impl Abort, alloc: Global, bytes: &[u8], state: &str) -> bo
 // Whether the registry is taken back from its spelling, which has the size that it says.
 fn is_taken_back(rt: &impl Abort, alloc: Global, registry: &Registry, state: &str) -> bool {
     let mut out = Vec::new(alloc);
-    registry.put(&mut out).expect(rt, "memory");
+    let filed = filed_copy(rt, alloc, registry);
+    filed.put(&mut out).expect(rt, "memory");
+    drop(filed);
     let is_taken = registry.size() == out.len() as u64 && are_bytes_of(rt, alloc, &out, state);
     drop(out);
     is_taken
@@ -121,7 +124,7 @@ const WALKS: &[&[Row]] = &[COMMANDS, AGAIN, TRIGGERS];
 
 // Asserts that a new registry meets the commands so, one after another.
 fn walk_anew(rt: &impl Abort, alloc: Global, rows: &[Row]) {
-    let mut registry = Registry::new(alloc);
+    let mut registry = Registry::new(alloc, Version::One);
     walk(rt, alloc, &mut registry, rows);
     drop(registry);
 }
@@ -170,24 +173,26 @@ fn walk_with_copies(
 #[test]
 fn copies_registries(rt: HostRuntime) {
     for row in TRIES {
-        let mut registry = Registry::new(rt.alloc());
+        let mut registry = Registry::new(rt.alloc(), Version::One);
         walk_with_copies(&rt, rt.alloc(), &mut registry, row);
         drop(registry);
     }
 }
 
 // The incarnation of a copy of the state.
-fn copied(rt: &impl Abort, alloc: Global, state: &Registry) -> u64 {
-    let copy = <Registry as Machine>::copy(alloc, state).expect(rt, "memory");
-    let incarnation = copy.incarnation();
+fn copied(rt: &impl Abort, alloc: Global, state: &FiledRegistry<Version1>) -> u64 {
+    let copy = <Watches<Version1> as Machine>::copy(alloc, state).expect(rt, "memory");
+    let incarnation = copy.registry().incarnation();
     drop(copy);
     incarnation
 }
 
 // Whether a new state is changed by a start, and a copy has the first incarnation then.
 fn begins(rt: &impl Abort, alloc: Global) -> bool {
-    let mut state = Registry::new(alloc);
-    let met = <Registry as Machine>::apply(alloc, &mut state, &Command::Begin).expect(rt, "memory");
+    let mut state = filed_first(rt, Registry::new(alloc, Version::One));
+    let begin = command_first(rt, Command::Begin);
+    let met = <Watches<Version1> as Machine>::apply(alloc, &mut state, &begin).expect(rt, "memory");
+    drop(begin);
     let copied = copied(rt, alloc, &state);
     drop(state);
     met.0 == Reply::Changed && met.1 && copied == 1

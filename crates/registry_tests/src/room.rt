@@ -1,11 +1,12 @@
 //! Where a registry has no room: counters that are spent, and a root, a trigger or a byte too many.
 use crate::checks::check;
-use crate::lines::{applied, apply, apply_all, ask_all, asked};
+use crate::lines::{applied, apply, apply_all, ask, ask_all, asked};
 use std::alloc::Global;
 use std::process::Abort;
+use wm_checkpoint::Version1;
 use wm_disk::Refusal;
 use wm_names::RootPath;
-use wm_registry::{Command, Registry, Reply, Stdin, Trigger};
+use wm_registry::{Command, FiledRegistry, Registry, Reply, Stdin, Trigger, Version};
 use wm_wire::Wire;
 
 /// The last value of a counter.
@@ -53,9 +54,9 @@ fn are_met(
 
 // Whether the registry that the bytes begin with meets them so.
 fn meets(rt: &impl Abort, alloc: Global, bytes: &[u8], begin: Reply, watch: Reply) -> bool {
-    match Registry::take(alloc, bytes).expect(rt, "memory") {
+    match FiledRegistry::<Version1>::take(alloc, bytes).expect(rt, "memory") {
         Some((registry, _)) => {
-            let are_met = are_met(rt, alloc, &registry, begin, watch);
+            let are_met = are_met(rt, alloc, registry.registry(), begin, watch);
             drop(registry);
             are_met
         }
@@ -115,7 +116,7 @@ fn crowd_roots(rt: &impl Abort, alloc: Global, registry: &mut Registry) {
 
 #[test]
 fn refuses_one_root_too_many(rt: HostRuntime) {
-    let mut registry = Registry::new(rt.alloc());
+    let mut registry = Registry::new(rt.alloc(), Version::One);
     crowd_roots(&rt, rt.alloc(), &mut registry);
     drop(registry);
 }
@@ -141,7 +142,7 @@ fn crowd_triggers(rt: &impl Abort, alloc: Global, registry: &mut Registry) {
 
 #[test]
 fn refuses_one_trigger_too_many(rt: HostRuntime) {
-    let mut registry = Registry::new(rt.alloc());
+    let mut registry = Registry::new(rt.alloc(), Version::One);
     crowd_triggers(&rt, rt.alloc(), &mut registry);
     drop(registry);
 }
@@ -158,7 +159,7 @@ fn word(rt: &impl Abort, alloc: Global, length: u32) -> String {
 // What defines a trigger of /r with this name and these words.
 fn trigger(rt: &impl Abort, alloc: Global, name: &str, words: &[&str]) -> Command {
     let path = RootPath::read(alloc, "/r").expect(rt, "a path");
-    let made = Trigger::new(alloc, name, words, None, false, Stdin::DevNull);
+    let made = Trigger::new(alloc, name, words, None, false, Stdin::DevNull, None);
     Command::Trigger(path, made.expect(rt, "a trigger"))
 }
 
@@ -204,6 +205,17 @@ const BYTES: &[(u32, Reply, u64)] = &[
     (157, Reply::Replaced, 1_048_563),
 ];
 
+// How the sixty-fourth trigger with a number of files would be met, whatever its length.
+fn counted(rt: &impl Abort, alloc: Global, registry: &Registry, long: &str) -> Reply {
+    let path = RootPath::read(alloc, "/r").expect(rt, "a path");
+    let words = [long; 16];
+    let made = Trigger::new(alloc, "63", &words, None, false, Stdin::DevNull, Some(1));
+    ask(
+        registry,
+        Command::Trigger(path, made.expect(rt, "a trigger")),
+    )
+}
+
 /// What a full registry is told.
 const ROOM: &[(&str, Reply)] = &[
     ("watch /s", FULL),
@@ -220,13 +232,15 @@ fn refuse(rt: &impl Abort, alloc: Global, registry: &mut Registry, long: &str) {
         let bytes = registry.size();
         check!(rt; found && bytes == *size, (length, bytes));
     }
+    // a number of files is refused first
+    check!(rt; counted(rt, alloc, registry, long) == Reply::Refused(Refusal::OldVersion));
     apply_all(rt, alloc, registry, ROOM);
 }
 
 #[test]
 fn refuses_a_byte_too_many(rt: HostRuntime) {
     let long = word(&rt, rt.alloc(), 1024);
-    let mut registry = Registry::new(rt.alloc());
+    let mut registry = Registry::new(rt.alloc(), Version::One);
     refuse(&rt, rt.alloc(), &mut registry, long.as_str());
     drop(registry);
     drop(long);

@@ -1,11 +1,12 @@
 //! Tables of states, each with its exact bytes, and bytes that are no spelling.
 use crate::checks::check;
+use crate::filed::{filed_copy, filed_first};
 use crate::spelling::{is_spelled, spells, taken};
 use std::alloc::Global;
 use std::process::Abort;
+use wm_checkpoint::Version1;
 use wm_names::RootPath;
-use wm_registry::{Registry, Root};
-use wm_wire::Wire;
+use wm_registry::{FiledRegistry, Registry, Root, Version};
 
 /// That of a new file: incarnation 0, 1 as the next root number, and no roots.
 const FIRST: &[u8] = b"\0\0\0\0\0\0\0\0\0\0\0\0\0\0\0\x01\0\0\0\0";
@@ -113,13 +114,18 @@ fn is_of(registry: &Registry, state: &State) -> bool {
 }
 
 // Whether the registry is the state, and spelled so, and no cut of that is a spelling.
-fn is_state(rt: &impl Abort, alloc: Global, registry: &Registry, state: &State) -> bool {
-    is_of(registry, state) && is_spelled(rt, alloc, registry, state.bytes)
+fn is_state(
+    rt: &impl Abort,
+    alloc: Global,
+    registry: &FiledRegistry<Version1>,
+    state: &State,
+) -> bool {
+    is_of(registry.registry(), state) && is_spelled(rt, alloc, registry, state.bytes)
 }
 
 // Whether a copy of the registry is the state, and spelled so.
 fn is_copied(rt: &impl Abort, alloc: Global, registry: &Registry, state: &State) -> bool {
-    let copy = registry.copy(alloc).expect(rt, "memory");
+    let copy = filed_copy(rt, alloc, registry);
     let is_state = is_state(rt, alloc, &copy, state);
     drop(copy);
     is_state
@@ -127,10 +133,10 @@ fn is_copied(rt: &impl Abort, alloc: Global, registry: &Registry, state: &State)
 
 // Whether the state is taken from its bytes and spelled so, and a copy of it too.
 fn is_kept(rt: &impl Abort, alloc: Global, state: &State) -> bool {
-    match taken::<Registry>(rt, alloc, state.bytes) {
+    match taken::<FiledRegistry<Version1>>(rt, alloc, state.bytes) {
         Some(registry) => {
             let is_kept = is_state(rt, alloc, &registry, state)
-                && is_copied(rt, alloc, &registry, state);
+                && is_copied(rt, alloc, registry.registry(), state);
             drop(registry);
             is_kept
         }
@@ -140,8 +146,10 @@ fn is_kept(rt: &impl Abort, alloc: Global, state: &State) -> bool {
 
 // Whether a new registry is spelled as the first.
 fn spells_new(rt: &impl Abort, alloc: Global) -> bool {
-    let registry = Registry::new(alloc);
-    let spells = registry.size() == 20 && spells(rt, alloc, &registry, FIRST);
+    let registry = Registry::new(alloc, Version::One);
+    let is_short = registry.size() == 20;
+    let registry = filed_first(rt, registry);
+    let spells = is_short && spells(rt, alloc, &registry, FIRST);
     drop(registry);
     spells
 }
@@ -188,9 +196,9 @@ fn has_root(rt: &impl Abort, alloc: Global, registry: &Registry, row: &RootRow) 
 
 // Whether the row's root is taken with its state.
 fn is_taken(rt: &impl Abort, alloc: Global, row: &RootRow) -> bool {
-    match taken::<Registry>(rt, alloc, row.0) {
+    match taken::<FiledRegistry<Version1>>(rt, alloc, row.0) {
         Some(registry) => {
-            let has_root = has_root(rt, alloc, &registry, row);
+            let has_root = has_root(rt, alloc, registry.registry(), row);
             drop(registry);
             has_root
         }

@@ -63,6 +63,7 @@ fn is_accepted(rt: &impl Abort, alloc: Global, text: &str, lengths: Lengths) -> 
         expression,
         append_files: true,
         stdin: Stdin::DevNull,
+        max_files_stdin: None,
     };
     let made = made(alloc, plan);
     drop(words);
@@ -110,8 +111,7 @@ fn put(rt: &impl Abort, lengths: Lengths, out: &mut Vec<u8>) {
         put_long(rt, lengths.word(index), out);
     }
     put_expression(rt, lengths.expression, out);
-    out.push(1).expect(rt, "memory");
-    out.push(0).expect(rt, "memory");
+    out.extend_from_slice(b"\x01\0\0").expect(rt, "memory");
 }
 
 // Whether a trigger of such lengths is taken.

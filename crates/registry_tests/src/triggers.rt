@@ -5,14 +5,28 @@ use crate::plans::{LEAST, MORE, Plan, definition, is_of, made};
 use crate::spelling::{is_spelled, taken};
 use std::alloc::Global;
 use std::process::Abort;
-use wm_registry::{Registry, Reply, Stdin, Trigger};
+use wm_registry::{Registry, Reply, Stdin, Trigger, Version};
 
-/// Triggers, each with its spelling.
+/// Triggers, each with its spelling by itself, which is that of version 2.
 const SPELLINGS: &[(Plan<'static>, &[u8])] = &[
-    (LEAST, b"\0\0\0\x01t\0\0\0\x01\0\0\0\x04true\0\0\0"),
+    (LEAST, b"\0\0\0\x01t\0\0\0\x01\0\0\0\x04true\0\0\0\0"),
     (
         MORE,
-        b"\0\0\0\x02\xc3\xa9\0\0\0\x03\0\0\0\x04make\0\0\0\0\0\0\0\x04-j 4\x01\0\0\0\x02[]\x01\x01",
+        b"\0\0\0\x02\xc3\xa9\0\0\0\x03\0\0\0\x04make\0\0\0\0\0\0\0\x04-j 4\x01\0\0\0\x02[]\x01\x01\0",
+    ),
+    (
+        Plan {
+            max_files_stdin: Some(1),
+            ..LEAST
+        },
+        b"\0\0\0\x01t\0\0\0\x01\0\0\0\x04true\0\0\0\x01\0\0\0\x01",
+    ),
+    (
+        Plan {
+            max_files_stdin: Some(u32::MAX),
+            ..LEAST
+        },
+        b"\0\0\0\x01t\0\0\0\x01\0\0\0\x04true\0\0\0\x01\xff\xff\xff\xff",
     ),
 ];
 
@@ -58,27 +72,35 @@ fn spells_triggers(rt: HostRuntime) {
 pub(crate) const NO_TRIGGERS: &[(&str, &[u8])] = &[
     (
         "an option byte of 2",
-        b"\0\0\0\x01t\0\0\0\x01\0\0\0\x04true\x02\0\0",
+        b"\0\0\0\x01t\0\0\0\x01\0\0\0\x04true\x02\0\0\0",
     ),
     (
         "a truth byte of 2",
-        b"\0\0\0\x01t\0\0\0\x01\0\0\0\x04true\0\x02\0",
+        b"\0\0\0\x01t\0\0\0\x01\0\0\0\x04true\0\x02\0\0",
     ),
     (
         "a byte for the standard input of 2",
-        b"\0\0\0\x01t\0\0\0\x01\0\0\0\x04true\0\0\x02",
+        b"\0\0\0\x01t\0\0\0\x01\0\0\0\x04true\0\0\x02\0",
     ),
     (
         "a name that is no UTF-8",
-        b"\0\0\0\x01\xff\0\0\0\x01\0\0\0\x04true\0\0\0",
+        b"\0\0\0\x01\xff\0\0\0\x01\0\0\0\x04true\0\0\0\0",
     ),
     (
         "a word that is no UTF-8",
-        b"\0\0\0\x01t\0\0\0\x01\0\0\0\x01\xff\0\0\0",
+        b"\0\0\0\x01t\0\0\0\x01\0\0\0\x01\xff\0\0\0\0",
     ),
     (
         "an expression that is no UTF-8",
-        b"\0\0\0\x01t\0\0\0\x01\0\0\0\x01a\x01\0\0\0\x01\xff\0\0",
+        b"\0\0\0\x01t\0\0\0\x01\0\0\0\x01a\x01\0\0\0\x01\xff\0\0\0",
+    ),
+    (
+        "an option byte of 2 at the end",
+        b"\0\0\0\x01t\0\0\0\x01\0\0\0\x04true\0\0\0\x02\0\0\0\x01",
+    ),
+    (
+        "no files",
+        b"\0\0\0\x01t\0\0\0\x01\0\0\0\x04true\0\0\0\x01\0\0\0\0",
     ),
 ];
 
@@ -89,6 +111,7 @@ const PLAN: Plan<'static> = Plan {
     expression: None,
     append_files: false,
     stdin: Stdin::DevNull,
+    max_files_stdin: None,
 };
 
 /// Triggers, and how each is met where the first is there, and the first where it is there.
@@ -135,6 +158,14 @@ const MEETINGS: &[(&str, Plan<'static>, Reply)] = &[
         },
         Reply::Replaced,
     ),
+    (
+        "a number of files",
+        Plan {
+            max_files_stdin: Some(2),
+            ..PLAN
+        },
+        Reply::Replaced,
+    ),
 ];
 
 // Watches the root and defines the trigger.
@@ -146,7 +177,7 @@ fn define(rt: &impl Abort, alloc: Global, registry: &mut Registry, plan: Plan<'_
 // How the second trigger is met where the first is there.
 fn met(rt: &impl Abort, alloc: Global, first: Plan<'_>, second: Plan<'_>) -> Reply {
     let second = definition(rt, alloc, second);
-    let mut registry = Registry::new(alloc);
+    let mut registry = Registry::new(alloc, Version::Two);
     define(rt, alloc, &mut registry, first);
     let reply = ask(&registry, second);
     drop(registry);

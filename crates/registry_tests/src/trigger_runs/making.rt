@@ -54,23 +54,53 @@ pub fn trigger(
     append_files: bool,
     stdin: Stdin,
 ) -> Trigger {
-    Trigger::new(alloc, "t", words, None, append_files, stdin).expect(rt, "a trigger")
+    Trigger::new(alloc, "t", words, None, append_files, stdin, None).expect(rt, "a trigger")
+}
+
+/// A trigger with these words, whose program reads so many names at most, or all.
+pub fn trigger_of_most(
+    rt: &impl Abort,
+    alloc: Global,
+    words: &[&str],
+    append_files: bool,
+    most: Option<u32>,
+) -> Trigger {
+    let stdin = Stdin::NamePerLine;
+    Trigger::new(alloc, "t", words, None, append_files, stdin, most).expect(rt, "a trigger")
 }
 
 /// A trigger of the program `true`, with this text of an expression.
 pub fn trigger_for(rt: &impl Abort, alloc: Global, expression: Option<&str>) -> Trigger {
-    Trigger::new(alloc, "t", &["true"], expression, false, Stdin::DevNull).expect(rt, "a trigger")
+    Trigger::new(
+        alloc,
+        "t",
+        &["true"],
+        expression,
+        false,
+        Stdin::DevNull,
+        None,
+    )
+    .expect(rt, "a trigger")
 }
 
 /// A trigger of this name and of the program `true`, for each file.
 pub fn named(rt: &impl Abort, alloc: Global, name: &str) -> Trigger {
-    Trigger::new(alloc, name, &["true"], None, false, Stdin::DevNull).expect(rt, "a trigger")
+    Trigger::new(alloc, name, &["true"], None, false, Stdin::DevNull, None).expect(rt, "a trigger")
 }
 
 /// Such a trigger with this text of an expression.
 pub fn named_for(rt: &impl Abort, alloc: Global, name: &str, expression: &str) -> Trigger {
     let expression = Some(expression);
-    Trigger::new(alloc, name, &["true"], expression, false, Stdin::DevNull).expect(rt, "a trigger")
+    Trigger::new(
+        alloc,
+        name,
+        &["true"],
+        expression,
+        false,
+        Stdin::DevNull,
+        None,
+    )
+    .expect(rt, "a trigger")
 }
 
 /// Definitions of these names by the commands of these numbers.

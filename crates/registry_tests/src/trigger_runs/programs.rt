@@ -1,6 +1,6 @@
 //! Programs that are really started, in the folder of the tests.
 use crate::checks::check;
-use crate::trigger_runs::making::{root, run_with, trigger};
+use crate::trigger_runs::making::{root, run_with, trigger, trigger_of_most};
 use std::alloc::Global;
 use std::process::{Abort, Processes};
 use std::{env, fs};
@@ -173,6 +173,35 @@ fn programs_get_their_words_and_input(rt: HostRuntime) {
         check!(rt; leaves_row(&rt, &rt, row), row.3);
     }
     drop(open);
+}
+
+/// Starts `cat` for `x.c` and `y.c`, which is to read one name at most.
+fn ran_for_one_name(rt: &HostRuntime, host: &impl Abort) -> (u64, Option<Refusal>) {
+    let alloc = rt.alloc();
+    let trigger = trigger_of_most(
+        host,
+        alloc,
+        &["sh", "-c", "cat > trigger_first"],
+        false,
+        Some(1),
+    );
+    let folder = here(rt, host);
+    let root = root(host, alloc, &folder);
+    let run = run_with(host, alloc, &["x.c", "y.c"]);
+    let started = started(alloc, rt, &root, &trigger, &run);
+    drop(run);
+    drop(root);
+    drop(folder);
+    drop(trigger);
+    started
+}
+
+#[test]
+fn a_program_reads_the_first_name_alone(rt: HostRuntime) {
+    let (failures, refused) = ran_for_one_name(&rt, &rt);
+    check!(rt; failures == 0 && refused.is_none());
+    check!(rt; has_text(&rt, &rt, "trigger_first", "x.c\n"));
+    fs::remove_file(&rt, "trigger_first").expect(&rt, "a file");
 }
 
 /// Where this program writes its output and its errors.
