@@ -2,5 +2,6 @@ pub mod EachLemmas
 pub mod KeptLemmas
 pub mod ListedLemmas
 pub mod ReplyTexts
+pub mod ShownTriggers
 pub mod Texts
 pub mod TriggerLemmas

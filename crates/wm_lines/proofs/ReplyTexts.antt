@@ -25,7 +25,7 @@ use Rattle.wm_since.specs.declared.field.Field.{Field}
 use Rattle.wm_since.specs.declared.query.Answer.{Answer}
 use Rattle.wm_subs.specs.declared.subscribed.Subscribed.{Subscribed}
 use Rattle.wm_lines.specs.AnswerTexts.{answer_tail, answer_text, due_tail, due_text}
-use Rattle.wm_lines.specs.Replies.{answer_reply, clock_reply, command_reply, due_data, due_object, floor_reply, paths_of, roots_reply, line_text, query_reply, refusal_reply, stdin_text, trigger_data, triggers_reply, with_expression}
+use Rattle.wm_lines.specs.Replies.{answer_reply, clock_reply, command_reply, due_data, due_object, floor_reply, paths_of, roots_reply, line_text, query_reply, refusal_reply, stdin_text, trigger_data, triggers_reply, with_expression, with_file_count}
 
 paths_no_float : (roots : List (Path × Root)) → items_have_float (items_of (paths_of roots)) ≡ false
 paths_no_float [] = refl
@@ -47,11 +47,16 @@ with_no_float : (expression : Option (List ℕ)) (rest : Members) → members_ha
 with_no_float None rest h = h
 with_no_float (Some text) rest h = rw (shown_no_float text, h) refl
 
+count_no_float : (count : Option ℕ) (rest : Members) → members_have_float rest ≡ false → members_have_float (with_file_count count rest) ≡ false
+count_no_float None rest h = h
+count_no_float (Some n) rest h = h
+
 trigger_no_float : (t : Definition) → has_float (trigger_data t) ≡ false
 trigger_no_float t =
-    let shown : Members = member (codes "name") (string t.name) (member (codes "stdin") (string (stdin_text t.stdin)) no_members) in
+    let named : Members = member (codes "name") (string t.name) (member (codes "stdin") (string (stdin_text t.stdin)) no_members) in
     let words : items_have_float (items_of (map (λ word. string word) t.command)) ≡ false = words_no_float t.command in
-    let rest : members_have_float (with_expression t.expression shown) ≡ false = with_no_float t.expression shown refl in
+    let rest : members_have_float (with_expression t.expression (with_file_count t.max_files_stdin named)) ≡ false =
+    with_no_float t.expression (with_file_count t.max_files_stdin named) (count_no_float t.max_files_stdin named refl) in
     rw (words, rest) refl
 
 each_no_float : (triggers : List Definition) → items_have_float (items_of (map trigger_data triggers)) ≡ false

@@ -1,6 +1,6 @@
 -- The replies, as JSON values and as lines. The keys of each are in the order of their bytes.
 use Rattle.std.specs.Prelude.{ℕ, Bool, true, List, [], ◌∷◌, ◌++◌, map, Option, Some, None, Result, Ok, Err, codes}
-use Rattle.serde_json.specs.Data.{Data, Members, boolean, string, number, unsigned, array, object, member, no_members}
+use Rattle.serde_json.specs.Data.{Data, Members, boolean, string, number, unsigned, array, object, member, no_members, put}
 use Rattle.serde_json.specs.View.{items_of}
 use Rattle.serde_json.specs.Written.{compact_text}
 use Rattle.wm_disk.specs.Refusals.{refusal_text}
@@ -74,17 +74,24 @@ abbrev pub with_expression : Option (List ℕ) → Members → Members
 with_expression None ms = ms
 with_expression (Some text) ms = member (codes "expression") (expression_shown text) ms
 
--- a trigger, perhaps with one member more
-abbrev pub trigger_object : Definition → (Members → Members) → Data
-trigger_object t more =
-    object (member (codes "append_files") (boolean t.append_files)
-    (member (codes "command") (array (items_of (map (λ word. string word) t.command)))
-    (more
-    (member (codes "name") (string t.name)
-    (member (codes "stdin") (string (stdin_text t.stdin)) no_members)))))
+-- nor is a number of files
+abbrev pub with_file_count : Option ℕ → Members → Members
+with_file_count None ms = ms
+with_file_count (Some n) ms = member (codes "max_files_stdin") (number (unsigned n)) ms
+
+-- members with one more under a key, where there is a value
+abbrev pub with_some : List ℕ → Option Data → Members → Members
+with_some key None ms = ms
+with_some key (Some d) ms = put key d ms
 
 abbrev pub trigger_data : Definition → Data
-trigger_data t = trigger_object t (with_expression t.expression)
+trigger_data t =
+    object (member (codes "append_files") (boolean t.append_files)
+    (member (codes "command") (array (items_of (map (λ word. string word) t.command)))
+    (with_expression t.expression
+    (with_file_count t.max_files_stdin
+    (member (codes "name") (string t.name)
+    (member (codes "stdin") (string (stdin_text t.stdin)) no_members))))))
 
 abbrev pub triggers_reply : List Definition → Data
 triggers_reply triggers =

@@ -1,8 +1,8 @@
 -- Lines that define a trigger, or take one out.
-use Rattle.std.specs.Prelude.{ℕ, ◌+◌, List, Bool, Option, Some, None, option_and_then, is_none, is_some, Result, Ok, Err, codes, if◌then◌else◌}
+use Rattle.std.specs.Prelude.{ℕ, ◌+◌, ◌^◌, List, Bool, nat_lt, Option, Some, None, option_and_then, option_map, is_none, is_some, Result, Ok, Err, codes, if◌then◌else◌}
 use Rattle.std.specs.Str.{bytes_eq}
 use Rattle.serde_json.specs.Data.{Data}
-use Rattle.serde_json.specs.Find.{at, get, as_str, as_array}
+use Rattle.serde_json.specs.Find.{at, get, as_str, as_array, as_number, as_u64}
 use Rattle.wm_disk.specs.declared.refusal.Refusal.{Refusal}
 use Rattle.wm_disk.specs.declared.refusal.Refusal.TheVariants.{BadArguments, BadPath, BadTrigger}
 use Rattle.wm_names.specs.Paths.{is_root_path}
@@ -30,20 +30,29 @@ stdin_in (Some d) = option_and_then stdin_named (as_str d)
 abbrev pub words_in : Option Data → Option (List (List ℕ))
 words_in d = option_and_then (each as_str) (option_and_then as_array d)
 
-abbrev pub definition_from : Option (List ℕ) → Option (List ℕ) → Option (List (List ℕ)) → Option Bool → Option Stdin → Option Definition
-definition_from expression (Some name) (Some words) (Some append_files) (Some stdin) = Some (definition name words expression append_files stdin)
-definition_from expression _ _ _ _ = None
+abbrev pub of_32_bits : ℕ → Option ℕ
+of_32_bits n = if nat_lt n (2 ^ 32) then Some n else None
 
--- as many keys as there are of the five known ones, with `name` and `command` among them
+-- a whole number of 32 bits, or none where it is missing
+abbrev pub file_count_in : Option Data → Option (Option ℕ)
+file_count_in None = Some None
+file_count_in (Some d) = option_map (λ n. Some n) (option_and_then of_32_bits (option_and_then as_u64 (as_number d)))
+
+abbrev pub definition_from : Option (List ℕ) → Option (List ℕ) → Option (List (List ℕ)) → Option Bool → Option Stdin → Option (Option ℕ) → Option Definition
+definition_from expression (Some name) (Some words) (Some append_files) (Some stdin) (Some count) = Some (definition name words expression append_files stdin count)
+definition_from expression _ _ _ _ _ = None
+
+-- as many keys as there are of the six known ones, with `name` and `command` among them
 abbrev pub has_known_keys : Data → Bool
 has_known_keys d =
-    has_keys (2 + (one_if (is_some (get (codes "expression") d)) + (one_if (is_some (get (codes "append_files") d)) + one_if (is_some (get (codes "stdin") d))))) d
+    has_keys (2 + (one_if (is_some (get (codes "expression") d)) + (one_if (is_some (get (codes "append_files") d))
+    + (one_if (is_some (get (codes "stdin") d)) + one_if (is_some (get (codes "max_files_stdin") d)))))) d
 
--- the keys `name` and `command`, perhaps `expression`, which is kept as this text, `append_files` and `stdin`, and no other
+-- the keys `name` and `command`, perhaps `expression`, which is kept as this text, `append_files`, `stdin` and `max_files_stdin`, and no other
 abbrev pub definition_in : Option (List ℕ) → Data → Option Definition
 definition_in expression d =
     if has_known_keys d
-    then definition_from expression (option_and_then as_str (get (codes "name") d)) (words_in (get (codes "command") d)) (flag_in (get (codes "append_files") d)) (stdin_in (get (codes "stdin") d))
+    then definition_from expression (option_and_then as_str (get (codes "name") d)) (words_in (get (codes "command") d)) (flag_in (get (codes "append_files") d)) (stdin_in (get (codes "stdin") d)) (file_count_in (get (codes "max_files_stdin") d))
     else None
 
 -- the definition, where it keeps the rules of triggers

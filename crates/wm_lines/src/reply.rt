@@ -1,11 +1,11 @@
 //! The bytes of each reply, a line of JSON with its newline. Their definitions are in specs/Replies.
 //! Tests: session_tests/src/lines.
-ghost use Rattle.std.specs.Prelude.{◌≡◌, ◌++◌, ◌+◌, ◌≤◌, codes, false, map, vec_len, vec_capacity, IfOk, OnOk, OnErr, take};
+ghost use Rattle.std.specs.Prelude.{◌≡◌, ◌++◌, ◌+◌, ◌≤◌, codes, false, map, option_map, vec_len, vec_capacity, IfOk, OnOk, OnErr, take};
 ghost use Rattle.serde_json.specs.Written.{has_float};
-ghost use Rattle.serde_json.specs.View.{items_of, items_view, view};
+ghost use Rattle.serde_json.specs.View.{items_of, items_view, members_view, view};
 ghost use Rattle.wm_lines.specs.AnswerTexts.{answer_head, answer_tail, answer_text};
-ghost use Rattle.wm_lines.specs.Replies.{clock_reply, command_reply, disposition_of, floor_reply, line_text, operation_reply, paths_of, refusal_reply, roots_reply, query_reply, stdin_text, trigger_data, trigger_object, trigger_del_reply, trigger_reply, triggers_reply, version_reply, watch_del_reply, watch_reply};
-ghost use Rattle.serde_json.specs.Data.{member, string};
+ghost use Rattle.wm_lines.specs.Replies.{clock_reply, command_reply, disposition_of, floor_reply, line_text, operation_reply, paths_of, refusal_reply, roots_reply, query_reply, stdin_text, trigger_data, trigger_del_reply, trigger_reply, triggers_reply, version_reply, watch_del_reply, watch_reply, with_some};
+ghost use Rattle.serde_json.specs.Data.{number, string, unsigned};
 ghost use Rattle.wm_lines.specs.KeptExpressions.{expression_shown as expression_shown_lem};
 
 mod subscriptions;
@@ -13,7 +13,7 @@ mod subscriptions;
 use crate::kept_expression::expression_in;
 use crate::progress::Progress;
 use indexmap::IndexMap;
-use serde_json::{Value, json};
+use serde_json::{Map, Value, json};
 use std::alloc::{AllocError, Global};
 pub use subscriptions::{put_due, put_unsubscribe, subscribe_line};
 use wm_clock::{ClockId, put_number};
@@ -216,38 +216,62 @@ fn stdin_shown(trigger: &Trigger) -> &'static str
     }
 }
 
-/// A trigger with an expression.
-fn shown_with(alloc: Global, trigger: &Trigger, expression: Value) -> Result<Value, AllocError>
-    ensures { IfOk result (λ v. view v ≡ trigger_object trigger.now (λ ms. member (codes "expression") (view expression) ms)) }
+/// The expression of a trigger, if it has one.
+fn expression_of(alloc: Global, trigger: &Trigger) -> Result<Option<Value>, NoMemory>
+    ensures { IfOk result (λ v. option_map view v ≡ option_map expression_shown_lem trigger.now.expression) }
 {
-    let words = Value::Array(word_list(alloc, trigger.command())?);
-    let append_files = trigger.append_files();
-    let name = trigger.name();
-    let stdin = stdin_shown(trigger);
-    json!(in alloc; {"append_files": append_files, "command": words, "expression": expression, "name": name, "stdin": stdin})
+    match trigger.expression() {
+        Some(text) => Ok(Some(expression_shown(alloc, text)?)),
+        None => Ok(None),
+    }
 }
 
-/// A trigger without an expression.
-fn shown_plain(alloc: Global, trigger: &Trigger) -> Result<Value, AllocError>
-    ensures { IfOk result (λ v. view v ≡ trigger_object trigger.now (λ ms. ms)) }
+/// The most names that a trigger's program reads, if there is such a number.
+fn file_count_of(trigger: &Trigger) -> Option<Value>
+    ensures { option_map view result ≡ option_map (λ n. number (unsigned n)) trigger.now.max_files_stdin }
 {
-    let words = Value::Array(word_list(alloc, trigger.command())?);
-    let append_files = trigger.append_files();
-    let name = trigger.name();
-    let stdin = stdin_shown(trigger);
-    json!(in alloc; {"append_files": append_files, "command": words, "name": name, "stdin": stdin})
+    match trigger.max_files_stdin() {
+        Some(count) => Some(Value::from(count)),
+        None => None,
+    }
+}
+
+/// Puts a value under a key, if there is one.
+fn put_some(
+    alloc: Global,
+    members: &mut Map<String, Value>,
+    key: &str,
+    value: Option<Value>,
+) -> Result<(), AllocError>
+    ensures { OnOk result (members_view members.new.entries ≡ with_some key.now (option_map view value) (members_view members.old.entries)) }
+{
+    match value {
+        Some(value) => serde_json::put(members, alloc, key, value),
+        None => Ok(()),
+    }
 }
 
 fn trigger_shown(alloc: Global, trigger: &Trigger) -> Result<Value, NoMemory>
     ensures { IfOk result (λ v. view v ≡ trigger_data trigger.now) }
 {
-    match trigger.expression() {
-        Some(text) => {
-            let expression = expression_shown(alloc, text)?;
-            Ok(shown_with(alloc, trigger, expression)?)
-        }
-        None => Ok(shown_plain(alloc, trigger)?),
-    }
+    let append_files = Value::from(trigger.append_files());
+    let words = Value::Array(word_list(alloc, trigger.command())?);
+    let expression = expression_of(alloc, trigger)?;
+    let name = Value::try_from_str(alloc, trigger.name())?;
+    let stdin = Value::try_from_str(alloc, stdin_shown(trigger))?;
+    let mut members = Map::new(alloc);
+    serde_json::put(&mut members, alloc, "append_files", append_files)?;
+    serde_json::put(&mut members, alloc, "command", words)?;
+    put_some(alloc, &mut members, "expression", expression)?;
+    put_some(
+        alloc,
+        &mut members,
+        "max_files_stdin",
+        file_count_of(trigger),
+    )?;
+    serde_json::put(&mut members, alloc, "name", name)?;
+    serde_json::put(&mut members, alloc, "stdin", stdin)?;
+    Ok(Value::Object(members))
 }
 
 fn triggers_shown(alloc: Global, triggers: &[Trigger]) -> Result<Vec<Value>, NoMemory>

@@ -3,7 +3,7 @@
 ghost use Rattle.std.specs.Prelude.{◌≡◌, ◌≢◌, Ok, Err, Some, None, map, option_map, option_and_then, IfOk, IfErr};
 ghost use Rattle.serde_json.specs.Find.{as_array, as_str, get};
 ghost use Rattle.serde_json.specs.View.{items_view, view};
-ghost use Rattle.wm_lines.specs.TriggerLines.{by_rules, definition_in, has_known_keys as has_known_keys_lem, stdin_in, stdin_named as stdin_named_lem, trigger_del_request, trigger_in as trigger_in_lem, trigger_request, words_in};
+ghost use Rattle.wm_lines.specs.TriggerLines.{by_rules, definition_in, file_count_in, has_known_keys as has_known_keys_lem, stdin_in, stdin_named as stdin_named_lem, trigger_del_request, trigger_in as trigger_in_lem, trigger_request, words_in};
 
 use crate::arguments::{has_items, text_at};
 use crate::kept_expression::kept_text;
@@ -37,6 +37,19 @@ fn stdin(value: Option<&Value>) -> Option<Stdin>
     }
 }
 
+/// The most names that a program is to read: a whole number of 32 bits, and none if it is missing.
+fn file_count(value: Option<&Value>) -> Option<Option<u32>>
+    ensures { result ≡ file_count_in (option_map (λ v. view v.now) value.entry) }
+{
+    match value {
+        Some(value) => match u32::try_from(value.as_u64()?) {
+            Ok(count) => Some(Some(count)),
+            Err(_) => None,
+        },
+        None => Some(None),
+    }
+}
+
 /// The items of an array.
 fn items(value: Option<&Value>) -> Option<&Vec<Value>>
     ensures { option_map (λ v. items_view v.now.items) result ≡ option_and_then as_array (option_map (λ v. view v.now) value.entry) }
@@ -55,7 +68,7 @@ fn words(alloc: Global, value: Option<&Value>) -> Result<Vec<&str>, Refusal>
     texts_of(alloc, items, Refusal::BadTrigger)
 }
 
-/// Whether an object has as many keys as it has known ones: a name, a command, and perhaps the three
+/// Whether an object has as many keys as it has known ones: a name, a command, and perhaps the four
 /// others.
 fn has_known_keys(object: &Value) -> bool
     ensures { result ≡ has_known_keys_lem (view object.now) }
@@ -63,7 +76,8 @@ fn has_known_keys(object: &Value) -> bool
     let expressions = one_for(object, "expression");
     let flags = one_for(object, "append_files");
     let stdins = one_for(object, "stdin");
-    has_keys(object, 2 + (expressions + (flags + stdins)))
+    let counts = one_for(object, "max_files_stdin");
+    has_keys(object, 2 + (expressions + (flags + (stdins + counts))))
 }
 
 /// The text at a key.
@@ -81,15 +95,16 @@ fn trigger_with(alloc: Global, object: &Value, expression: Option<&str>) -> Resu
     if !has_known_keys(object) {
         return Err(Refusal::BadTrigger);
     }
-    let (Some(name), Some(append_files), Some(stdin)) = (
+    let (Some(name), Some(append_files), Some(stdin), Some(count)) = (
         text_named(object, "name"),
         flag(object.get("append_files")),
         stdin(object.get("stdin")),
+        file_count(object.get("max_files_stdin")),
     ) else {
         return Err(Refusal::BadTrigger);
     };
     let words = words(alloc, object.get("command"))?;
-    Trigger::new(alloc, name, &words, expression, append_files, stdin)
+    Trigger::new(alloc, name, &words, expression, append_files, stdin, count)
 }
 
 /// The trigger that an object defines.
