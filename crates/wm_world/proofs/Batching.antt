@@ -6,23 +6,23 @@ use Rattle.wm_registry.specs.declared.command.Command.TheVariants.{Begin, Watch,
 use Rattle.wm_registry.specs.declared.reply.Reply.{Reply}
 use Rattle.wm_registry.specs.declared.reply.Reply.TheVariants.{Refused}
 use Rattle.wm_registry.specs.declared.root.Root.{Root}
-use Rattle.wm_registry.specs.MachineLaws.{watches}
-use Rattle.wm_registry.specs.Registry.{changed, is_change}
+use Rattle.wm_registry.specs.Registry.{after_command, changed, is_change}
 use Rattle.wm_registry.specs.Roots.{State, root_at, with_triggers}
+use Rattle.wm_registry.specs.declared.version.Version.{Version}
 use Rattle.wm_registry.specs.Triggers.{defined, without}
 use Rattle.std.specs.Option.{option_map_or}
 use Rattle.std.specs.Prelude.{Option, Some, None}
-use Rattle.wm_checkpoint.specs.Machines.{replay_on}
 use Rattle.wm_store.specs.Batches.{AreAnswered, IsMet, accepted_of, after_reply, unless_begin}
 use Rattle.wm_store.specs.laws.Replies.{changes_met, refusal_stays}
+use Rattle.wm_checkpoint.specs.Machines.{replayed}
 
 -- a greater number is spent as well, and no command fits into no room
-pub answered_more : (n room m : ℕ) (s : State) (cs : List Command) (rs : List Reply) → n ≤ m → AreAnswered n room s cs rs → AreAnswered m 0 s cs rs
-answered_more n room m s [] [] le h = h
-answered_more n room m s [] (r ∷ rs) le h = h
-answered_more n room m s (c ∷ cs) [] le h = h
-answered_more n room m s (c ∷ cs) (r ∷ rs) le (inl (is, rest)) = inl (is, answered_more n room m (after_reply s c r) cs rs le rest)
-answered_more n room m s (c ∷ cs) (r ∷ rs) le (inr (spent, accepted, e)) = inr ((omega (arith, spent.0, le), omega arith), accepted, e)
+pub answered_more : (v : Version) (n room m : ℕ) (s : State) (cs : List Command) (rs : List Reply) → n ≤ m → AreAnswered v n room s cs rs → AreAnswered v m 0 s cs rs
+answered_more v n room m s [] [] le h = h
+answered_more v n room m s [] (r ∷ rs) le h = h
+answered_more v n room m s (c ∷ cs) [] le h = h
+answered_more v n room m s (c ∷ cs) (r ∷ rs) le (inl (is, rest)) = inl (is, answered_more v n room m (after_reply s c r) cs rs le rest)
+answered_more v n room m s (c ∷ cs) (r ∷ rs) le (inr (spent, accepted, e)) = inr ((omega (arith, spent.0, le), omega arith), accepted, e)
 
 pub none_accepted : (cs : List Command) → accepted_of cs (map (λ c. unless_begin c (Refused Exhausted)) cs) ≡ []
 none_accepted [] = refl
@@ -50,15 +50,15 @@ stays s (TriggerDel path name) r is h = at (root_at path s)
     at None = refl
     at (Some root) = refl
 
-pub same_incarnation : (n : ℕ) (s : State) (cs : List Command) (rs : List Reply) → AreAnswered n 0 s cs rs → (replay_on watches s (accepted_of cs rs)).incarnation ≡ s.incarnation
-same_incarnation n s [] rs h = refl
-same_incarnation n s (c ∷ cs) [] h = refl
-same_incarnation n s (c ∷ cs) (r ∷ rs) (inr (spent, accepted, e)) =
-    ap (λ qs. (replay_on watches s (accepted_of (c ∷ cs) qs)).incarnation) e ∙ ap (λ ds. (replay_on watches s ds).incarnation) (none_accepted (c ∷ cs))
-same_incarnation n s (c ∷ cs) (r ∷ rs) (inl (is, rest)) = by (λ t. same_incarnation n t cs rs) (is_change r) refl rest
+pub same_incarnation : (v : Version) (n : ℕ) (s : State) (cs : List Command) (rs : List Reply) → AreAnswered v n 0 s cs rs → (replayed after_command s (accepted_of cs rs)).incarnation ≡ s.incarnation
+same_incarnation v n s [] rs h = refl
+same_incarnation v n s (c ∷ cs) [] h = refl
+same_incarnation v n s (c ∷ cs) (r ∷ rs) (inr (spent, accepted, e)) =
+    ap (λ qs. (replayed after_command s (accepted_of (c ∷ cs) qs)).incarnation) e ∙ ap (λ ds. (replayed after_command s ds).incarnation) (none_accepted (c ∷ cs))
+same_incarnation v n s (c ∷ cs) (r ∷ rs) (inl (is, rest)) = by (λ t. same_incarnation v n t cs rs) (is_change r) refl rest
   where
-    by : ((t : State) → AreAnswered n 0 t cs rs → (replay_on watches t (accepted_of cs rs)).incarnation ≡ t.incarnation) → (b : Bool) → is_change r ≡ b → AreAnswered n 0 (cond b (changed s c) s) cs rs
-        → (replay_on watches s (cond b (c ∷ accepted_of cs rs) (accepted_of cs rs))).incarnation ≡ s.incarnation
+    by : ((t : State) → AreAnswered v n 0 t cs rs → (replayed after_command t (accepted_of cs rs)).incarnation ≡ t.incarnation) → (b : Bool) → is_change r ≡ b → AreAnswered v n 0 (cond b (changed s c) s) cs rs
+        → (replayed after_command s (cond b (c ∷ accepted_of cs rs) (accepted_of cs rs))).incarnation ≡ s.incarnation
     by again true t h =
-        ap (λ b. (replay_on watches (cond b (changed s c) s) (accepted_of cs rs)).incarnation) (changes_met s c r is t) ∙ again (changed s c) h ∙ stays s c r is t
+        ap (λ b. (replayed after_command (cond b (changed s c) s) (accepted_of cs rs)).incarnation) (changes_met s c r is t) ∙ again (changed s c) h ∙ stays s c r is t
     by again false t h = again s h

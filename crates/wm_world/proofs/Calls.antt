@@ -4,7 +4,6 @@ use Rattle.std.specs.List.{AllByRecursion}
 use Rattle.std.specs.Option.{option_map_or}
 use Rattle.wm_disk.specs.declared.disk.Disk as disks
 use Rattle.wm_names.specs.Paths.{Path}
-use Rattle.wm_checkpoint.specs.Meanings.{MeansPrefix, MeansState}
 use Rattle.wm_disk.specs.Contents.{NoMore, Only}
 use Rattle.wm_disk.specs.Moments.{LeavesOnly}
 use Rattle.wm_expr.specs.declared.expr.Expr.{Expr}
@@ -13,7 +12,6 @@ use Rattle.wm_expr.specs.Views.{term}
 use Rattle.wm_registry.specs.declared.command.Command.{Command}
 use Rattle.wm_registry.specs.Registry.{empty_registry}
 use Rattle.wm_registry.specs.declared.root.Root.{Root}
-use Rattle.wm_registry.specs.MachineLaws.{watches}
 use Rattle.wm_registry.specs.Roots.{State, root_at}
 use Rattle.wm_store.specs.Stored.{Stored}
 use Rattle.wm_view.specs.declared.op.Op.{Op}
@@ -21,7 +19,7 @@ use Rattle.wm_view.specs.Histories.{History, after_operation}
 use Rattle.wm_view.specs.Steps.{step}
 use Rattle.wm_view.specs.Summaries.{Summary}
 use Rattle.wm_checkpoint.specs.Numbers.{IsNumberedTo}
-use Rattle.wm_checkpoint.specs.Layout.{sizes_1}
+use Rattle.wm_checkpoint.specs.Layout.{sizes_2}
 use Rattle.wm_world.specs.declared.connection.Connection.{Connection}
 use Rattle.wm_world.specs.declared.world.World.{World as Running}
 use Rattle.wm_world.specs.declared.world.Server.{Server}
@@ -37,6 +35,8 @@ use Rattle.wm_world.proofs.Reached.{settled_reached}
 use Rattle.wm_world.proofs.Replays.{replay_more}
 use Rattle.wm_since.specs.Laws.{AnswersApply, AnswersBySummary}
 use Rattle.wm_world.proofs.Refining.{StepsAgree, asking_same, changed_none, changed_set, views_operated}
+use Rattle.wm_store.specs.Meant.{MeansAfter, MeansRegistry}
+use Rattle.wm_registry.specs.declared.version.Version.TheVariants.{Two}
 
 cond_same : {A : Type 0} (b : Bool) (x : A) → x ≡ cond b x x
 cond_same true x = refl
@@ -59,12 +59,12 @@ all_at {A = A} P xs n x all low is = subst P (sym is) (there xs n all low)
 -- the same commands are kept and in flight, and the slot's number has the same bound
 pub prefix_same : (w v : World) (c : List ℕ) → v.kept ≡ w.kept → v.pending ≡ w.pending → v.slot ≡ w.slot → KeepsPrefix w c → KeepsPrefix v c
 prefix_same w v c kept pending slot k = record {
-  means = subst (λ cs. MeansPrefix watches (replay cs) v.pending c) (sym kept) (subst (λ p. MeansPrefix watches (registry w) p c) (sym pending) k.means);
-  numbered = subst (λ n. IsNumberedTo sizes_1 n c) (sym slot) k.numbered;
+  means = subst (λ cs. MeansAfter (replay cs) v.pending c) (sym kept) (subst (λ p. MeansAfter (registry w) p c) (sym pending) k.means);
+  numbered = subst (λ n. IsNumberedTo sizes_2 n c) (sym slot) k.numbered;
 }
 
 -- a state with nothing in flight
-pub whole : (state : State) (c : List ℕ) → MeansState watches state c → MeansPrefix watches state [] c
+pub whole : (state : State) (c : List ℕ) → MeansRegistry state c → MeansAfter state [] c
 whole state c m = record { count = 0; within = omega arith; means = m }
 
 -- the row's world differs in nothing that the disk and the store know of
@@ -330,7 +330,7 @@ module _ {D : Type 0} (disk : disks.Ghosts D) (plan : D → Option ℕ) where
               none = none;
               on = record {
                 prefix = λ c l. subst (λ x. KeepsPrefix v x) (sym (only was c l)) (record {
-                  means = whole (replay found) (disk.seen d) (subst (λ r. MeansState watches r (disk.seen d)) (sym (replay_more empty_registry w.kept part)) k.means.means);
+                  means = whole (replay found) (disk.seen d) (subst (λ r. MeansRegistry r (disk.seen d)) (sym (replay_more (empty_registry Two) w.kept part)) k.means.means);
                   numbered = k.numbered;
                 });
                 faults = faults ∙ on.faults;

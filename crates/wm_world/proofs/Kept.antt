@@ -13,6 +13,7 @@ use Rattle.wm_registry.specs.declared.command.Command.TheVariants.{Begin, Watch,
 use Rattle.wm_registry.specs.declared.reply.Reply.{Reply}
 use Rattle.wm_registry.specs.declared.root.Root.{Root}
 use Rattle.wm_registry.specs.Registry.{changed, changes, is_change}
+use Rattle.wm_registry.specs.declared.version.Version.{Version}
 use Rattle.wm_registry.specs.Roots.{State, root_at}
 use Rattle.wm_store.specs.Batches.{AreAnswered, IsMet, accepted_of, is_begin}
 use Rattle.wm_view.specs.Histories.{after_operation}
@@ -53,14 +54,14 @@ part_with s (WatchDel path) r xs cs is t h = inl (refl, h)
 part_with s (Trigger path trigger) r xs cs is t h = inl (refl, h)
 part_with s (TriggerDel path name) r xs cs is t h = inl (refl, h)
 
-accepted_part : (n : ℕ) (s : State) (cs : List Command) (rs : List Reply) → AreAnswered n 0 s cs rs → IsPartOf (accepted_of cs rs) (without_begins cs)
-accepted_part n s [] rs h = tt
-accepted_part n s (c ∷ cs) [] h = tt
-accepted_part n s (c ∷ cs) (r ∷ rs) (inr (spent, accepted, e)) =
+accepted_part : (v : Version) (n : ℕ) (s : State) (cs : List Command) (rs : List Reply) → AreAnswered v n 0 s cs rs → IsPartOf (accepted_of cs rs) (without_begins cs)
+accepted_part v n s [] rs h = tt
+accepted_part v n s (c ∷ cs) [] h = tt
+accepted_part v n s (c ∷ cs) (r ∷ rs) (inr (spent, accepted, e)) =
     subst (λ qs. IsPartOf (accepted_of (c ∷ cs) qs) (without_begins (c ∷ cs))) (sym e) (subst (λ ds. IsPartOf ds (without_begins (c ∷ cs))) (sym (none_accepted (c ∷ cs))) tt)
-accepted_part n s (c ∷ cs) (r ∷ rs) (inl (is, rest)) = by (λ t. accepted_part n t cs rs) (is_change r) refl rest
+accepted_part v n s (c ∷ cs) (r ∷ rs) (inl (is, rest)) = by (λ t. accepted_part v n t cs rs) (is_change r) refl rest
   where
-    by : ((t : State) → AreAnswered n 0 t cs rs → IsPartOf (accepted_of cs rs) (without_begins cs)) → (b : Bool) → is_change r ≡ b → AreAnswered n 0 (cond b (changed s c) s) cs rs
+    by : ((t : State) → AreAnswered v n 0 t cs rs → IsPartOf (accepted_of cs rs) (without_begins cs)) → (b : Bool) → is_change r ≡ b → AreAnswered v n 0 (cond b (changed s c) s) cs rs
         → IsPartOf (cond b (c ∷ accepted_of cs rs) (accepted_of cs rs)) (without_begins (c ∷ cs))
     by again true t h = part_with s c r (accepted_of cs rs) cs is t (again (changed s c) h)
     by again false t h = part_of_more (accepted_of cs rs) c cs (again s h)
@@ -81,11 +82,11 @@ found_part old found (part, (rest, whole), is) =
     (subst (λ xs. IsPartOf (old.kept ++ part) xs) (append_assoc old.kept part rest ∙ ap (λ p. old.kept ++ p) whole) (part_prefix (old.kept ++ part) (old.kept ++ part) rest (part_same (old.kept ++ part))))
 
 -- what a batch kept and what it was given
-batch_part : (old : World) (n : ℕ) (s : State) (commands : List Command) (replies : List Reply) → old.pending ≡ [] → AreAnswered n 0 s commands replies → IsPartOf (old.kept ++ accepted_of commands replies) (standing old ++ without_begins commands)
-batch_part old n s commands replies clear answered =
+batch_part : (old : World) (v : Version) (n : ℕ) (s : State) (commands : List Command) (replies : List Reply) → old.pending ≡ [] → AreAnswered v n 0 s commands replies → IsPartOf (old.kept ++ accepted_of commands replies) (standing old ++ without_begins commands)
+batch_part old v n s commands replies clear answered =
     subst (λ p. IsPartOf (old.kept ++ accepted_of commands replies) ((old.kept ++ p) ++ without_begins commands)) (sym clear)
     (subst (λ xs. IsPartOf (old.kept ++ accepted_of commands replies) (xs ++ without_begins commands)) (sym (append-nil old.kept))
-    (part_both old.kept old.kept (accepted_of commands replies) (without_begins commands) (part_same old.kept) (accepted_part n s commands replies answered)))
+    (part_both old.kept old.kept (accepted_of commands replies) (without_begins commands) (part_same old.kept) (accepted_part v n s commands replies answered)))
 
 part_step : (old : World) (event : Event) (new : World) → Settled old → Step old event new → IsPartOf (standing new) (standing old ++ given_by event)
 part_step old event new was s = by event s
@@ -105,8 +106,8 @@ part_step old event new was s = by event s
     batch true up true commands (inl (replies, answered, long, raise, e)) =
         to (without_begins commands) _ e
         (subst (λ xs. IsPartOf xs (standing old ++ without_begins commands)) (sym (append-nil (old.kept ++ accepted_of commands replies)) ∙ ap (λ p. (old.kept ++ accepted_of commands replies) ++ p) (sym (was.pending up)))
-        (batch_part old new.slot (registry old) commands replies (was.pending up) answered))
-    batch true up true commands (inr (replies, answered, some, (rose, later, raise, e))) = to (without_begins commands) _ e (batch_part old new.slot (registry old) commands replies (was.pending up) answered)
+        (batch_part old (registry old).version new.slot (registry old) commands replies (was.pending up) answered))
+    batch true up true commands (inr (replies, answered, some, (rose, later, raise, e))) = to (without_begins commands) _ e (batch_part old (registry old).version new.slot (registry old) commands replies (was.pending up) answered)
     batch true up false commands e = to (without_begins commands) old e (same (without_begins commands))
     batch false up b commands e = to (without_begins commands) old e (same (without_begins commands))
 

@@ -5,6 +5,7 @@ use Rattle.wm_disk.specs.Counters.{max_counter}
 use Rattle.wm_clock.specs.declared.clock_id.ClockId.{ClockId}
 use Rattle.wm_clock.specs.Clocks.{clock_text, is_number}
 use Rattle.wm_clock.specs.Laws.{OneText}
+use Rattle.wm_registry.specs.declared.version.Version.TheVariants.{Two}
 use Rattle.wm_registry.specs.declared.root.Root.{Root}
 use Rattle.wm_registry.specs.Roots.{State, root_at}
 use Rattle.wm_names.specs.Paths.{Path}
@@ -196,7 +197,7 @@ ids_start faults = record { begun = λ t. absurd (true≢false (sym t)); within 
 
 module _ (rising : NumbersRise) (ordered : NumbersInOrder) where
   rises : (old new : World) → Shape old new → Rises (registry old) (registry new)
-  rises old new s = subst (λ k. Rises (registry old) (replay k)) (sym s.kept) (rising old.kept s.more)
+  rises old new s = subst (λ k. Rises (registry old) (replay k)) (sym s.kept) (rising Two old.kept s.more)
 
   kept_grown : (old new : World) → Shape old new → Ids old → Kept (registry new) new.histories
   kept_grown old new s ids = by s.histories
@@ -213,8 +214,8 @@ module _ (rising : NumbersRise) (ordered : NumbersInOrder) where
       by : IsGrown old new → Kept (registry new) new.histories
       by (inl e) = to old.histories e (kept_rises (registry old) (registry new) old.histories r before)
       by (inr (inl (test, op, e))) = to _ e (kept_first (registry new) test op old.histories (kept_rises (registry old) (registry new) old.histories r before))
-      by (inr (inr (inl (up, e)))) = to _ e (kept_batch (registry old) (registry new) old.histories r (ids.begun up) (ordered old.kept).some before)
-      by (inr (inr (inr (part, later, e)))) = to _ e (kept_start (registry old) (registry new) old.histories r (omega (arith, (rising old.kept part).incarnation, later)) (ordered new.kept) before)
+      by (inr (inr (inl (up, e)))) = to _ e (kept_batch (registry old) (registry new) old.histories r (ids.begun up) (ordered Two old.kept).some before)
+      by (inr (inr (inr (part, later, e)))) = to _ e (kept_start (registry old) (registry new) old.histories r (omega (arith, (rising Two old.kept part).incarnation, later)) (ordered Two new.kept) before)
 
   pub ids_shape : (old new : World) → Shape old new → Ids old → Ids new
   ids_shape old new s ids =
@@ -312,7 +313,7 @@ module _ (rising : NumbersRise) (ordered : NumbersInOrder) where
         let ids = ids_reached rising ordered w reached in
         let within = all_among (Within (registry w)) w.histories ids.within h m in
         let made = all_among IsMade w.histories (settled_reached w reached).made h m in
-        let order = ordered w.kept in
+        let order = ordered Two w.kept in
         both (is_number h.incarnation && is_number h.root) (is_number (tick_of h))
         (both (is_number h.incarnation) (is_number h.root)
         (is_in_range h.incarnation within.begun (omega (arith, within.incarnation, order.incarnation)))

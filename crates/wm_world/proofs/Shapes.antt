@@ -19,6 +19,7 @@ use Rattle.wm_world.specs.Worlds.{World, at_first, begun_all, begun_between, is_
 use Rattle.wm_world.specs.Steps.{BatchCut, BatchDone, Checkpointed, Cut, OpenDone, Opened, Run, Step, begin_on, down, operated}
 use Rattle.wm_world.proofs.Growing.{Grows, extends_after, grows_append, grows_at, grows_same, grows_then}
 use Rattle.wm_world.proofs.Replays.{began, replay_more}
+use Rattle.wm_registry.specs.declared.version.Version.TheVariants.{Two}
 
 -- the server was up before, or it has just been opened
 abbrev pub IsUp : World → World → Type 0
@@ -109,7 +110,7 @@ opened old new (found, (part, begins, is), raise, accepts, e) =
     let more : List Command = part ++ Begin ∷ [] in
     let whole : found ++ Begin ∷ [] ≡ old.kept ++ more = ap (λ cs. cs ++ Begin ∷ []) is ∙ append_assoc old.kept part (Begin ∷ []) in
     let next : (replay (found ++ Begin ∷ [])).incarnation ≡ (replay found).incarnation + 1 =
-    ap (λ (s : State). s.incarnation) (replay_more empty_registry found (Begin ∷ [])) ∙ began (replay found) accepts in
+    ap (λ (s : State). s.incarnation) (replay_more (empty_registry Two) found (Begin ∷ [])) ∙ began (replay found) accepts in
     let later : (replay (old.kept ++ part)).incarnation < (replay (found ++ Begin ∷ [])).incarnation =
     subst (λ cs. (replay cs).incarnation < (replay (found ++ Begin ∷ [])).incarnation) is (omega (arith, next)) in
     like old _ new e (record {

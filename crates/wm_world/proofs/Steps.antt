@@ -23,6 +23,7 @@ use Rattle.wm_world.proofs.Moments.{in_range}
 use Rattle.wm_world.proofs.Shapes.{runs_on}
 use Rattle.wm_checkpoint.specs.laws.Numbering.{means_numbered}
 use Rattle.wm_world.proofs.Stores.{none_yet}
+use Rattle.wm_registry.specs.declared.version.Version.TheVariants.{Two}
 
 folds_more : {V X : Type 0} (R : V → X → V → Type 0) (a b c : V) (xs : List X) (x : X) → FoldsTo R a xs b → R b x c → FoldsTo R a (xs ++ x ∷ []) c
 folds_more R a b c [] x e r = (c, subst (λ v. R v x c) (sym e) r, refl)
@@ -37,8 +38,8 @@ module _ {D : Type 0} (disk : disks.Ghosts D) where
       none = none;
       on = record {
         prefix = λ c left.
-            let m : Means watches c A 1 empty_registry [] = subst (λ x. Means watches x A 1 empty_registry []) (sym (f.durable c left)) f.formatted in
-            record { means = none_yet empty_registry [] c (record { slot = A; number = 1; base = empty_registry; commands = []; means = m; is = refl }); numbered = means_numbered watches c A 1 empty_registry [] m };
+            let m : Means (watches Two) c A 1 (empty_registry Two) [] = subst (λ x. Means (watches Two) x A 1 (empty_registry Two) []) (sym (f.durable c left)) f.formatted in
+            record { means = none_yet (empty_registry Two) [] c (record { slot = A; number = 1; base = (empty_registry Two); commands = []; means = m; is = refl }); numbered = means_numbered (watches Two) c A 1 (empty_registry Two) [] m };
         faults = refl;
       };
     });

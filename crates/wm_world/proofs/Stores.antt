@@ -9,21 +9,21 @@ use Rattle.wm_disk.specs.declared.disk.Disk as disks
 use Rattle.wm_disk.specs.declared.refusal.Refusal.{Refusal}
 use Rattle.wm_disk.specs.declared.refusal.Refusal.TheVariants as refusals
 use Rattle.wm_disk.specs.Counters.{max_counter}
-use Rattle.wm_checkpoint.specs.Machines.{replay_on}
-use Rattle.wm_checkpoint.specs.Meanings.{Means, MeansPrefix, MeansState}
+use Rattle.wm_checkpoint.specs.Meanings.{Means}
 use Rattle.wm_checkpoint.specs.declared.layout.Slot.{Slot}
 use Rattle.wm_checkpoint.specs.laws.Numbering.{means_numbered, numbered_more}
 use Rattle.wm_registry.specs.declared.command.Command.{Command}
 use Rattle.wm_registry.specs.declared.reply.Reply.{Reply}
 use Rattle.wm_registry.specs.MachineLaws.{watches}
-use Rattle.wm_registry.specs.Registry.{empty_registry}
+use Rattle.wm_registry.specs.Registry.{after_command, empty_registry}
+use Rattle.wm_registry.specs.Versions.{sizes_of}
 use Rattle.wm_registry.specs.Roots.{State}
 use Rattle.wm_store.specs.Batches.{AreAnswered, IsOutOfMemory, accepted_of}
 use Rattle.wm_store.specs.Stored.{Stored}
 use Rattle.wm_view.specs.Histories.{History, new_history}
 use Rattle.wm_view.specs.Summaries.{Summary, summary}
 use Rattle.wm_checkpoint.specs.Numbers.{IsNumberedTo}
-use Rattle.wm_checkpoint.specs.Layout.{sizes_1}
+use Rattle.wm_checkpoint.specs.Layout.{sizes_2}
 use Rattle.wm_world.specs.declared.world.World.{World as Running}
 use Rattle.wm_world.specs.declared.world.Server.TheVariants.{Up, Down}
 use Rattle.wm_world.specs.Worlds.{World, begun_between, registry, replay, without_answer}
@@ -35,13 +35,16 @@ use Rattle.wm_world.proofs.Batching.{answered_more, same_incarnation}
 use Rattle.wm_world.proofs.Between.{between_before, between_more}
 use Rattle.wm_world.proofs.Calls.{nothing}
 use Rattle.wm_world.proofs.Reached.{pending_is_own}
-use Rattle.wm_world.proofs.Replays.{replay_more}
+use Rattle.wm_world.proofs.Replays.{numbered_replayed, replay_more}
 use Rattle.wm_registry.specs.Limits.{max_batch}
+use Rattle.wm_store.specs.Meant.{MeansAfter, MeansRegistry}
+use Rattle.wm_checkpoint.specs.Machines.{replayed}
+use Rattle.wm_registry.specs.declared.version.Version.TheVariants.{Two}
 
 -- ---- contents
 
 -- nothing of the commands is there yet
-pub none_yet : (s : State) (commands : List Command) (c : List ℕ) → MeansState watches s c → MeansPrefix watches s commands c
+pub none_yet : (s : State) (commands : List Command) (c : List ℕ) → MeansRegistry s c → MeansAfter s commands c
 none_yet s commands c m = record { count = 0; within = omega arith; means = m }
 
 -- ---- views of a batch
@@ -85,11 +88,11 @@ module _ {D : Type 0} (disk : disks.Ghosts D) where
   fits w commands up short = λ i. up i && le-leb (length commands) max_batch short i
 
   -- a call that leaves what was meant
-  stays_meant : (w : World) (registry_then : State) (before after : D) (afterwards : List Command) → registry_then ≡ registry w → LeavesOnly disk.moment disk.left_since before after (MeansState watches registry_then)
+  stays_meant : (w : World) (registry_then : State) (before after : D) (afterwards : List Command) → registry_then ≡ registry w → LeavesOnly disk.moment disk.left_since before after (MeansRegistry registry_then)
       → LeavesOnly disk.moment disk.left_since before after (KeepsBetween w afterwards)
   stays_meant w registry_then before after afterwards is run =
-      weaker disk.moment disk.left_since before after (MeansState watches registry_then) (KeepsBetween w afterwards) run
-      (λ c m. between_before w afterwards c (none_yet (registry w) w.pending c (subst (λ r. MeansState watches r c) is m)))
+      weaker disk.moment disk.left_since before after (MeansRegistry registry_then) (KeepsBetween w afterwards) run
+      (λ c m. between_before w afterwards c (none_yet (registry w) w.pending c (subst (λ r. MeansRegistry r c) is m)))
 
   -- calls of a store that is up
   module _ (old new : Running D) (before : Stored D) (after : D) (P : List ℕ → Type 0) (is_up : old.server ≡ Up before) (there : disk_of_server disk new.server ≡ after) where
@@ -103,13 +106,13 @@ module _ {D : Type 0} (disk : disks.Ghosts D) where
   module _ (old new : Running D) (before after : Stored D) (commands : List Command) (replies : List Reply) (is_up : old.server ≡ Up before) (short : length commands ≤ max_batch) where
     pub batch_done : new.server ≡ Up after → new.shown.replies.items ≡ replies → new.shown.clients ≡ old.shown.clients
         → new.shown.views.items ≡ old.shown.views.items ++ map summary (map (new_history after.registry.incarnation) (range_with_len before.registry.next (after.registry.next - before.registry.next)))
-        → AreAnswered after.number after.room before.registry commands replies → (IsOutOfMemory replies → ⊥)
-        → after.registry ≡ replay_on watches before.registry (accepted_of commands replies)
+        → AreAnswered before.registry.version after.number after.room before.registry commands replies → (IsOutOfMemory replies → ⊥)
+        → after.registry ≡ replayed after_command before.registry (accepted_of commands replies)
         → (disk.honest after.disk → disk.honest before.disk) → disk.failures after.disk ≡ disk.failures before.disk
         → after.failed ≡ false → after.closed ≡ false → after.number ≤ before.number + length commands
-        → (disk.honest after.disk → (c : List ℕ) → disk.may_leave after.disk c → MeansState watches after.registry c)
-        → (before.failed ≡ false → disk.honest after.disk → (c : List ℕ) → disk.may_leave after.disk c → IsNumberedTo sizes_1 (before.number + length commands) c)
-        → (disk.honest after.disk → LeavesOnly disk.moment disk.left_since before.disk after.disk (MeansPrefix watches before.registry (accepted_of commands replies)))
+        → (disk.honest after.disk → (c : List ℕ) → disk.may_leave after.disk c → MeansRegistry after.registry c)
+        → (before.failed ≡ false → disk.honest after.disk → (c : List ℕ) → disk.may_leave after.disk c → IsNumberedTo (sizes_of before.registry.version) (before.number + length commands) c)
+        → (disk.honest after.disk → LeavesOnly disk.moment disk.left_since before.disk after.disk (MeansAfter before.registry (accepted_of commands replies)))
         → Simulates disk (batch commands) (Leaves disk) old new
     batch_done server said clients views answered long led honest faults whole open_yet number means numbered leaves = record {
       honest = λ h. subst (λ x. disk.honest (disk_of_server disk x)) (sym is_up) (honest (subst (λ x. disk.honest (disk_of_server disk x)) server h));
@@ -117,7 +120,7 @@ module _ {D : Type 0} (disk : disks.Ghosts D) where
           let up = up_of old before w is_up s in
           let there : disk.honest after.disk = subst (λ x. disk.honest (disk_of_server disk x)) server h in
           let more : List Command = accepted_of commands replies in
-          let led_to : after.registry ≡ replay (w.kept ++ more) = led ∙ ap (λ r. replay_on watches r more) up.registry_is ∙ sym (replay_more empty_registry w.kept more) in
+          let led_to : after.registry ≡ replay (w.kept ++ more) = led ∙ ap (λ r. replayed after_command r more) up.registry_is ∙ sym (replay_more (empty_registry Two) w.kept more) in
           let high : after.number ≤ w.slot + length commands = omega (arith, number, up.number) in
           let v : World = record w {
             kept = w.kept ++ more;
@@ -125,8 +128,8 @@ module _ {D : Type 0} (disk : disks.Ghosts D) where
             slot = w.slot + length commands;
             histories = w.histories ++ begun_between (registry w) (replay (w.kept ++ more));
           } in
-          let met : AreAnswered v.slot 0 (registry w) commands replies = subst (λ r. AreAnswered v.slot 0 r commands replies) up.registry_is (answered_more after.number after.room v.slot before.registry commands replies high answered) in
-          let same : (replay (w.kept ++ more)).incarnation ≡ (registry w).incarnation = ap (λ (r : State). r.incarnation) (replay_more empty_registry w.kept more) ∙ same_incarnation v.slot (registry w) commands replies met in
+          let met : AreAnswered (registry w).version v.slot 0 (registry w) commands replies = subst (λ (r : State). AreAnswered r.version v.slot 0 r commands replies) up.registry_is (answered_more before.registry.version after.number after.room v.slot before.registry commands replies high answered) in
+          let same : (replay (w.kept ++ more)).incarnation ≡ (registry w).incarnation = ap (λ (r : State). r.incarnation) (replay_more (empty_registry Two) w.kept more) ∙ same_incarnation (registry w).version v.slot (registry w) commands replies met in
           let done : BatchDone w commands v = (replies, met, long, (omega arith, omega arith), refl) in (
             v,
             subst (λ b. MatchBool b (BatchDone w commands v ⊎ BatchCut w commands v) (v ≡ w)) (sym (fits w commands up.up short)) (inl done),
@@ -139,8 +142,8 @@ module _ {D : Type 0} (disk : disks.Ghosts D) where
                 number = high;
                 on = record {
                   prefix = λ c left. record {
-                    means = none_yet (replay (w.kept ++ more)) w.pending c (subst (λ r. MeansState watches r c) led_to (means there c left));
-                    numbered = numbered_more sizes_1 (before.number + length commands) v.slot c (omega (arith, up.number)) (numbered up.whole there c left);
+                    means = none_yet (replay (w.kept ++ more)) w.pending c (subst (λ r. MeansRegistry r c) led_to (means there c left));
+                    numbered = numbered_more sizes_2 (before.number + length commands) v.slot c (omega (arith, up.number)) (numbered_replayed w.kept before.registry up.registry_is (before.number + length commands) c (numbered up.whole there c left));
                   };
                   faults = faults ∙ up.on.faults;
                 };
@@ -151,8 +154,8 @@ module _ {D : Type 0} (disk : disks.Ghosts D) where
               clients = ap (λ r. r.items) clients ∙ s.clients;
             },
             moved old new before after.disk (KeepsBetween w (v.kept ++ v.pending)) is_up (ap (disk_of_server disk) server)
-                (weaker disk.moment disk.left_since before.disk after.disk (MeansPrefix watches before.registry more) (KeepsBetween w (v.kept ++ v.pending)) (leaves there)
-                (λ c m. between_more w (v.kept ++ v.pending) more (ap (λ p. (w.kept ++ more) ++ p) (pending_is_own w reached up.up) ∙ append-nil (w.kept ++ more)) c (subst (λ r. MeansPrefix watches r more c) up.registry_is m))),
+                (weaker disk.moment disk.left_since before.disk after.disk (MeansAfter before.registry more) (KeepsBetween w (v.kept ++ v.pending)) (leaves there)
+                (λ c m. between_more w (v.kept ++ v.pending) more (ap (λ p. (w.kept ++ more) ++ p) (pending_is_own w reached up.up) ∙ append-nil (w.kept ++ more)) c (subst (λ r. MeansAfter r more c) up.registry_is m))),
           );
     }
 
@@ -163,8 +166,8 @@ module _ {D : Type 0} (disk : disks.Ghosts D) where
     cut_to w by pending = record (down w) { pending = pending; faults = disk.failures after.disk; slot = w.slot + by }
 
     cut_stands : (w : World) (by : ℕ) (pending : List Command) → Refines disk old w
-        → ((c : List ℕ) → disk.may_leave after.disk c → MeansPrefix watches before.registry pending c)
-        → ((c : List ℕ) → disk.may_leave after.disk c → IsNumberedTo sizes_1 (before.number + by) c) → Refines disk new (cut_to w by pending)
+        → ((c : List ℕ) → disk.may_leave after.disk c → MeansAfter before.registry pending c)
+        → ((c : List ℕ) → disk.may_leave after.disk c → IsNumberedTo (sizes_of before.registry.version) (before.number + by) c) → Refines disk new (cut_to w by pending)
     cut_stands w by pending s means numbered =
         let up = up_of old before w is_up s in
         record {
@@ -173,8 +176,8 @@ module _ {D : Type 0} (disk : disks.Ghosts D) where
             none = gone;
             on = record {
               prefix = λ c left. record {
-                means = subst (λ r. MeansPrefix watches r pending c) up.registry_is (means c left);
-                numbered = numbered_more sizes_1 (before.number + by) (w.slot + by) c (omega (arith, up.number)) (numbered c left);
+                means = subst (λ r. MeansAfter r pending c) up.registry_is (means c left);
+                numbered = numbered_more sizes_2 (before.number + by) (w.slot + by) c (omega (arith, up.number)) (numbered_replayed w.kept before.registry up.registry_is (before.number + by) c (numbered c left));
               };
               faults = refl;
             };
@@ -211,12 +214,12 @@ module _ {D : Type 0} (disk : disks.Ghosts D) where
 
     pub batch_cut : CountsNow → (commands : List Command) (e : Refusal) → length commands ≤ max_batch
         → (e ≡ refusals.DeviceFailed) ⊎ (e ≡ refusals.NoMemory) ⊎ (e ≡ refusals.StoreFailed) → e ≢ refusals.NoMemory → (e ≡ refusals.StoreFailed → (before.failed ≡ true) ⊎ (before.closed ≡ true))
-        → (before.failed ≡ false → (replies : List Reply) × (AreAnswered after.number after.room before.registry commands replies
-        × (disk.honest after.disk → LeavesOnly disk.moment disk.left_since before.disk after.disk (MeansPrefix watches before.registry (accepted_of commands replies)))
+        → (before.failed ≡ false → (replies : List Reply) × (AreAnswered before.registry.version after.number after.room before.registry commands replies
+        × (disk.honest after.disk → LeavesOnly disk.moment disk.left_since before.disk after.disk (MeansAfter before.registry (accepted_of commands replies)))
         × (e ≡ refusals.DeviceFailed → accepted_of commands replies ≡ [] → ⊥)))
         → (e ≡ refusals.DeviceFailed → Rose (disk.failures before.disk) (disk.failures after.disk)) → disk.failures before.disk ≤ disk.failures after.disk
         → after.number ≤ before.number + length commands
-        → (before.failed ≡ false → disk.honest after.disk → (c : List ℕ) → disk.may_leave after.disk c → IsNumberedTo sizes_1 (before.number + length commands) c)
+        → (before.failed ≡ false → disk.honest after.disk → (c : List ℕ) → disk.may_leave after.disk c → IsNumberedTo (sizes_of before.registry.version) (before.number + length commands) c)
         → Simulates disk (batch commands) (Leaves disk) old new
     batch_cut law commands e short kinds memory closed flight rose later number numbered = record {
       honest = is_honest;
@@ -228,23 +231,23 @@ module _ {D : Type 0} (disk : disks.Ghosts D) where
           let pending : List Command = accepted_of commands replies in
           let v : World = cut_to w (length commands) pending in
           let high : after.number ≤ v.slot = omega (arith, number, up.number) in
-          let met : AreAnswered v.slot 0 (registry w) commands replies = subst (λ r. AreAnswered v.slot 0 r commands replies) up.registry_is (answered_more after.number after.room v.slot before.registry commands replies high f.1.0) in
+          let met : AreAnswered (registry w).version v.slot 0 (registry w) commands replies = subst (λ (r : State). AreAnswered r.version v.slot 0 r commands replies) up.registry_is (answered_more before.registry.version after.number after.room v.slot before.registry commands replies high f.1.0) in
           let there = still_there h in
           let cut : BatchCut w commands v = (replies, met, f.1.2 d, is_cut w (length commands) pending s (rose d) later) in (
             v,
             subst (λ b. MatchBool b (BatchDone w commands v ⊎ BatchCut w commands v) (v ≡ w)) (sym (fits w commands up.up short)) (inr cut),
-            cut_stands w (length commands) pending s (λ c left. now law before.disk after.disk (MeansPrefix watches before.registry pending) there (f.1.1 there) c left) (numbered up.whole there),
+            cut_stands w (length commands) pending s (λ c left. now law before.disk after.disk (MeansAfter before.registry pending) there (f.1.1 there) c left) (numbered up.whole there),
             moved old new before after.disk (KeepsBetween w (w.kept ++ pending)) is_up (ap (disk_of_server disk) server)
-                (weaker disk.moment disk.left_since before.disk after.disk (MeansPrefix watches before.registry pending) (KeepsBetween w (w.kept ++ pending)) (f.1.1 there)
-                (λ c m. between_more w (w.kept ++ pending) pending refl c (subst (λ r. MeansPrefix watches r pending c) up.registry_is m))),
+                (weaker disk.moment disk.left_since before.disk after.disk (MeansAfter before.registry pending) (KeepsBetween w (w.kept ++ pending)) (f.1.1 there)
+                (λ c m. between_more w (w.kept ++ pending) pending refl c (subst (λ r. MeansAfter r pending c) up.registry_is m))),
           );
     }
 
     pub checkpoint_cut : CountsNow → (e : Refusal) → (e ≡ refusals.DeviceFailed) ⊎ (e ≡ refusals.NoMemory) ⊎ (e ≡ refusals.Exhausted) ⊎ (e ≡ refusals.StoreFailed) → e ≢ refusals.NoMemory → e ≢ refusals.Exhausted
         → (e ≡ refusals.StoreFailed → (before.failed ≡ true) ⊎ (before.closed ≡ true))
-        → (before.failed ≡ false → disk.honest after.disk → LeavesOnly disk.moment disk.left_since before.disk after.disk (MeansState watches before.registry))
+        → (before.failed ≡ false → disk.honest after.disk → LeavesOnly disk.moment disk.left_since before.disk after.disk (MeansRegistry before.registry))
         → (e ≡ refusals.DeviceFailed → Rose (disk.failures before.disk) (disk.failures after.disk)) → disk.failures before.disk ≤ disk.failures after.disk
-        → (before.failed ≡ false → disk.honest after.disk → (c : List ℕ) → disk.may_leave after.disk c → IsNumberedTo sizes_1 (before.number + 1) c)
+        → (before.failed ≡ false → disk.honest after.disk → (c : List ℕ) → disk.may_leave after.disk c → IsNumberedTo (sizes_of before.registry.version) (before.number + 1) c)
         → Simulates disk checkpointed (Switches disk) old new
     checkpoint_cut law e kinds memory counter closed leaves rose later numbered = record {
       honest = is_honest;
@@ -255,7 +258,7 @@ module _ {D : Type 0} (disk : disks.Ghosts D) where
           let there = still_there h in (
             v,
             subst (λ b. MatchBool b (Checkpointed w v ⊎ Cut 1 w [] v) (v ≡ w)) (sym up.up) (inr (is_cut w 1 [] s (rose d) later)),
-            cut_stands w 1 [] s (λ c left. none_yet before.registry [] c (now law before.disk after.disk (MeansState watches before.registry) there (leaves up.whole there) c left)) (numbered up.whole there),
+            cut_stands w 1 [] s (λ c left. none_yet before.registry [] c (now law before.disk after.disk (MeansRegistry before.registry) there (leaves up.whole there) c left)) (numbered up.whole there),
             record {
               leaves = moved old new before after.disk (KeepsBetween w (w.kept ++ [])) is_up (ap (disk_of_server disk) server) (stays_meant w before.registry before.disk after.disk (w.kept ++ []) up.registry_is (leaves up.whole there));
               done = λ up. absurd (true≢false (sym up));
@@ -274,18 +277,18 @@ module _ {D : Type 0} (disk : disks.Ghosts D) where
 
   -- the content means the registry of the store, under the store's number
   abbrev IsCounted : Stored D → List ℕ → Type 0
-  IsCounted store c = (m : MeansState watches store.registry c) × (m.number ≡ store.number)
+  IsCounted store c = (m : MeansRegistry store.registry c) × (m.number ≡ store.number)
 
   counted_in : (w : World) (store : Stored D) → store.registry ≡ registry w → ((c : List ℕ) → disk.may_leave store.disk c → IsCounted store c)
-      → (c : List ℕ) → disk.may_leave store.disk c → (m : MeansState watches (registry w) c) × (m.number ≡ store.number)
-  counted_in w store is counted c left = subst (λ r. (m : MeansState watches r c) × (m.number ≡ store.number)) is (counted c left)
+      → (c : List ℕ) → disk.may_leave store.disk c → (m : MeansRegistry (registry w) c) × (m.number ≡ store.number)
+  counted_in w store is counted c left = subst (λ r. (m : MeansRegistry r c) × (m.number ≡ store.number)) is (counted c left)
 
   module _ (old new : Running D) (before after : Stored D) (is_up : old.server ≡ Up before) (server : new.server ≡ Up after) (said : new.shown.replies ≡ old.shown.replies) (clients : new.shown.clients ≡ old.shown.clients) (views : new.shown.views ≡ old.shown.views) where
     pub checkpoint_done : (disk.honest after.disk → disk.honest before.disk) → disk.failures after.disk ≡ disk.failures before.disk → after.failed ≡ false → after.closed ≡ false
         → after.number ≡ before.number + 1 → after.registry ≡ before.registry
-        → (disk.honest after.disk → (slot : Slot) × ((c : List ℕ) → disk.may_leave after.disk c → Means watches c slot after.number after.registry []))
+        → (disk.honest after.disk → (slot : Slot) × ((c : List ℕ) → disk.may_leave after.disk c → Means (watches after.registry.version) c slot after.number after.registry []))
         → (before.failed ≡ false → disk.honest before.disk → (c : List ℕ) → disk.may_leave before.disk c → IsCounted before c)
-        → (before.failed ≡ false → disk.honest after.disk → LeavesOnly disk.moment disk.left_since before.disk after.disk (MeansState watches before.registry)) → Simulates disk checkpointed (Switches disk) old new
+        → (before.failed ≡ false → disk.honest after.disk → LeavesOnly disk.moment disk.left_since before.disk after.disk (MeansRegistry before.registry)) → Simulates disk checkpointed (Switches disk) old new
     checkpoint_done honest faults whole open_yet number same means counted leaves = record {
       honest = λ h. subst (λ x. disk.honest (disk_of_server disk x)) (sym is_up) (honest (subst (λ x. disk.honest (disk_of_server disk x)) server h));
       goes = λ h w reached s.
@@ -306,8 +309,8 @@ module _ {D : Type 0} (disk : disks.Ghosts D) where
                 number = high;
                 on = record {
                   prefix = λ c left. record {
-                    means = none_yet (registry w) w.pending c (subst (λ r. MeansState watches r c) led (record { slot = m.0; number = after.number; base = after.registry; commands = []; means = m.1 c left; is = refl }));
-                    numbered = numbered_more sizes_1 after.number (w.slot + 1) c high (means_numbered watches c m.0 after.number after.registry [] (m.1 c left));
+                    means = none_yet (registry w) w.pending c (subst (λ r. MeansRegistry r c) led (record { slot = m.0; number = after.number; base = after.registry; commands = []; means = m.1 c left; is = refl }));
+                    numbered = numbered_more sizes_2 after.number (w.slot + 1) c high (numbered_replayed w.kept after.registry led after.number c (means_numbered (watches after.registry.version) c m.0 after.number after.registry [] (m.1 c left)));
                   };
                   faults = faults ∙ up.on.faults;
                 };
@@ -322,7 +325,7 @@ module _ {D : Type 0} (disk : disks.Ghosts D) where
                 slot = m.0;
                 number = before.number;
                 before = counted_in w before up.registry_is (counted up.whole (honest there));
-                afterwards = λ c left. subst (λ r. Means watches c m.0 (before.number + 1) r []) led (subst (λ n. Means watches c m.0 n after.registry []) number (m.1 c left));
+                afterwards = λ c left. subst (λ (r : State). Means (watches r.version) c m.0 (before.number + 1) r []) led (subst (λ n. Means (watches after.registry.version) c m.0 n after.registry []) number (m.1 c left));
               }));
               spent = λ alive stayed. absurd (omega (arith, stayed));
             },
@@ -332,7 +335,7 @@ module _ {D : Type 0} (disk : disks.Ghosts D) where
     -- the counter is spent: nothing happens
     pub checkpoint_spent : after ≡ before → max_counter ≤ before.number
         → (before.failed ≡ false → disk.honest before.disk → (c : List ℕ) → disk.may_leave before.disk c → IsCounted before c)
-        → (before.failed ≡ false → disk.honest after.disk → LeavesOnly disk.moment disk.left_since before.disk after.disk (MeansState watches before.registry)) → Simulates disk checkpointed (Switches disk) old new
+        → (before.failed ≡ false → disk.honest after.disk → LeavesOnly disk.moment disk.left_since before.disk after.disk (MeansRegistry before.registry)) → Simulates disk checkpointed (Switches disk) old new
     checkpoint_spent same spent counted leaves = record {
       honest = subst (λ x. disk.honest (disk_of_server disk x) → disk.honest (disk_of_server disk old.server)) (sym (server ∙ ap Up same ∙ sym is_up)) (λ h. h);
       goes = λ h w reached s.

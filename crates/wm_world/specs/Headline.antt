@@ -17,6 +17,7 @@ use Rattle.wm_world.specs.Steps.{Run, Step}
 use Rattle.wm_world.specs.Laws.{ClientHolds, IsAmong}
 use Rattle.wm_world.specs.Refinement.{KeepsPrefix, Refines, disk_of_world}
 use Rattle.wm_world.specs.Passes.{Passes}
+use Rattle.wm_registry.specs.declared.version.Version.TheVariants.{Two}
 
 -- between two events: a disk, and a world
 pub record Instant (D : Type 0) : Type 0 where
@@ -26,7 +27,7 @@ pub record Instant (D : Type 0) : Type 0 where
 module _ {D : Type 0} (disk : disks.Ghosts D) where
   -- a disk as a format that succeeded left it
   pub record IsFormatted (d : D) : Type 0 where
-    pub formatted : Means watches (disk.seen d) A 1 empty_registry []
+    pub formatted : Means (watches Two) (disk.seen d) A 1 (empty_registry Two) []
     pub durable : Only (disk.seen d) (disk.may_leave d)
 
   -- What holds between any two events: every content that a crash may leave means the replay of what is kept and a prefix of what

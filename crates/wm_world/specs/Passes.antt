@@ -4,7 +4,7 @@ use Rattle.wm_disk.specs.Contents.{NoMore, Only}
 use Rattle.wm_disk.specs.Moments.{LeavesOnly}
 use Rattle.wm_disk.specs.declared.disk.Disk as disks
 use Rattle.wm_disk.specs.Counters.{max_counter}
-use Rattle.wm_checkpoint.specs.Meanings.{Means, MeansState}
+use Rattle.wm_checkpoint.specs.Meanings.{Means}
 use Rattle.wm_checkpoint.specs.declared.layout.Slot.{Slot}
 use Rattle.wm_registry.specs.declared.command.Command.{Command}
 use Rattle.wm_registry.specs.MachineLaws.{watches}
@@ -12,6 +12,7 @@ use Rattle.wm_world.specs.declared.event.Event.{Event}
 use Rattle.wm_world.specs.declared.event.Event.TheVariants as events
 use Rattle.wm_world.specs.Worlds.{World, registry, replay}
 use Rattle.wm_world.specs.Steps.{IsPrefix}
+use Rattle.wm_store.specs.Meant.{MeansRegistry}
 
 -- A content that a crash within an event may leave: it means the replay of what was kept and a prefix of what was in flight, or of
 -- what is kept and in flight afterwards.
@@ -19,7 +20,7 @@ pub record KeepsBetween (w : World) (afterwards : List Command) (content : List 
   pub found : List Command
   pub stays : IsPrefix w.kept found
   pub known : IsPrefix found (w.kept ++ w.pending) ⊎ IsPrefix found afterwards
-  pub means : MeansState watches (replay found) content
+  pub means : MeansRegistry (replay found) content
 
 -- from the disk d and the world w to the disk e and the world v
 module _ {D : Type 0} (disk : disks.Ghosts D) where
@@ -31,15 +32,15 @@ module _ {D : Type 0} (disk : disks.Ghosts D) where
   pub record Raises (d : D) (w : World) (e : D) : Type 0 where
     pub slot : Slot
     pub number : ℕ
-    pub before : (c : List ℕ) → disk.may_leave d c → (m : MeansState watches (registry w) c) × (m.number ≡ number)
-    pub afterwards : (c : List ℕ) → disk.may_leave e c → Means watches c slot (number + 1) (registry w) []
+    pub before : (c : List ℕ) → disk.may_leave d c → (m : MeansRegistry (registry w) c) × (m.number ≡ number)
+    pub afterwards : (c : List ℕ) → disk.may_leave e c → Means (watches (registry w).version) c slot (number + 1) (registry w) []
 
   -- a checkpoint
   pub record Switches (d : D) (w : World) (e : D) (v : World) : Type 0 where
     pub leaves : Leaves d w e v
     -- It is done where the server stays up and the bound rises, and else the number is spent.
     pub done : v.up ≡ true → v.slot ≡ w.slot + 1 → Raises d w e
-    pub spent : v.up ≡ true → v.slot ≡ w.slot → (c : List ℕ) → disk.may_leave d c → (m : MeansState watches (registry w) c) × (max_counter ≤ m.number)
+    pub spent : v.up ≡ true → v.slot ≡ w.slot → (c : List ℕ) → disk.may_leave d c → (m : MeansRegistry (registry w) c) × (max_counter ≤ m.number)
 
   -- how many calls of a disk still pass before each fails, where failures are planned
   module _ (plan : D → Option ℕ) where

@@ -3,14 +3,12 @@ use Rattle.std.specs.Prelude.{◌≡◌, ◌≤◌, ◌<◌, ℕ, Bool, true, fa
 use Rattle.std.specs.List.{AllByRecursion, find}
 use Rattle.std.specs.Option.{option_map_or}
 use Rattle.wm_disk.specs.declared.disk.Disk as disks
-use Rattle.wm_checkpoint.specs.Meanings.{MeansPrefix}
 use Rattle.wm_checkpoint.specs.Numbers.{IsNumberedTo}
-use Rattle.wm_checkpoint.specs.Layout.{sizes_1}
+use Rattle.wm_checkpoint.specs.Layout.{sizes_2}
 use Rattle.wm_names.specs.Paths.{Path}
 use Rattle.wm_disk.specs.declared.refusal.Refusal.TheVariants.{NoMemory}
 use Rattle.wm_registry.specs.declared.reply.Reply.{Reply}
 use Rattle.wm_registry.specs.declared.reply.Reply.TheVariants.{Refused}
-use Rattle.wm_registry.specs.MachineLaws.{watches}
 use Rattle.wm_registry.specs.Roots.{State, root_at}
 use Rattle.wm_store.specs.Stored.{Stored}
 use Rattle.wm_view.specs.Histories.{History}
@@ -24,6 +22,7 @@ use Rattle.wm_world.specs.declared.world.Server.{Server}
 use Rattle.wm_world.specs.declared.world.Server.TheVariants.{Up, Down}
 use Rattle.wm_world.specs.Worlds.{World, registry, wants}
 use Rattle.wm_world.specs.Steps.{IsReached, with_answer}
+use Rattle.wm_store.specs.Meant.{MeansAfter}
 
 -- ---- by what the views show alone
 
@@ -50,8 +49,8 @@ is_out_of_memory _ = false
 
 -- The content means the replay of what is kept and a prefix of what is in flight.
 pub record KeepsPrefix (w : World) (content : List ℕ) : Type 0 where
-  pub means : MeansPrefix watches (registry w) w.pending content
-  pub numbered : IsNumberedTo sizes_1 w.slot content
+  pub means : MeansAfter (registry w) w.pending content
+  pub numbered : IsNumberedTo sizes_2 w.slot content
 
 -- ---- a world that runs
 

@@ -42,7 +42,7 @@ IsPrefix part whole = (rest : List Command) × (part ++ rest ≡ whole)
 -- each root number that they gave away begins a history, also one that the same batch took back.
 abbrev pub BatchDone : World → List Command → World → Type 0
 BatchDone old commands new =
-    (replies : List Reply) × AreAnswered new.slot 0 (registry old) commands replies × (IsOutOfMemory replies → ⊥)
+    (replies : List Reply) × AreAnswered (registry old).version new.slot 0 (registry old) commands replies × (IsOutOfMemory replies → ⊥)
     × MayRaise old.slot new.slot (length commands)
     × (new ≡ record old {
       kept = old.kept ++ accepted_of commands replies;
@@ -61,7 +61,7 @@ Cut by old commands new =
 -- the batch's one answer doesn't tell.
 abbrev pub BatchCut : World → List Command → World → Type 0
 BatchCut old commands new =
-    (replies : List Reply) × AreAnswered new.slot 0 (registry old) commands replies × (accepted_of commands replies ≢ [])
+    (replies : List Reply) × AreAnswered (registry old).version new.slot 0 (registry old) commands replies × (accepted_of commands replies ≢ [])
     × Cut (length commands) old (accepted_of commands replies) new
 
 -- done, or refused since the slot's number is spent

@@ -3,7 +3,6 @@ use Rattle.std.specs.Prelude.{ℕ, ◌-◌, Bool, false, ◌&&◌, cond, List, [
 use Rattle.std.specs.List.{find, range_with_len}
 use Rattle.std.specs.Option.{option_map_or}
 use Rattle.wm_disk.specs.Counters.{max_counter}
-use Rattle.wm_checkpoint.specs.Machines.{replay_on}
 use Rattle.wm_names.specs.Paths.{Path}
 use Rattle.wm_names.specs.declared.entry.Entry.{Entry}
 use Rattle.wm_expr.specs.declared.expr.Expr.{Expr}
@@ -11,12 +10,13 @@ use Rattle.wm_expr.specs.Meanings.{holds}
 use Rattle.wm_expr.specs.Views.{term}
 use Rattle.wm_registry.specs.declared.command.Command.{Command}
 use Rattle.wm_registry.specs.declared.reply.Reply.{Reply}
-use Rattle.wm_registry.specs.MachineLaws.{watches}
-use Rattle.wm_registry.specs.Registry.{empty_registry}
+use Rattle.wm_registry.specs.Registry.{after_command, empty_registry}
 use Rattle.wm_registry.specs.Roots.{State, root_at}
 use Rattle.wm_view.specs.Histories.{History, new_history}
 use Rattle.wm_since.specs.Clients.{closed, new_client}
 use Rattle.wm_world.specs.declared.connection.Connection.{Connection}
+use Rattle.wm_checkpoint.specs.Machines.{replayed}
+use Rattle.wm_registry.specs.declared.version.Version.TheVariants.{Two}
 
 pub record World : Type 0 where
   pub kept : List Command  -- accepted and acknowledged, each Begin among them
@@ -36,7 +36,7 @@ nothing_yet faults = record { kept = []; pending = []; up = false; replies = [];
 
 -- the registry after these commands, from a new file on
 abbrev pub replay : List Command → State
-replay commands = replay_on watches empty_registry commands
+replay commands = replayed after_command (empty_registry Two) commands
 
 -- that of the server, and while it is down that of what is kept for certain
 abbrev pub registry : World → State

@@ -13,13 +13,12 @@ use crate::connection::Connection;
 use crate::event::Event;
 use crate::{connection, starting, views};
 use std::alloc::Global;
-use wm_checkpoint::{Version1, every_content};
 use wm_disk::{Crashed, NoMemory};
 use wm_expr::Expr;
 use wm_names::RootPath;
 use wm_registry::{Command, MAX_BATCH, Registry, Reply, every_registry};
 use wm_since::{Mirror, every_answer, every_client};
-use wm_store::Store;
+use wm_store::{Store, every_file};
 use wm_view::{Op, View, every_operation};
 
 /// A server that is up with its store, or down.
@@ -312,7 +311,7 @@ impl<D: Crashed + Drop> World<D> {
             }),
             Server::Down(disk) => disk,
         };
-        every_content::<Registry, Version1>();
+        every_file();
         every_registry();
         match Store::open(alloc, disk) {
             Ok(store) => {
