@@ -16,7 +16,7 @@ use wm_hall::Change;
 use wm_lines::reply::{PROGRESS_ROOM, put_clock, put_floor};
 use wm_lines::{Progress, Request};
 use wm_names::RootPath;
-use wm_registry::{Command, Registry};
+use wm_registry::{Command, Registry, Version};
 use wm_server::{RegistryFront, Session};
 use wm_share::Naming;
 
@@ -30,6 +30,12 @@ fn meet_registry(
     let mut session = Session::new(alloc, RegistryFront::new(registry));
     session.request(alloc, 0, request, out)?;
     Ok(())
+}
+
+/// Appends the reply to `version`, which is one for all registries.
+fn tell_version(alloc: Global, out: &mut Vec<u8>) -> Result<(), Refusal> {
+    let none = Registry::new(alloc, Version::Two);
+    meet_registry(alloc, none, Request::Version, out)
 }
 
 /// The desk's registry as it is now. The watched roots have followed it, so that no later question contradicts it.
@@ -129,7 +135,7 @@ pub fn meet<R: Wait + Clock, T: Registrar, J: Naming, K: Wait + Copy + Drop>(
     out: &mut Vec<u8>,
 ) -> Result<(), Refusal> {
     match request {
-        Request::Version => meet_registry(alloc, Registry::new(alloc), Request::Version, out),
+        Request::Version => tell_version(alloc, out),
         Request::WatchList => list(rt, alloc, shared, out),
         Request::TriggerList(path) => list_triggers(rt, alloc, shared, path, out),
         Request::Watch(path) => command(rt, alloc, shared, place, Command::Watch(path), out),

@@ -18,10 +18,9 @@ ghost use Rattle.wm_server.specs.session.Sessions.{SessionState, WithSubscriptio
 ghost use Rattle.wm_registry.specs.Roots as registry;
 ghost use Rattle.wm_registry.specs.declared.command.Command.{Command};
 
-use wm_checkpoint::{Version1, every_content};
 use wm_disk::Disk;
-use wm_registry::Registry;
 use wm_since::every_answer;
+use wm_store::every_file;
 use wm_view::every_operation;
 
 /// What lines do to a root's view, answer of it and tell its subscribers is what the root's history says,
@@ -50,5 +49,5 @@ pub fn every_part()
 pub fn every_restart<D: Disk>()
     ensures { (old middle new : D) (was left found last : registry.State) (asked again : List Command) → D.honest middle → KeepsAccepted D.Disk old was left asked middle → KeepsAccepted D.Disk middle found last again new → found ≡ left }
 {
-    every_content::<Registry, Version1>();
+    every_file();
 }

@@ -10,6 +10,7 @@ ghost use Rattle.wm_registry.specs.Registry.{empty_registry};
 ghost use Rattle.wm_server.specs.session.Streams.{streams, writer_failed, writer_of};
 ghost use Rattle.wm_server.specs.program.Systems.{FormatFails, IsUndone, Runs, RunsFormat, RunsLines};
 ghost use Rattle.wm_server.specs.program.Words.{asked, shown as shown_lem};
+ghost use Rattle.wm_registry.specs.declared.version.Version.TheVariants.{Two};
 
 pub mod lines;
 pub mod system;
@@ -88,7 +89,7 @@ fn write_format<D: Disk + Drop, W: Write>(
     disk: &mut D,
     writer: &mut Output<W>,
 ) -> Result<(), Refusal>
-    ensures formatted { D.honest disk.new → OnOk result (Means watches (D.seen disk.new) A 1 empty_registry []) }
+    ensures formatted { D.honest disk.new → OnOk result (Means (watches Two) (D.seen disk.new) A 1 (empty_registry Two) []) }
     ensures durable { D.honest disk.new → OnOk result (Only (D.seen disk.new) (D.may_leave disk.new)) }
     ensures shows { MatchResult result (λ _. Appends (W.contents (writer_of writer.old)) (W.contents (writer_of writer.new)) (codes "formatted\n"))
         (λ e. FormatFails D.Disk e disk.old disk.new writer.new) }

@@ -10,14 +10,15 @@ use Rattle.wm_disk.specs.Moments.{LeavesOnly, then_runs}
 use Rattle.wm_disk.specs.declared.disk.Disk.{Ghosts}
 use Rattle.wm_disk.specs.Parts.{IsPartOf}
 use Rattle.wm_disk.specs.PartLaws.{part_both, part_prefix}
-use Rattle.wm_checkpoint.specs.Machines.{Meaning, replay_on}
-use Rattle.wm_checkpoint.specs.Meanings.{MeansState, MeansPrefix}
 use Rattle.wm_checkpoint.specs.laws.Replays.{replayed_append}
-use Rattle.wm_registry.specs.MachineLaws.{watches}
+use Rattle.wm_registry.specs.Roots.{State}
 use Rattle.wm_registry.specs.declared.command.Command.{Command}
 use Rattle.wm_store.specs.Stored.{Stored}
 use Rattle.wm_server.specs.local.Stores.{Later, Commits, LeadsTo}
 use Rattle.wm_disk.specs.laws.Runs.{weaker}
+use Rattle.wm_store.specs.Meant.{MeansAfter, MeansRegistry}
+use Rattle.wm_checkpoint.specs.Machines.{replayed}
+use Rattle.wm_registry.specs.Registry.{after_command}
 
 -- ---- counts
 
@@ -34,25 +35,24 @@ not_failed false h = refl
 
 -- ---- prefixes of lists of commands
 
-module _ {S C : Type 0} (m : Meaning S C) where
-  -- a prefix of some commands is one of these with others behind them
-  pub more_behind : (state : S) (first second : List C) (content : List ℕ) → MeansPrefix m state first content → MeansPrefix m state (first ++ second) content
-  more_behind state first second content b = record {
-    count = b.count;
-    within = omega (arith, b.within, length-append first second);
-    means = subst (λ (l : List C). MeansState m (replay_on m state l) content) (sym (take-append-le b.count first second b.within)) b.means;
-  }
+-- a prefix of some commands is one of these with others behind them
+pub more_behind : (state : State) (first second : List Command) (content : List ℕ) → MeansAfter state first content → MeansAfter state (first ++ second) content
+more_behind state first second content b = record {
+  count = b.count;
+  within = omega (arith, b.within, length-append first second);
+  means = subst (λ (l : List Command). MeansRegistry (replayed after_command state l) content) (sym (take-append-le b.count first second b.within)) b.means;
+}
 
-  -- and so is one after some commands, with these in front of it
-  pub more_before : (state next : S) (first second : List C) (content : List ℕ) → next ≡ replay_on m state first → MeansPrefix m next second content → MeansPrefix m state (first ++ second) content
-  more_before state next first second content is b =
-      let here : replay_on m next (take b.count second) ≡ replay_on m state (take (length first + b.count) (first ++ second)) =
-      ap (λ (s : S). replay_on m s (take b.count second)) is ∙ sym (replayed_append m.after state first (take b.count second)) ∙ ap (λ (l : List C). replay_on m state l) (sym (take-append-add first second b.count)) in
-      record {
-        count = length first + b.count;
-        within = omega (arith, b.within, length-append first second);
-        means = subst (λ (s : S). MeansState m s content) here b.means;
-      }
+-- and so is one after some commands, with these in front of it
+pub more_before : (state next : State) (first second : List Command) (content : List ℕ) → next ≡ replayed after_command state first → MeansAfter next second content → MeansAfter state (first ++ second) content
+more_before state next first second content is b =
+    let here : replayed after_command next (take b.count second) ≡ replayed after_command state (take (length first + b.count) (first ++ second)) =
+    ap (λ (s : State). replayed after_command s (take b.count second)) is ∙ sym (replayed_append after_command state first (take b.count second)) ∙ ap (λ (l : List Command). replayed after_command state l) (sym (take-append-add first second b.count)) in
+    record {
+      count = length first + b.count;
+      within = omega (arith, b.within, length-append first second);
+      means = subst (λ (s : State). MeansRegistry s content) here b.means;
+    }
 
 -- ---- moments of a store
 
@@ -97,27 +97,27 @@ module _ {D : Type 0} (disk : Ghosts D) where
 
   -- Two runs of commands are one.
   both_run : (xs ys : List Command) (a b c : Stored D) → (disk.honest c.disk → disk.honest b.disk) → b.failed ≡ false → (p : Commits disk xs a b) (q : Commits disk ys b c)
-      → (disk.honest b.disk → LeavesOnly disk.moment disk.left_since a.disk b.disk (MeansPrefix watches a.registry (p.accepted ++ p.in_flight)))
-      → (disk.honest c.disk → LeavesOnly disk.moment disk.left_since b.disk c.disk (MeansPrefix watches b.registry (q.accepted ++ q.in_flight)))
+      → (disk.honest b.disk → LeavesOnly disk.moment disk.left_since a.disk b.disk (MeansAfter a.registry (p.accepted ++ p.in_flight)))
+      → (disk.honest c.disk → LeavesOnly disk.moment disk.left_since b.disk c.disk (MeansAfter b.registry (q.accepted ++ q.in_flight)))
       → Commits disk (xs ++ ys) a c
   both_run xs ys a b c honest works p q first second =
       let none : p.accepted ++ p.in_flight ≡ p.accepted = ap (λ (l : List Command). p.accepted ++ l) (p.works works) ∙ append-nil p.accepted in
       let all : p.accepted ++ (q.accepted ++ q.in_flight) ≡ (p.accepted ++ q.accepted) ++ q.in_flight = sym (append_assoc p.accepted q.accepted q.in_flight) in
-      let Whole : List ℕ → Type 0 = MeansPrefix watches a.registry ((p.accepted ++ q.accepted) ++ q.in_flight) in
-      let of_first : (content : List ℕ) → MeansPrefix watches a.registry (p.accepted ++ p.in_flight) content → Whole content =
-      λ content begun. subst (λ (l : List Command). MeansPrefix watches a.registry l content) all
-      (more_behind watches a.registry p.accepted (q.accepted ++ q.in_flight) content (subst (λ (l : List Command). MeansPrefix watches a.registry l content) none begun)) in
-      let of_second : (content : List ℕ) → MeansPrefix watches b.registry (q.accepted ++ q.in_flight) content → Whole content =
-      λ content begun. subst (λ (l : List Command). MeansPrefix watches a.registry l content) all (more_before watches a.registry b.registry p.accepted (q.accepted ++ q.in_flight) content p.registry begun) in
+      let Whole : List ℕ → Type 0 = MeansAfter a.registry ((p.accepted ++ q.accepted) ++ q.in_flight) in
+      let of_first : (content : List ℕ) → MeansAfter a.registry (p.accepted ++ p.in_flight) content → Whole content =
+      λ content begun. subst (λ (l : List Command). MeansAfter a.registry l content) all
+      (more_behind a.registry p.accepted (q.accepted ++ q.in_flight) content (subst (λ (l : List Command). MeansAfter a.registry l content) none begun)) in
+      let of_second : (content : List ℕ) → MeansAfter b.registry (q.accepted ++ q.in_flight) content → Whole content =
+      λ content begun. subst (λ (l : List Command). MeansAfter a.registry l content) all (more_before a.registry b.registry p.accepted (q.accepted ++ q.in_flight) content p.registry begun) in
       record {
         accepted = p.accepted ++ q.accepted;
         in_flight = q.in_flight;
         part = subst (λ (l : List Command). IsPartOf l (xs ++ ys)) all (part_both p.accepted xs (q.accepted ++ q.in_flight) ys (subst (λ (l : List Command). IsPartOf l xs) none p.part) q.part);
         leaves = q.leaves;
-        registry = q.registry ∙ ap (λ s. replay_on watches s q.accepted) p.registry ∙ sym (replayed_append watches.after a.registry p.accepted q.accepted);
+        registry = q.registry ∙ ap (λ s. replayed after_command s q.accepted) p.registry ∙ sym (replayed_append after_command a.registry p.accepted q.accepted);
         works = q.works;
-        any_moment = inr (λ h. then_runs disk.moment disk.left_since a.disk b.disk c.disk Whole (MeansPrefix watches b.registry (q.accepted ++ q.in_flight))
-            (weaker disk.moment disk.left_since a.disk b.disk (MeansPrefix watches a.registry (p.accepted ++ p.in_flight)) Whole (first (honest h)) of_first)
+        any_moment = inr (λ h. then_runs disk.moment disk.left_since a.disk b.disk c.disk Whole (MeansAfter b.registry (q.accepted ++ q.in_flight))
+            (weaker disk.moment disk.left_since a.disk b.disk (MeansAfter a.registry (p.accepted ++ p.in_flight)) Whole (first (honest h)) of_first)
             (second h)
             of_second);
       }

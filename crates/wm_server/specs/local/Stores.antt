@@ -6,27 +6,25 @@ use Rattle.wm_disk.specs.declared.disk.Disk.{Ghosts}
 use Rattle.wm_disk.specs.declared.refusal.Refusal.{Refusal}
 use Rattle.wm_disk.specs.declared.refusal.Refusal.TheVariants as refusals
 use Rattle.wm_disk.specs.Counters.{max_counter}
-use Rattle.wm_checkpoint.specs.Machines.{replay_on}
-use Rattle.wm_checkpoint.specs.Layout.{sizes_1}
-use Rattle.wm_checkpoint.specs.Meanings.{MeansState, MeansPrefix, IsDamaged, IsRetired}
 use Rattle.wm_server.specs.declared.local.root_views.RootView.{RootView}
 use Rattle.wm_registry.specs.declared.command.Command.{Command}
 use Rattle.wm_registry.specs.declared.command.Command.TheVariants.{Begin}
 use Rattle.wm_registry.specs.declared.reply.Reply.{Reply}
 use Rattle.wm_registry.specs.declared.reply.Reply.TheVariants.{Refused}
-use Rattle.wm_registry.specs.Registry.{is_change, reply_to}
+use Rattle.wm_registry.specs.Registry.{after_command, is_change, reply_to}
 use Rattle.wm_registry.specs.Roots as registry
-use Rattle.wm_registry.specs.MachineLaws.{watches}
 use Rattle.wm_store.specs.Openings.{FindsRegistry, WritesNothing}
 use Rattle.wm_store.specs.Stored.{Stored}
 use Rattle.wm_lines.specs.KeptExpressions.{have_expressions}
 use Rattle.wm_server.specs.session.Sessions.{SessionState, views_after}
 use Rattle.wm_server.specs.session.Faults.{FrontState}
 use Rattle.wm_disk.specs.Parts.{IsPartOf}
+use Rattle.wm_store.specs.Meant.{IsDamagedFile, IsRetiredFile, MeansAfter, MeansRegistry}
+use Rattle.wm_checkpoint.specs.Machines.{replayed}
 
 -- a crash leaves a content that means this registry
 abbrev pub IsKeptOn : {D : Type 0} → Ghosts D → registry.State → D → Type 0
-IsKeptOn disk state d = (c : List ℕ) → disk.may_leave d c → MeansState watches state c
+IsKeptOn disk state d = (c : List ℕ) → disk.may_leave d c → MeansRegistry state c
 
 -- the views after a command with this reply
 abbrev pub views_met : Reply → SessionState → Command → List RootView
@@ -57,10 +55,10 @@ module _ {D : Type 0} where
     pub accepted : List Command
     pub in_flight : List Command
     pub part : IsPartOf (accepted ++ in_flight) asked
-    pub registry : new.registry ≡ replay_on watches old.registry accepted
+    pub registry : new.registry ≡ replayed after_command old.registry accepted
     pub works : new.failed ≡ false → in_flight ≡ []
-    pub leaves : new.failed ≡ true → disk.honest new.disk → (c : List ℕ) → disk.may_leave new.disk c → MeansPrefix watches new.registry in_flight c
-    pub any_moment : (new ≡ old) ⊎ (disk.honest new.disk → LeavesOnly disk.moment disk.left_since old.disk new.disk (MeansPrefix watches old.registry (accepted ++ in_flight)))
+    pub leaves : new.failed ≡ true → disk.honest new.disk → (c : List ℕ) → disk.may_leave new.disk c → MeansAfter new.registry in_flight c
+    pub any_moment : (new ≡ old) ⊎ (disk.honest new.disk → LeavesOnly disk.moment disk.left_since old.disk new.disk (MeansAfter old.registry (accepted ++ in_flight)))
 
   -- an earlier and a later moment of a store, and the commands that were asked for between them
   pub record LeadsTo (disk : Ghosts D) (asked : List Command) (old new : Stored D) : Type 0 where
@@ -77,10 +75,10 @@ module _ {D : Type 0} where
 
   -- why a start was refused; that nothing was written where the file means no registry; and that it has no `Begin` where that is refused
   abbrev pub StartRefused : Ghosts D → Refusal → D → D → Type 0
-  StartRefused disk refusals.Damaged old new = disk.honest new → (IsDamaged watches (disk.seen old) × WritesNothing disk old new) ⊎ KeepsNoExpression disk old new
-  StartRefused disk refusals.Retired old new = disk.honest new → IsRetired sizes_1 (disk.seen old) × WritesNothing disk old new
-  StartRefused disk refusals.Exhausted old new = disk.honest new → ((found : registry.State) × (m : MeansState watches found (disk.seen old)) × ((reply_to found Begin ≡ Refused refusals.Exhausted) ⊎ (max_counter ≤ m.number)))
-      × ((found : registry.State) × MeansState watches found (disk.seen old) × IsKeptOn disk found new)
+  StartRefused disk refusals.Damaged old new = disk.honest new → (IsDamagedFile (disk.seen old) × WritesNothing disk old new) ⊎ KeepsNoExpression disk old new
+  StartRefused disk refusals.Retired old new = disk.honest new → IsRetiredFile (disk.seen old) × WritesNothing disk old new
+  StartRefused disk refusals.Exhausted old new = disk.honest new → ((found : registry.State) × (m : MeansRegistry found (disk.seen old)) × ((reply_to found Begin ≡ Refused refusals.Exhausted) ⊎ (max_counter ≤ m.number)))
+      × ((found : registry.State) × MeansRegistry found (disk.seen old) × IsKeptOn disk found new)
   StartRefused disk refusals.DeviceFailed old new = Rose (disk.failures old) (disk.failures new)
   StartRefused disk refusals.NoMemory old new = Unit {0}
   StartRefused disk _ old new = ⊥

@@ -3,8 +3,6 @@ use Rattle.std.specs.Prelude.{◌≡◌, ◌⊎◌, true, false, ℕ, List, ◌�
 use Rattle.wm_registry.specs.Roots as registry
 use Rattle.wm_registry.specs.declared.command.Command.{Command}
 use Rattle.wm_registry.specs.declared.command.Command.TheVariants.{Begin}
-use Rattle.wm_registry.specs.MachineLaws.{watches}
-use Rattle.wm_checkpoint.specs.Meanings.{MeansPrefix, MeansState}
 use Rattle.wm_disk.specs.Contents.{Rose}
 use Rattle.wm_disk.specs.Moments.{LeavesOnly}
 use Rattle.wm_disk.specs.declared.disk.Disk.{Ghosts}
@@ -20,6 +18,7 @@ use Rattle.wm_server.specs.declared.session.input.Input.{Input}
 use Rattle.wm_server.specs.declared.session.output.Output.{Output}
 use Rattle.wm_server.specs.declared.program.lines.Ending.{Ending}
 use Rattle.wm_server.specs.declared.program.lines.Ending.TheVariants.{Served, Refused, Broken, Unread}
+use Rattle.wm_store.specs.Meant.{MeansAfter, MeansRegistry}
 
 -- what was accepted is kept in a file that is closed
 abbrev pub KeepsAll : {D : Type 0} → Ghosts D → D → D → Type 0
@@ -76,12 +75,12 @@ Tells contents Unread old new = new ≡ old
 -- old might have left; and from it on that registry, or that with a prefix of a `Begin` and some of the commands asked for, in their
 -- order.
 pub record TakesUpFile {D : Type 0} (disk : Ghosts D) (old : D) (was : registry.State) (asked : List Command) (new : D) : Type 0 where
-  pub means : MeansState watches was (disk.seen old)
+  pub means : MeansRegistry was (disk.seen old)
   pub taken : List Command
   pub part : IsPartOf taken asked
   pub synced : D
   pub until : WritesNothing disk old synced
-  pub from : LeavesOnly disk.moment disk.left_since synced new (MeansPrefix watches was (Begin ∷ taken))
+  pub from : LeavesOnly disk.moment disk.left_since synced new (MeansAfter was (Begin ∷ taken))
 
 -- what a crash at any moment of a session leaves
 abbrev pub LeavesAnytime : {D : Type 0} → Ghosts D → Option (List ℕ) → D → D → Type 0

@@ -9,9 +9,6 @@ use Rattle.wm_registry.specs.declared.command.Command.{Command}
 use Rattle.wm_registry.specs.declared.reply.Reply.TheVariants.{Changed}
 use Rattle.wm_registry.specs.Registry.{reply_to, after_command}
 use Rattle.wm_registry.specs.Roots as registry
-use Rattle.wm_registry.specs.MachineLaws.{watches}
-use Rattle.wm_checkpoint.specs.Machines.{replay_on}
-use Rattle.wm_checkpoint.specs.Meanings.{MeansPrefix, MeansState}
 use Rattle.wm_disk.specs.declared.disk.Disk.{Ghosts}
 use Rattle.wm_disk.specs.Parts.{IsPartOf}
 use Rattle.wm_server.specs.local.Stores.{IsKeptOn}
@@ -24,6 +21,8 @@ use Rattle.wm_server.specs.session.Stands.{without_subscriptions}
 use Rattle.wm_server.specs.session.Streams.{writer_failed, writer_of}
 use Rattle.wm_server.specs.declared.session.output.Output.{Output}
 use Rattle.wm_server.specs.session.Watched.{first_views}
+use Rattle.wm_store.specs.Meant.{MeansAfter, MeansRegistry}
+use Rattle.wm_checkpoint.specs.Machines.{replayed}
 
 -- line k, counted from 1, has the moment k
 abbrev pub line_number : ℕ → ℕ
@@ -44,23 +43,23 @@ first_state was = record { registry = after_command was Begin; has_failed = fals
 -- A file meant a registry, and is left to mean it with a `Begin` and the accepted commands, whatever a crash does. These are of the
 -- commands that were asked for, in their order.
 pub record KeepsAccepted {D : Type 0} (disk : Ghosts D) (old : D) (was left : registry.State) (asked : List Command) (new : D) : Type 0 where
-  pub means : MeansState watches was (disk.seen old)
+  pub means : MeansRegistry was (disk.seen old)
   pub begins : reply_to was Begin ≡ Changed
   pub accepted : List Command
   pub part : IsPartOf accepted asked
-  pub replayed : left ≡ replay_on watches (after_command was Begin) accepted
+  pub replayed : left ≡ replayed after_command (after_command was Begin) accepted
   pub kept : IsKeptOn disk left new
 
 -- The device failed over a file that meant a registry: a crash leaves it to mean that with a `Begin` and the accepted commands, and
 -- perhaps a prefix of those that were in flight. All these are of the commands that were asked for, in their order.
 pub record CutShort {D : Type 0} (disk : Ghosts D) (old : D) (was left : registry.State) (asked : List Command) (new : D) : Type 0 where
-  pub means : MeansState watches was (disk.seen old)
+  pub means : MeansRegistry was (disk.seen old)
   pub begins : reply_to was Begin ≡ Changed
   pub accepted : List Command
   pub in_flight : List Command
   pub part : IsPartOf (accepted ++ in_flight) asked
-  pub replayed : left ≡ replay_on watches (after_command was Begin) accepted
-  pub leaves : (c : List ℕ) → disk.may_leave new c → MeansPrefix watches left in_flight c
+  pub replayed : left ≡ replayed after_command (after_command was Begin) accepted
+  pub leaves : (c : List ℕ) → disk.may_leave new c → MeansAfter left in_flight c
 
 -- Lines were met over a file that meant a registry, with these bytes as their replies, and what they left was kept.
 pub record LinesMet {D : Type 0} (disk : Ghosts D) (old : D) (lines : List (List ℕ)) (bytes : List ℕ) (new : D) : Type 0 where

@@ -17,6 +17,7 @@ use Rattle.wm_server.specs.program.Words.{Asked, format, lines, shown}
 use Rattle.wm_server.specs.declared.program.lines.Ending.{Ending}
 use Rattle.wm_server.specs.declared.session.output.Output.{Output}
 use Rattle.wm_server.specs.declared.program.system.System as systems
+use Rattle.wm_registry.specs.declared.version.Version.TheVariants.{Two}
 
 -- Why a format failed from one moment of the disk to another: memory ran out and nothing was written, or the device failed, or the writer.
 abbrev pub FormatFails : {D W : Type 0} → disks.Ghosts D → Refusal → D → D → Output W → Type 0
@@ -32,7 +33,7 @@ module _ {S D : Type 0} (disk : disks.Ghosts D) (system : systems.Ghosts S D) wh
     pub after : D
     pub created : system.creates old path (Some before) begun
     pub closed : system.closes begun after new
-    pub formatted : disk.honest after → Means watches (disk.seen after) A 1 empty_registry []
+    pub formatted : disk.honest after → Means (watches Two) (disk.seen after) A 1 (empty_registry Two) []
     pub durable : disk.honest after → Only (disk.seen after) (disk.may_leave after)
     pub shows : Appends held holds (codes "formatted\n")
 

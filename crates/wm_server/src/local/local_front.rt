@@ -10,6 +10,7 @@ ghost use Rattle.wm_server.specs.local.ViewChanges.{view_change_of};
 ghost use Rattle.wm_server.specs.session.Watched.{first_views};
 ghost use Rattle.wm_store.specs.Batches.{is_begin};
 ghost use Rattle.wm_server.specs.declared.local.root_views.RootView.{RootView};
+ghost use Rattle.wm_store.specs.Meant.{MeansRegistry};
 
 use crate::local::opening::open_store;
 use crate::local::root_views;
@@ -51,8 +52,6 @@ impl<D: Disk + Drop> LocalFront<D> {
     ghost use Rattle.std.specs.Prelude.{MatchResult, OnOk};
     ghost use Rattle.wm_server.specs.local.Locals.{CloseRefused, disk_of_front, session_state_of};
     ghost use Rattle.wm_disk.specs.Moments.{LeavesOnly};
-    ghost use Rattle.wm_checkpoint.specs.Meanings.{MeansState};
-    ghost use Rattle.wm_registry.specs.MachineLaws.{watches};
     ghost use Rattle.wm_server.specs.local.Stores.{IsKeptOn, Later, StartCut, StartRefused};
     ghost use Rattle.wm_store.specs.Openings.{IsBegun};
 
@@ -87,7 +86,7 @@ impl<D: Disk + Drop> LocalFront<D> {
         ensures kept { D.honest result.1 → OnOk result.0 (IsKeptOn D.Disk (session_state_of self).registry result.1) }
         ensures refused { IfErr result.0 (λ e. CloseRefused D.Disk e self result.1) }
         // A crash at any moment of it leaves the registry; and nothing more is asked of a disk that has failed.
-        ensures any_moment { (session_state_of self).has_failed ≡ false → D.honest result.1 → LeavesOnly D.moment D.left_since (disk_of_front self) result.1 (MeansState watches (session_state_of self).registry) }
+        ensures any_moment { (session_state_of self).has_failed ≡ false → D.honest result.1 → LeavesOnly D.moment D.left_since (disk_of_front self) result.1 (MeansRegistry (session_state_of self).registry) }
         ensures still { (session_state_of self).has_failed ≡ true → result.1 ≡ disk_of_front self }
     {
         let LocalFront {

@@ -7,22 +7,22 @@ use Rattle.wm_disk.specs.declared.refusal.Refusal.{Refusal}
 use Rattle.wm_disk.specs.declared.refusal.Refusal.TheVariants as refusals
 use Rattle.wm_disk.specs.Counters.{max_counter}
 use Rattle.wm_server.specs.declared.local.root_views.RootView.{RootView}
-use Rattle.wm_checkpoint.specs.Machines.{replay_on}
 use Rattle.wm_registry.specs.declared.command.Command.{Command}
 use Rattle.wm_registry.specs.declared.reply.Reply.{Reply}
 use Rattle.wm_registry.specs.declared.reply.Reply.TheVariants.{Unchanged, Refused}
-use Rattle.wm_registry.specs.MachineLaws.{watches}
 use Rattle.wm_registry.specs.Roots as registry
-use Rattle.wm_registry.specs.Registry.{changed, is_change, reply_to}
+use Rattle.wm_registry.specs.Registry.{after_command, changed, is_change, reply_to}
+use Rattle.wm_registry.specs.declared.version.Version.{Version}
 use Rattle.wm_store.specs.Batches.{AreAnswered, IsBatch, accepted_of, is_begin, unless_begin}
 use Rattle.wm_store.specs.Stored.{Stored}
 use Rattle.wm_server.specs.session.Faults.{FrontState, Submits, Lasts, Defined, Device, Memory, Spent}
-use Rattle.wm_checkpoint.specs.Meanings.{MeansPrefix}
 use Rattle.wm_server.specs.local.LocalLaws.{stays}
 use Rattle.wm_disk.specs.laws.Runs.{CountsNow, left_after_run}
 use Rattle.wm_server.specs.session.Sessions.{SessionState, accepted, reply_to_command, state_after_command, views_after}
 use Rattle.wm_server.specs.local.Stores.{IsOpenUnlessFailed, LeadsTo, front_state_with, state_with, views_met}
 use Rattle.wm_disk.specs.Parts.{IsPartOf}
+use Rattle.wm_store.specs.Meant.{MeansAfter}
+use Rattle.wm_checkpoint.specs.Machines.{replayed}
 
 -- ---- how a command is met
 
@@ -63,10 +63,10 @@ no_room old command = record { way = Memory; cause = (lasts_same old, refl); rep
 -- ---- a batch of one
 
 -- the one reply
-one_reply : (number room : ℕ) (s : _) (command : Command) (replies : List Reply) → AreAnswered number room s (command ∷ []) replies → (reply : Reply) × (replies ≡ reply ∷ [])
-one_reply number room s command [] a = absurd a
-one_reply number room s command (reply ∷ []) a = (reply, refl)
-one_reply number room s command (reply ∷ (other ∷ more)) a =
+one_reply : (v : Version) (number room : ℕ) (s : _) (command : Command) (replies : List Reply) → AreAnswered v number room s (command ∷ []) replies → (reply : Reply) × (replies ≡ reply ∷ [])
+one_reply v number room s command [] a = absurd a
+one_reply v number room s command (reply ∷ []) a = (reply, refl)
+one_reply v number room s command (reply ∷ (other ∷ more)) a =
     elim a [
       | inl met ↦ absurd met.1
       | inr spent ↦ let bad : other ∷ more ≡ [] = ap (λ (l : List Reply). rest_of l) spent.2 in absurd cc
@@ -144,8 +144,8 @@ module _ {D : Type 0} (disk : Ghosts D) (old new : Stored D) (command : Command)
 
   -- by what the reply is in a batch of one
   answered_so : (reply : Reply) (views : List RootView) → old.failed ≡ false → new.failed ≡ false → Lasts (before views) (behind reply views) → disk.failures new.disk ≡ disk.failures old.disk
-      → AreAnswered new.number new.room old.registry (command ∷ []) (reply ∷ [])
-      → new.registry ≡ replay_on watches old.registry (accepted_of (command ∷ []) (reply ∷ []))
+      → AreAnswered old.registry.version new.number new.room old.registry (command ∷ []) (reply ∷ [])
+      → new.registry ≡ replayed after_command old.registry (accepted_of (command ∷ []) (reply ∷ []))
       → (b : Bool) → is_change reply ≡ b → Submits (before views) command reply (behind reply views)
   answered_so reply views works works' last failures answered registry b change =
       let s : SessionState = state_with old views in
@@ -169,30 +169,30 @@ module _ {D : Type 0} (disk : Ghosts D) (old new : Stored D) (command : Command)
       first_of_list (r ∷ rs) = r
 
       stays : is_change reply ≡ false → new.registry ≡ old.registry
-      stays none = registry ∙ ap (λ (b : Bool). replay_on watches old.registry (cond b (command ∷ []) [])) none
+      stays none = registry ∙ ap (λ (b : Bool). replayed after_command old.registry (cond b (command ∷ []) [])) none
 
       by_change : reply_to_command (state_with old views) command ≡ reply → (b : Bool) → is_change reply ≡ b → Submits (before views) command reply (behind reply views)
       by_change told true change =
           let was : is_change (reply_to old.registry command) ≡ true = ap is_change (sym (working (state_with old views) command plain works) ∙ told) ∙ change in
-          let after_is : replay_on watches old.registry (command ∷ []) ≡ changed old.registry command = rw was refl in
-          changed_so reply views told change last (works' ∙ sym works) (registry ∙ ap (λ (b : Bool). replay_on watches old.registry (cond b (command ∷ []) [])) change ∙ after_is)
+          let after_is : replayed after_command old.registry (command ∷ []) ≡ changed old.registry command = rw was refl in
+          changed_so reply views told change last (works' ∙ sym works) (registry ∙ ap (λ (b : Bool). replayed after_command old.registry (cond b (command ∷ []) [])) change ∙ after_is)
       by_change told false none = idle_so reply views last (stays none) (works' ∙ sym works) none told
 
   -- the batch was answered
   pub met_alone : (replies : List Reply) (reply : Reply) (views : List RootView) → replies ≡ reply ∷ [] → old.failed ≡ false → new.failed ≡ false
       → disk.failures new.disk ≡ disk.failures old.disk → old.number ≤ new.number
-      → IsBatch disk old new (command ∷ []) replies → new.registry ≡ replay_on watches old.registry (accepted_of (command ∷ []) replies)
+      → IsBatch disk old new (command ∷ []) replies → new.registry ≡ replayed after_command old.registry (accepted_of (command ∷ []) replies)
       → Submits (before views) command reply (behind reply views)
   met_alone replies reply views one works works' failures number batch registry =
       answered_so reply views works works' (lasts reply views (omega (arith, failures)) number) failures
-      (subst (λ (l : List Reply). AreAnswered new.number new.room old.registry (command ∷ []) l) one batch.answered)
-      (subst (λ (l : List Reply). new.registry ≡ replay_on watches old.registry (accepted_of (command ∷ []) l)) one registry)
+      (subst (λ (l : List Reply). AreAnswered old.registry.version new.number new.room old.registry (command ∷ []) l) one batch.answered)
+      (subst (λ (l : List Reply). new.registry ≡ replayed after_command old.registry (accepted_of (command ∷ []) l)) one registry)
       (is_change reply) refl
 
   -- the device failed with the command in flight
-  was_accepted : (number room : ℕ) (reply : Reply) → AreAnswered number room old.registry (command ∷ []) (reply ∷ []) → (b : Bool) → is_change reply ≡ b → (cond b (command ∷ []) [] ≡ [] → ⊥) → is_change (reply_to old.registry command) ≡ true
-  was_accepted number room reply answered false change some = absurd (some refl)
-  was_accepted number room reply answered true change some =
+  was_accepted : (v : Version) (number room : ℕ) (reply : Reply) → AreAnswered v number room old.registry (command ∷ []) (reply ∷ []) → (b : Bool) → is_change reply ≡ b → (cond b (command ∷ []) [] ≡ [] → ⊥) → is_change (reply_to old.registry command) ≡ true
+  was_accepted v number room reply answered false change some = absurd (some refl)
+  was_accepted v number room reply answered true change some =
       elim answered [
         | inl met ↦ elim met.0 [
           | inl is ↦ ap is_change (sym (is ∙ met_so command (reply_to old.registry command) plain)) ∙ change
@@ -206,9 +206,9 @@ module _ {D : Type 0} (disk : Ghosts D) (old new : Stored D) (command : Command)
       → IsBatch disk old new (command ∷ []) replies → (accepted_of (command ∷ []) replies ≡ [] → ⊥)
       → Submits (before views) command (Refused refusals.DeviceFailed) (behind (Refused refusals.DeviceFailed) views)
   device_so replies views works failed registry failures rose number batch some =
-      let one = one_reply new.number new.room old.registry command replies batch.answered in
+      let one = one_reply old.registry.version new.number new.room old.registry command replies batch.answered in
       let accepts : is_change (reply_to old.registry command) ≡ true =
-      was_accepted new.number new.room one.0 (subst (λ (l : List Reply). AreAnswered new.number new.room old.registry (command ∷ []) l) one.1 batch.answered) (is_change one.0) refl
+      was_accepted old.registry.version new.number new.room one.0 (subst (λ (l : List Reply). AreAnswered old.registry.version new.number new.room old.registry (command ∷ []) l) one.1 batch.answered) (is_change one.0) refl
       (subst (λ (l : List Reply). accepted_of (command ∷ []) l ≡ [] → ⊥) one.1 some) in
       record {
         way = Device;
@@ -228,7 +228,7 @@ module _ {D : Type 0} (disk : Ghosts D) (old new : Stored D) (command : Command)
       ]
 
   pub leads_alone : (replies : List Reply) → old.failed ≡ false → new.failed ≡ false → (disk.honest new.disk → disk.honest old.disk) → disk.failures old.disk ≤ disk.failures new.disk
-      → IsBatch disk old new (command ∷ []) replies → new.registry ≡ replay_on watches old.registry (accepted_of (command ∷ []) replies) → LeadsTo disk (command ∷ []) old new
+      → IsBatch disk old new (command ∷ []) replies → new.registry ≡ replayed after_command old.registry (accepted_of (command ∷ []) replies) → LeadsTo disk (command ∷ []) old new
   leads_alone replies works works' honest failures batch registry =
       let all = accepted_of (command ∷ []) replies in
       record {
@@ -258,8 +258,8 @@ module _ {D : Type 0} (disk : Ghosts D) (old new : Stored D) (command : Command)
       accepted = [];
       in_flight = accepted_of (command ∷ []) replies;
       part = taken_alone replies;
-      leaves = λ f h c left. subst (λ r. MeansPrefix watches r (accepted_of (command ∷ []) replies) c) (sym registry)
-          (left_after_run disk counts_now old.disk new.disk (MeansPrefix watches old.registry (accepted_of (command ∷ []) replies)) h (batch.any_moment h) c left);
+      leaves = λ f h c left. subst (λ r. MeansAfter r (accepted_of (command ∷ []) replies) c) (sym registry)
+          (left_after_run disk counts_now old.disk new.disk (MeansAfter old.registry (accepted_of (command ∷ []) replies)) h (batch.any_moment h) c left);
       registry = registry;
       works = λ f. let bad : false ≡ true = sym f ∙ failed in absurd cc;
       any_moment = inr batch.any_moment;
@@ -275,9 +275,9 @@ first_is : (replies : List Reply) (one reply : Reply) → replies ≡ one ∷ []
 first_is replies one reply is at = at ∙ ap (λ (l : List Reply). get_or l 0 reply) is
 
 -- the replies to one command are the first of them
-pub only_reply : (number room : ℕ) (s : registry.State) (command : Command) (replies : List Reply) (reply : Reply) → AreAnswered number room s (command ∷ []) replies → reply ≡ get_or replies 0 reply → replies ≡ reply ∷ []
-only_reply number room s command replies reply answered at =
-    let one = one_reply number room s command replies answered in
+pub only_reply : (v : Version) (number room : ℕ) (s : registry.State) (command : Command) (replies : List Reply) (reply : Reply) → AreAnswered v number room s (command ∷ []) replies → reply ≡ get_or replies 0 reply → replies ≡ reply ∷ []
+only_reply v number room s command replies reply answered at =
+    let one = one_reply v number room s command replies answered in
     one.1 ∙ ap (λ (r : Reply). r ∷ []) (sym (first_is replies one.0 reply one.1 at))
 
 pub err_is : {T : Type 0} (r : Result T Refusal) (a b : Refusal) → r ≡ Err a → r ≡ Err b → a ≡ b

@@ -6,17 +6,18 @@ use Rattle.wm_disk.specs.declared.disk.Disk.{Ghosts}
 use Rattle.wm_disk.specs.declared.refusal.Refusal.{Refusal}
 use Rattle.wm_disk.specs.declared.refusal.Refusal.TheVariants as refusals
 use Rattle.wm_disk.specs.Counters.{max_counter}
-use Rattle.wm_checkpoint.specs.Meanings.{IsDamaged, IsHeaderWith, IsRetired, MeansState}
-use Rattle.wm_checkpoint.specs.Layout.{sizes_1}
+use Rattle.wm_checkpoint.specs.Meanings.{IsHeaderWith}
+use Rattle.wm_checkpoint.specs.Layout.{Sizes}
 use Rattle.wm_registry.specs.declared.command.Command.TheVariants.{Begin}
 use Rattle.wm_registry.specs.declared.reply.Reply.TheVariants.{Changed, Refused}
-use Rattle.wm_registry.specs.MachineLaws.{watches}
 use Rattle.wm_registry.specs.Roots as registry
+use Rattle.wm_registry.specs.Versions.{sizes_of}
 use Rattle.wm_registry.specs.Registry.{after_command, changed, is_change, reply_to}
 use Rattle.wm_store.specs.Openings.{IsBegun, FindsRegistry, WritesNothing}
 use Rattle.wm_store.specs.Stored.{Stored}
 use Rattle.wm_lines.specs.KeptExpressions.{have_expressions}
 use Rattle.wm_server.specs.local.Stores.{StartRefused}
+use Rattle.wm_store.specs.Meant.{IsDamagedFile, IsRetiredFile, MeansRegistry}
 
 -- a start changes no trigger
 expressions_after_begin : (s : registry.State) → have_expressions (after_command s Begin) ≡ have_expressions s
@@ -26,29 +27,29 @@ expressions_after_begin s =
       | false ↦ refl
     ]
 
--- the retired gate of a header is open or it isn't
-two_gates : (a b : ℕ) (bytes : List ℕ) → IsHeaderWith sizes_1 a bytes → IsHeaderWith sizes_1 b bytes → a ≡ b
-two_gates a b bytes first second = ap (λ (l : List ℕ). get_or l 12 0) (sym first.1 ∙ second.1)
+-- the retired gate of a header is one, whatever the version it names
+two_gates : (l k : Sizes) (a b : ℕ) (bytes : List ℕ) → IsHeaderWith l a bytes → IsHeaderWith k b bytes → a ≡ b
+two_gates l k a b bytes first second = ap (λ (x : List ℕ). get_or x 12 0) (sym first.1 ∙ second.1)
 
-not_retired : (found : registry.State) (content : List ℕ) → MeansState watches found content → IsRetired sizes_1 content → ⊥
-not_retired found content m retired = let header = m.means.header in header.1 (two_gates header.0 165 _ header.2 retired.1)
+not_retired : (found : registry.State) (content : List ℕ) → MeansRegistry found content → IsRetiredFile content → ⊥
+not_retired found content m retired = let header = m.means.header in header.1 (two_gates (sizes_of found.version) (sizes_of retired.0) header.0 165 _ header.2 retired.1.1)
 
 module _ {D : Type 0} (disk : Ghosts D) (old new : D) (cut : disk.honest new → WritesNothing disk old new ⊎ ((found : registry.State) × FindsRegistry disk old new found)) where
   -- where the file means nothing, no registry was found
-  nothing_found : disk.honest new → ((found : registry.State) → MeansState watches found (disk.seen old) → ⊥) → WritesNothing disk old new
+  nothing_found : disk.honest new → ((found : registry.State) → MeansRegistry found (disk.seen old) → ⊥) → WritesNothing disk old new
   nothing_found h none = ⊎_elim (λ nothing. nothing) (λ f. absurd (none f.0 f.1.means)) (cut h)
 
-  no_meaning : disk.honest new → IsDamaged watches (disk.seen old) → IsDamaged watches (disk.seen old) × WritesNothing disk old new
-  no_meaning h damaged = (damaged, nothing_found h damaged.0)
+  no_meaning : disk.honest new → IsDamagedFile (disk.seen old) → IsDamagedFile (disk.seen old) × WritesNothing disk old new
+  no_meaning h damaged = (damaged, nothing_found h (λ found. (damaged found.version).0 found))
 
-  no_more : disk.honest new → IsRetired sizes_1 (disk.seen old) → IsRetired sizes_1 (disk.seen old) × WritesNothing disk old new
+  no_more : disk.honest new → IsRetiredFile (disk.seen old) → IsRetiredFile (disk.seen old) × WritesNothing disk old new
   no_more h retired = (retired, nothing_found h (λ found m. not_retired found (disk.seen old) m retired))
 
 pub start_refused : {D : Type 0} (disk : Ghosts D) (old new : D) (e : Refusal)
     → (disk.honest new → WritesNothing disk old new ⊎ ((found : registry.State) × FindsRegistry disk old new found))
-    → (disk.honest new → e ≡ refusals.Damaged → IsDamaged watches (disk.seen old)) → (disk.honest new → e ≡ refusals.Retired → IsRetired sizes_1 (disk.seen old))
-    → (disk.honest new → e ≡ refusals.Exhausted → (found : registry.State) × (m : MeansState watches found (disk.seen old)) × ((reply_to found Begin ≡ Refused refusals.Exhausted) ⊎ (max_counter ≤ m.number)))
-    → (disk.honest new → e ≡ refusals.Exhausted → (found : registry.State) × MeansState watches found (disk.seen old) × ((c : List ℕ) → disk.may_leave new c → MeansState watches found c))
+    → (disk.honest new → e ≡ refusals.Damaged → IsDamagedFile (disk.seen old)) → (disk.honest new → e ≡ refusals.Retired → IsRetiredFile (disk.seen old))
+    → (disk.honest new → e ≡ refusals.Exhausted → (found : registry.State) × (m : MeansRegistry found (disk.seen old)) × ((reply_to found Begin ≡ Refused refusals.Exhausted) ⊎ (max_counter ≤ m.number)))
+    → (disk.honest new → e ≡ refusals.Exhausted → (found : registry.State) × MeansRegistry found (disk.seen old) × ((c : List ℕ) → disk.may_leave new c → MeansRegistry found c))
     → (e ≡ refusals.DeviceFailed → Rose (disk.failures old) (disk.failures new))
     → (e ≡ refusals.DeviceFailed) ⊎ (e ≡ refusals.NoMemory) ⊎ (e ≡ refusals.Exhausted) ⊎ (e ≡ refusals.Damaged) ⊎ (e ≡ refusals.Retired)
     → StartRefused disk e old new

@@ -7,7 +7,9 @@ use Rattle.serde_json.specs.Data.{Data}
 use Rattle.wm_disk.specs.declared.refusal.Refusal.{Refusal}
 use Rattle.wm_disk.specs.Counters.{max_counter}
 use Rattle.wm_names.specs.Entries.{is_whole}
-use Rattle.wm_disk.specs.declared.refusal.Refusal.TheVariants.{BadArguments, Exhausted, Full, NotReady, NotWatched, StoreFailed, TooMany, BadClock}
+use Rattle.wm_disk.specs.declared.refusal.Refusal.TheVariants.{BadArguments, Exhausted, Full, NotReady, NotWatched, OldVersion, StoreFailed, TooMany, BadClock}
+use Rattle.wm_registry.specs.Endings.{count_fits}
+use Rattle.wm_registry.specs.Versions.{max_state_bytes}
 use Rattle.wm_registry.specs.declared.command.Command.{Command}
 use Rattle.wm_registry.specs.declared.command.Command.TheVariants as command
 use Rattle.wm_registry.specs.declared.reply.Reply.{Reply}
@@ -61,7 +63,7 @@ by_plain reply.Unchanged d s h = refl
 by_plain (reply.Refused r) d s h = h
 
 full_plain : (new : roots.State) (r : Reply) → reply_fault r ≡ false → reply_fault (registry.unless_full new r) ≡ false
-full_plain new r h = either_reply (nat_lt 1048563 (length (state_spelling new))) (reply.Refused Full) r refl h
+full_plain new r h = either_reply (nat_lt (max_state_bytes new.version) (length (state_spelling new))) (reply.Refused Full) r refl h
 
 at_root_plain : (f : Root → Reply) (root : Option Root) → ((x : Root) → reply_fault (f x) ≡ false) → reply_fault (option_map_or f root (reply.Refused NotWatched)) ≡ false
 at_root_plain f None h = refl
@@ -70,9 +72,11 @@ at_root_plain f (Some root) h = h root
 met_trigger_plain : (s : roots.State) (path : List ℕ) (t : Definition) (root : Root) → reply_fault (registry.reply_to_trigger s path t root) ≡ false
 met_trigger_plain s path t root =
     let new = roots.with_triggers s path root (defined t root.triggers) in
-    either_reply (list_any (same_definition t) root.triggers) _ _ refl
+    either_reply (count_fits s.version t.max_files_stdin) _ (reply.Refused OldVersion)
+    (either_reply (list_any (same_definition t) root.triggers) _ _ refl
     (either_reply (has_trigger t.name root.triggers) _ _ (full_plain new reply.Replaced refl)
-    (either_reply (nat_lt (length root.triggers) 64) _ _ (full_plain new reply.Changed refl) refl))
+    (either_reply (nat_lt (length root.triggers) 64) _ _ (full_plain new reply.Changed refl) refl)))
+    refl
 
 registry_plain : (s : roots.State) (c : Command) → reply_fault (registry.reply_to s c) ≡ false
 registry_plain s command.Begin = either_reply (nat_lt s.incarnation max_counter) _ _ refl refl

@@ -15,7 +15,7 @@ returns-in-Ok-commit_batch-clause-met g c =
     let works = not_true old.failed (λ failed. let bad = told.calls.stays_down (inl failed) in absurd cc) in
     λ views.
     met_alone g.D.Disk old new c.args.command c.requires.plain c.in-Ok-commit_batch.replies.items c.index.result.now views
-    (only_reply new.number new.room old.registry c.args.command c.in-Ok-commit_batch.replies.items c.index.result.now told.committed.batch.answered c.index.ensures)
+    (only_reply old.registry.version new.number new.room old.registry c.args.command c.in-Ok-commit_batch.replies.items c.index.result.now told.committed.batch.answered c.index.ensures)
     works told.calls.works told.calls.device.no_failure told.number.0 told.committed.batch told.committed.registry
 
 pub returns-in-Ok-commit_batch-clause-later : goal.returns-in-Ok-commit_batch-clause-later

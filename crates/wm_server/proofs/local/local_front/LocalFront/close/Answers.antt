@@ -1,10 +1,9 @@
 use Rattle.std.proofs.Common.{◌∙◌, ap, inl, subst, sym}
 use Rattle.std.specs.Prelude.{OnOk}
 use Rattle.wm_disk.specs.Moments.{LeavesOnly}
-use Rattle.wm_checkpoint.specs.Meanings.{MeansState}
-use Rattle.wm_registry.specs.MachineLaws.{watches}
 use Rattle.wm_server.specs.local.Stores.{IsKeptOn}
 use Rattle.wm_server.proofs.local.local_front.LocalFront.close.Goals as goal
+use Rattle.wm_store.specs.Meant.{MeansRegistry}
 
 pub returns-clause-kept : goal.returns-clause-kept
 returns-clause-kept g c =
@@ -13,7 +12,7 @@ returns-clause-kept g c =
 
 pub returns-clause-any_moment : goal.returns-clause-any_moment
 returns-clause-any_moment g c = λ works.
-    subst (λ d. g.D.Disk.honest d → LeavesOnly g.D.Disk.moment g.D.Disk.left_since c.args.self.store.disk d (MeansState watches c.args.self.store.registry)) (sym c.into_disk.ensures.value) (c.close-closed.ensures.any_moment works)
+    subst (λ d. g.D.Disk.honest d → LeavesOnly g.D.Disk.moment g.D.Disk.left_since c.args.self.store.disk d (MeansRegistry c.args.self.store.registry)) (sym c.into_disk.ensures.value) (c.close-closed.ensures.any_moment works)
 
 pub returns-clause-still : goal.returns-clause-still
 returns-clause-still g c = λ failed.
