@@ -11,6 +11,7 @@ mod files;
 mod register;
 mod switch;
 mod version_2;
+mod versions;
 
 use crate::disks::{content_of, overwrite};
 use register::Register;

@@ -17,3 +17,5 @@ mod disks;
 mod journal;
 #[cfg(test)]
 mod store;
+#[cfg(test)]
+mod versions;

@@ -1,40 +1,27 @@
-//! Stores on disks in memory.
+//! Stores on disks in memory, of files of both versions.
 mod calls;
 mod cuts;
 mod faults;
 mod files;
+mod longest;
 mod openings;
 mod sweeps;
+mod triggers;
 
 use crate::disks::{content_of, disk_of, overwrite};
+use crate::versions::{Part, formatted, place};
 use std::alloc::Global;
 use std::process::Abort;
 use wm_disk::{MemDisk, Refusal};
 use wm_names::RootPath;
-use wm_registry::{Command, MAX_BATCH, Reply};
-use wm_store::{Store, format};
+use wm_registry::{Command, MAX_BATCH, Reply, Version};
+use wm_store::Store;
 
 /// A store on a disk in memory.
 pub(crate) type Kept = Store<MemDisk>;
 
-/// Where the journal of slot A begins.
-const JOURNAL_A: usize = 1_052_672;
-
-/// Where slot B begins.
-const SLOT_B: usize = 1_314_816;
-
-/// Where the journal of slot B begins.
-const JOURNAL_B: usize = 2_363_392;
-
 /// A start asks the length, syncs and reads, and commits its `Begin`: a write, a sync, its gate and a sync.
 const START_CALLS: u64 = 7;
-
-/// A disk with a formatted file.
-fn formatted(rt: &impl Abort, alloc: Global) -> MemDisk {
-    let mut disk = MemDisk::new(alloc, 0);
-    format(alloc, &mut disk).expect(rt, "a file");
-    disk
-}
 
 /// A store on this disk.
 pub(crate) fn open(rt: &impl Abort, alloc: Global, disk: MemDisk) -> Kept {
@@ -47,9 +34,25 @@ fn open_bytes(rt: &impl Abort, alloc: Global, choice: u64, content: &[u8]) -> Ke
     open(rt, alloc, disk_of(rt, alloc, choice, content))
 }
 
-/// A new file, opened once.
-pub(crate) fn opened(rt: &impl Abort, alloc: Global) -> Kept {
-    open(rt, alloc, formatted(rt, alloc))
+/// A new file of this version, opened once.
+pub(crate) fn opened(rt: &impl Abort, alloc: Global, version: Version) -> Kept {
+    open(rt, alloc, formatted(rt, alloc, version))
+}
+
+/// Whether a disk had so many writes, syncs and other calls beside those that made its file and opened it once: the zeros
+/// in 41 or 137 writes, four writes and four syncs of the slot and the header; and the start's.
+fn had(disk: &MemDisk, version: Version, (writes, syncs, others): (u64, u64, u64)) -> bool {
+    let zeros: u64 = match version {
+        Version::One => 41,
+        Version::Two => 137,
+    };
+    let written = writes.saturating_add(zeros + 4 + 2);
+    disk.calls()
+        == (
+            written,
+            syncs.saturating_add(4 + 3),
+            others.saturating_add(2),
+        )
 }
 
 /// Whether these are the paths of the roots.
@@ -121,29 +124,36 @@ fn watch(
     accept(rt, alloc, store, watching(rt, alloc, paths))
 }
 
-/// A new file, opened once, which watches `/r`.
-fn watching_one(rt: &impl Abort, alloc: Global) -> Kept {
-    let mut store = opened(rt, alloc);
+/// A new file of this version, opened once, which watches `/r`.
+fn watching_one(rt: &impl Abort, alloc: Global, version: Version) -> Kept {
+    let mut store = opened(rt, alloc, version);
     watch(rt, alloc, &mut store, &["/r"]).expect(rt, "a watch");
     store
 }
 
 /// The disk of a store that watches `/r` and made a checkpoint.
-fn checkpointed_disk(rt: &impl Abort, alloc: Global) -> MemDisk {
-    let mut store = watching_one(rt, alloc);
+fn checkpointed_disk(rt: &impl Abort, alloc: Global, version: Version) -> MemDisk {
+    let mut store = watching_one(rt, alloc, version);
     store.checkpoint(alloc).expect(rt, "a checkpoint");
     store.into_disk()
 }
 
-/// The bytes of a file that watches `/r` since its first start, behind a checkpoint: so the next start finds an open gate to
-/// close.
-fn checkpointed(rt: &impl Abort, alloc: Global) -> Vec<u8> {
-    content_of(rt, alloc, checkpointed_disk(rt, alloc))
+/// The bytes of a file of this version that watches `/r` since its first start, behind a checkpoint: so the next start finds an
+/// open gate to close.
+fn checkpointed(rt: &impl Abort, alloc: Global, version: Version) -> Vec<u8> {
+    content_of(rt, alloc, checkpointed_disk(rt, alloc, version))
 }
 
-/// A new file with other bytes at a place.
-fn edited(rt: &impl Abort, alloc: Global, at: usize, bytes: &[u8]) -> Vec<u8> {
-    let mut content = content_of(rt, alloc, formatted(rt, alloc));
+/// A new file of this version with other bytes, so far behind the beginning of a part.
+fn edited(
+    rt: &impl Abort,
+    alloc: Global,
+    version: Version,
+    (part, offset): (Part, usize),
+    bytes: &[u8],
+) -> Vec<u8> {
+    let mut content = content_of(rt, alloc, formatted(rt, alloc, version));
+    let at = place(version, part).saturating_add(offset);
     overwrite(rt, &mut content, at, bytes);
     content
 }

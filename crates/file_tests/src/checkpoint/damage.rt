@@ -6,11 +6,11 @@ use std::alloc::Global;
 use std::process::Abort;
 use wm_disk::Refusal;
 
-/// Whether an opening is refused so after so many lengths and readings, one sync and no write, and hands the
-/// disk back as it was.
-fn refuses(rt: &impl Abort, alloc: Global, content: &[u8], wanted: Refusal, reads: u64) -> bool {
+/// Whether an opening is refused so after a length, one sync, a reading and no write, and hands the disk back as it
+/// was.
+fn refuses(rt: &impl Abort, alloc: Global, content: &[u8], wanted: Refusal) -> bool {
     let (refusal, disk) = refused(rt, alloc, disk_of(rt, alloc, 0, content));
-    let told = refusal == wanted && disk.calls() == (1, 2, reads);
+    let told = refusal == wanted && disk.calls() == (1, 2, 2);
     let after = content_of(rt, alloc, disk);
     told && after.as_slice() == content
 }
@@ -23,7 +23,7 @@ fn assert_refused(rt: &impl Abort, alloc: Global, changes: &[Edited], wanted: Re
     let content = content_after(rt, alloc, TWO_SLOTS);
     for (about, edits) in changes {
         let content = edited(rt, alloc, &content, edits);
-        check!(rt; refuses(rt, alloc, &content, wanted, 2), about);
+        check!(rt; refuses(rt, alloc, &content, wanted), about);
     }
 }
 
@@ -120,7 +120,7 @@ fn refuses_short_files(rt: HostRuntime) {
             overwrite(&rt, &mut content, 12, b"\xa5");
         }
         content.truncate(*len);
-        let refused = refuses(&rt, alloc, &content, Refusal::Damaged, 1);
+        let refused = refuses(&rt, alloc, &content, Refusal::Damaged);
         check!(rt; refused, (len, has_open_gate));
     }
 }
@@ -141,5 +141,5 @@ fn refuses_a_journal_with_no_closed_gate(rt: HostRuntime) {
     overwrite(&rt, &mut content, 2_363_392, &journal);
     check!(rt; state_and_room(&rt, alloc, &content) == (5, 0));
     overwrite(&rt, &mut content, 2_625_535, b"\xa5");
-    check!(rt; refuses(&rt, alloc, &content, Refusal::Damaged, 2));
+    check!(rt; refuses(&rt, alloc, &content, Refusal::Damaged));
 }

@@ -79,7 +79,7 @@ fn set_long(rt: &impl Abort, alloc: Global, kept: &mut LongKept, to: u64) {
 
 /// A file of version 2 with slot A under number 1, the state 1 and the commands 2 and 3, and slot B under
 /// number 2, the state 3 and the command 4.
-fn two_slots(rt: &impl Abort, alloc: Global) -> Vec<u8> {
+pub(super) fn two_slots(rt: &impl Abort, alloc: Global) -> Vec<u8> {
     let mut disk = MemDisk::new(alloc, 0);
     LongKeeper::format(alloc, &mut disk, &1).expect(rt, "a file");
     let mut kept = open_long(rt, alloc, disk);

@@ -7,15 +7,15 @@ use std::sync::Wait;
 use wm_disk::{MemDisk, Refusal};
 use wm_groupcommit::{Desk, Receipt};
 use wm_names::RootPath;
-use wm_registry::{Command, Reply};
+use wm_registry::{Command, Reply, Version};
 use wm_store::Store;
 
 /// A desk on a disk in memory.
 pub(crate) type Kept = Desk<MemDisk>;
 
-/// A desk over a store on a new file.
+/// A desk over a store on a new file of version 2.
 pub(crate) fn desk(rt: &impl Abort, alloc: Global) -> Kept {
-    desk_over(rt, alloc, opened(rt, alloc))
+    desk_over(rt, alloc, opened(rt, alloc, Version::Two))
 }
 
 /// A desk over this store.

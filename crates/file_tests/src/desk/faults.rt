@@ -7,10 +7,11 @@ use std::process::Abort;
 use std::sync::Wait;
 use std::thread::join;
 use wm_disk::Refusal;
+use wm_registry::Version;
 
 /// A desk over a new file, on a disk that fails at the first write of the second group.
 fn faulty(rt: &impl Abort, alloc: Global) -> Kept {
-    let mut store = opened(rt, alloc);
+    let mut store = opened(rt, alloc, Version::Two);
     store.arm(4);
     desk_over(rt, alloc, store)
 }

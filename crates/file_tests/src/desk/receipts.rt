@@ -17,7 +17,7 @@ const TIMES: usize = 100;
 /// A trigger with one of two commands.
 fn trigger(rt: &impl Abort, alloc: Global, is_first: bool) -> Trigger {
     let program = if is_first { "true" } else { "false" };
-    let made = Trigger::new(alloc, "t", &[program], None, false, Stdin::DevNull);
+    let made = Trigger::new(alloc, "t", &[program], None, false, Stdin::DevNull, None);
     made.expect(rt, "a trigger")
 }
 

@@ -3,12 +3,14 @@
 use crate::checks::check;
 use crate::desk::desks::{Kept, desk_over, flush_for, refusal_of, watch};
 use crate::store::open;
+use crate::versions::formatted_with;
 use std::alloc::Global;
 use std::process::Abort;
 use std::sync::Wait;
 use std::thread::{Threads, join};
 use wm_disk::{Crashed, Disk, MemDisk, Refusal};
-use wm_store::{Store, format};
+use wm_registry::Version;
+use wm_store::Store;
 
 /// What each thread watches.
 const PATHS: [&str; 4] = ["/a", "/b", "/c", "/d"];
@@ -35,11 +37,9 @@ fn choices(rt: &impl Abort, alloc: Global, quarter: u32) -> Vec<u64> {
     choices
 }
 
-/// A desk over a store on a new file, on a disk that lets so many calls pass.
-fn faulty(rt: &impl Abort, alloc: Global, choice: u64, passing: u64) -> Kept {
-    let mut disk = MemDisk::new(alloc, choice);
-    format(alloc, &mut disk).expect(rt, "a file");
-    let mut store = open(rt, alloc, disk);
+/// A desk over a store on a new file of this version, on a disk that lets so many calls pass.
+fn faulty(rt: &impl Abort, alloc: Global, version: Version, choice: u64, passing: u64) -> Kept {
+    let mut store = open(rt, alloc, formatted_with(rt, alloc, version, choice));
     store.arm(passing);
     desk_over(rt, alloc, store)
 }
@@ -114,15 +114,18 @@ fn started(alloc: Global, mut disk: MemDisk, passing: u64) -> MemDisk {
     }
 }
 
+/// The version of a file, what the crashes of its disk leave, and what ends its store.
+type Case = (Version, u64, End);
+
 /// Four threads on a disk that lets so many calls pass: whether a start behind the end finds what may be found, and whether
 /// any thread was refused.
 fn cut<R: Threads + Wait + Abort + Sync>(
     rt: &R,
     alloc: Global,
-    (choice, end): (u64, End),
+    (version, choice, end): Case,
     passing: u64,
 ) -> Option<bool> {
-    let desk = faulty(rt, alloc, choice, passing);
+    let desk = faulty(rt, alloc, version, choice, passing);
     let shared = &desk;
     let (count, refusals) = join(rt, || flush_for(rt, shared, 4), || four(rt, alloc, shared));
     let disk = desk.into_store().into_disk();
@@ -138,9 +141,9 @@ fn cut<R: Threads + Wait + Abort + Sync>(
 }
 
 /// Whether each device call in turn may be the first that fails. Behind the last of them nothing is refused.
-fn stands<R: Threads + Wait + Abort + Sync>(rt: &R, alloc: Global, choice: u64, end: End) -> bool {
+fn stands<R: Threads + Wait + Abort + Sync>(rt: &R, alloc: Global, case: Case) -> bool {
     for passing in 0..MOST_CALLS + 1 {
-        let Some(is_cut) = cut(rt, alloc, (choice, end), passing) else {
+        let Some(is_cut) = cut(rt, alloc, case, passing) else {
             return false;
         };
         if passing < 7 && !is_cut || passing == MOST_CALLS && is_cut {
@@ -150,10 +153,11 @@ fn stands<R: Threads + Wait + Abort + Sync>(rt: &R, alloc: Global, choice: u64, 
     true
 }
 
-/// They have to be found under a quarter of the choices.
+/// They have to be found under a quarter of the choices, in a file of version 1.
 fn assert_found<R: Threads + Wait + Abort + Sync>(rt: &R, alloc: Global, quarter: u32) {
     for choice in &choices(rt, alloc, quarter) {
-        check!(rt; stands(rt, alloc, *choice, End::Crash), choice);
+        let case = (Version::One, *choice, End::Crash);
+        check!(rt; stands(rt, alloc, case), choice);
     }
 }
 
@@ -182,7 +186,20 @@ fn answered_commands_are_found_behind_a_stop(rt: HostRuntime) {
     let alloc = rt.alloc();
     for choice in 0..4u64 {
         for calls in 0..START_CALLS + 1 {
-            check!(rt; stands(&rt, alloc, choice, End::Stop(calls)), (choice, calls));
+            let case = (Version::One, choice, End::Stop(calls));
+            check!(rt; stands(&rt, alloc, case), (choice, calls));
+        }
+    }
+}
+
+/// A file of version 2 takes over three times as long.
+#[test]
+fn answered_commands_are_found_in_version_2(rt: HostRuntime) {
+    let alloc = rt.alloc();
+    for choice in [3u64, 0x5555_5555_5555_5555] {
+        for end in [End::Crash, End::Stop(3)] {
+            let case = (Version::Two, choice, end);
+            check!(rt; stands(&rt, alloc, case), choice);
         }
     }
 }

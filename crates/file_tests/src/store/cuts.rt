@@ -1,12 +1,12 @@
 //! Stores whose disk fails, and closed ones.
-use super::{
-    Kept, checkpointed, formatted, open, open_bytes, opened, watch, watches, watching_one,
-};
+use super::{Kept, checkpointed, had, open, open_bytes, opened, watch, watches, watching_one};
 use crate::checks::check;
 use crate::disks::content_of;
+use crate::versions::{VERSIONS, formatted};
 use std::alloc::Global;
 use std::process::Abort;
 use wm_disk::{Crashed, MemDisk, Refusal};
+use wm_registry::Version;
 
 /// Whether each call of the store is answered that it is down.
 fn is_down(rt: &impl Abort, alloc: Global, store: &mut Kept) -> bool {
@@ -40,16 +40,18 @@ fn is_found(rt: &impl Abort, alloc: Global, disk: MemDisk, roots: &[&str]) -> bo
     is_found
 }
 
+/// How many device calls of the batch pass, and the roots that are then found.
+type Stop = (u64, &'static [&'static str]);
+
 /// Whether the store goes down so, and leaves these roots on the disk.
-fn leaves(rt: &impl Abort, alloc: Global, passing: u64, roots: &[&str]) -> bool {
-    let mut store = opened(rt, alloc);
+fn leaves(rt: &impl Abort, alloc: Global, version: Version, (passing, roots): Stop) -> bool {
+    let mut store = opened(rt, alloc, version);
     let is_down = goes_down(rt, alloc, &mut store, passing);
     let is_found = is_found(rt, alloc, store.into_disk().stop(), roots);
     is_down && is_found
 }
 
-/// How many device calls of the batch pass, and the roots that are then found.
-const STOPS: &[(u64, &[&str])] = &[
+const STOPS: &[Stop] = &[
     (0, &[]),
     (1, &[]),
     (2, &[]),
@@ -58,17 +60,29 @@ const STOPS: &[(u64, &[&str])] = &[
     (5, &["/a", "/b", "/c"]),
 ];
 
-/// A write and a sync, a write for each of the three gates, and a sync.
-#[test]
-fn finds_a_prefix_of_a_cut_batch(rt: HostRuntime) {
-    for (passing, found) in STOPS {
-        let leaves = leaves(&rt, rt.alloc(), *passing, found);
-        check!(rt; leaves, passing);
+/// Each of the stops has to leave its roots.
+fn assert_leaves(rt: &impl Abort, alloc: Global, version: Version) {
+    for row in STOPS {
+        check!(rt; leaves(rt, alloc, version, *row), (version, row));
     }
 }
 
-/// What the crashes of [`MemDisk::new`] leave: its choices 0 to 3, and every other bit.
-const CHOICES: &[u64] = &[0, 1, 2, 3, 0x5555_5555_5555_5555, 0xaaaa_aaaa_aaaa_aaaa];
+/// A write and a sync, a write for each of the three gates, and a sync.
+#[test]
+fn finds_a_prefix_of_a_cut_batch(rt: HostRuntime) {
+    for version in VERSIONS {
+        assert_leaves(&rt, rt.alloc(), *version);
+    }
+}
+
+/// What the crashes of [`MemDisk::new`] leave: its choices 0 to 3, and every other bit; of a file of version 2, which takes over
+/// three times as long, half of them.
+fn choices(version: Version) -> &'static [u64] {
+    match version {
+        Version::One => &[0, 1, 2, 3, 0x5555_5555_5555_5555, 0xaaaa_aaaa_aaaa_aaaa],
+        Version::Two => &[0, 3, 0x5555_5555_5555_5555],
+    }
+}
 
 /// Where a call is cut: behind so many of its device calls, by a crash that leaves what the choice says.
 type Cut = (u64, u64);
@@ -102,15 +116,21 @@ fn begins(
 /// other behind the first sync.
 const CRASHES: &[(u64, usize)] = &[(0, 0), (1, 0), (2, 0), (3, 1), (4, 2), (5, 3)];
 
+/// Each crash has to leave a prefix, in a file of this version.
+fn assert_begins(rt: &impl Abort, alloc: Global, version: Version) {
+    let content = content_of(rt, alloc, formatted(rt, alloc, version));
+    for (passing, most) in CRASHES {
+        for choice in choices(version) {
+            let cut = (*passing, *choice);
+            check!(rt; begins(rt, alloc, &content, cut, *most), (version, cut));
+        }
+    }
+}
+
 #[test]
 fn finds_a_prefix_after_a_crash(rt: HostRuntime) {
-    let alloc = rt.alloc();
-    let content = content_of(&rt, alloc, formatted(&rt, alloc));
-    for (passing, most) in CRASHES {
-        for choice in CHOICES {
-            let cut = (*passing, *choice);
-            check!(rt; begins(&rt, alloc, &content, cut, *most), cut);
-        }
+    for version in VERSIONS {
+        assert_begins(&rt, rt.alloc(), *version);
     }
 }
 
@@ -132,15 +152,22 @@ fn keeps(rt: &impl Abort, alloc: Global, content: &[u8], (passing, choice): Cut)
     stays && is_found
 }
 
+/// Each cut of a checkpoint of a file of this version has to leave the registry.
+fn assert_keeps(rt: &impl Abort, alloc: Global, version: Version) {
+    let content = checkpointed(rt, alloc, version);
+    for passing in 0..9u64 {
+        for choice in choices(version) {
+            let cut = (passing, *choice);
+            check!(rt; keeps(rt, alloc, &content, cut), (version, cut));
+        }
+    }
+}
+
 /// Before, within and after each of the device calls.
 #[test]
 fn keeps_its_registry_through_a_cut_checkpoint(rt: HostRuntime) {
-    let content = checkpointed(&rt, rt.alloc());
-    for passing in 0..9u64 {
-        for choice in CHOICES {
-            let cut = (passing, *choice);
-            check!(rt; keeps(&rt, rt.alloc(), &content, cut), cut);
-        }
+    for version in VERSIONS {
+        assert_keeps(&rt, rt.alloc(), *version);
     }
 }
 
@@ -150,13 +177,19 @@ fn is_answered(rt: &impl Abort, alloc: Global, store: &mut Kept) -> bool {
     watch(rt, alloc, store, BATCH) == Ok(3) && watches(store, BATCH)
 }
 
+/// Whether an answered batch outlasts a crash.
+fn keeps_batch(rt: &impl Abort, alloc: Global, version: Version) -> bool {
+    let mut store = opened(rt, alloc, version);
+    let is_answered = is_answered(rt, alloc, &mut store);
+    let is_found = is_found(rt, alloc, store.into_disk().crash(), BATCH);
+    is_answered && is_found
+}
+
 #[test]
 fn keeps_an_answered_batch(rt: HostRuntime) {
-    let alloc = rt.alloc();
-    let mut store = opened(&rt, alloc);
-    let is_answered = is_answered(&rt, alloc, &mut store);
-    let is_found = is_found(&rt, alloc, store.into_disk().crash(), BATCH);
-    check!(rt; is_answered && is_found);
+    for version in VERSIONS {
+        check!(rt; keeps_batch(&rt, rt.alloc(), *version), version);
+    }
 }
 
 /// Whether the store can be closed, is down then, and keeps its registry.
@@ -164,16 +197,21 @@ fn closes(rt: &impl Abort, alloc: Global, store: &mut Kept) -> bool {
     store.close() == Ok(()) && is_down(rt, alloc, store) && watches(store, &["/r"])
 }
 
+/// Whether a closed store made a sync beside a batch of one command, and its registry is found.
+fn stays_closed(rt: &impl Abort, alloc: Global, version: Version) -> bool {
+    let mut store = watching_one(rt, alloc, version);
+    let is_closed = closes(rt, alloc, &mut store);
+    let disk = store.into_disk();
+    let is_counted = had(&disk, version, (2, 2 + 1, 0));
+    let is_found = is_found(rt, alloc, disk.crash(), &["/r"]);
+    is_closed && is_counted && is_found
+}
+
 #[test]
 fn is_down_once_closed(rt: HostRuntime) {
-    let alloc = rt.alloc();
-    let mut store = watching_one(&rt, alloc);
-    let is_closed = closes(&rt, alloc, &mut store);
-    let disk = store.into_disk();
-    let calls = disk.calls();
-    let is_found = is_found(&rt, alloc, disk.crash(), &["/r"]);
-    check!(rt; is_closed && is_found);
-    check!(rt; calls == (49, 10, 2));
+    for version in VERSIONS {
+        check!(rt; stays_closed(&rt, rt.alloc(), *version), version);
+    }
 }
 
 /// Whether a failing last sync is told, and leaves the store down.
@@ -182,9 +220,17 @@ fn fails_to_close(rt: &impl Abort, alloc: Global, store: &mut Kept) -> bool {
     store.close() == Err(Refusal::DeviceFailed) && is_down(rt, alloc, store)
 }
 
+/// Whether a store of a file of this version fails to close so.
+fn fails_at_last(rt: &impl Abort, alloc: Global, version: Version) -> bool {
+    let mut store = watching_one(rt, alloc, version);
+    let fails = fails_to_close(rt, alloc, &mut store);
+    drop(store);
+    fails
+}
+
 #[test]
 fn is_down_where_the_last_sync_fails(rt: HostRuntime) {
-    let mut store = watching_one(&rt, rt.alloc());
-    check!(rt; fails_to_close(&rt, rt.alloc(), &mut store));
-    drop(store);
+    for version in VERSIONS {
+        check!(rt; fails_at_last(&rt, rt.alloc(), *version), version);
+    }
 }

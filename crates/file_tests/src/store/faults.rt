@@ -3,10 +3,11 @@
 use super::{START_CALLS, checkpointed, watching};
 use crate::checks::check;
 use crate::disks::disk_of;
+use crate::versions::VERSIONS;
 use std::alloc::Global;
 use std::process::Abort;
 use wm_disk::{MemDisk, OneFault, Refusal};
-use wm_registry::MAX_BATCH;
+use wm_registry::{MAX_BATCH, Version};
 use wm_store::Store;
 
 /// A store on a disk of which one call fails.
@@ -59,12 +60,18 @@ fn refuses(rt: &impl Abort, alloc: Global, content: &[u8], calls: u64) -> bool {
     refusals == wanted(calls)
 }
 
+/// Each call in turn has to fail once on a file of this version.
+fn assert_refuses(rt: &impl Abort, alloc: Global, version: Version) {
+    let content = checkpointed(rt, alloc, version);
+    for calls in 0..18u64 {
+        check!(rt; refuses(rt, alloc, &content, calls), (version, calls));
+    }
+}
+
 /// The device would do every call behind the one that failed, and isn't asked for any.
 #[test]
 fn a_device_fails_once(rt: HostRuntime) {
-    let content = checkpointed(&rt, rt.alloc());
-    for calls in 0..18u64 {
-        let refuses = refuses(&rt, rt.alloc(), &content, calls);
-        check!(rt; refuses, calls);
+    for version in VERSIONS {
+        assert_refuses(&rt, rt.alloc(), *version);
     }
 }

@@ -1,28 +1,73 @@
 //! The bytes of files, and what a store finds in them.
 use super::{
-    JOURNAL_A, JOURNAL_B, Kept, SLOT_B, checkpointed_disk, edited, formatted, is_numbered, open,
-    open_bytes, opened, replies, watches, watching,
+    Kept, checkpointed_disk, edited, had, is_numbered, open, open_bytes, opened, replies, watches,
+    watching,
 };
 use crate::checks::check;
-use crate::disks::{assert_stand, content_of, disk_of, stands};
+use crate::disks::{content_of, disk_of, stands};
+use crate::versions::{Part, VERSIONS, formatted, place};
 use std::alloc::Global;
 use std::process::Abort;
 use wm_disk::{Crashed, MemDisk, Refusal};
-use wm_registry::{Command, Reply};
+use wm_registry::{Command, Reply, Version};
 use wm_store::Store;
 
+/// The version that the header says.
+fn version_byte(version: Version) -> u8 {
+    match version {
+        Version::One => 1,
+        Version::Two => 2,
+    }
+}
+
+/// Whether a new store is one of this version, as its header says.
+fn is_of(rt: &impl Abort, alloc: Global, version: Version) -> bool {
+    let store = opened(rt, alloc, version);
+    let told = store.registry().version() == version;
+    let content = content_of(rt, alloc, store.into_disk());
+    let header = [
+        165,
+        87,
+        77,
+        83,
+        84,
+        65,
+        84,
+        69,
+        0,
+        0,
+        0,
+        version_byte(version),
+        0,
+    ];
+    told && stands(&content, 0, &header)
+}
+
 #[test]
-fn begins_at_each_opening(rt: HostRuntime) {
-    let alloc = rt.alloc();
-    let mut disk = formatted(&rt, alloc);
+fn has_the_version_of_its_file(rt: HostRuntime) {
+    for version in VERSIONS {
+        check!(rt; is_of(&rt, rt.alloc(), *version), version);
+    }
+}
+
+/// Opens a new file three times.
+fn begin_thrice(rt: &impl Abort, alloc: Global, version: Version) {
+    let mut disk = formatted(rt, alloc, version);
     for incarnation in 1..4u64 {
-        let store = open(&rt, alloc, disk);
+        let store = open(rt, alloc, disk);
         let is_new = is_numbered(&store, incarnation, 1) && store.registry().roots().is_empty();
-        check!(rt; is_new, incarnation);
+        check!(rt; is_new, (version, incarnation));
         // The incarnation is durable.
         disk = store.into_disk().crash();
     }
     drop(disk);
+}
+
+#[test]
+fn begins_at_each_opening(rt: HostRuntime) {
+    for version in VERSIONS {
+        begin_thrice(&rt, rt.alloc(), *version);
+    }
 }
 
 /// Whether a `Begin` is refused.
@@ -33,16 +78,22 @@ fn refuses_begin(rt: &impl Abort, alloc: Global, store: &mut Kept) -> bool {
     replies(rt, alloc, store, commands, &wanted)
 }
 
-#[test]
-fn refuses_a_begin(rt: HostRuntime) {
-    let mut store = opened(&rt, rt.alloc());
-    let is_refused = refuses_begin(&rt, rt.alloc(), &mut store);
+/// Whether a `Begin` is refused with no call of the disk.
+fn keeps_to_one_begin(rt: &impl Abort, alloc: Global, version: Version) -> bool {
+    let mut store = opened(rt, alloc, version);
+    let is_refused = refuses_begin(rt, alloc, &mut store);
     let incarnation = store.registry().incarnation();
     let disk = store.into_disk();
-    let calls = disk.calls();
+    let is_idle = had(&disk, version, (0, 0, 0));
     drop(disk);
-    check!(rt; is_refused);
-    check!(rt; incarnation == 1 && calls == (47, 7, 2));
+    is_refused && incarnation == 1 && is_idle
+}
+
+#[test]
+fn refuses_a_begin(rt: HostRuntime) {
+    for version in VERSIONS {
+        check!(rt; keeps_to_one_begin(&rt, rt.alloc(), *version), version);
+    }
 }
 
 /// The bytes of this disk. A next store on it has to have the incarnation 2, the next root 2 and these roots.
@@ -58,30 +109,26 @@ fn takes_root(rt: &impl Abort, alloc: Global, store: &mut Kept) -> bool {
     replies(rt, alloc, store, commands, &[Reply::Changed])
 }
 
-#[test]
-fn writes_what_it_accepts(rt: HostRuntime) {
+/// Whether a `Begin`, a watch and the next `Begin` stand in the journal.
+fn writes_watch(rt: &impl Abort, alloc: Global, version: Version) -> bool {
     const JOURNAL: &[u8] = b"\xa5\x00\xa5\x01\x00\x00\x00\x02\x2f\x72\xa5\x00\x00";
-    let alloc = rt.alloc();
-    let mut store = opened(&rt, alloc);
-    let is_taken = takes_root(&rt, alloc, &mut store);
+    let mut store = opened(rt, alloc, version);
+    let is_taken = takes_root(rt, alloc, &mut store);
     let disk = store.into_disk().crash();
-    let content = found(&rt, alloc, disk, &["/r"]);
-    check!(rt; is_taken);
-    check!(rt; stands(&content, JOURNAL_A, JOURNAL));
+    let content = found(rt, alloc, disk, &["/r"]);
+    is_taken && stands(&content, place(version, Part::JournalA), JOURNAL)
 }
 
-/// The head of slot B, the registry in it, and the closed gate of its journal.
-const CHECKPOINTED: &[(usize, &[u8])] = &[
-    (
-        SLOT_B,
-        b"\xa5\x00\x00\x00\x00\x00\x00\x00\x02\x00\x00\x00\x26",
-    ),
-    (
-        SLOT_B + 13,
-        b"\x00\x00\x00\x00\x00\x00\x00\x01\x00\x00\x00\x00\x00\x00\x00\x02\x00\x00\x00\x01\x00\x00\x00\x02\x2f\x72\x00\x00\x00\x00\x00\x00\x00\x01\x00\x00\x00\x00",
-    ),
-    (JOURNAL_B, b"\x00"),
-];
+#[test]
+fn writes_what_it_accepts(rt: HostRuntime) {
+    for version in VERSIONS {
+        check!(rt; writes_watch(&rt, rt.alloc(), *version), version);
+    }
+}
+
+/// Slot B: its head, and the registry in it.
+const CHECKPOINTED: &[u8] =
+    b"\xa5\x00\x00\x00\x00\x00\x00\x00\x02\x00\x00\x00\x26\x00\x00\x00\x00\x00\x00\x00\x01\x00\x00\x00\x00\x00\x00\x00\x02\x00\x00\x00\x01\x00\x00\x00\x02\x2f\x72\x00\x00\x00\x00\x00\x00\x00\x01\x00\x00\x00\x00";
 
 /// Whether a next store on these bytes has the incarnation 2 and watches `/r`.
 fn reads(rt: &impl Abort, alloc: Global, content: &[u8]) -> bool {
@@ -91,30 +138,44 @@ fn reads(rt: &impl Abort, alloc: Global, content: &[u8]) -> bool {
     reads
 }
 
-#[test]
-fn writes_its_registry_into_the_other_slot(rt: HostRuntime) {
-    let disk = checkpointed_disk(&rt, rt.alloc());
-    let calls = disk.calls();
-    let content = content_of(&rt, rt.alloc(), disk.crash());
-    check!(rt; calls == (52, 12, 3));
-    assert_stand(&rt, &content, CHECKPOINTED);
-    check!(rt; reads(&rt, rt.alloc(), &content));
+/// Whether a batch of one command and a checkpoint make so many calls, and slot B and the closed gate of its journal stand.
+fn writes_slot(rt: &impl Abort, alloc: Global, version: Version) -> bool {
+    let disk = checkpointed_disk(rt, alloc, version);
+    let is_counted = had(&disk, version, (2 + 3, 2 + 3, 1));
+    let content = content_of(rt, alloc, disk.crash());
+    let is_written = stands(&content, place(version, Part::SlotB), CHECKPOINTED)
+        && stands(&content, place(version, Part::JournalB), b"\x00");
+    is_counted && is_written && reads(rt, alloc, &content)
 }
 
-/// The disk of a new file with other bytes at a place.
-fn edited_disk(rt: &impl Abort, alloc: Global, at: usize, bytes: &[u8]) -> MemDisk {
-    let content = edited(rt, alloc, at, bytes);
+#[test]
+fn writes_its_registry_into_the_other_slot(rt: HostRuntime) {
+    for version in VERSIONS {
+        check!(rt; writes_slot(&rt, rt.alloc(), *version), version);
+    }
+}
+
+/// The disk of a new file of which the journal begins with these bytes.
+fn with_journal(rt: &impl Abort, alloc: Global, version: Version, journal: &[u8]) -> MemDisk {
+    let content = edited(rt, alloc, version, (Part::JournalA, 0), journal);
     disk_of(rt, alloc, 0, &content)
 }
 
-/// The first and the third of three watches are open.
-#[test]
-fn leaves_what_is_behind_a_closed_gate(rt: HostRuntime) {
+/// Whether a start behind the first of three watches, of which the first and the third are open, stands in the second's place.
+fn leaves_rest(rt: &impl Abort, alloc: Global, version: Version) -> bool {
     const FOUND: &[u8] =
         b"\xa5\x00\xa5\x01\x00\x00\x00\x02\x2f\x61\x00\x01\x00\x00\x00\x02\x2f\x62\xa5\x01\x00\x00\x00\x02\x2f\x63\x00";
-    let disk = edited_disk(&rt, rt.alloc(), JOURNAL_A, FOUND);
-    let content = found(&rt, rt.alloc(), disk, &["/a"]);
-    check!(rt; stands(&content, JOURNAL_A + 10, b"\xa5\x00\x00"));
+    let disk = with_journal(rt, alloc, version, FOUND);
+    let content = found(rt, alloc, disk, &["/a"]);
+    let at = place(version, Part::JournalA).saturating_add(10);
+    stands(&content, at, b"\xa5\x00\x00")
+}
+
+#[test]
+fn leaves_what_is_behind_a_closed_gate(rt: HostRuntime) {
+    for version in VERSIONS {
+        check!(rt; leaves_rest(&rt, rt.alloc(), *version), version);
+    }
 }
 
 #[test]

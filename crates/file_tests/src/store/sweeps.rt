@@ -7,6 +7,7 @@ use crate::disks::disk_of;
 use std::alloc::Global;
 use std::process::Abort;
 use wm_disk::{Crashed, MemDisk, Refusal};
+use wm_registry::Version;
 use wm_store::Store;
 
 /// What is cut: the start of a store, or a call on it.
@@ -229,11 +230,25 @@ fn assert_found(rt: &impl Abort, alloc: Global, on: (&[u8], Work), calls: u64, c
     }
 }
 
-/// Sweeps over the work, which makes so many calls, under a quarter of the choices.
+/// Sweeps over the work on a file of version 1, which makes so many calls, under a quarter of the choices.
 fn assert_sweeps(rt: &impl Abort, alloc: Global, work: Work, calls: u64, quarter: u32) {
-    let content = checkpointed(rt, alloc);
+    let content = checkpointed(rt, alloc, Version::One);
     let choices = choices(rt, alloc, quarter);
     assert_found(rt, alloc, (&content, work), calls, &choices);
+}
+
+/// Sweeps over the work on a file of version 2, which makes so many calls, under few choices: it takes over three times as long.
+fn assert_sweeps_longer(rt: &impl Abort, alloc: Global, work: Work, calls: u64) {
+    const CHOICES: &[u64] = &[3, 0x5555_5555_5555_5555];
+    let content = checkpointed(rt, alloc, Version::Two);
+    for choice in CHOICES {
+        let crashed = crashed(rt, alloc, (&content, work), *choice);
+        check!(rt; crashed == Some(calls), choice);
+    }
+    for passing in 0..calls.saturating_add(1) {
+        let stopped = stopped(rt, alloc, (&content, work), CHOICES[1], passing);
+        check!(rt; stopped == Some(START_CALLS), passing);
+    }
 }
 
 #[test]
@@ -254,6 +269,11 @@ fn a_start_is_cut_at_each_call_third_quarter(rt: HostRuntime) {
 #[test]
 fn a_start_is_cut_at_each_call_fourth_quarter(rt: HostRuntime) {
     assert_sweeps(&rt, rt.alloc(), Work::Start, START_CALLS, 3);
+}
+
+#[test]
+fn a_start_in_version_2_is_cut_at_each_call(rt: HostRuntime) {
+    assert_sweeps_longer(&rt, rt.alloc(), Work::Start, START_CALLS);
 }
 
 /// A batch makes a write and a sync, three gates and a sync.
@@ -279,6 +299,11 @@ fn a_batch_is_cut_at_each_call_fourth_quarter(rt: HostRuntime) {
     assert_sweeps(&rt, rt.alloc(), Work::Batch, BATCH_CALLS, 3);
 }
 
+#[test]
+fn a_batch_in_version_2_is_cut_at_each_call(rt: HostRuntime) {
+    assert_sweeps_longer(&rt, rt.alloc(), Work::Batch, BATCH_CALLS);
+}
+
 /// A checkpoint makes four writes and three syncs, and asks the length.
 const CHECKPOINT_CALLS: u64 = 8;
 
@@ -300,4 +325,9 @@ fn a_checkpoint_is_cut_at_each_call_third_quarter(rt: HostRuntime) {
 #[test]
 fn a_checkpoint_is_cut_at_each_call_fourth_quarter(rt: HostRuntime) {
     assert_sweeps(&rt, rt.alloc(), Work::Checkpoint, CHECKPOINT_CALLS, 3);
+}
+
+#[test]
+fn a_checkpoint_in_version_2_is_cut_at_each_call(rt: HostRuntime) {
+    assert_sweeps_longer(&rt, rt.alloc(), Work::Checkpoint, CHECKPOINT_CALLS);
 }
