@@ -5,7 +5,7 @@ use std::process::Abort;
 use wm_disk::{Crashed, Disk, MemDisk};
 
 /// Where the journal of a new file lies, which is that of its first slot.
-const JOURNAL: usize = 1_052_672;
+const JOURNAL: usize = 4_198_400;
 
 /// So many bytes of the journal of a file that has had no checkpoint.
 pub(crate) fn journal(content: &[u8], len: usize) -> &[u8] {

@@ -3,6 +3,7 @@ mod expressions;
 mod failures;
 mod generated;
 mod limits;
+mod most_names;
 mod plain;
 mod queries;
 mod recrawls;

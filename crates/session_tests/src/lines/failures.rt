@@ -46,7 +46,7 @@ fn refuses_other_files(rt: HostRuntime) {
     for content in OTHERS {
         assert_refused(&rt, alloc, content, "14 Damaged");
     }
-    let blank = vec![in alloc; 0u8; 2_625_536].expect(&rt, "memory");
+    let blank = vec![in alloc; 0u8; 8_916_992].expect(&rt, "memory");
     assert_refused(&rt, alloc, &blank, "14 Damaged");
     drop(blank);
     // a header of another kind, and that of a retired file

@@ -190,7 +190,15 @@ fn answers_triggers_and_watches(rt: HostRuntime) {
 fn commands_keeping(rt: &impl Abort, alloc: Global, text: &str) -> Vec<Command> {
     let root = RootPath::read(alloc, "/r").expect(rt, "a path");
     let watched = root.copy(alloc).expect(rt, "a path");
-    let trigger = Trigger::new(alloc, "t", &["true"], Some(text), false, Stdin::DevNull);
+    let trigger = Trigger::new(
+        alloc,
+        "t",
+        &["true"],
+        Some(text),
+        false,
+        Stdin::DevNull,
+        None,
+    );
     let trigger = trigger.expect(rt, "a trigger");
     let mut batch = Vec::new(alloc);
     batch.push(Command::Watch(watched)).expect(rt, "memory");
