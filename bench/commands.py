@@ -14,7 +14,7 @@ from served import Session, serving
 ROUNDS, SECONDS, CLIENTS = 5, 2, (1, 8, 31)
 NAME, WORD, ROOT = "t00", "true", "/r"
 SET, GONE = '{"disposition":"created",', '{"deleted":true,'  # how the replies begin
-STATE, JOURNAL, JOURNAL_END = 2625536, 1052672, 1314816  # a state file's bytes, and where its first journal lies (docs/FORMATS.md)
+STATE, JOURNAL, JOURNAL_END = 8916992, 4198400, 4460544  # a state file's bytes, and where its first journal lies (docs/FORMATS.md)
 
 
 def requests(root, name):
@@ -43,7 +43,7 @@ def by_lines(program, commands):
 def by_hand(commands):
     """The writes and syncs of these commands: a record and a closed gate behind the last gate, a sync, that gate opened, a sync."""
     text = lambda it: len(it).to_bytes(4, "big") + it.encode()
-    set_it = b"\3" + text(ROOT) + text(NAME) + (1).to_bytes(4, "big") + text(WORD) + b"\0\0\0"
+    set_it = b"\3" + text(ROOT) + text(NAME) + (1).to_bytes(4, "big") + text(WORD) + b"\0\0\0\0"
     records = [set_it + b"\0", b"\4" + text(ROOT) + text(NAME) + b"\0"]
     with tempfile.TemporaryFile() as file:
         file.write(bytes(STATE))

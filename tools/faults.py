@@ -4,7 +4,8 @@ syncs with ENOSPC too (by strace's fault injection), and writes cut short (by a 
 which nothing is written). Shows that the program says so, and that nothing that was answered is
 lost: a start finds the watches and triggers after the answered commands, perhaps with the one that failed.
 
-The session is short, and a checkpoint falls in its midst.
+The session is short, and a checkpoint falls in its midst. It runs on a state file of version 2, and with a third of the faults on one of
+version 1.
 
 Usage: tools/faults.py PROGRAM
 """
@@ -17,6 +18,9 @@ import signal
 import subprocess
 import sys
 import tempfile
+
+sys.dont_write_bytecode = True
+from served import new_state
 
 WORD = ["a" * 1000] * 3
 COMMANDS = (
@@ -81,16 +85,16 @@ def traced(program, path, lines, log):
     return calls, asked.stdout
 
 
-def nearly_full(program, path, folder):
-    """A state file whose journal has room for a few of the commands: as many big commands as come before the checkpoint,
+def nearly_full(program, path, folder, version):
+    """A state file of the version whose journal has room for a few of the commands: as many big commands as come before the checkpoint,
     which is told by a second write of more than a gate in one command, less three."""
     big = [["watch", "/r"]] + [["trigger", "/r", {"name": "t", "command": WORD + [str(i)]}] for i in range(120)]
-    subprocess.run([program, "format", path], check=True, stdout=subprocess.DEVNULL)
+    new_state(program, path, version)
     calls, _ = traced(program, path, big, os.path.join(folder, "calls"))
     places = [place for name, place, _ in calls if name == "pwrite64"]
     turn = next(i for i in range(1, len(places)) if places[i] + 100_000 < places[i - 1] or places[i] > places[i - 1] + 100_000)
     os.remove(path)
-    subprocess.run([program, "format", path], check=True, stdout=subprocess.DEVNULL)
+    new_state(program, path, version)
     # the start makes two writes, and each command two; the last of three kilobytes each has to find no room
     kept = big[: (turn - 2) // 2 - 3]
     assert ran([program, "lines", path], kept).returncode == 0
@@ -117,46 +121,62 @@ def judge(program, path, state, asked, wanted, what):
     sys.exit("%s: behind %d answers a start found %r" % (what, answered, there))
 
 
+def faults_at(calls, step):
+    """What strace is told to let fail: each call that was made with each of its errors, or each third call (a step of 3)."""
+    for name, errors in CALLS.items():
+        for number in range(1, 1 + sum(call[0] == name for call in calls), step):
+            for error in errors:
+                yield name, "inject=%s:error=%s:when=%d" % (name, error, number)
+
+
+def cuts_at(calls, step):
+    """The midst of each write of several bytes, or of each third."""
+    writes = [(place, count) for name, place, count in calls if name == "pwrite64" and count > 1]
+    return [place + count // 2 for place, count in writes[::step]]
+
+
+def limited(limit):
+    # else the write would be the process's end, which is a crash
+    signal.signal(signal.SIGXFSZ, signal.SIG_IGN)
+    resource.setrlimit(resource.RLIMIT_FSIZE, (limit, limit))
+
+
+def sweep(program, folder, version, step):
+    """The session over a file of the version, with a fault at each call, or at each third."""
+    base, path = os.path.join(folder, "base"), os.path.join(folder, "state")
+    state = nearly_full(program, base, folder, version)
+
+    def fresh():
+        shutil.copyfile(base, path)
+        return path
+
+    calls, output = traced(program, fresh(), COMMANDS, os.path.join(folder, "calls"))
+    wanted = [json.loads(reply) for reply in output.splitlines()]
+    assert len(wanted) == len(COMMANDS) and not any("error" in reply for reply in wanted), wanted
+    assert len([place for name, place, _ in calls if name == "pwrite64"]) > 2 * len(COMMANDS) + 2, "no checkpoint"
+    runs, kept = 0, 0
+    for name, inject in faults_at(calls, step):
+        words = ["strace", "-o", "/dev/null", "-e", "trace=" + name, "-e", inject, "-P", path]
+        asked = ran(words + [program, "lines", fresh()], COMMANDS)
+        kept += judge(program, path, state, asked, wanted, inject)[1]
+        runs += 1
+    print("version %d: %d calls failed once, %d times the command that failed was kept" % (version, runs, kept))
+    cuts = cuts_at(calls, step)
+    for limit in cuts:
+        asked = ran([program, "lines", fresh()], COMMANDS, preexec_fn=lambda: limited(limit))
+        judge(program, path, state, asked, wanted, "a write cut at %d" % limit)
+    print("version %d: %d times writing was cut short" % (version, len(cuts)))
+    os.remove(base)
+
+
 def main():
     program = os.path.realpath(sys.argv[1])
     if shutil.which("strace") is None:
         print("strace isn't installed: nothing was tried")
         return
     with tempfile.TemporaryDirectory() as folder:
-        base, path = os.path.join(folder, "base"), os.path.join(folder, "state")
-        state = nearly_full(program, base, folder)
-
-        def fresh():
-            shutil.copyfile(base, path)
-            return path
-
-        calls, output = traced(program, fresh(), COMMANDS, os.path.join(folder, "calls"))
-        wanted = [json.loads(reply) for reply in output.splitlines()]
-        assert len(wanted) == len(COMMANDS) and not any("error" in reply for reply in wanted), wanted
-        assert len([place for name, place, _ in calls if name == "pwrite64"]) > 2 * len(COMMANDS) + 2, "no checkpoint"
-        runs, kept = 0, 0
-        for name, errors in CALLS.items():
-            for number in range(1, 1 + sum(call[0] == name for call in calls)):
-                for error in errors:
-                    inject = "inject=%s:error=%s:when=%d" % (name, error, number)
-                    words = ["strace", "-o", "/dev/null", "-e", "trace=" + name, "-e", inject, "-P", path]
-                    asked = ran(words + [program, "lines", fresh()], COMMANDS)
-                    kept += judge(program, path, state, asked, wanted, inject)[1]
-                    runs += 1
-        print("%d calls failed once, %d times the command that failed was kept" % (runs, kept))
-        cut = 0
-        for name, place, count in calls:
-            if name != "pwrite64" or count < 2:
-                continue
-            limit = place + count // 2
-            def limited():
-                # else the write would be the process's end, which is a crash
-                signal.signal(signal.SIGXFSZ, signal.SIG_IGN)
-                resource.setrlimit(resource.RLIMIT_FSIZE, (limit, limit))
-            asked = ran([program, "lines", fresh()], COMMANDS, preexec_fn=limited)
-            judge(program, path, state, asked, wanted, "a write cut at %d" % limit)
-            cut += 1
-        print("%d times writing was cut short" % cut)
+        sweep(program, folder, 2, 1)
+        sweep(program, folder, 1, 3)
         print("nothing that was answered was lost")
 
 

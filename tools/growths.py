@@ -3,17 +3,18 @@
 
 The sessions are one of `lines`, one of `lines` in which a checkpoint comes, and one at the socket of `serve`. Each is played with ample memory, which tells how many growths
 there are, and then once for each growth, which is refused. What is answered `16 NoMemory` or `17 TooMany`, or not at all since the program or the session ended by it, is asked
-again. Each answer, what is due to a subscription, and what the next start lists must be what stands here. The status is 1 where one isn't, or no growth was refused."""
+again. Each answer, what is due to a subscription, and what the next start lists must be what stands here. The status is 1 where one isn't, or no growth was refused. The
+sessions run over state files of version 2, and those of `lines` over files of version 1 too, where each tenth growth is refused."""
 import collections, json, os, re, shutil, socket, subprocess, sys, tempfile
 
 sys.dont_write_bytecode = True
-from served import check, failed
+from served import check, failed, new_state
 
 HERE = os.path.dirname(os.path.abspath(__file__))
 REFUSED = b'{"error":"16 NoMemory","version":"w1"}\n'
 TOO_MANY = b'{"error":"17 TooMany","version":"w1"}\n'
 ENDED = (1, "watchmand: 16 NoMemory\n")
-SLOT_B = 1314816  # its gate is open once a checkpoint came (docs/FORMATS.md)
+SLOT_B = {1: 1314816, 2: 4460544}  # its gate is open once a checkpoint came (docs/FORMATS.md)
 META = {"mtime_ms": 0, "size": 3, "type": "f"}
 ASKED = {"expression": ["anyof", ["suffix", "c"], ["match", "b*", "basename"]], "fields": ["name", "exists", "size"], "since": "n:build"}
 BUILD = {"append_files": True, "command": ["true", "-c"], "expression": ["suffix", "x"], "name": "build"}
@@ -84,7 +85,8 @@ def listed(*triggers):
     return [{"triggers": [{**it, "stdin": "/dev/null"} for it in triggers]}]
 
 
-# The second of these finds no room in the journal that main() filled.
+WATCHES = (["watch-list"], [{"roots": ["/r"]}])
+# The second of these finds no room in the journal that fill() filled.
 FILLED = [set_big(20), (["trigger-list", "/r"], listed(big(20))), set_big(21)]
 
 
@@ -212,10 +214,10 @@ class Case:
         except (Wrong, OSError, ValueError, subprocess.TimeoutExpired) as error:
             return f"{type(error).__name__}: {error}"
 
-    def sweep(self, name):
+    def sweep(self, name, step=1):
         check(f"{name}: right with ample memory", self.answer(0) == "right", self.answer(0))
         told = collections.defaultdict(list)
-        for number in range(1, self.growths() + 1):
+        for number in range(1, self.growths() + 1, step):
             told[self.answer(number)].append(number)
         wrong = {answer: numbers for answer, numbers in told.items() if answer not in ("right", "16, then right")}
         check(f"{name}: {len(told['right'])} growths without which all is right, {len(told['16, then right'])} that are answered 16", not wrong and told["16, then right"], wrong)
@@ -227,29 +229,36 @@ def fill(program, state):
     subprocess.run([program, "lines", state], input="".join(json.dumps(it) + "\n" for it in lines), text=True, check=True, stdout=subprocess.DEVNULL)
 
 
-def has_slot_b(state):
+def has_slot_b(state, version):
     with open(state, "rb") as it:
-        it.seek(SLOT_B)
+        it.seek(SLOT_B[version])
         return it.read(1) == b"\xa5"
+
+
+def sweep_lines(program, folder, version, step):
+    """The sessions of `lines` over files of the version, with each growth refused in turn, or each tenth (a step of 10)."""
+    new, full = (f"{folder}/{name}{version}" for name in ("new", "full"))
+    for state in (new, full):
+        new_state(program, state, version)
+    fill(program, full)
+    Case(program, folder, new, LINES, [WATCHES, (["trigger-list", "/r"], listed())]).sweep(f"lines, version {version}", step)
+    checkpoint = Case(program, folder, full, FILLED, [(["trigger-list", "/r"], listed(big(21)))])
+    checkpoint.sweep(f"a checkpoint, version {version}", step)
+    check("a checkpoint: it came", not has_slot_b(full, version) and has_slot_b(checkpoint.state, version))
 
 
 def main():
     program = os.path.realpath(sys.argv[1])
     with tempfile.TemporaryDirectory() as folder:
         subprocess.run(["cc", "-O1", "-shared", "-fPIC", "-o", folder + "/refuse.so", HERE + "/refuse_growth.c"], check=True)
-        for name in ("new", "full"):
-            subprocess.run([program, "format", f"{folder}/{name}"], check=True, stdout=subprocess.DEVNULL)
-        fill(program, folder + "/full")
         root = folder + "/root"
         os.makedirs(root + "/lib")
         for name in ("a.c", "lib/b.h"):
             open(f"{root}/{name}", "w").close()
-        roots = lambda path: (["watch-list"], [{"roots": [path]}])
-        Case(program, folder, folder + "/new", LINES, [roots("/r"), (["trigger-list", "/r"], listed())]).sweep("lines")
-        full = Case(program, folder, folder + "/full", FILLED, [(["trigger-list", "/r"], listed(big(21)))])
-        full.sweep("a checkpoint")
-        check("a checkpoint: it came", not has_slot_b(folder + "/full") and has_slot_b(full.state))
-        Case(program, folder, folder + "/new", served(root), [roots(root), (["trigger-list", root], listed())], True).sweep("a server")
+        sweep_lines(program, folder, 2, 1)
+        sweep_lines(program, folder, 1, 10)
+        watches = (["watch-list"], [{"roots": [root]}])
+        Case(program, folder, folder + "/new2", served(root), [watches, (["trigger-list", root], listed())], True).sweep("a server")
     sys.exit(1 if failed else 0)
 
 

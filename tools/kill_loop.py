@@ -1,7 +1,8 @@
 #!/usr/bin/env python3
 """Kills `watchmand lines` (SIGKILL) in the midst of watches and triggers, again and again, and shows that no
 command that was answered is ever lost: each start finds the watches and triggers after the answered commands
-and a prefix of those that were in flight, and nothing else.
+and a prefix of those that were in flight, and nothing else. It runs on a state file of version 2, and a quarter as many
+kills on one of version 1.
 
 Usage: tools/kill_loop.py PROGRAM [KILLS [SEED]]
 """
@@ -11,6 +12,9 @@ import random
 import subprocess
 import sys
 import tempfile
+
+sys.dont_write_bytecode = True
+from served import new_state
 
 
 def command(rng):
@@ -83,14 +87,12 @@ def killed(program, path, rng):
     return lines[:answered], lines[answered:]
 
 
-def main():
-    program = os.path.realpath(sys.argv[1])
-    kills = int(sys.argv[2]) if len(sys.argv) > 2 else 200
-    rng = random.Random(int(sys.argv[3]) if len(sys.argv) > 3 else 1)
+def loop(program, kills, rng, version):
+    """So many kills over a new file of the version."""
     answered_in_all, in_flight_kept = 0, 0
     with tempfile.TemporaryDirectory() as folder:
         path = os.path.join(folder, "state")
-        subprocess.run([program, "format", path], check=True, stdout=subprocess.DEVNULL)
+        new_state(program, path, version)
         state = {}
         for kill in range(kills):
             answered, in_flight = killed(program, path, rng)
@@ -105,7 +107,16 @@ def main():
             if ordered(state) != there:
                 sys.exit("kill %d: a start found %r" % (kill, there))
             in_flight_kept += 1 if kept else 0
-    print("%d kills, %d commands answered, none lost; %d times one in flight was kept" % (kills, answered_in_all, in_flight_kept))
+    told = "version %d: %d kills, %d commands answered, none lost; %d times one in flight was kept"
+    print(told % (version, kills, answered_in_all, in_flight_kept))
+
+
+def main():
+    program = os.path.realpath(sys.argv[1])
+    kills = int(sys.argv[2]) if len(sys.argv) > 2 else 200
+    rng = random.Random(int(sys.argv[3]) if len(sys.argv) > 3 else 1)
+    loop(program, kills, rng, 2)
+    loop(program, (kills + 3) // 4, rng, 1)
 
 
 main()

@@ -1,13 +1,10 @@
 #!/usr/bin/env python3
-"""State files that an earlier program made are served: what they keep is listed, and what is commanded is kept with it.
+"""State files that an earlier program made are served: what they keep is listed, and what is commanded is kept with it. A new file has version 2.
 
 The files lie in tools/kept_files. A program built from commit e707780 (28 November 2026) made them: tools/quick_files.py --make PROGRAM FOLDER."""
 import gzip, json, os, subprocess, sys, tempfile
 
-from served import Client, check, serving
-
-HERE = os.path.dirname(os.path.abspath(__file__))
-KEPT = f"{HERE}/kept_files"
+from served import Client, check, new_state, serving, unpack
 
 
 def trigger(name, words, **parts):
@@ -62,8 +59,7 @@ def kept_files_are_served(programs):
     for name, (_, roots, incarnation) in FILES.items():
         with tempfile.TemporaryDirectory() as room:
             state = f"{room}/state"
-            with gzip.open(f"{KEPT}/{name}.gz") as packed, open(state, "wb") as file:
-                file.write(packed.read())
+            unpack(name, state)
             asked = [["watch-list"], *(["trigger-list", root] for root in roots)]
             wanted = [{"roots": list(roots), "version": "w1"}, *({"triggers": triggers, "version": "w1"} for triggers in roots.values())]
             seen = replies(programs.watchmand, state, [*asked, ["watch", "/later"]])
@@ -81,7 +77,26 @@ def kept_files_are_served(programs):
                 check("a version 1 file keeps its limit", refused == [{"error": "11 Full", "version": "w1"}], refused)
 
 
-CASES = [kept_files_are_served]
+def versions_keep_what_they_can(programs):
+    """A trigger's number of files has a place in a file of version 2 alone."""
+    counted = trigger("counted", ["xargs", "lint"], stdin="NAME_PER_LINE", max_files_stdin=2**32 - 1)
+    asked = [["watch", "/src"], ["trigger", "/src", counted], ["trigger", "/other", counted]]
+    met = {1: {"error": "21 OldVersion", "version": "w1"}, 2: {"disposition": "created", "triggerid": "counted", "version": "w1"}}
+    for version, size in ((1, 2625536), (2, 8916992)):
+        with tempfile.TemporaryDirectory() as room:
+            state = f"{room}/state"
+            new_state(programs.watchmand, state, version)
+            with open(state, "rb") as file:
+                content = file.read()
+            check(f"a new file of version {version} says so", (len(content), content[:13]) == (size, b"\xa5WMSTATE" + version.to_bytes(4, "big") + b"\0"), content[:13])
+            _, told, unwatched = replies(programs.watchmand, state, asked)
+            check(f"a number of files in version {version}", told == met[version], told)
+            check("one of a root that isn't watched", unwatched == {"error": "5 NotWatched", "version": "w1"}, unwatched)
+            kept = replies(programs.watchmand, state, [["trigger-list", "/src"]])
+            check(f"what version {version} keeps of it", kept == [{"triggers": [counted] if version == 2 else [], "version": "w1"}], kept)
+
+
+CASES = [kept_files_are_served, versions_keep_what_they_can]
 
 if __name__ == "__main__" and sys.argv[1:2] == ["--make"]:
     make(*sys.argv[2:])

@@ -112,4 +112,15 @@ def replaced_and_back(programs):
         check("while no other ran, each runs", ran and told == "replaced", (told, made.runs("b", "other")))
 
 
-CASES = [deleted_trigger_isnt_started, recreated_trigger_has_its_first_run, replaced_and_back]
+def first_names_are_read(programs):
+    with triggers(programs) as made:
+        for name, more in (("first", {"max_files_stdin": 1}), ("all", {})):
+            out = made.path(name)
+            words = ["sh", "-c", f"cat > {out}.part && mv {out}.part {out}"]
+            made.client.tell(["trigger", made.top, {"name": name, "command": words, "expression": ["suffix", "c"], "stdin": "NAME_PER_LINE", **more}])
+        made.client.ask(["observe", made.top, [["y.c", FILE], ["x.c", FILE]]])
+        read = [open(made.path(name)).read() for name in ("first", "all") if made.ran(name)]
+        check("a program reads as many names as its trigger says, the first of the answer, or all", read == ["x.c\n", "x.c\ny.c\n"], read)
+
+
+CASES = [deleted_trigger_isnt_started, recreated_trigger_has_its_first_run, replaced_and_back, first_names_are_read]

@@ -1,5 +1,8 @@
 """What the scripts share that try a server: they tell what holds, wait for it, start a server over a folder of its own and ask it."""
-import contextlib, json, os, resource, shutil, signal, socket, subprocess, tempfile, time
+import contextlib, gzip, json, os, resource, shutil, signal, socket, subprocess, tempfile, time
+
+# State files that an earlier program made, of version 1.
+KEPT = f"{os.path.dirname(os.path.abspath(__file__))}/kept_files"
 
 failed = []
 
@@ -19,6 +22,20 @@ def until(look, seconds=20):
             return seen
         time.sleep(0.02)
     return look()
+
+
+def unpack(name, path):
+    """Writes a kept file to the path."""
+    with gzip.open(f"{KEPT}/{name}.gz") as packed, open(path, "wb") as file:
+        file.write(packed.read())
+
+
+def new_state(program, path, version=2):
+    """A new state file: of version 2 as `format` makes it, of version 1 as an earlier `format` did."""
+    if version == 1:
+        unpack("new", path)
+    else:
+        subprocess.run([program, "format", path], check=True, stdout=subprocess.DEVNULL)
 
 
 class Session:

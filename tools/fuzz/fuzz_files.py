@@ -4,8 +4,8 @@ What a file means is read anew from docs/FORMATS.md: the refusal that a start te
 import os, random, subprocess
 import fuzz_lines, fuzz_state
 from fuzz_json import written
-from fuzz_registry import EMPTY, begun, with_trigger, with_watch, without_trigger, without_watch
-from fuzz_state import HEADER, JOURNAL_BYTES, OPEN, RETIRED_GATE, SIZE, SLOT_BYTES, SLOTS
+from fuzz_registry import EMPTY, begun, empty, with_trigger, with_watch, without_trigger, without_watch
+from fuzz_state import JOURNAL_BYTES, LAYOUTS, OPEN, RETIRED_GATE
 from fuzz_terms import LARGEST
 
 # What the last two lines of `asked` are answered, where the watch is accepted, and where the file has no room for it.
@@ -32,7 +32,8 @@ def some_trigger(rng):
     if rng.random() < 0.02:
         words = rng.choice([[], [""], ["a"] * 17, ["w" * 1025]])
     text = rng.choice(TEXTS[1:5]) if rng.random() < 0.8 else rng.choice(TEXTS)
-    return words, text if rng.random() < 0.4 else None, rng.random() < 0.5, rng.choice(fuzz_state.STDIN)
+    most = rng.choice([1, 2, 7, 2**31, 2**32 - 1] + [0] * (rng.random() < 0.05)) if rng.random() < 0.3 else None
+    return words, text if rng.random() < 0.4 else None, rng.random() < 0.5, rng.choice(fuzz_state.STDIN), most
 
 
 def command_by(rng):
@@ -62,16 +63,16 @@ def commands_by(rng, state, count, keeps=0.97):
     return made, state
 
 
-def journal_of(commands, rng):
+def journal_of(commands, version, rng):
     """Records behind open gates, a closed gate of any other value, and what isn't read."""
-    records = b"".join(bytes([OPEN]) + fuzz_state.record_bytes(command) for command in commands)
+    records = b"".join(bytes([OPEN]) + fuzz_state.record_bytes(command, version) for command in commands)
     return records + bytes([rng.choice([0, 0, 0, 1, 0xA4, 0xFF])]) + rng.choice([b"", b"\xa5\x00\xa5", rng.randbytes(30)])
 
 
 def full_journal(missing):
     """Records that end so many bytes before the journal does: a watch and its end again and again, and one longer path."""
     pair = [[1, "/" + "p" * 499], [2, "/" + "p" * 499]]
-    size = sum(1 + len(fuzz_state.record_bytes(command)) for command in pair)
+    size = sum(1 + len(fuzz_state.record_bytes(command, 2)) for command in pair)
     left = JOURNAL_BYTES - 1 - missing
     commands = pair * (left // size - 1)
     left -= (left // size - 1) * size
@@ -86,42 +87,49 @@ def number_by(rng):
     return rng.choice([1, 2, 3, 7, 2**31, LARGEST - 1, LARGEST, 2**63, 2**64 - 1]) if rng.random() < 0.3 else rng.randint(1, 4)
 
 
-def first_state(rng):
+def first_state(rng, version):
     """A state that commands led to; now and then its counters stand near their ends."""
-    _, (incarnation, following, roots) = commands_by(rng, EMPTY, rng.choice([0, 1, 5, 20]))
+    _, (incarnation, following, roots, _) = commands_by(rng, empty(version), rng.choice([0, 1, 5, 20]))
     if rng.random() < 0.15:
         incarnation = rng.choice([LARGEST - 2, LARGEST - 1, LARGEST])
     if rng.random() < 0.1:
         following = rng.choice([LARGEST - 1, LARGEST])
-    return (incarnation, following, roots)
+    return (incarnation, following, roots, version)
 
 
-def slot_and_journal(rng, state):
-    """An open slot with a state, and behind it its journal, which is full to the last bytes now and then."""
+def slot_and_journal(rng, layout):
+    """An open slot with a state, and behind it its journal, which is full to the last bytes now and then. A few states are encoded in the other version."""
+    state = first_state(rng, layout.version if rng.random() < 0.97 else 3 - layout.version)
     full = rng.random() < 0.08
     commands = full_journal(rng.choice([0, 1, 2, 3, 4])) if full else commands_by(rng, state, rng.choice([0, 1, 3, 10]))[0]
     slot = fuzz_state.slot_bytes(number_by(rng), state)
-    return slot.ljust(SLOT_BYTES, b"\0") + journal_of(commands, rng)[:JOURNAL_BYTES].ljust(JOURNAL_BYTES, b"\0")
+    return slot.ljust(layout.slot_bytes, b"\0") + journal_of(commands, state[3], rng)[:JOURNAL_BYTES].ljust(JOURNAL_BYTES, b"\0")
 
 
 def built(rng):
-    """A file made by hand: one slot in use, or two, with journals."""
-    content = bytearray(SIZE)
-    content[0:12] = bytes([OPEN]) + HEADER
+    """A file made by hand, mostly of version 2: one slot in use, or two, with journals."""
+    layout = LAYOUTS[fuzz_lines.version_by(rng)]
+    content = bytearray(layout.size)
+    content[0:12] = bytes([OPEN]) + layout.header
     content[RETIRED_GATE] = rng.choice([0, 0, 0, 0, 0, 0, 1, 0xFF, 0xA4, OPEN])
-    places = rng.choice([SLOTS[:1], SLOTS[1:], SLOTS, SLOTS])
+    places = rng.choice([layout.slots[:1], layout.slots[1:], layout.slots, layout.slots])
     for place in places:
-        content[place:place + SLOT_BYTES + JOURNAL_BYTES] = slot_and_journal(rng, first_state(rng))
+        content[place:place + layout.half_bytes] = slot_and_journal(rng, layout)
     return bytes(content)
+
+
+def layout_near(content):
+    """That of a file which may be spoilt already."""
+    return LAYOUTS[1 if content[11:12] == b"\1" or len(content) <= LAYOUTS[1].size else 2]
 
 
 def used_places(content):
     """Places that matter: the header, and the fronts of slots and journals that hold something."""
-    places = list(range(16))
-    for place in SLOTS:
-        length = min(int.from_bytes(content[place + 9:place + 13], "big"), SLOT_BYTES)
+    places, layout = list(range(16)), layout_near(content)
+    for place in layout.slots:
+        length = min(int.from_bytes(content[place + 9:place + 13], "big"), layout.slot_bytes)
         places += [place + at for at in range(min(13 + length, 400))]
-        journal = place + SLOT_BYTES
+        journal = place + layout.slot_bytes
         end = len(content[journal:journal + JOURNAL_BYTES].rstrip(b"\0"))
         places += [journal + at for at in range(min(end + 3, 400))] + [journal + end, journal + JOURNAL_BYTES - 1]
     return [place for place in places if place < len(content)]
@@ -129,7 +137,7 @@ def used_places(content):
 
 def spoilt_once(content, rng):
     """A flipped bit, another byte, a cut, a tail, a gate, swapped parts, a number at its end, or bytes put in or taken out."""
-    kind, made = rng.randrange(10), bytearray(content)
+    kind, made, layout = rng.randrange(11), bytearray(content), layout_near(content)
     at = rng.choice(used_places(content) or [0])
     if not made:
         return content
@@ -138,25 +146,27 @@ def spoilt_once(content, rng):
     elif kind == 3:
         made[at] = rng.choice([0, OPEN, 0xFF, 1, rng.randrange(256)])
     elif kind == 4:
-        made = made[:rng.choice([SIZE - 1, SIZE, at, rng.randrange(SIZE), 0])]
+        made = made[:rng.choice([layout.size - 1, layout.size, LAYOUTS[1].size, at, rng.randrange(layout.size), 0])]
     elif kind == 5:
         made += rng.randbytes(rng.choice([1, 1000]))
     elif kind == 6:
-        gate = rng.choice([*SLOTS, SLOTS[0] + SLOT_BYTES, SLOTS[1] + SLOT_BYTES, 0, RETIRED_GATE])
+        gate = rng.choice([*layout.slots, *(place + layout.slot_bytes for place in layout.slots), 0, RETIRED_GATE])
         made[gate:gate + 1] = bytes([rng.choice([OPEN, 0, 0xA4])])
     elif kind == 7:
-        made = spliced(made, rng)
+        made = spliced(made, layout, rng)
     elif kind == 8:
         made[at:at + 8] = rng.choice([b"\0" * 8, b"\xff" * 8, b"\x7f" + b"\xff" * 7, b"\0" * 7 + b"\1", rng.randbytes(8)])
-    else:
+    elif kind == 9:
         made = moved(made, at, rng)
+    else:
+        made[11:12] = bytes([rng.choice([0, 1, 2, 3])])
     return bytes(made)
 
 
-def spliced(made, rng):
+def spliced(made, layout, rng):
     """Slots swapped, journals swapped, or one of two copied over the other."""
-    size, offset = rng.choice([(SLOT_BYTES, 0), (JOURNAL_BYTES, SLOT_BYTES), (SLOT_BYTES + JOURNAL_BYTES, 0)])
-    a, b = (slice(place + offset, place + offset + size) for place in SLOTS)
+    size, offset = rng.choice([(layout.slot_bytes, 0), (JOURNAL_BYTES, layout.slot_bytes), (layout.half_bytes, 0)])
+    a, b = (slice(place + offset, place + offset + size) for place in layout.slots)
     first, second = bytes(made[a]), bytes(made[b])
     if len(first) == len(second) == size:
         made[b] = first
@@ -182,9 +192,7 @@ def run_by(rng):
 
 def left_by(program, path, sessions):
     """The content of a new file after some sessions."""
-    if os.path.exists(path):
-        os.remove(path)
-    subprocess.run([program, "format", path], check=True, stdout=subprocess.DEVNULL)
+    fuzz_lines.make(program, path, fuzz_lines.version_of(sessions))
     for lines, _ in sessions:
         subprocess.run([program, "lines", path], input=b"".join(lines), stdout=subprocess.DEVNULL, timeout=fuzz_lines.SECONDS)
     with open(path, "rb") as file:
@@ -241,7 +249,8 @@ def opened(program, path, content):
         wanted += NO_ROOM
     if (seen.returncode, seen.stdout, seen.stderr) != (0, wanted, b""):
         raise fuzz_lines.Difference(fuzz_lines.place(seen.stdout, wanted) + f"; status {seen.returncode} {seen.stderr[:300]!r}")
-    if not fuzz_state.is_same(fuzz_state.meaning(left)[0], states[-1]) or left[SIZE:] != content[SIZE:]:
+    size = LAYOUTS[state[3]].size
+    if not fuzz_state.is_same(fuzz_state.meaning(left)[0], states[-1]) or left[size:] != content[size:]:
         raise fuzz_lines.Difference("the file doesn't mean the registry afterwards")
 
 

@@ -6,11 +6,13 @@ import fuzz_state
 from fuzz_make import Maker
 from fuzz_model import Session, lines_of
 from fuzz_mutate import line_of, long_line, nested, spoilt
-from fuzz_registry import EMPTY
-
+from fuzz_registry import empty
+from served import new_state
 
 # A session that takes longer hangs.
 SECONDS = 120
+# What the ends of the sessions are called over a file of version 1.
+FIRST = " over a file of version 1"
 
 
 class Difference(Exception):
@@ -46,11 +48,14 @@ def large(rng):
             ["listing", "/r", 1, "a", part], ["since", "/r", "c:1:1:1"], ["age-out", "/r", 0], ["query", "/r", {"fields": ["name", "oclock"]}]]
 
 
-def fill(rng):
+def fill(rng, version):
     """Triggers up to the last byte that a registry may have, where no other root is watched."""
-    one = lambda name, words: ["trigger", "/r", {"name": name, "command": words}]
-    last = [one("63", ["w" * 1024] * 11 + ["x" * size]) for size in rng.sample([155, 156, 157, 158, 159], 3)]
-    return [["watch", "/r"]] + [one("%02d" % number, ["w" * 1024] * 16) for number in range(63)] + last + [["watch", "/s"]]
+    one = lambda root, name, words: ["trigger", root, {"name": name, "command": words}]
+    roots, words, size = ([("/r", 63)], 11, 157) if version == 1 else ([("/r", 64), ("/s", 64), ("/t", 64), ("/u", 62)], 12, 497)
+    made = [request for root, count in roots for request in [["watch", root], *(one(root, "%02d" % number, ["w" * 1024] * 16) for number in range(count))]]
+    last, count = roots[-1]
+    made += [one(last, str(count), ["w" * 1024] * words + ["x" * (size + more)]) for more in rng.sample([-2, -1, 0, 1, 2], 3)]
+    return made + [["watch", "/v"]]
 
 
 def churn(rng):
@@ -64,7 +69,7 @@ def specials(rng, model):
     """Lines that no few random ones come to; none, mostly."""
     chance, made = rng.random(), []
     if chance < 0.005:
-        made = [["watch-del", root] for root in model.state[2]] + fill(rng)
+        made = [["watch-del", root] for root in model.state[2]] + fill(rng, model.state[3])
     elif chance < 0.022:
         made = crowd(rng) if chance < 0.015 else churn(rng) if chance < 0.019 else many_pairs(rng) if chance < 0.0205 else large(rng)
     return [line_of(request, rng) for request in made]
@@ -102,12 +107,22 @@ def session_by(rng, model):
     end = rng.choice(["end", "end", "end", "killed", "cut short"])
     if end == "end" and rng.random() < 0.1:
         made.append(made_line(maker, rng, 0.5, made)[:-1])
-    return made, end
+    return made, end + FIRST * (model.state[3] == 1)
+
+
+def version_by(rng):
+    """The version of a file: the second, mostly."""
+    return 1 if rng.random() < 0.2 else 2
+
+
+def version_of(sessions):
+    """The version of the file of a run."""
+    return 1 if any(end.endswith(FIRST) for _, end in sessions) else 2
 
 
 def run_by(rng):
     """The sessions of a run, from its random numbers alone."""
-    sessions, state = [], EMPTY
+    sessions, state = [], empty(version_by(rng))
     for _ in range(rng.choice([1, 1, 2, 3])):
         model = Session(state)
         sessions.append(session_by(rng, model))
@@ -184,10 +199,10 @@ def met(program, path, lines, end, state):
     content = b"".join(lines)
     wanted, ends, states = expected(content, state)
     answered = len(ends)
-    if end == "end":
+    if end.startswith("end"):
         ended(program, path, content, wanted)
     else:
-        whole = end == "killed" or not wanted
+        whole = end.startswith("killed") or not wanted
         answered = cut_short(program, path, content, wanted, ends, 1 if whole else len(content) % 97 / 97)
         if whole and wanted and answered < len(ends):
             raise Difference(f"expected {len(ends)} answered lines, seen {answered}")
@@ -206,12 +221,17 @@ def found(path, states):
     return state
 
 
-def difference(program, folder, sessions):
-    """The difference that a run meets, with the number of its session; or nothing."""
-    path, state = os.path.join(folder, "state"), EMPTY
+def make(program, path, version):
+    """A new file of the version, in the place of one that may be there."""
     if os.path.exists(path):
         os.remove(path)
-    subprocess.run([program, "format", path], check=True, stdout=subprocess.DEVNULL)
+    new_state(program, path, version)
+
+
+def difference(program, folder, sessions):
+    """The difference that a run meets, with the number of its session; or nothing."""
+    path, state = os.path.join(folder, "state"), empty(version_of(sessions))
+    make(program, path, version_of(sessions))
     for number, (lines, end) in enumerate(sessions, 1):
         try:
             state = met(program, path, lines, end, state)
@@ -229,4 +249,5 @@ def shown(sessions):
 
 
 def counts(sessions):
-    return {"lines": sum(len(lines_of(b"".join(lines))) for lines, _ in sessions), "sessions": len(sessions)}
+    counted = {"lines": sum(len(lines_of(b"".join(lines))) for lines, _ in sessions), "sessions": len(sessions)}
+    return {**counted, "sessions over version 1": len(sessions) * (version_of(sessions) == 1)}

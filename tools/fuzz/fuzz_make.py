@@ -180,8 +180,10 @@ class Maker:
             made["append_files"] = self.rng.random() < 0.5
         if self.rng.random() < 0.4:
             made["stdin"] = self.rng.choice(["/dev/null", "NAME_PER_LINE", "/dev/null", self.some(["/dev/null"], ["x"], 5)])
+        if self.rng.random() < 0.2:
+            made["max_files_stdin"] = self.some([1, 1, 2, 3, 2**31, 2**32 - 1], [0, -1, 2**32, 2**63, None, "1", True] + BAD_NUMBERS, 5)
         if self.rng.random() < self.bad * 3:
-            made[self.rng.choice(["name", "command", "append_files", "stdin", "chdir", "expression"])] = self.rng.choice(
+            made[self.rng.choice(["name", "command", "append_files", "stdin", "chdir", "expression", "max_files_stdin"])] = self.rng.choice(
                 BAD_VALUES + [[""], ["w" * 1025], ["a"] * 17, ["a", ""], ["a", 1], ["match", "m" * 1024], ["anyof"] + [["match", "m" * 1000]] * 4,
                               ["anyof"] + [["match", "m" * 1000]] * 5, ["name", "n" * 4080], ["name", "n" * 4085], ["name", "n" * 4086], ["name", "n" * 4087]])
         if self.rng.random() < 0.02:

@@ -7,7 +7,7 @@ from fuzz_registry import EMPTY, begun, with_trigger, with_watch, without_trigge
 from fuzz_requests import COMMANDS, request_of
 
 NAMES = {1: "BadLine", 2: "BadCommand", 3: "BadArguments", 4: "BadPath", 5: "NotWatched", 6: "NotReady", 7: "BadClock", 8: "BadExpression",
-         9: "BadField", 10: "BadTrigger", 11: "Full", 15: "Exhausted", 17: "TooMany"}
+         9: "BadField", 10: "BadTrigger", 11: "Full", 15: "Exhausted", 17: "TooMany", 21: "OldVersion"}
 
 
 def line_of(reply):
@@ -26,9 +26,10 @@ def rendered(answer, fields):
 
 
 def trigger_shown(name, definition):
-    words, expression, append, stdin = definition
+    words, expression, append, stdin, most = definition
     shown = {"append_files": append, "command": words, "name": name, "stdin": stdin}
-    return shown if expression is None else {**shown, "expression": read(expression)}
+    shown |= {} if expression is None else {"expression": read(expression)}
+    return shown if most is None else {**shown, "max_files_stdin": most}
 
 
 class Subscription:

@@ -1,13 +1,22 @@
 """What a state file's registry means, for the fuzzer's model: docs/DEFINITIONS.md, Registry step; docs/FORMATS.md, Spellings.
 
-A state is a plain value: (incarnation, next root number, roots), roots a dict from path to (number, triggers), in order of watching;
-triggers a dict from name to (words, expression's text or None, append_files, stdin), in order of first definition."""
+A state is a plain value: (incarnation, next root number, roots, version of its file), roots a dict from path to (number, triggers), in order
+of watching; triggers a dict from name to (words, expression's text or None, append_files, stdin, most files or None), in order of first
+definition."""
 from fuzz_history import Refused
 from fuzz_terms import LARGEST
 
-MOST_BYTES = 1048563
+# The most bytes of a state, by the version of its file.
+MOST_BYTES = {1: 1048563, 2: 4194291}
 STDIN = ("/dev/null", "NAME_PER_LINE")
-EMPTY = (0, 1, {})
+
+
+def empty(version):
+    """The state of a new file."""
+    return (0, 1, {}, version)
+
+
+EMPTY = empty(2)
 
 
 def is_path(text, most=1024):
@@ -37,28 +46,35 @@ def list_spelling(parts):
     return len(parts).to_bytes(4, "big") + b"".join(parts)
 
 
-def trigger_spelling(name, definition):
-    words, expression, append, stdin = definition
+def ending_spelling(version, most):
+    """What stands at a trigger's end: in version 1 nothing."""
+    return b"" if version == 1 else b"\0" if most is None else b"\1" + most.to_bytes(4, "big")
+
+
+def trigger_spelling(version, name, definition):
+    words, expression, append, stdin, most = definition
     kept = b"\0" if expression is None else b"\1" + text_spelling(expression)
-    return text_spelling(name) + list_spelling([text_spelling(word) for word in words]) + kept + bytes([append, STDIN.index(stdin)])
+    return text_spelling(name) + list_spelling([text_spelling(word) for word in words]) + kept + bytes([append, STDIN.index(stdin)]) + ending_spelling(version, most)
 
 
-def root_spelling(path, number, triggers):
-    return text_spelling(path) + number.to_bytes(8, "big") + list_spelling([trigger_spelling(*trigger) for trigger in triggers.items()])
+def root_spelling(version, path, number, triggers):
+    return text_spelling(path) + number.to_bytes(8, "big") + list_spelling([trigger_spelling(version, *trigger) for trigger in triggers.items()])
 
 
 def state_spelling(state):
-    incarnation, following, roots = state
-    return incarnation.to_bytes(8, "big") + following.to_bytes(8, "big") + list_spelling([root_spelling(path, *root) for path, root in roots.items()])
+    incarnation, following, roots, version = state
+    return incarnation.to_bytes(8, "big") + following.to_bytes(8, "big") + list_spelling([root_spelling(version, path, *root) for path, root in roots.items()])
 
 
-def trigger_size(name, definition):
-    words, expression, _, _ = definition
-    return 11 + len(name.encode()) + sum(4 + len(word.encode()) for word in words) + (0 if expression is None else 4 + len(expression.encode()))
+def trigger_size(version, name, definition):
+    words, expression, _, _, most = definition
+    kept = 0 if expression is None else 4 + len(expression.encode())
+    return 11 + len(name.encode()) + sum(4 + len(word.encode()) for word in words) + kept + len(ending_spelling(version, most))
 
 
 def state_size(state):
-    return 20 + sum(16 + len(path.encode()) + sum(trigger_size(*trigger) for trigger in triggers.items()) for path, (_, triggers) in state[2].items())
+    of_root = lambda path, triggers: 16 + len(path.encode()) + sum(trigger_size(state[3], *trigger) for trigger in triggers.items())
+    return 20 + sum(of_root(path, triggers) for path, (_, triggers) in state[2].items())
 
 
 def watched(state, path):
@@ -68,7 +84,7 @@ def watched(state, path):
 
 
 def with_room(state):
-    if state_size(state) > MOST_BYTES:
+    if state_size(state) > MOST_BYTES[state[3]]:
         raise Refused(11)
     return state
 
@@ -76,34 +92,36 @@ def with_room(state):
 def begun(state):
     if state[0] == LARGEST:
         raise Refused(15)
-    return (state[0] + 1, state[1], state[2])
+    return (state[0] + 1, *state[1:])
 
 
 def with_watch(state, path):
     """A path that is watched already changes nothing, whatever the counters say; then 17, 15, 11."""
-    incarnation, following, roots = state
+    incarnation, following, roots, version = state
     if path in roots:
         return state
     if len(roots) >= 256:
         raise Refused(17)
     if following == LARGEST:
         raise Refused(15)
-    return with_room((incarnation, following + 1, {**roots, path: (following, {})}))
+    return with_room((incarnation, following + 1, {**roots, path: (following, {})}, version))
 
 
 def without_watch(state, path):
     watched(state, path)
-    return (state[0], state[1], {other: root for other, root in state[2].items() if other != path})
+    return (state[0], state[1], {other: root for other, root in state[2].items() if other != path}, state[3])
 
 
 def with_triggers(state, path, triggers):
     number, _ = watched(state, path)
-    return (state[0], state[1], {**state[2], path: (number, triggers)})
+    return (state[0], state[1], {**state[2], path: (number, triggers)}, state[3])
 
 
 def with_trigger(state, path, name, definition):
-    """A replaced trigger keeps its place; an equal definition changes nothing."""
+    """A replaced trigger keeps its place; an equal definition changes nothing. A file of version 1 has no place for a number of files."""
     _, triggers = watched(state, path)
+    if state[3] == 1 and definition[4] is not None:
+        raise Refused(21)
     if triggers.get(name) == definition:
         return state
     if name not in triggers and len(triggers) >= 64:

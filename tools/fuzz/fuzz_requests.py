@@ -15,7 +15,7 @@ CLOCK = re.compile("c:([1-9][0-9]*):([1-9][0-9]*):([1-9][0-9]*)")
 # What a query's object may have, and the metadata of a path.
 KEYS = {"since", "expression", "fields", "empty_on_fresh_instance", "sync_timeout"}
 METADATA = {"mtime_ms", "size", "type"}
-TRIGGER_KEYS = {"name", "command", "expression", "append_files", "stdin"}
+TRIGGER_KEYS = {"name", "command", "expression", "append_files", "stdin", "max_files_stdin"}
 
 
 class Faults:
@@ -149,8 +149,10 @@ def trigger_of(arguments, faults):
     faults.needs(isinstance(words, list) and all(map(is_text, words)) and is_command(words), 10)
     faults.needs(isinstance(value.get("append_files", False), bool), 10)
     faults.needs(is_text(stdin) and stdin in STDIN, 10)
+    most = value.get("max_files_stdin", 1)
+    faults.needs(is_whole(most) and 1 <= most < 2**32, 10)
     faults.needs(expression is None or len(expression.encode()) <= 4096, 10)
-    return (name, (words, expression, value.get("append_files", False), stdin))
+    return (name, (words, expression, value.get("append_files", False), stdin, value.get("max_files_stdin")))
 
 
 def trigger_del_of(arguments, faults):

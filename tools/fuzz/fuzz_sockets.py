@@ -73,7 +73,7 @@ class Server(Model):
     def __init__(self, root, number, files, life=1, roots=None, began=0):
         super().__init__()
         self.began = began
-        self.state = (life, number + 1 + len(roots), roots) if roots else with_watch((life, number, {}), root)
+        self.state = (life, number + 1 + len(roots), roots, 2) if roots else with_watch((life, number, {}, 2), root)
         self.root, self.commands, self.floors, self.asked = root, SERVED, {0}, []
         self.histories, self.cursors = {path: History(life, number) for path in self.state[2]}, {path: {} for path in self.state[2]}
         self.histories[root].listing(0, 0, "", files.items())

@@ -5,13 +5,25 @@ from fuzz_registry import (MOST_BYTES, STDIN, begun, is_command, is_name, is_roo
                            with_trigger, with_watch, without_trigger, without_watch)
 from fuzz_terms import LARGEST, is_expression
 
-SIZE = 2625536
 OPEN = 0xA5
-SLOTS = (4096, 1314816)
-SLOT_BYTES = 1048576
+HEADER_BYTES = 4096
 JOURNAL_BYTES = 262144
-HEADER = b"WMSTATE\0\0\0\1"
 RETIRED_GATE = 12
+
+
+class Layout:
+    """Where the parts of a file of a version lie, one behind the other."""
+
+    def __init__(self, version):
+        self.version, self.most_bytes = version, MOST_BYTES[version]
+        self.header = b"WMSTATE" + version.to_bytes(4, "big")
+        self.slot_bytes = 13 + self.most_bytes
+        self.half_bytes = self.slot_bytes + JOURNAL_BYTES
+        self.slots = (HEADER_BYTES, HEADER_BYTES + self.half_bytes)
+        self.size = HEADER_BYTES + 2 * self.half_bytes
+
+
+LAYOUTS = {version: Layout(version) for version in MOST_BYTES}
 
 
 class Damaged(Exception):
@@ -67,32 +79,42 @@ def is_short(most):
     return lambda text: len(text.encode()) <= most
 
 
-def take_trigger(spelled):
+def take_most(spelled, version):
+    """The number at a trigger's end, which isn't 0; in version 1 nothing stands there."""
+    if version == 1 or not spelled.one_of(2):
+        return None
+    most = spelled.number(4)
+    if not most:
+        raise Damaged
+    return most
+
+
+def take_trigger(spelled, version):
     name = spelled.text(is_name)
     words = spelled.items(lambda: spelled.text(is_short(1024)), 16)
     if not is_command(words):
         raise Damaged
     expression = spelled.text(is_short(4096)) if spelled.one_of(2) else None
-    return name, (words, expression, bool(spelled.one_of(2)), STDIN[spelled.one_of(2)])
+    return name, (words, expression, bool(spelled.one_of(2)), STDIN[spelled.one_of(2)], take_most(spelled, version))
 
 
-def take_root(spelled):
+def take_root(spelled, version):
     path = spelled.text(is_root_path)
     number = spelled.number(8)
-    return path, (number, spelled.named(lambda: take_trigger(spelled), 64))
+    return path, (number, spelled.named(lambda: take_trigger(spelled, version), 64))
 
 
-def take_state(content):
-    """The state whose one spelling the bytes are."""
+def take_state(content, version):
+    """The state whose one spelling the bytes are in a file of this version."""
     spelled = Spelled(content)
     incarnation, following = spelled.number(8), spelled.number(8)
-    roots = spelled.named(lambda: take_root(spelled), 256)
+    roots = spelled.named(lambda: take_root(spelled, version), 256)
     numbers = [number for number, _ in roots.values()]
-    if not (1 <= following <= LARGEST and incarnation <= LARGEST and spelled.at == len(content) <= MOST_BYTES):
+    if not (1 <= following <= LARGEST and incarnation <= LARGEST and spelled.at == len(content) <= MOST_BYTES[version]):
         raise Damaged
     if len(set(numbers)) < len(numbers) or any(not 0 < number < following for number in numbers):
         raise Damaged
-    return (incarnation, following, roots)
+    return (incarnation, following, roots, version)
 
 
 def after_record(spelled, state):
@@ -100,7 +122,7 @@ def after_record(spelled, state):
     command = (begun, with_watch, without_watch, with_trigger, without_trigger)[spelled.one_of(5)]
     arguments = [] if command is begun else [spelled.text(is_root_path)]
     if command is with_trigger:
-        arguments += take_trigger(spelled)
+        arguments += take_trigger(spelled, state[3])
     if command is without_trigger:
         arguments.append(spelled.text(is_name))
     try:
@@ -135,27 +157,34 @@ def slot_of(content, place):
     return [(int.from_bytes(content[place + 1:place + 9], "big"), place)] if content[place] == OPEN else []
 
 
+def layout_of(content):
+    """That which the header says, if the file is long enough for it."""
+    for layout in LAYOUTS.values():
+        if content[:1] == bytes([OPEN]) and content[1:12] == layout.header and len(content) >= layout.size:
+            return layout
+    raise Damaged
+
+
 def meaning(content):
     """(state, place of the closed gate in its journal, number of its slot); Damaged, or Refused(20)."""
-    if len(content) < SIZE or content[0] != OPEN or content[1:12] != HEADER:
-        raise Damaged
+    layout = layout_of(content)
     if content[RETIRED_GATE] == OPEN:
         raise Refused(20)
-    slots = sorted(slot_of(content, SLOTS[0]) + slot_of(content, SLOTS[1]))
+    slots = sorted(slot_of(content, layout.slots[0]) + slot_of(content, layout.slots[1]))
     if not slots or len(slots) == 2 and slots[0][0] == slots[1][0]:
         raise Damaged
     number, place = slots[-1]
     length = int.from_bytes(content[place + 9:place + 13], "big")
-    if length > MOST_BYTES:
+    if length > layout.most_bytes:
         raise Damaged
-    state = take_state(content[place + 13:place + 13 + length])
-    journal = content[place + SLOT_BYTES:place + SLOT_BYTES + JOURNAL_BYTES]
+    state = take_state(content[place + 13:place + 13 + length], layout.version)
+    journal = content[place + layout.slot_bytes:place + layout.half_bytes]
     return (*replayed(journal, state), number)
 
 
 def has_expressions(state):
     """Whether each text that a trigger keeps is an expression."""
-    return all(expression is None or is_text_of_one(expression) for _, triggers in state[2].values() for _, expression, _, _ in triggers.values())
+    return all(kept[1] is None or is_text_of_one(kept[1]) for _, triggers in state[2].values() for kept in triggers.values())
 
 
 def is_text_of_one(text):
@@ -181,9 +210,9 @@ def started(content):
 
 def has_room(content, command):
     """Whether a start leaves room for a command: in the journal, or by a checkpoint, which raises the slot's number."""
-    _, end, number = meaning(content)
+    state, end, number = meaning(content)
     begun_at = end + 2
-    return number < LARGEST or begun_at + 1 + len(record_bytes(command)) <= JOURNAL_BYTES - 1
+    return number < LARGEST or begun_at + 1 + len(record_bytes(command, state[3])) <= JOURNAL_BYTES - 1
 
 
 def slot_bytes(number, state):
@@ -192,7 +221,7 @@ def slot_bytes(number, state):
     return bytes([OPEN]) + number.to_bytes(8, "big") + len(body).to_bytes(4, "big") + body
 
 
-def record_bytes(command):
-    """The spelling of a command, which is a list: its tag and what it is of."""
+def record_bytes(command, version):
+    """The spelling of a command, which is a list: its tag and what it is of. In version 1 a trigger's number of files is left out."""
     parts = [text_spelling(part) for part in command[1:3] if isinstance(part, str)]
-    return bytes([command[0]]) + (text_spelling(command[1]) + trigger_spelling(*command[2:]) if command[0] == 3 else b"".join(parts))
+    return bytes([command[0]]) + (text_spelling(command[1]) + trigger_spelling(version, *command[2:]) if command[0] == 3 else b"".join(parts))
