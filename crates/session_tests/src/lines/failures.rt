@@ -170,9 +170,13 @@ fn assert_outcomes(rt: &impl Abort, alloc: Global, failing: Failing) {
         let place = outcome_after(rt, alloc, failing, calls);
         // The failing call comes later than before, and so does what it meets.
         check!(rt; follows(reached, place), calls);
+        if place == 4 {
+            // The session made fewer calls, so none of them failed.
+            return;
+        }
         reached = place;
     }
-    check!(rt; reached == 4);
+    panic!(rt; "a session on each of the devices fails");
 }
 
 #[test]
