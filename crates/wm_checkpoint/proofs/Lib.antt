@@ -8,3 +8,4 @@ pub mod Keeping
 pub mod Numbering
 pub mod Committing
 pub mod Formatted
+pub mod Retiring

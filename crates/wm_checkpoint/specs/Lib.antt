@@ -3,6 +3,7 @@ pub mod Machines
 pub mod Layout
 pub mod Meanings
 pub mod Numbers
+pub mod Retirement
 pub mod Found
 pub mod FirstFile
 pub mod Formatting

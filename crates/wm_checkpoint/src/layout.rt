@@ -7,6 +7,9 @@ ghost use Rattle.wm_checkpoint.specs.Formatting.{chunk_len, rest_len};
 /// How long the header is.
 pub(crate) const HEADER_LEN: u64 = 4_096;
 
+/// Where the retired gate stands, behind the header's name and version.
+pub(crate) const RETIRED_PLACE: u64 = 12;
+
 /// How long a slot's journal is.
 pub(crate) const JOURNAL_LEN: u64 = 262_144;
 

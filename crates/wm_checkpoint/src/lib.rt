@@ -6,6 +6,8 @@
 //! gate last. A crash at any moment leaves a content that means the state after a prefix of the commands
 //! in flight, and [`Keeper::open`] finds it.
 //!
+//! [`Keeper::read`] and [`Keeper::retire`] serve whoever moves a state into another file.
+//!
 //! A [`Layout`] says where the slots and journals of a version of the file lie, and how long a state may be.
 //!
 //! Tests: file_tests/src/checkpoint.
@@ -19,6 +21,7 @@ mod laws;
 mod layout;
 mod machine;
 mod read;
+mod retire;
 mod slot_bytes;
 mod write;
 

@@ -1,8 +1,8 @@
-use Rattle.std.proofs.Common.{◌≡◌, ◌≤◌, List, ℕ, length, ap, sym, subst, arith}
+use Rattle.std.proofs.Common.{◌≤◌, List, ℕ, length, ap, sym, subst, arith}
 use Rattle.std.proofs.lemmas.List.{length-take}
 use Rattle.wm_disk.specs.declared.refusal.Refusal.TheVariants.{Damaged as damaged}
 use Rattle.wm_journal.specs.Areas.{area}
-use Rattle.wm_checkpoint.specs.Layout.{file_len, header_len, sizes_2}
+use Rattle.wm_checkpoint.specs.Layout.{header_len, sizes_2}
 use Rattle.wm_checkpoint.specs.Machines.{meaning}
 use Rattle.wm_checkpoint.specs.Meanings.{IsHeaderWith}
 use Rattle.wm_checkpoint.specs.Layout.{sizes_1}

@@ -1,9 +1,8 @@
-use Rattle.std.proofs.Common.{◌≡◌, List, ℕ, take, ap, arith, subst, ◌∙◌}
-use Rattle.wm_checkpoint.specs.Layout.{file_len}
+use Rattle.std.proofs.Common.{List, ℕ, take, ap, arith, subst, ◌∙◌}
 use Rattle.wm_checkpoint.specs.Machines.{meaning}
 use Rattle.wm_checkpoint.specs.Meanings.{IsDamaged, IsRetired}
 use Rattle.wm_checkpoint.specs.Found.{IsFound}
-use Rattle.wm_checkpoint.proofs.Deciding.{if_ok, found_whole, found_within, damaged_whole, too_short, retired_whole, front_is, front_long, front_short}
+use Rattle.wm_checkpoint.proofs.Deciding.{if_ok, found_whole, found_within, damaged_whole, retired_whole, front_is, front_long}
 use Rattle.wm_checkpoint.proofs.read.decode_front.Goals as goal
 
 pub returns-clause-found : goal.returns-clause-found

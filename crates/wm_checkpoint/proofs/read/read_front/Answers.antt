@@ -1,4 +1,4 @@
-use Rattle.std.proofs.Common.{◌≡◌, ◌≤◌, List, ℕ, min, length, take, arith, ap, sym, ◌∙◌, rules}
+use Rattle.std.proofs.Common.{◌≡◌, ◌≤◌, List, ℕ, length, take, arith, ap, ◌∙◌, rules}
 use Rattle.wm_checkpoint.proofs.Halves.{whole_read}
 use Rattle.wm_checkpoint.proofs.Deciding.{take_min}
 use Rattle.wm_checkpoint.proofs.read.read_front.Goals as goal
