@@ -14,3 +14,4 @@ pub mod Sizes
 pub mod States
 pub mod TriggerParts
 pub mod Words
+pub mod SecondVersion

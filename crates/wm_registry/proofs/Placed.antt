@@ -37,7 +37,7 @@ small_sizes v name command expression most n w e k hn hw he en ew ee ek =
       length-append (big_bytes 4 (length command)) (flat_map text command),
     )
 
-length-trigger : (v : Version) (t : Definition) → length (trigger_spelling v t) ≡ length (text t.name) + length (list_spelling text t.command) + length (optional_spelling text t.expression) + length (truth t.append_files) + length (stdin_spelling t.stdin) + length (ending_spelling v t.max_files_stdin)
+pub length-trigger : (v : Version) (t : Definition) → length (trigger_spelling v t) ≡ length (text t.name) + length (list_spelling text t.command) + length (optional_spelling text t.expression) + length (truth t.append_files) + length (stdin_spelling t.stdin) + length (ending_spelling v t.max_files_stdin)
 length-trigger v t =
     let ending = ending_spelling v t.max_files_stdin in
     let last = stdin_spelling t.stdin ++ ending in

@@ -5,7 +5,7 @@ use Rattle.wm_registry.specs.declared.command.Command.{Command}
 use Rattle.wm_registry.specs.MachineLaws.{watches}
 use Rattle.wm_registry.specs.Numbers.{InOrder, Rises}
 use Rattle.wm_registry.specs.Registry.{after_command, changes, empty_registry}
-use Rattle.wm_registry.specs.Roots.{State}
+use Rattle.wm_registry.specs.Roots.{State, in_version_2}
 use Rattle.wm_registry.specs.Triggers.{Definition, same_definition}
 use Rattle.wm_registry.specs.declared.version.Version.{Version}
 use Rattle.wm_checkpoint.specs.Machines.{replay_on}
@@ -36,3 +36,7 @@ VersionStays = (s : State) (c : Command) → (after_command s c).version ≡ s.v
 -- one that is accepted has a place in a file of the version
 abbrev pub AcceptedArePlaced : Type 0
 AcceptedArePlaced = (s : State) (c : Command) → changes s c ≡ true → FitsVersion s.version c
+
+-- one that is accepted is accepted in version 2 too, and does the same there
+abbrev pub AcceptedInVersion2 : Type 0
+AcceptedInVersion2 = (s : State) (c : Command) → changes s c ≡ true → (changes (in_version_2 s) c ≡ true) × (after_command (in_version_2 s) c ≡ in_version_2 (after_command s c))

@@ -5,6 +5,7 @@ use Rattle.std.specs.Str.{bytes_eq}
 use Rattle.wm_registry.specs.declared.root.Root.{Root}
 use Rattle.wm_registry.specs.Triggers.{Definition}
 use Rattle.wm_registry.specs.declared.version.Version.{Version}
+use Rattle.wm_registry.specs.declared.version.Version.TheVariants.{Two}
 
 -- the version of the file that it is kept in, the incarnation, the next root number, and the roots by their paths, in order of watching
 pub record State : Type 0 where
@@ -12,6 +13,10 @@ pub record State : Type 0 where
   pub incarnation : ℕ
   pub next : ℕ
   pub roots : List (List ℕ × Root)
+
+-- the same registry, kept in a file of version 2
+abbrev pub in_version_2 : State → State
+in_version_2 s = record s { version = Two }
 
 -- the root at the path
 abbrev pub root_at : List ℕ → State → Option Root

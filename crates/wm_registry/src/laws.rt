@@ -1,6 +1,6 @@
 //! What holds of every registry: a function that does nothing, there for its contract alone.
 //! Definitions: specs/Laws.antt.
-ghost use Rattle.wm_registry.specs.Laws.{AcceptedArePlaced, AcceptedChanges, NumbersInOrder, NumbersRise, OthersLeave, SameIsEqual, VersionStays};
+ghost use Rattle.wm_registry.specs.Laws.{AcceptedArePlaced, AcceptedChanges, AcceptedInVersion2, NumbersInOrder, NumbersRise, OthersLeave, SameIsEqual, VersionStays};
 
 /// What holds of every registry, whatever the commands are.
 pub fn every_registry()
@@ -14,4 +14,5 @@ pub fn every_registry()
     ensures others { OthersLeave }
     ensures version { VersionStays }
     ensures placed { AcceptedArePlaced }
+    ensures in_version_2 { AcceptedInVersion2 }
 {}

@@ -19,6 +19,7 @@ mod laws;
 mod limits;
 mod machine;
 mod meeting;
+mod moved;
 mod path_spelling;
 mod registry;
 mod reply;

@@ -2,6 +2,7 @@ use Rattle.wm_registry.specs.ChangeLaws.{accepted_changes}
 use Rattle.wm_registry.specs.MachineLaws.{idle_registry}
 use Rattle.wm_registry.specs.VersionLaws.{accepted_placed, same_version}
 use Rattle.wm_registry.proofs.Definitions.{equal_definitions}
+use Rattle.wm_registry.proofs.SecondVersion.{accepted_in_version_2}
 use Rattle.wm_registry.proofs.Numbers.{in_order, rises_more}
 use Rattle.wm_registry.proofs.laws.every_registry.Goals as goal
 
@@ -25,3 +26,6 @@ returns-clause-version c = same_version
 
 pub returns-clause-placed : goal.returns-clause-placed
 returns-clause-placed c = accepted_placed
+
+pub returns-clause-in_version_2 : goal.returns-clause-in_version_2
+returns-clause-in_version_2 c = accepted_in_version_2
