@@ -10,3 +10,4 @@ pub mod Replying
 pub mod Runs
 pub mod Stores
 pub mod Taking
+pub mod TwoFiles

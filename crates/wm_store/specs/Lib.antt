@@ -4,6 +4,7 @@ pub mod Calls
 pub mod Checkpoints
 pub mod KeptStores
 pub mod Meant
+pub mod Migrations
 pub mod Openings
 pub mod Room
 pub mod Stored

@@ -14,8 +14,10 @@ mod filed_store;
 mod formatting;
 mod idle;
 mod laws;
+mod migrating;
 mod store;
 
 pub use formatting::format;
 pub use laws::every_file;
+pub use migrating::{is_retired, migrate};
 pub use store::Store;
