@@ -1,23 +1,21 @@
 -- Why a front's start is refused.
-use Rattle.std.proofs.Common.{◌≡◌, ◌⊎◌, ◌≤◌, ℕ, List, true, false, cond, get_or, refl, sym, ap, ◌∙◌, subst, ⊎_elim, inl, inr}
+use Rattle.std.proofs.Common.{◌≡◌, ◌⊎◌, ◌≤◌, ℕ, List, true, false, cond, refl, sym, ap, ◌∙◌, subst, ⊎_elim, inl, inr}
 use Rattle.std.specs.Prelude.{nat_lt}
 use Rattle.wm_disk.specs.Contents.{Rose}
 use Rattle.wm_disk.specs.declared.disk.Disk.{Ghosts}
 use Rattle.wm_disk.specs.declared.refusal.Refusal.{Refusal}
 use Rattle.wm_disk.specs.declared.refusal.Refusal.TheVariants as refusals
 use Rattle.wm_disk.specs.Counters.{max_counter}
-use Rattle.wm_checkpoint.specs.Meanings.{IsHeaderWith}
-use Rattle.wm_checkpoint.specs.Layout.{Sizes}
 use Rattle.wm_registry.specs.declared.command.Command.TheVariants.{Begin}
 use Rattle.wm_registry.specs.declared.reply.Reply.TheVariants.{Changed, Refused}
 use Rattle.wm_registry.specs.Roots as registry
-use Rattle.wm_registry.specs.Versions.{sizes_of}
 use Rattle.wm_registry.specs.Registry.{after_command, changed, is_change, reply_to}
 use Rattle.wm_store.specs.Openings.{IsBegun, FindsRegistry, WritesNothing}
 use Rattle.wm_store.specs.Stored.{Stored}
 use Rattle.wm_lines.specs.KeptExpressions.{have_expressions}
 use Rattle.wm_server.specs.local.Stores.{StartRefused}
 use Rattle.wm_store.specs.Meant.{IsDamagedFile, IsRetiredFile, MeansRegistry}
+use Rattle.wm_store.specs.laws.Retired.{not_retired}
 
 -- a start changes no trigger
 expressions_after_begin : (s : registry.State) → have_expressions (after_command s Begin) ≡ have_expressions s
@@ -26,13 +24,6 @@ expressions_after_begin s =
       | true ↦ refl
       | false ↦ refl
     ]
-
--- the retired gate of a header is one, whatever the version it names
-two_gates : (l k : Sizes) (a b : ℕ) (bytes : List ℕ) → IsHeaderWith l a bytes → IsHeaderWith k b bytes → a ≡ b
-two_gates l k a b bytes first second = ap (λ (x : List ℕ). get_or x 12 0) (sym first.1 ∙ second.1)
-
-not_retired : (found : registry.State) (content : List ℕ) → MeansRegistry found content → IsRetiredFile content → ⊥
-not_retired found content m retired = let header = m.means.header in header.1 (two_gates (sizes_of found.version) (sizes_of retired.0) header.0 165 _ header.2 retired.1.1)
 
 module _ {D : Type 0} (disk : Ghosts D) (old new : D) (cut : disk.honest new → WritesNothing disk old new ⊎ ((found : registry.State) × FindsRegistry disk old new found)) where
   -- where the file means nothing, no registry was found
