@@ -4,6 +4,9 @@
 //! any moment of it leaves the registry after a prefix of the accepted commands, and [`Store::open`]
 //! finds it, and makes the next incarnation durable before it answers.
 //!
+//! [`migrate`] moves the registry of a file of version 1 into one of version 2. A crash at any moment leaves an
+//! old file that means the registry, or a retired one beside a new one that means it.
+//!
 //! Tests: file_tests/src/store.
 #![tactic(auto)]
 
