@@ -202,6 +202,23 @@ impl<S: Start> FileDisk<S> {
             }
         }
     }
+
+    /// Opens a regular file as `open` does, or makes one as `create` does if nothing is there. Its name is durable, also if
+    /// whoever made it was killed before that. `DeviceFailed` if something is there that `open` refuses, if the file
+    /// can't be made, or if the sync of its folder failed: a file that was there stays as it was.
+    pub fn open_or_create(
+        files: &impl Files<File = File>,
+        path: &str,
+    ) -> Result<FileDisk<S>, DeviceFailed>
+        requires empty { S.Start.content ≡ [] }
+        ensures just_opened { IfOk result (λ disk. IsJustOpened disk) }
+    {
+        match FileDisk::open(files, path) {
+            Ok(disk) if sync_folder(files, path).is_ok() => Ok(disk),
+            Ok(_) => Err(DeviceFailed),
+            Err(_) => FileDisk::create(files, path),
+        }
+    }
 }
 
 impl<S: Start> Disk for FileDisk<S> {
