@@ -1,4 +1,5 @@
 pub mod Endings
+pub mod Migrating
 pub mod Programs
 pub mod Systems
 pub mod Words

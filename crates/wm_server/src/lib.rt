@@ -5,7 +5,7 @@
 //! answered, and the state after it, is `line_met` of specs/session/Sessions.antt.
 //!
 //! The rooms, each with a folder in src, specs and proofs: `session` answers lines on a front, `local` is
-//! the front of one thread over a disk, `program` is `format` and `lines`. Sockets are `wm_serve`'s, and all
+//! the front of one thread over a disk, `program` is `format`, `lines` and `migrate`. Sockets are `wm_serve`'s, and all
 //! the words of `watchmand` are `wm_program`'s.
 //!
 //! Tests: session_tests/src (lines, requests, programs, ends.rt).

@@ -1,4 +1,4 @@
-//! `format` and `lines` whole, as `wm_program` calls them. Its definitions are in specs/program.
+//! `format`, `lines` and `migrate` whole, as `wm_program` calls them. Its definitions are in specs/program.
 //! Tests: session_tests/src/programs.
 ghost use Rattle.std.specs.Prelude.{◌≡◌, ◌⊎◌, ◌<◌, [], true, MatchResult, OnOk, codes, map};
 ghost use Rattle.std.specs.Io.KnownBytes.{Appends};
@@ -13,10 +13,12 @@ ghost use Rattle.wm_server.specs.program.Words.{asked, shown as shown_lem};
 ghost use Rattle.wm_registry.specs.declared.version.Version.TheVariants.{Two};
 
 pub mod lines;
+mod migration;
 pub mod system;
 pub mod words;
 
 use crate::program::lines::{lines_on, refuse};
+use crate::program::migration::migrate;
 use crate::program::system::System;
 use crate::program::words::Words;
 use crate::session::{Input, Output};
@@ -42,6 +44,7 @@ pub fn watchmand<S: System, R: BufRead, W: Write, E: Write>(
     match Words::read(alloc, words) {
         Ok(Words::Format { file }) => format(alloc, system, &file, writer, faults),
         Ok(Words::Lines { file }) => answer_lines(alloc, system, &file, reader, writer, faults),
+        Ok(Words::Migrate { old, new }) => migrate(alloc, system, &old, &new, writer, faults),
         Ok(Words::Shown { text, status: 0 }) => shown(&text, 0, writer),
         Ok(Words::Shown { text, status }) => shown(&text, status, faults),
         Err(NoMemory) => refuse(Refusal::NoMemory, faults),

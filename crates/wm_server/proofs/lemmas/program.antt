@@ -1,3 +1,5 @@
+mod CommandLemmas
+pub mod MigrationLemmas
 mod OneWordLemmas
 pub mod ProgramLemmas
 pub mod WordLemmas

@@ -13,7 +13,8 @@ use Rattle.wm_server.specs.program.Endings.{Ends, EndsBy, LeavesAnytime, Tells, 
 use Rattle.wm_server.specs.program.Programs.{IsTold, LinesAnswered, LinesServed}
 use Rattle.wm_server.specs.local.Stores.{Later}
 use Rattle.wm_server.specs.session.Streams.{Streams, reader_of, writer_failed, writer_of}
-use Rattle.wm_server.specs.program.Words.{Asked, format, lines, shown}
+use Rattle.wm_server.specs.program.Migrating.{RunsMigrate}
+use Rattle.wm_server.specs.program.Words.{Asked, format, lines, migrate, shown}
 use Rattle.wm_server.specs.declared.program.lines.Ending.{Ending}
 use Rattle.wm_server.specs.declared.session.output.Output.{Output}
 use Rattle.wm_server.specs.declared.program.system.System as systems
@@ -89,6 +90,7 @@ module _ {S D : Type 0} (disk : disks.Ghosts D) (system : systems.Ghosts S D) wh
     abbrev pub Runs : Asked → S → S → Streams R W E → Streams R W E → ℕ → Type 0
     Runs (lines path) old new first last status = RunsLines path old new first last status
     Runs (format path) old new first last status = RunsFormat holds tells path old new first.writer last.writer first.faults last.faults status
+    Runs (migrate old_path new_path) old new first last status = RunsMigrate disk system holds tells old_path new_path old new first.writer last.writer first.faults last.faults status
     Runs (shown asked) old new first last status = (new ≡ old) × (((status ≡ asked) × Shows asked first last)
         ⊎ ((status ≡ 1) × ((writer_failed last.writer ≡ true) ⊎ (writer_failed last.faults ≡ true))))
 

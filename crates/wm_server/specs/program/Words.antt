@@ -1,6 +1,6 @@
 -- What the command-line words of `watchmand` ask for. A word is a text, as the list of its bytes.
 use Rattle.std.specs.Prelude.{ℕ, Bool, true, false, List, [], ◌∷◌, Option, Some, None, codes}
-use Rattle.std.specs.Prelude.{◌==◌, ◌||◌, if◌then◌else◌, is_some, option_map, slice_get}
+use Rattle.std.specs.Prelude.{◌==◌, ◌||◌, if◌then◌else◌, is_some, option_and_then, option_map, slice_get}
 use Rattle.std.specs.Option.{option_map_or}
 use Rattle.std.specs.Str.{bytes_eq, chars}
 use Rattle.std.specs.String.{string_bytes}
@@ -19,6 +19,8 @@ pub data Asked : Type 0 where
   format : Text → Asked
   -- `lines` with this FILE
   lines : Text → Asked
+  -- `migrate` with this OLD and this NEW
+  migrate : (old new : Text) → Asked
   -- a text is shown, and the program ends with this status
   shown : ℕ → Asked
 
@@ -33,6 +35,7 @@ fault = shown 2
 abbrev pub asked_of : Words → Asked
 asked_of (words.Format file) = format (string_bytes file)
 asked_of (words.Lines file) = lines (string_bytes file)
+asked_of (words.Migrate old new) = migrate (string_bytes old) (string_bytes new)
 asked_of (words.Shown text status) = shown status
 
 -- ---- one word
@@ -73,28 +76,46 @@ asked_after_file done (word ∷ []) = if ends_flags word then done else asked_by
 asked_after_file done (word ∷ more ∷ rest) =
     if ends_flags word then fault else asked_by_stray word
 
--- after `format` or `lines`: exactly one FILE, which is no flag unless `--` stands before it
+-- after a command that takes one FILE: exactly that, which is no flag unless `--` stands before it
 abbrev pub asked_after_command : (Text → Asked) → List Text → Asked
 asked_after_command with_file [] = fault
 asked_after_command with_file (word ∷ rest) =
     if ends_flags word then asked_after_dashes with_file rest
     else (if is_flag word then asked_by_stray word else asked_after_file (with_file word) rest)
 
+-- after `migrate` and `--`: exactly OLD and NEW, whatever they look like
+abbrev pub asked_after_migrate_dashes : List Text → Asked
+asked_after_migrate_dashes [] = fault
+asked_after_migrate_dashes (old ∷ rest) = asked_after_dashes (migrate old) rest
+
+-- after `migrate`: OLD, which is no flag unless `--` stands before it, and then NEW, as FILE after a command
+abbrev pub asked_after_migrate : List Text → Asked
+asked_after_migrate [] = fault
+asked_after_migrate (word ∷ rest) =
+    if ends_flags word then asked_after_migrate_dashes rest
+    else (if is_flag word then asked_by_stray word else asked_after_command (migrate word) rest)
+
 -- the program's name is not among the words
 abbrev pub asked : List Text → Asked
 asked [] = fault
 asked (word ∷ rest) = if bytes_eq word (codes "format") then asked_after_command format rest
     else (if bytes_eq word (codes "lines") then asked_after_command lines rest
-    else asked_by_stray word)
+    else (if bytes_eq word (codes "migrate") then asked_after_migrate rest
+    else asked_by_stray word))
 
 -- ---- the command line as clap is told of it
 
-abbrev pub file_rule : Rule
-file_rule = record (new_rule (codes "FILE")) { action = Some Set; required = true }
+-- a path, which the command needs
+abbrev pub path_rule : Text → Rule
+path_rule name = record (new_rule name) { action = Some Set; required = true }
 
 -- a command with FILE
 abbrev pub file_app : Text → App
-file_app name = with_rule (new_app name) file_rule
+file_app name = with_rule (new_app name) (path_rule (codes "FILE"))
+
+-- `migrate`, with OLD and NEW
+abbrev pub migrate_app : App
+migrate_app = with_rule (with_rule (new_app (codes "migrate")) (path_rule (codes "OLD"))) (path_rule (codes "NEW"))
 
 -- the program's command, with no command below it yet
 abbrev pub bare_app : App
@@ -110,18 +131,22 @@ bare_app = record {
 }
 
 abbrev pub watchmand_app : App
-watchmand_app = with_subcommand
+watchmand_app = with_subcommand (with_subcommand
     (with_subcommand bare_app (file_app (codes "format")).top)
-    (file_app (codes "lines")).top
+    (file_app (codes "lines")).top)
+    migrate_app.top
 
 -- ---- what clap answers
+
+-- what is asked by the entries of the matches of `migrate`
+abbrev pub migrate_by : List Row → Option Asked
+migrate_by rows = option_and_then (λ old. option_map (migrate old) (first_of (codes "NEW") rows)) (first_of (codes "OLD") rows)
 
 -- what is asked by the subcommand that was met, with the entries of its matches
 abbrev pub asked_by : Option (Text × List Row) → Option Asked
 asked_by None = None
-asked_by (Some met) =
-    option_map (λ file. if bytes_eq met.0 (codes "format") then format file else lines file)
-    (first_of (codes "FILE") met.1)
+asked_by (Some met) = if bytes_eq met.0 (codes "migrate") then migrate_by met.1
+    else option_map (λ file. if bytes_eq met.0 (codes "format") then format file else lines file) (first_of (codes "FILE") met.1)
 
 -- what an error of this kind shows; running out of memory is never shown
 abbrev pub shown_for : ErrorKind → Option Asked

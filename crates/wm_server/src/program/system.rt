@@ -18,6 +18,9 @@ pub trait System {
     /// A new file was made, or that was refused.
     ghost creates: { Self → List ℕ → Option Self.File → Self → Type 0 };
 
+    /// The file of a path was opened, or made if none was there; or that was refused.
+    ghost readies: { Self → List ℕ → Option Self.File → Self → Type 0 };
+
     /// An open file was let go.
     ghost closes: { Self → Self.File → Self → Type 0 };
 
@@ -33,6 +36,11 @@ pub trait System {
     /// synced: then a file that was made is taken away again, where that can be done.
     fn create(&mut self, path: &str) -> Result<Self::File, DeviceFailed>
         ensures { MatchResult result (λ file. creates self.old path.now (Some file) self.new) (λ _. creates self.old path.now None self.new) };
+
+    /// Opens a file that is there, or makes it, and makes its name durable. `DeviceFailed` if something is there that
+    /// can't be opened, as by `open`, and if it can't be made, locked or synced.
+    fn open_or_create(&mut self, path: &str) -> Result<Self::File, DeviceFailed>
+        ensures { MatchResult result (λ file. readies self.old path.now (Some file) self.new) (λ _. readies self.old path.now None self.new) };
 
     /// Lets a file go.
     fn close(&mut self, file: Self::File)
@@ -65,6 +73,8 @@ impl<F: Files<File = File>> System for Host<'_, F> {
 
     ghost creates = { λ _ _ answer _. IfSome answer (λ file. IsJustOpened file) };
 
+    ghost readies = { λ _ _ answer _. IfSome answer (λ file. IsJustOpened file) };
+
     ghost closes = { λ _ _ _. ⊤ };
 
     ghost removes = { λ _ _ _. ⊤ };
@@ -75,6 +85,10 @@ impl<F: Files<File = File>> System for Host<'_, F> {
 
     fn create(&mut self, path: &str) -> Result<FileDisk<Unknown>, DeviceFailed> {
         FileDisk::create(self.files, path)
+    }
+
+    fn open_or_create(&mut self, path: &str) -> Result<FileDisk<Unknown>, DeviceFailed> {
+        FileDisk::open_or_create(self.files, path)
     }
 
     fn close(&mut self, _file: FileDisk<Unknown>) {}

@@ -3,8 +3,8 @@
 ghost use Rattle.std.specs.Prelude.{◌≡◌, IfOk, Some, false, is_some, map, true};
 ghost use Rattle.clap.specs.Values.{kind_of};
 ghost use Rattle.clap.specs.declared.builder.Command.TheViews.{out-Command};
-ghost use Rattle.clap.specs.Words.{app_of, rule_of, subcommand_rows_of, with_subcommand};
-ghost use Rattle.wm_server.specs.program.Words.{asked, asked_by, asked_of, bare_app, file_app, file_rule, shown_for, watchmand_app};
+ghost use Rattle.clap.specs.Words.{app_of, found_of, rows_of, rule_of, subcommand_rows_of, with_subcommand};
+ghost use Rattle.wm_server.specs.program.Words.{asked, asked_by, asked_of, bare_app, file_app, migrate_app, migrate_by, path_rule, shown_for, watchmand_app};
 
 use clap::error::ErrorKind;
 use clap::{Arg, ArgAction, ArgMatches, Command, Error};
@@ -19,6 +19,8 @@ pub enum Words {
     Format { file: String },
     /// `lines FILE`
     Lines { file: String },
+    /// `migrate OLD NEW`
+    Migrate { old: String, new: String },
     /// A text is to be shown, and the program ends with the status: help or the version (0) on
     /// standard output, a fault (2) on standard error.
     Shown { text: String, status: u8 },
@@ -27,7 +29,7 @@ pub enum Words {
 impl Words {
     /// What the words ask for; the program's own name is not among them.
     ///
-    /// The words are `format FILE` or `lines FILE`. A FILE that begins with a hyphen and isn't just
+    /// The words are `format FILE`, `lines FILE` or `migrate OLD NEW`. A path that begins with a hyphen and isn't just
     /// `-` needs a word `--` before it. `--help` and `-h` ask for help, `--version` and `-V` for the
     /// version, where each word before them has its place. All else is a fault. `Err` comes only where memory runs out.
     pub fn read<'a>(alloc: Global, words: &'a [&'a str]) -> Result<Words, NoMemory>
@@ -42,7 +44,7 @@ impl Words {
 }
 
 const STATUSES: &str = "Exit status:
-  0  the input was answered to its end, or the file was made
+  0  the input was answered to its end, or the file was made or moved
   1  refused, or the input or the output failed; standard error says why
   2  the words aren't understood";
 
@@ -57,12 +59,13 @@ pub fn watchmand<'a>(alloc: Global) -> Result<Command<'a>, NoMemory>
         "format",
         "Makes a state file; FILE must not be there yet",
     )?;
-    let command = with_file_command(
+    let answering = with_file_command(
         alloc,
         formatting,
         "lines",
         "Answers request lines from standard input over a state file",
     )?;
+    let command = with_migrate_command(alloc, answering)?;
     Ok(command)
 }
 
@@ -101,23 +104,56 @@ fn file_command<'a>(alloc: Global, name: &'a str, about: &'a str) -> Result<Comm
     ensures app { IfOk result (λ c. app_of c ≡ file_app name.entry.now) }
     ensures local { IfOk result (λ c. (out-Command c).has_globals ≡ false) }
 {
-    let file = file_argument(alloc);
+    let file = path_argument(alloc, "FILE", "The path of the state file");
     let command = Command::new(alloc, name).about(about).arg(file)?;
     Ok(command)
 }
 
-// FILE, which each command needs.
-fn file_argument<'a>(alloc: Global) -> Arg<'a>
-    ensures rule { rule_of result ≡ file_rule }
+// The command with `migrate` in it.
+fn with_migrate_command<'a>(alloc: Global, command: Command<'a>) -> Result<Command<'a>, NoMemory>
+    ensures { IfOk result (λ c. app_of c ≡ with_subcommand (app_of command.entry) migrate_app.top) }
+{
+    let inner = migrate_command(alloc)?;
+    let command = command.subcommand(inner)?;
+    Ok(command)
+}
+
+// `migrate`, which takes OLD and NEW.
+fn migrate_command<'a>(alloc: Global) -> Result<Command<'a>, NoMemory>
+    ensures app { IfOk result (λ c. app_of c ≡ migrate_app) }
+    ensures local { IfOk result (λ c. (out-Command c).has_globals ≡ false) }
+{
+    let old = path_argument(
+        alloc,
+        "OLD",
+        "The path of the state file of version 1, which is retired",
+    );
+    let new = path_argument(
+        alloc,
+        "NEW",
+        "The path of the state file of version 2, which is made if it isn't there, and else written over",
+    );
+    let command = Command::new(alloc, "migrate")
+        .about(
+            "Moves all watches and triggers from OLD into NEW, which is written over, and retires OLD",
+        )
+        .arg(old)?
+        .arg(new)?;
+    Ok(command)
+}
+
+// A path, which its command needs.
+fn path_argument<'a>(alloc: Global, name: &'a str, help: &'a str) -> Arg<'a>
+    ensures rule { rule_of result ≡ path_rule name.entry.now }
     ensures local { result.global ≡ false }
 {
-    Arg::new(alloc, "FILE")
-        .help("The path of the state file")
+    Arg::new(alloc, name)
+        .help(help)
         .action(ArgAction::Set)
         .required(true)
 }
 
-// What the matches of the program's command ask for: it met `format` or `lines`, with a FILE.
+// What the matches of the program's command ask for: it met one of its commands, with the paths that this one takes.
 fn chosen(alloc: Global, matches: &ArgMatches<'_>) -> Result<Words, NoMemory>
     requires { is_some (asked_by (subcommand_rows_of matches.now)) ≡ true }
     ensures { IfOk result (λ r. asked_by (subcommand_rows_of matches.now) ≡ Some (asked_of r)) }
@@ -125,6 +161,9 @@ fn chosen(alloc: Global, matches: &ArgMatches<'_>) -> Result<Words, NoMemory>
     let Some((name, inner)) = matches.subcommand() else {
         unreachable!()
     };
+    if name == "migrate" {
+        return migrating(alloc, inner);
+    }
     let Some(file) = inner.get_str("FILE") else {
         unreachable!()
     };
@@ -134,6 +173,22 @@ fn chosen(alloc: Global, matches: &ArgMatches<'_>) -> Result<Words, NoMemory>
     } else {
         Ok(Words::Lines { file })
     }
+}
+
+// What `migrate` is asked for, with an OLD and a NEW.
+fn migrating(alloc: Global, matches: &ArgMatches<'_>) -> Result<Words, NoMemory>
+    requires { is_some (migrate_by (rows_of (found_of matches.now))) ≡ true }
+    ensures { IfOk result (λ r. migrate_by (rows_of (found_of matches.now)) ≡ Some (asked_of r)) }
+{
+    let Some(old) = matches.get_str("OLD") else {
+        unreachable!()
+    };
+    let Some(new) = matches.get_str("NEW") else {
+        unreachable!()
+    };
+    let old = String::from_str(alloc, old)?;
+    let new = String::from_str(alloc, new)?;
+    Ok(Words::Migrate { old, new })
 }
 
 // What is shown for an error of the parse. Running out of memory is no fault of the words: it is an `Err`.

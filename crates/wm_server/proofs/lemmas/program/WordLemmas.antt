@@ -2,13 +2,13 @@
 use Rattle.std.proofs.Common.{◌≡◌, ◌∙◌, ℕ, Bool, true, false, List, [], ◌∷◌, ◌++◌, Option, Some, None, inl, inr, refl, sym, ap, ap₂, subst, true≢false, codes, is_some, option_map}
 use Rattle.std.proofs.lemmas.Slice.Eq.{bytes_eq-Decides}
 use Rattle.std.specs.List.{fold}
-use Rattle.std.specs.Prelude.{◌==◌, ◌||◌, if◌then◌else◌, ◌⊎◌, unwrap_or}
+use Rattle.std.specs.Prelude.{◌==◌, if◌then◌else◌, ◌⊎◌, option_and_then, unwrap_or}
 use Rattle.std.specs.Str.{bytes_eq, chars}
-use Rattle.clap.specs.Faults.{check_fault, entered_fault, fault_of, settle_fault, walk_fault, defaults_fault, turn_fault}
+use Rattle.clap.specs.Faults.{entered_fault, fault_of, walk_fault, defaults_fault, turn_fault}
 use Rattle.clap.specs.Kinds.{IsAmong, Kinds, or_else}
-use Rattle.clap.specs.Simple.{App, Shape, built_leaf, entered, inherited, is_simple, marked_built, subcommand_of, with_filled_rules, with_help_flag, with_version_flag}
+use Rattle.clap.specs.Simple.{App, Shape, entered, is_simple, subcommand_of, with_filled_rules, with_help_flag, with_version_flag}
 use Rattle.clap.specs.Faults.{is_simple_and_free}
-use Rattle.clap.specs.Walk.{Names, Row, Text, Walk, arg_by_long, arg_by_short, finished, first_of, idle, settled, subcommand_met, walked}
+use Rattle.clap.specs.Walk.{Names, Row, Text, Walk, arg_by_long, arg_by_short, first_of, idle, settled_rows, subcommand_met, value, walked}
 use Rattle.clap.specs.Simple.{HasMatchesOf, subcommand_rows_of}
 use Rattle.clap.specs.Matches.{first_value, found_of, subcommand_name_of}
 use Rattle.clap.specs.Walk.{rows_of}
@@ -16,144 +16,9 @@ use Rattle.clap.specs.declared.error.ErrorKind.{ErrorKind}
 use Rattle.clap.specs.declared.error.ErrorKind.TheVariants.{OutOfMemory}
 use Rattle.clap.specs.declared.parser.ArgMatches.{ArgMatches}
 use Rattle.clap.proofs.WalkLemmas.{first_value-rows, walk_stopped}
-use Rattle.wm_server.specs.program.Words.{Asked, asked, asked_after_dashes, asked_after_file, asked_by, asked_by_stray, asked_after_command, bare_app, ends_flags, fault, file_app, format, is_flag, lines, shown, shown_for, watchmand_app}
-use Rattle.wm_server.proofs.lemmas.program.OneWordLemmas.{AllShow, Shows, asks_nothing, at, by_status, flag_by, flip, held, long_flag, or_else-Shows, short_flag, status_of, turn_dashes, turn_flag, turn_plain}
-
--- ---- the words after `format` or `lines`
-
-abbrev above : Shape
-above = record (marked_built bare_app.top) { is_leaf = false }
-
--- a command as built
-abbrev command : Text → Shape
-command name = built_leaf (inherited above (file_app name).top)
-
--- one level of a parse, by the faults of its words and where its walk ends
-abbrev level_of : Shape → Kinds → Walk → Bool → Kinds → Kinds
-level_of s faults end has_subcommand below = or_else faults (or_else below
-    (or_else (settle_fault s.rules s.args_override_self end.held)
-    (or_else (defaults_fault (settled s.rules end.held).rows s.rules)
-    (check_fault s (finished s.rules end.held) has_subcommand))))
-
-knows_flags : (b d : Bool) → flag_by (b || false) (d || false) ≡ flag_by b d
-knows_flags true d = refl
-knows_flags false true = refl
-knows_flags false false = refl
-
-module _ (name : Text) where
-  command_long : (n : Text) → arg_by_long (command name).rules n ≡ long_flag n
-  command_long n = knows_flags (bytes_eq (codes "help") n) (bytes_eq (codes "version") n)
-
-  command_short : (x : ℕ) → arg_by_short (command name).rules x ≡ short_flag x
-  command_short x = knows_flags (104 == x) (86 == x)
-
-module _ (name : Text) (make : Text → Asked) (Fits : Asked → Kinds → Option Text → Type 0)
-    (good : (file : Text) (ks : Kinds) (o : Option Text) → ks ≡ [] → o ≡ Some file → Fits (make file) ks o)
-    (bad : (status : ℕ) (ks : Kinds) (o : Option Text) → Shows status ks → Fits (shown status) ks o) where
-  abbrev Ends : Asked → Kinds → Walk → Type 0
-  Ends a faults end = Fits a (level_of (command name) faults end false []) (first_of (codes "FILE") (finished (command name).rules end.held))
-
-  -- the words from here on come to a
-  abbrev Goes : Asked → Walk → List Text → Type 0
-  Goes a w words = Ends a (walk_fault (command name) [] w words) (fold (walked (command name).rules []) w words)
-
-  go_on : (a : Asked) (w after : Walk) (word : Text) (rest : List Text) → turn_fault (command name) [] w word ≡ []
-      → walked (command name).rules [] w word ≡ after → Goes a after rest → Goes a w (word ∷ rest)
-  unfolding walk_fault
-  go_on a w after word rest none step goes =
-      subst (λ (v : Walk). Ends a (or_else (turn_fault (command name) [] w word) (walk_fault (command name) [] v rest)) (fold (walked (command name).rules []) v rest)) (sym step)
-      (subst (λ (ks : Kinds). Ends a (or_else ks (walk_fault (command name) [] after rest)) (fold (walked (command name).rules []) after rest)) (sym none) goes)
-
-  stop : (status : ℕ) (w : Walk) (word : Text) (rest : List Text) → Shows status (turn_fault (command name) [] w word)
-      → Goes (shown status) w (word ∷ rest)
-  unfolding walk_fault
-  stop status w word rest shows = bad status _ _ (or_else-Shows status _ _ (or_else-Shows status _ _ shows))
-
-  abbrev start : Bool → Walk
-  start is_trailing = at [] None 1 is_trailing
-
-  abbrev got : Text → Bool → Walk
-  got file is_trailing = at [] (Some (codes "FILE", file ∷ [])) 2 is_trailing
-
-  end_start : (is_trailing : Bool) → Goes fault (start is_trailing) []
-  unfolding walk_fault defaults_fault
-  end_start is_trailing = bad 2 _ _ (refl, tt)
-
-  end_got : (file : Text) (is_trailing : Bool) → Goes (make file) (got file is_trailing) []
-  unfolding walk_fault defaults_fault
-  end_got file is_trailing = good file _ _ refl refl
-
-  over : (file word : Text) (rest : List Text) → Goes fault (got file true) (word ∷ rest)
-  over file word rest = stop 2 (got file true) word rest (refl, tt)
-
-  take_trailing : (a : Asked) (file : Text) (rest : List Text) → Goes a (got file true) rest → Goes a (start true) (file ∷ rest)
-  unfolding walked
-  take_trailing a file rest goes = go_on a (start true) (got file true) file rest refl refl goes
-
-  after_dashes : (words : List Text) → Goes (asked_after_dashes make words) (start true) words
-  after_dashes [] = end_start true
-  after_dashes (file ∷ []) = take_trailing (make file) file [] (end_got file true)
-  after_dashes (file ∷ more ∷ rest) = take_trailing fault file (more ∷ rest) (over file more rest)
-
-  dashes : (a : Asked) (pending : Option (Text × List Text)) (position : ℕ) (word : Text) (rest : List Text) → ends_flags word ≡ true
-      → Goes a (at [] pending position true) rest → Goes a (at [] pending position false) (word ∷ rest)
-  dashes a pending position word rest ends goes =
-      let turn = turn_dashes (command name) [] (command_long name) (command_short name) [] pending position word refl ends in
-      go_on a (at [] pending position false) (at [] pending position true) word rest turn.0 turn.1 goes
-
-  flagged : (pending : Option (Text × List Text)) (position : ℕ) (word : Text) (rest : List Text)
-      → settle_fault (command name).rules (command name).args_override_self (held [] pending) ≡ []
-      → ends_flags word ≡ false → is_flag word ≡ true → Goes (asked_by_stray word) (at [] pending position false) (word ∷ rest)
-  flagged pending position word rest clean other flag =
-      subst (λ (a : Asked). Goes a (at [] pending position false) (word ∷ rest)) (sym (by_status word))
-      (stop (status_of word) (at [] pending position false) word rest
-      (turn_flag (command name) [] (command_long name) (command_short name) [] pending position word refl clean other flag))
-
-  second : (file word : Text) (rest : List Text) → ends_flags word ≡ false → Goes (asked_by_stray word) (got file false) (word ∷ rest)
-  second file word rest other = go (is_flag word) refl
-    where
-      go : (t : Bool) → is_flag word ≡ t → Goes (asked_by_stray word) (got file false) (word ∷ rest)
-      go true flag = flagged (Some (codes "FILE", file ∷ [])) 2 word rest refl other flag
-      go false plain =
-          let turn = turn_plain (command name) [] (command_long name) (command_short name) [] (Some (codes "FILE", file ∷ [])) 2 word refl other plain in
-          let untold : asked_by_stray word ≡ fault = rw (asks_nothing word plain) refl in
-          let stray : Shows 2 (turn_fault (command name) [] (got file false) word) = subst (λ (ks : Kinds). Shows 2 ks) (sym turn.0) (refl, tt) in
-          subst (λ (a : Asked). Goes a (got file false) (word ∷ rest)) (sym untold) (stop 2 (got file false) word rest stray)
-
-  after_file : (file : Text) (words : List Text) → Goes (asked_after_file (make file) words) (got file false) words
-  after_file file [] = end_got file false
-  after_file file (word ∷ []) = go (ends_flags word) refl
-    where
-      go : (t : Bool) → ends_flags word ≡ t → Goes (if t then make file else asked_by_stray word) (got file false) (word ∷ [])
-      go true ends = dashes (make file) (Some (codes "FILE", file ∷ [])) 2 word [] ends (end_got file true)
-      go false other = second file word [] other
-  after_file file (word ∷ more ∷ rest) = go (ends_flags word) refl
-    where
-      go : (t : Bool) → ends_flags word ≡ t → Goes (if t then fault else asked_by_stray word) (got file false) (word ∷ more ∷ rest)
-      go true ends = dashes fault (Some (codes "FILE", file ∷ [])) 2 word (more ∷ rest) ends (over file more rest)
-      go false other = second file word (more ∷ rest) other
-
-  take_file : (a : Asked) (file : Text) (rest : List Text) → ends_flags file ≡ false → is_flag file ≡ false
-      → Goes a (got file false) rest → Goes a (start false) (file ∷ rest)
-  take_file a file rest other plain goes =
-      let turn = turn_plain (command name) [] (command_long name) (command_short name) [] None 1 file refl other plain in
-      go_on a (start false) (got file false) file rest turn.0 turn.1 goes
-
-  -- the words after the command come to what `asked_after_command` says
-  command_goes : (words : List Text) → Goes (asked_after_command make words) (start false) words
-  command_goes [] = end_start false
-  command_goes (word ∷ rest) = by_dashes (ends_flags word) refl
-    where
-      by_flag : ends_flags word ≡ false → (t : Bool) → is_flag word ≡ t
-          → Goes (if t then asked_by_stray word else asked_after_file (make word) rest) (start false) (word ∷ rest)
-      by_flag other true flag = flagged None 1 word rest refl other flag
-      by_flag other false plain = take_file (asked_after_file (make word) rest) word rest other plain (after_file word rest)
-
-      by_dashes : (t : Bool) → ends_flags word ≡ t
-          → Goes (if t then asked_after_dashes make rest else (if is_flag word then asked_by_stray word else asked_after_file (make word) rest))
-          (start false) (word ∷ rest)
-      by_dashes true ends = dashes (asked_after_dashes make rest) None 1 word rest ends (after_dashes rest)
-      by_dashes false other = by_flag other (is_flag word) refl
+use Rattle.wm_server.specs.program.Words.{Asked, asked, asked_after_dashes, asked_after_migrate, asked_after_migrate_dashes, asked_by, asked_by_stray, asked_after_command, ends_flags, fault, file_app, format, is_flag, lines, migrate, migrate_app, migrate_by, shown, shown_for, watchmand_app}
+use Rattle.wm_server.proofs.lemmas.program.OneWordLemmas.{AllShow, Shows, asks_nothing, at, by_status, flip, long_flag, or_else-Shows, short_flag, status_of, turn_flag, turn_plain}
+use Rattle.wm_server.proofs.lemmas.program.CommandLemmas.{Goes, above, after_dashes, built, command_goes, dashes, flagged, go_on, knows_flags, lacks, level_of, take_plain}
 
 -- ---- all the words
 
@@ -161,17 +26,18 @@ abbrev top : Shape
 top = with_filled_rules (with_version_flag (with_help_flag above))
 
 abbrev whole : App
-whole = record { top = top; subs = command (codes "format") ∷ command (codes "lines") ∷ [] }
+whole = record { top = top; subs = built (file_app (codes "format")) ∷ built (file_app (codes "lines")) ∷ built migrate_app ∷ [] }
 
 abbrev names : Names
-names = (codes "format", []) ∷ (codes "lines", []) ∷ []
+names = (codes "format", []) ∷ (codes "lines", []) ∷ (codes "migrate", []) ∷ []
 
--- what a parse gives where the words ask for a: no fault and the command with its FILE, or kinds
+-- what a parse gives where the words ask for a: no fault and the command with its paths, or kinds
 -- that show the text
 abbrev pub Gives : Asked → Kinds → Option Asked → Type 0
 Gives (shown status) ks met = Shows status ks
 Gives (format file) ks met = (ks ≡ []) × (met ≡ Some (format file))
 Gives (lines file) ks met = (ks ≡ []) × (met ≡ Some (lines file))
+Gives (migrate old new) ks met = (ks ≡ []) × (met ≡ Some (migrate old new))
 
 abbrev Whole : Asked → Kinds → Walk → Type 0
 Whole a faults end = Gives a
@@ -199,20 +65,111 @@ unfolding walk_fault walked
 no_faults name seen [] = refl
 no_faults name seen (word ∷ rest) = no_faults name (seen ++ word ∷ []) rest
 
-abbrev FitsBy : (Text → Asked) → Asked → Kinds → Option Text → Type 0
-FitsBy make a ks o = Gives a (or_else ks []) (option_map make o)
+-- what the rows of a command ask for is a
+abbrev FitsBy : (List Row → Option Asked) → Asked → Kinds → List Row → Type 0
+FitsBy asks a ks rows = Gives a (or_else ks []) (asks rows)
+
+bad_fits : (asks : List Row → Option Asked) (status : ℕ) (ks : Kinds) (rows : List Row) → Shows status ks → FitsBy asks (shown status) ks rows
+bad_fits asks status ks rows shows = or_else-Shows status ks [] shows
+
+-- ---- `format` and `lines`
+
+abbrev one_file : (Text → Asked) → List Row → Option Asked
+one_file make rows = option_map make (first_of (codes "FILE") rows)
+
+module _ (name : Text) where
+  file_long : (n : Text) → arg_by_long (built (file_app name)).rules n ≡ long_flag n
+  file_long n = knows_flags (bytes_eq (codes "help") n) (bytes_eq (codes "version") n)
+
+  file_short : (x : ℕ) → arg_by_short (built (file_app name)).rules x ≡ short_flag x
+  file_short x = knows_flags (104 == x) (86 == x)
+
+abbrev file_taken : Text → Text × List Text
+file_taken file = (codes "FILE", file ∷ [])
 
 entered_format : (rest : List Text) → Whole (asked_after_command format rest) [] (met (codes "format") rest)
-unfolding defaults_fault
-entered_format rest = command_goes (codes "format") format (FitsBy format)
-    (λ file ks o none is. (ap (λ (k : Kinds). or_else k []) none, ap (option_map format) is))
-    (λ status ks o shows. or_else-Shows status ks [] shows) rest
+unfolding defaults_fault walked
+entered_format rest = command_goes (built (file_app (codes "format"))) (file_long (codes "format")) (file_short (codes "format"))
+    (FitsBy (one_file format)) (bad_fits (one_file format))
+    format [] None 1 [] file_taken 2 refl (λ t. (refl, tt)) refl (λ path. refl) (λ path. (refl, refl)) (λ path t. (refl, refl)) (λ path. refl)
+    (λ path. (refl, tt)) (λ path word. (refl, tt)) rest
 
 entered_lines : (rest : List Text) → Whole (asked_after_command lines rest) [] (met (codes "lines") rest)
+unfolding defaults_fault walked
+entered_lines rest = command_goes (built (file_app (codes "lines"))) (file_long (codes "lines")) (file_short (codes "lines"))
+    (FitsBy (one_file lines)) (bad_fits (one_file lines))
+    lines [] None 1 [] file_taken 2 refl (λ t. (refl, tt)) refl (λ path. refl) (λ path. (refl, refl)) (λ path t. (refl, refl)) (λ path. refl)
+    (λ path. (refl, tt)) (λ path word. (refl, tt)) rest
+
+-- ---- `migrate`
+
+abbrev migrate_shape : Shape
+migrate_shape = built migrate_app
+
+migrate_long : (n : Text) → arg_by_long migrate_shape.rules n ≡ long_flag n
+migrate_long n = knows_flags (bytes_eq (codes "help") n) (bytes_eq (codes "version") n)
+
+migrate_short : (x : ℕ) → arg_by_short migrate_shape.rules x ≡ short_flag x
+migrate_short x = knows_flags (104 == x) (86 == x)
+
+abbrev old_taken : Text → Option (Text × List Text)
+old_taken old = Some (codes "OLD", old ∷ [])
+
+abbrev new_taken : Text → Text × List Text
+new_taken new = (codes "NEW", new ∷ [])
+
+abbrev old_rows : Text → List Row
+old_rows old = settled_rows migrate_shape.rules (old_taken old) []
+
+abbrev MigrateGoes : Asked → Walk → List Text → Type 0
+MigrateGoes a w words = Goes migrate_shape migrate_long migrate_short (FitsBy migrate_by) (bad_fits migrate_by) a w words
+
+-- OLD was taken
+module _ (old : Text) where
+  new_goes : (words : List Text) → MigrateGoes (asked_after_command (migrate old) words) (at [] (old_taken old) 2 false) words
+  unfolding defaults_fault walked
+  new_goes words = command_goes migrate_shape migrate_long migrate_short (FitsBy migrate_by) (bad_fits migrate_by)
+      (migrate old) [] (old_taken old) 2 (old_rows old) new_taken 3 refl (λ t. (refl, tt)) refl (λ path. refl) (λ path. (refl, refl)) (λ path t. (refl, refl)) (λ path. refl)
+      (λ path. (refl, tt)) (λ path word. (refl, tt)) words
+
+  new_after_dashes : (words : List Text) → MigrateGoes (asked_after_dashes (migrate old) words) (at [] (old_taken old) 2 true) words
+  unfolding defaults_fault walked
+  new_after_dashes words = after_dashes migrate_shape migrate_long migrate_short (FitsBy migrate_by) (bad_fits migrate_by)
+      (migrate old) [] (old_taken old) 2 (old_rows old) new_taken 3 refl (λ t. (refl, tt)) refl (λ path. refl) (λ path. (refl, refl)) (λ path t. (refl, refl)) (λ path. refl)
+      (λ path. (refl, tt)) (λ path word. (refl, tt)) words
+
+migrate_lacks : (t : Bool) → MigrateGoes fault (at [] None 1 t) []
 unfolding defaults_fault
-entered_lines rest = command_goes (codes "lines") lines (FitsBy lines)
-    (λ file ks o none is. (ap (λ (k : Kinds). or_else k []) none, ap (option_map lines) is))
-    (λ status ks o shows. or_else-Shows status ks [] shows) rest
+migrate_lacks t = lacks migrate_shape migrate_long migrate_short (FitsBy migrate_by) (bad_fits migrate_by) (at [] None 1 t) (refl, tt)
+
+old_after_dashes : (words : List Text) → MigrateGoes (asked_after_migrate_dashes words) (at [] None 1 true) words
+unfolding walked
+old_after_dashes [] = migrate_lacks true
+old_after_dashes (old ∷ rest) = go_on migrate_shape migrate_long migrate_short (FitsBy migrate_by) (bad_fits migrate_by)
+    (asked_after_dashes (migrate old) rest) (at [] None 1 true) (at [] (old_taken old) 2 true) old rest refl refl (new_after_dashes old rest)
+
+migrate_goes : (words : List Text) → MigrateGoes (asked_after_migrate words) (at [] None 1 false) words
+migrate_goes [] = migrate_lacks false
+migrate_goes (word ∷ rest) = by_dashes (ends_flags word) refl
+  where
+    by_flag : ends_flags word ≡ false → (t : Bool) → is_flag word ≡ t
+        → MigrateGoes (if t then asked_by_stray word else asked_after_command (migrate word) rest) (at [] None 1 false) (word ∷ rest)
+    by_flag other true flag = flagged migrate_shape migrate_long migrate_short (FitsBy migrate_by) (bad_fits migrate_by) [] None 1 word rest refl other flag
+    by_flag other false plain = take_plain migrate_shape migrate_long migrate_short (FitsBy migrate_by) (bad_fits migrate_by) [] None 1
+        (asked_after_command (migrate word) rest) (at [] (old_taken word) 2 false) word rest refl refl other plain (new_goes word rest)
+
+    by_dashes : (t : Bool) → ends_flags word ≡ t
+        → MigrateGoes (if t then asked_after_migrate_dashes rest else (if is_flag word then asked_by_stray word else asked_after_command (migrate word) rest))
+        (at [] None 1 false) (word ∷ rest)
+    by_dashes true dashed = dashes migrate_shape migrate_long migrate_short (FitsBy migrate_by) (bad_fits migrate_by) [] None 1
+        (asked_after_migrate_dashes rest) word rest dashed (old_after_dashes rest)
+    by_dashes false other = by_flag other (is_flag word) refl
+
+entered_migrate : (rest : List Text) → Whole (asked_after_migrate rest) [] (met (codes "migrate") rest)
+unfolding defaults_fault
+entered_migrate rest = migrate_goes rest
+
+-- ---- whatever command was met
 
 module _ (a : Asked) (name : Text) (rest : List Text) (here : Whole a [] (met name rest)) where
   met_reads : Whole a (walk_fault top names (met name []) rest) (fold (walked top.rules names) (met name []) rest)
@@ -227,6 +184,10 @@ lines_reads : (rest : List Text) → Reads (asked_after_command lines rest) firs
 unfolding walk_fault walked
 lines_reads rest = met_reads (asked_after_command lines rest) (codes "lines") rest (entered_lines rest)
 
+migrate_reads : (rest : List Text) → Reads (asked_after_migrate rest) first (codes "migrate" ∷ rest)
+unfolding walk_fault walked
+migrate_reads rest = met_reads (asked_after_migrate rest) (codes "migrate") rest (entered_migrate rest)
+
 -- ---- no command is met
 
 dashes_read : (rest : List Text) → Reads (asked_by_stray (codes "--")) first (codes "--" ∷ rest)
@@ -240,11 +201,13 @@ top_long n = knows_flags (bytes_eq (codes "help") n) (bytes_eq (codes "version")
 top_short : (x : ℕ) → arg_by_short top.rules x ≡ short_flag x
 top_short x = knows_flags (104 == x) (86 == x)
 
-no_command : (word : Text) → bytes_eq word (codes "format") ≡ false → bytes_eq word (codes "lines") ≡ false → subcommand_met names idle word ≡ None
-no_command word no_format no_lines =
+no_command : (word : Text) → bytes_eq word (codes "format") ≡ false → bytes_eq word (codes "lines") ≡ false → bytes_eq word (codes "migrate") ≡ false
+    → subcommand_met names idle word ≡ None
+no_command word no_format no_lines no_migrate =
     let not_format = flip word (codes "format") no_format in
     let not_lines = flip word (codes "lines") no_lines in
-    rw (not_format, not_lines) refl
+    let not_migrate = flip word (codes "migrate") no_migrate in
+    rw (not_format, not_lines, not_migrate) refl
 
 module _ (word : Text) (rest : List Text) (unmet : subcommand_met names idle word ≡ None) where
   flag_reads : ends_flags word ≡ false → (t : Bool) → is_flag word ≡ t → Reads (asked_by_stray word) first (word ∷ rest)
@@ -265,13 +228,20 @@ unfolding walk_fault defaults_fault
 words_read [] = (refl, tt)
 words_read (word ∷ rest) = by_format (bytes_eq word (codes "format")) refl
   where
+    by_migrate : bytes_eq word (codes "format") ≡ false → bytes_eq word (codes "lines") ≡ false → (t : Bool) → bytes_eq word (codes "migrate") ≡ t
+        → Reads (if t then asked_after_migrate rest else asked_by_stray word) first (word ∷ rest)
+    by_migrate no_format no_lines true hit = subst (λ (w : Text). Reads (asked_after_migrate rest) first (w ∷ rest)) (sym ((bytes_eq-Decides word (codes "migrate")).0 hit)) (migrate_reads rest)
+    by_migrate no_format no_lines false no_migrate = other_reads word rest (no_command word no_format no_lines no_migrate) (ends_flags word) refl
+
     by_lines : bytes_eq word (codes "format") ≡ false → (t : Bool) → bytes_eq word (codes "lines") ≡ t
-        → Reads (if t then asked_after_command lines rest else asked_by_stray word) first (word ∷ rest)
+        → Reads (if t then asked_after_command lines rest else (if bytes_eq word (codes "migrate") then asked_after_migrate rest else asked_by_stray word)) first (word ∷ rest)
     by_lines no_format true hit = subst (λ (w : Text). Reads (asked_after_command lines rest) first (w ∷ rest)) (sym ((bytes_eq-Decides word (codes "lines")).0 hit)) (lines_reads rest)
-    by_lines no_format false no_lines = other_reads word rest (no_command word no_format no_lines) (ends_flags word) refl
+    by_lines no_format false no_lines = by_migrate no_format no_lines (bytes_eq word (codes "migrate")) refl
 
     by_format : (t : Bool) → bytes_eq word (codes "format") ≡ t
-        → Reads (if t then asked_after_command format rest else (if bytes_eq word (codes "lines") then asked_after_command lines rest else asked_by_stray word)) first (word ∷ rest)
+        → Reads (if t then asked_after_command format rest
+        else (if bytes_eq word (codes "lines") then asked_after_command lines rest else (if bytes_eq word (codes "migrate") then asked_after_migrate rest else asked_by_stray word)))
+        first (word ∷ rest)
     by_format true hit = subst (λ (w : Text). Reads (asked_after_command format rest) first (w ∷ rest)) (sym ((bytes_eq-Decides word (codes "format")).0 hit)) (format_reads rest)
     by_format false no_format = by_lines no_format (bytes_eq word (codes "lines")) refl
 
@@ -297,6 +267,7 @@ some≢none x same = true≢false (ap is_some same)
 pub gives_met : (a : Asked) (ks : Kinds) (met : Option Asked) → Gives a ks met → ks ≡ [] → met ≡ Some a
 gives_met (format file) ks met gives none = gives.1
 gives_met (lines file) ks met gives none = gives.1
+gives_met (migrate old new) ks met gives none = gives.1
 gives_met (shown status) ks met gives none = absurd (subst (λ (k : Kinds). Shows status k) none gives)
 
 all_show : (status : ℕ) (k : ErrorKind) (ks : Kinds) → AllShow status ks → IsAmong k ks → shown_for k ≡ Some (shown status)
@@ -312,6 +283,7 @@ among_show status k (x ∷ xs) shows among = all_show status k (x ∷ xs) shows 
 pub gives_shown : (a : Asked) (ks : Kinds) (met : Option Asked) (k : ErrorKind) → Gives a ks met → IsAmong k ks → shown_for k ≡ Some a
 gives_shown (format file) ks met k gives among = absurd (subst (λ (l : Kinds). IsAmong k l) gives.0 among)
 gives_shown (lines file) ks met k gives among = absurd (subst (λ (l : Kinds). IsAmong k l) gives.0 among)
+gives_shown (migrate old new) ks met k gives among = absurd (subst (λ (l : Kinds). IsAmong k l) gives.0 among)
 gives_shown (shown status) ks met k gives among = among_show status k ks gives among
 
 -- what a parse of the words that ended well met
@@ -344,10 +316,33 @@ pairs f g (Some x) y z first_is second_is =
 abbrev pub made_by : Text → Text → Asked
 made_by name file = if bytes_eq name (codes "format") then format file else lines file
 
--- what the matches ask for, by the name of the subcommand and the value of its FILE
+-- the subcommand of the matches, with its rows
+pub rows_by_parts : (m : ArgMatches) (name : Text) (inner : ArgMatches) → Some name ≡ subcommand_name_of m
+    → Some (rows_of (found_of inner)) ≡ option_map (λ (p : Text × List Row). p.1) (subcommand_rows_of m)
+    → asked_by (subcommand_rows_of m) ≡ asked_by (Some (name, rows_of (found_of inner)))
+rows_by_parts m name inner name_is rows_are = ap asked_by (pairs _ _ _ name (rows_of (found_of inner)) name_is rows_are)
+
+-- what the matches ask for, by the name of the subcommand, which isn't `migrate`, and the value of its FILE
 pub asked_by_parts : (m : ArgMatches) (name : Text) (inner : ArgMatches) (file : Option Text) → Some name ≡ subcommand_name_of m
     → Some (rows_of (found_of inner)) ≡ option_map (λ (p : Text × List Row). p.1) (subcommand_rows_of m) → file ≡ first_value (found_of inner) (codes "FILE")
+    → bytes_eq name (codes "migrate") ≡ false
     → asked_by (subcommand_rows_of m) ≡ option_map (made_by name) file
-asked_by_parts m name inner file name_is rows_are file_is =
-    ap asked_by (pairs _ _ _ name (rows_of (found_of inner)) name_is rows_are)
+asked_by_parts m name inner file name_is rows_are file_is other =
+    rows_by_parts m name inner name_is rows_are
+    ∙ ap (λ t. if t then migrate_by (rows_of (found_of inner)) else option_map (made_by name) (first_of (codes "FILE") (rows_of (found_of inner)))) other
     ∙ ap (option_map (made_by name)) (sym (file_is ∙ first_value-rows (found_of inner) (codes "FILE")))
+
+-- what the matches ask for, if the subcommand is `migrate`
+pub asked_by_migrate : (m : ArgMatches) (name : Text) (inner : ArgMatches) → Some name ≡ subcommand_name_of m
+    → Some (rows_of (found_of inner)) ≡ option_map (λ (p : Text × List Row). p.1) (subcommand_rows_of m) → bytes_eq name (codes "migrate") ≡ true
+    → asked_by (subcommand_rows_of m) ≡ migrate_by (rows_of (found_of inner))
+asked_by_migrate m name inner name_is rows_are hit =
+    rows_by_parts m name inner name_is rows_are
+    ∙ ap (λ t. if t then migrate_by (rows_of (found_of inner)) else option_map (made_by name) (first_of (codes "FILE") (rows_of (found_of inner)))) hit
+
+-- what `migrate` asks for, by the values of its OLD and NEW
+pub migrate_by_parts : (inner : ArgMatches) (old new : Option Text) → old ≡ first_value (found_of inner) (codes "OLD") → new ≡ first_value (found_of inner) (codes "NEW")
+    → migrate_by (rows_of (found_of inner)) ≡ option_and_then (λ o. option_map (migrate o) new) old
+migrate_by_parts inner old new old_is new_is =
+    ap₂ (λ (o n : Option Text). option_and_then (λ p. option_map (migrate p) n) o)
+    (sym (old_is ∙ first_value-rows (found_of inner) (codes "OLD"))) (sym (new_is ∙ first_value-rows (found_of inner) (codes "NEW")))

@@ -1,0 +1,16 @@
+use Rattle.std.proofs.Common.{◌∙◌, Some, None, ap, ap₂, is_some, refl, sym, true≢false}
+use Rattle.wm_server.specs.program.Words.{migrate}
+use Rattle.wm_server.proofs.lemmas.program.WordLemmas.{migrate_by_parts}
+use Rattle.wm_server.proofs.program.words.migrating.Goals as goal
+
+pub unreachable-requires : goal.unreachable-requires
+unreachable-requires c = true≢false (sym c.requires ∙ ap is_some (migrate_by_parts c.args.matches.now None _ c.in_default.ensures refl))
+
+pub unreachable-requires-in_default-get_str : goal.unreachable-requires-in_default-get_str
+unreachable-requires-in_default-get_str c =
+    true≢false (sym c.requires ∙ ap is_some (migrate_by_parts c.args.matches.now (Some c.in-Some.old.now) None c.in-Some.ensures c.in_default-get_str.ensures))
+
+pub returns : goal.returns
+returns c =
+    migrate_by_parts c.args.matches.now (Some c.in-Some.old.now) (Some c.in-Some-get_str.new.now) c.in-Some.ensures c.in-Some-get_str.ensures
+    ∙ ap₂ (λ o n. Some (migrate o n)) (sym c.in_ok-old.ensures.ok) (sym c.in_ok-new.ensures.ok)
