@@ -19,7 +19,7 @@ use Rattle.wm_program.specs.declared.words.Words.TheVariants as words
 pub data ProgramWanted : Type 0 where
   -- the state file of the first path is served on a socket of the second
   serve_on : Text → Text → Settings → ProgramWanted
-  -- `format` or `lines`
+  -- `format`, `lines` or `migrate`
   plain : ProgramWanted
   -- a text is shown, and the program ends with this status
   shown_status : ℕ → ProgramWanted
@@ -51,7 +51,7 @@ abbrev pub serve_app : App
 serve_app = with_rule (with_rule (with_rule (with_rule file_and_socket
     (number_rule (codes "workers"))) (number_rule (codes "gc-age"))) (number_rule (codes "gc-interval"))) (number_rule (codes "sessions"))
 
--- `format`, `lines` and `serve`
+-- `format`, `lines`, `migrate` and `serve`
 abbrev pub program_app : App
 program_app = with_subcommand watchmand_app serve_app.top
 

@@ -27,7 +27,7 @@ pub enum Words {
         socket: String,
         settings: Settings,
     },
-    /// `format FILE` or `lines FILE`.
+    /// `format FILE`, `lines FILE` or `migrate OLD NEW`.
     Plain,
     /// A text is to be shown, and the program ends with the status: help or the version (0) on
     /// standard output, a fault (2) on standard error.
@@ -40,8 +40,8 @@ pub enum Words {
 impl Words {
     /// What the words ask for; the program's own name is not among them.
     ///
-    /// The words are `format FILE`, `lines FILE`, or `serve FILE SOCKET [--workers N] [--gc-age S]
-    /// [--gc-interval S] [--sessions N]`. `workers` is 1 to 16 and 4 where it isn't told, `gc-age` 43200 and
+    /// The words are `format FILE`, `lines FILE`, `migrate OLD NEW`, or `serve FILE SOCKET [--workers N]
+    /// [--gc-age S] [--gc-interval S] [--sessions N]`. `workers` is 1 to 16 and 4 where it isn't told, `gc-age` 43200 and
     /// `gc-interval` 86400 seconds, and without `sessions` no number of them is the last; each is at most
     /// 2^32 - 1. `Err` comes only where memory runs out.
     pub fn read<'a>(alloc: Global, words: &'a [&'a str]) -> Result<Words, NoMemory>
