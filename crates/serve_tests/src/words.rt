@@ -30,6 +30,7 @@ const ASKED: &[(&[&str], &str)] = &[
     ),
     (&["format", "f"], "plain"),
     (&["lines", "f"], "plain"),
+    (&["migrate", "f", "g"], "plain"),
     (&["--help"], "shown 0"),
     (&["serve", "--help"], "shown 0"),
     (&["serve", "-V"], "shown 0"),
@@ -50,6 +51,7 @@ const ASKED: &[(&[&str], &str)] = &[
     ),
     (&["server", "f", "s"], "shown 2"),
     (&["lines", "f", "--sessions", "1"], "shown 2"),
+    (&["migrate", "f"], "shown 2"),
 ];
 
 fn asked(alloc: Global, words: &Words) -> Result<String, AllocError> {

@@ -51,3 +51,24 @@ pub(crate) fn content_of(rt: &impl Abort, alloc: Global, disk: MemDisk) -> Vec<u
     drop(disk);
     content
 }
+
+/// The header of a file of version 1.
+const HEADER: &[u8] = b"\xa5WMSTATE\x00\x00\x00\x01\x00";
+
+/// A slot with number 1 and a registry without roots, whose next root number is 1.
+const SLOT: &[u8] =
+    b"\xa5\x00\x00\x00\x00\x00\x00\x00\x01\x00\x00\x00\x14\x00\x00\x00\x00\x00\x00\x00\x00\x00\x00\x00\x00\x00\x00\x00\x01\x00\x00\x00\x00";
+
+/// Puts bytes at a place. The content has to reach so far.
+fn overwrite(rt: &impl Abort, content: &mut Vec<u8>, at: usize, bytes: &[u8]) {
+    assert!(rt; at <= content.len() && bytes.len() <= content.len() - at);
+    content[at..at + bytes.len()].copy_from_slice(bytes);
+}
+
+/// The content of a new file of version 1.
+pub(crate) fn content_of_version_1(rt: &impl Abort, alloc: Global) -> Vec<u8> {
+    let mut content = vec![in alloc; 0u8; 2_625_536].expect(rt, "memory");
+    overwrite(rt, &mut content, 0, HEADER);
+    overwrite(rt, &mut content, 4_096, SLOT);
+    content
+}

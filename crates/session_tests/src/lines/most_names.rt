@@ -1,5 +1,5 @@
 //! How many names a trigger's program reads: sessions over files of both versions.
-use crate::disks::disk_of;
+use crate::disks::{content_of_version_1, disk_of};
 use crate::ends::{ACCEPTED, Row, assert_rows, assert_session};
 use std::alloc::Global;
 use std::process::Abort;
@@ -137,24 +137,9 @@ fn answers_how_many_names_are_read(rt: HostRuntime) {
     assert_session(&rt, alloc, &[], &[bad_numbers()], ACCEPTED, "bad numbers");
 }
 
-/// The header of a file of version 1.
-const HEADER: &[u8] = b"\xa5WMSTATE\x00\x00\x00\x01\x00";
-
-/// A slot with number 1 and a registry without roots, whose next root number is 1.
-const SLOT: &[u8] =
-    b"\xa5\x00\x00\x00\x00\x00\x00\x00\x01\x00\x00\x00\x14\x00\x00\x00\x00\x00\x00\x00\x00\x00\x00\x00\x00\x00\x00\x00\x01\x00\x00\x00\x00";
-
-/// Puts bytes at a place. The content has to reach so far.
-fn overwrite(rt: &impl Abort, content: &mut Vec<u8>, at: usize, bytes: &[u8]) {
-    assert!(rt; at <= content.len() && bytes.len() <= content.len() - at);
-    content[at..at + bytes.len()].copy_from_slice(bytes);
-}
-
 /// A disk with a new file of version 1.
 fn file_of_version_1(rt: &impl Abort, alloc: Global) -> MemDisk {
-    let mut content = vec![in alloc; 0u8; 2_625_536].expect(rt, "memory");
-    overwrite(rt, &mut content, 0, HEADER);
-    overwrite(rt, &mut content, 4_096, SLOT);
+    let content = content_of_version_1(rt, alloc);
     let disk = disk_of(rt, alloc, &content);
     drop(content);
     disk

@@ -10,12 +10,12 @@ use wm_server::program::watchmand;
 use wm_server::system::Host;
 use wm_server::{Input, Output};
 
-const DEVICE_FAILED: &str = "watchmand: 13 DeviceFailed\n";
+pub(super) const DEVICE_FAILED: &str = "watchmand: 13 DeviceFailed\n";
 
 const PATH: &str = "wm_server_program";
 
 /// A call: words of the program, its input, and its status, replies and faults.
-type Call<'a> = (&'a [&'a str], &'a str, u8, &'a str, &'a str);
+pub(super) type Call<'a> = (&'a [&'a str], &'a str, u8, &'a str, &'a str);
 
 /// One call after the other.
 const CALLS: &[Call<'static>] = &[
@@ -74,7 +74,7 @@ fn called(
     )
 }
 
-fn answers(
+pub(super) fn answers(
     rt: &impl Abort,
     alloc: Global,
     files: &impl Files<File = File>,

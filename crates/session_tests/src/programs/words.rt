@@ -15,6 +15,15 @@ const ASKED: &[(&[&str], &str)] = &[
     (&["lines", "a.state", "--"], "lines a.state"),
     (&["format", "--", "--help"], "format --help"),
     (&["format", "--", "--"], "format --"),
+    (
+        &["migrate", "a.state", "b.state"],
+        "migrate a.state b.state",
+    ),
+    (&["migrate", "", "-"], "migrate  -"),
+    (&["migrate", "lines", "format"], "migrate lines format"),
+    (&["migrate", "--", "-a", "--"], "migrate -a --"),
+    (&["migrate", "a", "--", "-b"], "migrate a -b"),
+    (&["migrate", "a", "b", "--"], "migrate a b"),
     (&["--help"], "shown 0"),
     (&["-h"], "shown 0"),
     (&["-hx", "format"], "shown 0"),
@@ -24,6 +33,9 @@ const ASKED: &[(&[&str], &str)] = &[
     (&["-V"], "shown 0"),
     (&["format", "--version"], "shown 0"),
     (&["lines", "a.state", "-V"], "shown 0"),
+    (&["migrate", "-h"], "shown 0"),
+    (&["migrate", "a", "--help"], "shown 0"),
+    (&["migrate", "a", "b", "-V"], "shown 0"),
     (&[], "shown 2"),
     (&["--"], "shown 2"),
     (&["format"], "shown 2"),
@@ -36,12 +48,24 @@ const ASKED: &[(&[&str], &str)] = &[
     (&["-v"], "shown 2"),
     (&["help"], "shown 2"),
     (&["--", "format", "a.state"], "shown 2"),
+    (&["migrate"], "shown 2"),
+    (&["migrate", "a"], "shown 2"),
+    (&["migrate", "--"], "shown 2"),
+    (&["migrate", "--", "a"], "shown 2"),
+    (&["migrate", "a", "--"], "shown 2"),
+    (&["migrate", "a", "b", "c"], "shown 2"),
+    (&["migrate", "--", "a", "b", "c"], "shown 2"),
+    (&["migrate", "a", "--", "b", "c"], "shown 2"),
+    (&["migrate", "a", "b", "--", "c"], "shown 2"),
+    (&["migrate", "-a", "b"], "shown 2"),
+    (&["migrate", "a", "-b"], "shown 2"),
 ];
 
 fn asked(alloc: Global, words: &Words) -> Result<String, AllocError> {
     match words {
         Words::Format { file } => format!(in alloc; "format {file}"),
         Words::Lines { file } => format!(in alloc; "lines {file}"),
+        Words::Migrate { old, new } => format!(in alloc; "migrate {old} {new}"),
         Words::Shown { text: _, status } => format!(in alloc; "shown {status}"),
     }
 }
@@ -72,13 +96,21 @@ const SHOWN: &[(&[&str], &str)] = &[
     ),
     (
         &["--help"],
-        "format  Makes a state file; FILE must not be there yet",
+        "format   Makes a state file; FILE must not be there yet",
     ),
     (
         &["--help"],
-        "lines   Answers request lines from standard input over a state file",
+        "lines    Answers request lines from standard input over a state file",
+    ),
+    (
+        &["--help"],
+        "migrate  Moves all watches and triggers from OLD into NEW, which is written over, and retires OLD",
     ),
     (&["format", "--help"], "Usage: watchmand format <FILE>"),
+    (
+        &["migrate", "--help"],
+        "Usage: watchmand migrate <OLD> <NEW>",
+    ),
     (&["format", "--help"], "<FILE>  The path of the state file"),
     (&["--help"], "-V, --version  Print version"),
     (
