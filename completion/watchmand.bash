@@ -16,7 +16,7 @@ _watchmand() {
     COMPREPLY=()
     local word=${COMP_WORDS[COMP_CWORD]} before=${COMP_WORDS[COMP_CWORD - 1]}
     if ((COMP_CWORD == 1)); then
-        _watchmand_words 'format lines serve --help --version'
+        _watchmand_words 'format lines migrate serve --help --version'
     elif [[ $before == --workers ]]; then
         _watchmand_words '1 2 4 8 16'
     elif [[ $before == --gc-age || $before == --gc-interval || $before == --sessions ]]; then

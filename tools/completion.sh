@@ -24,10 +24,13 @@ offers() { # OFFERED WORD ..
     fi
 }
 
-offers '--help --version format lines serve' watchmand ''
+offers '--help --version format lines migrate serve' watchmand ''
 offers 'serve' watchmand s
 offers 'socket state' watchmand serve s
 offers 'state' watchmand format st
+offers 'migrate' watchmand m
+offers 'socket state' watchmand migrate state ''
+offers '--help' watchmand migrate state --
 offers '--gc-age --gc-interval --help --sessions --workers' watchmand serve state socket --
 offers '--gc-age --gc-interval' watchmand serve state socket --gc
 offers '1 16' watchmand serve state socket --workers 1

@@ -5,7 +5,8 @@ which nothing is written). Shows that the program says so, and that nothing that
 lost: a start finds the watches and triggers after the answered commands, perhaps with the one that failed.
 
 The session is short, and a checkpoint falls in its midst. It runs on a state file of version 2, and with a third of the faults on one of
-version 1.
+version 1. Then a file of version 1 is migrated: each call of the two files fails once, and the program is killed at each; of the 136 writes of
+zeros some do. One of the two files then has all that was answered, and a further migration finishes.
 
 Usage: tools/faults.py PROGRAM
 """
@@ -20,6 +21,7 @@ import sys
 import tempfile
 
 sys.dont_write_bytecode = True
+from migrated import is_finished, migrate, registry
 from served import new_state
 
 WORD = ["a" * 1000] * 3
@@ -169,6 +171,66 @@ def sweep(program, folder, version, step):
     os.remove(base)
 
 
+MIGRATED = {"pread64": ["EIO"], "pwrite64": ["EIO", "ENOSPC"], "fdatasync": ["EIO"], "fsync": ["EIO"]}
+# of the writes of a migration so many come first that write zeros
+ZEROS = 137
+
+
+def calls_of_migration(program, old, new, folder, log):
+    """How many calls of each kind a migration makes of the two files and of their folder."""
+    words = ["strace", "-o", log, "-e", "trace=" + ",".join(MIGRATED), "-P", old, "-P", new, "-P", folder]
+    ended = migrate(program, old, new, *words)
+    assert (ended.returncode, ended.stdout) == (0, "migrated\n"), ended
+    with open(log) as text:
+        names = re.findall(r"^(\w+)\(", text.read(), re.M)
+    return {name: names.count(name) for name in MIGRATED}
+
+
+def chosen(name, count):
+    """The numbers of the calls that are tried: of the writes of zeros the first, the last and each fifteenth."""
+    return [number for number in range(1, count + 1) if name != "pwrite64" or number >= ZEROS or number % 15 == 1]
+
+
+def migrations_fail(program, folder):
+    """A migration in which each call fails once, and one that is killed at each call."""
+    base, old, new = (os.path.join(folder, name) for name in ("base", "old", "new"))
+    nearly_full(program, base, folder, 1)
+    assert ran([program, "lines", base], COMMANDS).returncode == 0
+    wanted = registry(program, base)
+
+    def fresh():
+        shutil.copyfile(base, old)
+        if os.path.exists(new):
+            os.remove(new)
+
+    fresh()
+    counts = calls_of_migration(program, old, new, folder, os.path.join(folder, "calls"))
+    assert counts["pwrite64"] > ZEROS and all(counts.values()), counts
+    failed, killed, retired = 0, 0, 0
+    for name, errors in MIGRATED.items():
+        for number in chosen(name, counts[name]):
+            for how in [*(f"error={error}" for error in errors), "signal=SIGKILL"]:
+                fresh()
+                what = f"inject={name}:{how}:when={number}"
+                words = ["strace", "-o", "/dev/null", "-e", f"trace={name}", "-e", what, "-P", old, "-P", new, "-P", folder]
+                ended = migrate(program, old, new, *words)
+                if how == "signal=SIGKILL":
+                    assert ended.returncode == -signal.SIGKILL and ended.stdout == "", f"{what}: {ended}"
+                    killed += 1
+                else:
+                    assert (ended.returncode, ended.stdout, ended.stderr) == (1, "", "watchmand: 13 DeviceFailed\n"), f"{what}: {ended}"
+                    failed += 1
+                retired += is_finished(program, old, new, wanted, what)
+    print(f"a migration: {failed} calls failed once, {killed} times it was killed, {retired} times the old file was retired then")
+    limits = [5_000, 2_625_536, 4_194_304, 8_916_991]
+    for limit in limits:
+        fresh()
+        ended = migrate(program, old, new, preexec_fn=lambda: limited(limit))
+        assert (ended.returncode, ended.stdout, ended.stderr) == (1, "", "watchmand: 13 DeviceFailed\n"), f"a limit of {limit}: {ended}"
+        assert not is_finished(program, old, new, wanted, f"a limit of {limit}"), "the old file was retired"
+    print(f"a migration: {len(limits)} times writing was cut short")
+
+
 def main():
     program = os.path.realpath(sys.argv[1])
     if shutil.which("strace") is None:
@@ -177,6 +239,7 @@ def main():
     with tempfile.TemporaryDirectory() as folder:
         sweep(program, folder, 2, 1)
         sweep(program, folder, 1, 3)
+        migrations_fail(program, folder)
         print("nothing that was answered was lost")
 
 

@@ -2,7 +2,8 @@
 """Kills `watchmand lines` (SIGKILL) in the midst of watches and triggers, again and again, and shows that no
 command that was answered is ever lost: each start finds the watches and triggers after the answered commands
 and a prefix of those that were in flight, and nothing else. It runs on a state file of version 2, and a quarter as many
-kills on one of version 1.
+kills on one of version 1. As many again as that come in the midst of a migration of a file of version 1, behind which one of the two files
+has all that was answered.
 
 Usage: tools/kill_loop.py PROGRAM [KILLS [SEED]]
 """
@@ -12,8 +13,10 @@ import random
 import subprocess
 import sys
 import tempfile
+import time
 
 sys.dont_write_bytecode = True
+from migrated import is_finished, migrate
 from served import new_state
 
 
@@ -111,12 +114,56 @@ def loop(program, kills, rng, version):
     print(told % (version, kills, answered_in_all, in_flight_kept))
 
 
+def migrations(program, kills, rng):
+    """So many migrations of a file of version 1, each killed at some moment. Each begins behind a session, which is killed too."""
+    retired, refused_new = 0, 0
+    with tempfile.TemporaryDirectory() as folder:
+        old, new = os.path.join(folder, "old"), os.path.join(folder, "new")
+        for kill in range(kills):
+            new_state(program, old, 1)
+            state, seconds = {}, whole_migration(program, folder)
+            answered, in_flight = killed(program, old, rng)
+            for line in answered:
+                state = after(state, line)
+            # what was in flight may be kept: what a start finds then is what has to be moved
+            there = found(program, old)
+            while ordered(state) != there and in_flight:
+                state = after(state, in_flight.pop(0))
+            if ordered(state) != there:
+                sys.exit("migration %d: a start found %r" % (kill, there))
+            for _ in range(rng.choice([1, 1, 2])):
+                process = subprocess.Popen([program, "migrate", old, new], stdout=subprocess.DEVNULL)
+                time.sleep(rng.random() * seconds)
+                process.kill()
+                process.wait()
+            refused_new += not os.path.exists(new)
+            retired += is_finished(program, old, new, there, "migration %d" % kill)
+            os.remove(new)
+            os.remove(old)
+    told = "%d migrations killed, %d before the new file was there and %d behind the end of the old one: nothing lost"
+    print(told % (kills, refused_new, retired))
+
+
+def whole_migration(program, folder):
+    """How long a migration takes that isn't killed."""
+    old, new = os.path.join(folder, "timed_old"), os.path.join(folder, "timed_new")
+    new_state(program, old, 1)
+    began = time.monotonic()
+    ended = migrate(program, old, new)
+    seconds = time.monotonic() - began
+    assert ended.returncode == 0, ended
+    os.remove(old)
+    os.remove(new)
+    return seconds
+
+
 def main():
     program = os.path.realpath(sys.argv[1])
     kills = int(sys.argv[2]) if len(sys.argv) > 2 else 200
     rng = random.Random(int(sys.argv[3]) if len(sys.argv) > 3 else 1)
     loop(program, kills, rng, 2)
     loop(program, (kills + 3) // 4, rng, 1)
+    migrations(program, (kills + 3) // 4, rng)
 
 
 main()

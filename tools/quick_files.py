@@ -1,9 +1,10 @@
 #!/usr/bin/env python3
-"""State files that an earlier program made are served: what they keep is listed, and what is commanded is kept with it. A new file has version 2.
+"""State files that an earlier program made are served and migrated: what they keep is listed, and what is commanded is kept with it. A new file has version 2.
 
 The files lie in tools/kept_files. A program built from commit e707780 (28 November 2026) made them: tools/quick_files.py --make PROGRAM FOLDER."""
 import gzip, json, os, subprocess, sys, tempfile
 
+from migrated import migrate
 from served import Client, check, new_state, serving, unpack
 
 
@@ -96,7 +97,30 @@ def versions_keep_what_they_can(programs):
             check(f"what version {version} keeps of it", kept == [{"triggers": [counted] if version == 2 else [], "version": "w1"}], kept)
 
 
-CASES = [kept_files_are_served, versions_keep_what_they_can]
+def kept_files_are_migrated(programs):
+    """The new file has all that the old one kept, and room for what that had no place for. The old one is served no more."""
+    counted = trigger("counted", ["true"], max_files_stdin=1)
+    for name, (_, roots, incarnation) in FILES.items():
+        with tempfile.TemporaryDirectory() as room:
+            old, new = f"{room}/old", f"{room}/new"
+            unpack(name, old)
+            for turn in ("", " again"):
+                ended = migrate(programs.watchmand, old, new)
+                check(f"{name} is migrated{turn}", (ended.returncode, ended.stdout, ended.stderr) == (0, "migrated\n", ""), ended)
+            ended = subprocess.run([programs.watchmand, "lines", old], stdin=subprocess.DEVNULL, capture_output=True, text=True)
+            check(f"{name} is retired then", (ended.returncode, ended.stdout, ended.stderr) == (1, "", "watchmand: 20 Retired\n"), ended)
+            with open(new, "rb") as file:
+                content = file.read()
+            check(f"{name} becomes a file of version 2", (len(content), content[:13]) == (8916992, b"\xa5WMSTATE\0\0\0\2\0"), content[:13])
+            asked = [["watch-list"], *(["trigger-list", root] for root in roots)]
+            wanted = [{"roots": list(roots), "version": "w1"}, *({"triggers": triggers, "version": "w1"} for triggers in roots.values())]
+            seen = replies(programs.watchmand, new, [*asked, ["watch", "/later"], ["listing", "/later", 0, "", []], ["trigger", "/later", counted]])
+            check(f"what {name} kept is in the new file", seen[:len(wanted)] == wanted, seen)
+            check(f"{name}'s incarnations go on in the new file", seen[-2]["clock"].startswith(f"c:{incarnation + 1}:"), seen[-2])
+            check("a number of files has a place there", seen[-1] == {"disposition": "created", "triggerid": "counted", "version": "w1"}, seen[-1])
+
+
+CASES = [kept_files_are_served, kept_files_are_migrated, versions_keep_what_they_can]
 
 if __name__ == "__main__" and sys.argv[1:2] == ["--make"]:
     make(*sys.argv[2:])

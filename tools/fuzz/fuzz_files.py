@@ -1,8 +1,11 @@
-"""State files that sessions left, spoilt or made by hand, which `watchmand lines` then opens, for tools/fuzz/fuzz.py.
+"""State files that sessions left, spoilt or made by hand, which `watchmand lines` then opens, for tools/fuzz/fuzz.py. Half of those of version 1 are
+migrated instead.
 
-What a file means is read anew from docs/FORMATS.md: the refusal that a start tells, or the registry, which the file means afterwards too."""
+What a file means is read anew from docs/FORMATS.md: the refusal that a start tells, or the registry, which the file means afterwards too; and of a
+migration what the new file means."""
 import os, random, subprocess
 import fuzz_lines, fuzz_state
+from migrated import migrate
 from fuzz_json import written
 from fuzz_registry import EMPTY, begun, empty, with_trigger, with_watch, without_trigger, without_watch
 from fuzz_state import JOURNAL_BYTES, LAYOUTS, OPEN, RETIRED_GATE
@@ -12,6 +15,7 @@ from fuzz_terms import LARGEST
 WATCHED = b'{"version":"w1","watch":"/new"}\n'
 NO_ROOM = b'{"error":"15 Exhausted","version":"w1"}\n{"error":"5 NotWatched","version":"w1"}\n'
 REFUSALS = {14: "14 Damaged", 15: "15 Exhausted", 20: "20 Retired"}
+MIGRATIONS = {13: "13 DeviceFailed", 14: "14 Damaged"}
 CHANGES = {0: begun, 1: with_watch, 2: without_watch, 3: with_trigger, 4: without_trigger}
 # Texts that a trigger may keep in a file: expressions in other spellings than a line leaves, and what is none.
 TEXTS = ["true", '"true"', '["true"]', ' [ "suffix" , "c" ] ', '["name","\\u0061"]', "[", "", '["match","["]', '"\\ud800"', '["size","eq",1.0]', '["not",' * 31 + '"true"' + "]" * 31,
@@ -254,10 +258,66 @@ def opened(program, path, content):
         raise fuzz_lines.Difference("the file doesn't mean the registry afterwards")
 
 
+def to_move(content):
+    """What a migration of this file is refused with, and what it moves."""
+    try:
+        layout = fuzz_state.layout_of(content)
+        state = fuzz_state.meaning(content)[0] if layout.version == 1 else None
+    except fuzz_state.Damaged:
+        return 14, None
+    except fuzz_state.Refused:
+        # beside a retired file there has to be a new one
+        return (13 if layout.version == 1 else 14), None
+    return (0 if state else 14), state
+
+
+def is_for_migration(case, content):
+    """Half of the files of version 1, and a few others."""
+    return random.Random(case[1] + 1).random() < (0.5 if layout_near(content).version == 1 else 0.02)
+
+
+def read_if_there(path):
+    try:
+        with open(path, "rb") as file:
+            return file.read()
+    except FileNotFoundError:
+        return None
+
+
+def migrated(program, folder, content):
+    """Migrates a file to a path that isn't there, and compares what is told, and what is left of both."""
+    old, new = os.path.join(folder, "old"), os.path.join(folder, "new")
+    with open(old, "wb") as file:
+        file.write(content)
+    if os.path.exists(new):
+        os.remove(new)
+    number, state = to_move(content)
+    seen = migrate(program, old, new, timeout=fuzz_lines.SECONDS)
+    wanted = (1, "", f"watchmand: {MIGRATIONS[number]}\n") if number else (0, "migrated\n", "")
+    if (seen.returncode, seen.stdout, seen.stderr) != wanted:
+        raise fuzz_lines.Difference(f"a migration: expected {wanted!r}, seen {seen!r}")
+    left, moved = read_if_there(old), read_if_there(new)
+    if number and (left != content or moved is not None):
+        raise fuzz_lines.Difference("a refused migration wrote to the old file, or made the new one")
+    if not number and left != content[:RETIRED_GATE] + bytes([OPEN]) + content[RETIRED_GATE + 1:]:
+        raise fuzz_lines.Difference("a migration did more to the old file than to retire it")
+    if not number and (len(moved) != LAYOUTS[2].size or not is_moved(fuzz_state.meaning(moved), state)):
+        raise fuzz_lines.Difference("the new file doesn't mean the registry of the old one")
+
+
+def is_moved(meaning, state):
+    """The registry stands in a slot with number 1, with no record behind it."""
+    found, end, number = meaning
+    return (end, number) == (0, 1) and fuzz_state.is_same(found, (*state[:3], 2))
+
+
 def difference(program, folder, cases):
     for case in cases:
         content = content_of(program, folder, case)
         try:
+            if is_for_migration(case, content):
+                migrated(program, folder, content)
+                continue
             opened(program, os.path.join(folder, "spoilt"), content)
         except fuzz_lines.Difference as problem:
             return str(problem)
