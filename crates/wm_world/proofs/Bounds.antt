@@ -1,5 +1,5 @@
 -- By how much a run may raise the slot's number.
-use Rattle.std.proofs.Common.{◌≡◌, ◌⊎◌, inl, inr, ℕ, ◌+◌, ◌≤◌, Bool, true, false, cond, ◌&&◌, List, [], ◌∷◌, length, nat_le, Option, Some, None, refl, sym, ap, ◌∙◌, arith, MatchBool}
+use Rattle.std.proofs.Common.{◌≡◌, ◌⊎◌, inl, inr, ℕ, ◌+◌, ◌≤◌, Bool, true, false, cond, ◌&&◌, not, List, [], ◌∷◌, length, nat_le, Option, Some, None, refl, sym, ap, ◌∙◌, arith, MatchBool}
 use Rattle.std.specs.Option.{option_map_or}
 use Rattle.wm_names.specs.Paths.{Path}
 use Rattle.wm_expr.specs.Meanings.{is_path_only}
@@ -13,7 +13,7 @@ use Rattle.wm_view.specs.declared.op.Op.TheVariants as ops
 use Rattle.wm_world.specs.declared.event.Event.{Event}
 use Rattle.wm_world.specs.declared.event.Event.TheVariants as events
 use Rattle.wm_world.specs.Worlds.{World, at_first, is_of, registry}
-use Rattle.wm_world.specs.Steps.{BatchCut, BatchDone, Checkpointed, Cut, OpenDone, Step, operated}
+use Rattle.wm_world.specs.Steps.{BatchCut, BatchDone, Checkpointed, Cut, MigrateMet, OpenDone, Step, is_to_migrate, operated}
 use Rattle.wm_world.specs.Laws.{SlotBound, raise_by}
 
 bound_step : (old : World) (event : Event) (new : World) → Step old event new → new.slot ≤ old.slot + raise_by event
@@ -39,7 +39,14 @@ bound_step old event new s = by event s
     start false (inl (found, finds, raise, accepts, e)) = raise.1
     start false (inr (inl (rose, later, e))) = stays (record old { faults = new.faults }) 1 refl e
     start false (inr (inr (inl (rose, later, raise, rest)))) = raise.1
-    start false (inr (inr (inr (raise, rest)))) = raise.1
+    start false (inr (inr (inr (inl (raise, rest))))) = raise.1
+    start false (inr (inr (inr (inr (stage, e))))) = stays old 1 refl e
+
+    migrate : (b : Bool) → MatchBool b (MigrateMet old new) (new ≡ old) → new.slot ≤ old.slot + 0
+    migrate true (inl (found, finds, e)) = stays _ 0 refl e
+    migrate true (inr (inl (rose, e))) = stays _ 0 refl e
+    migrate true (inr (inr (rose, (found, finds, e)))) = stays _ 0 refl e
+    migrate false e = stays old 0 refl e
 
     if_fits : (b : Bool) (v : World) → v.slot ≡ old.slot → new ≡ cond b v old → new.slot ≤ old.slot + 0
     if_fits true v same e = stays v 0 same e
@@ -56,7 +63,9 @@ bound_step old event new s = by event s
     by (events.Commands commands) q = batch (old.up && nat_le (length commands.items) 64) commands.items q
     by events.Checkpoint q = checkpoint old.up q
     by events.Open q = start old.up q
+    by events.Migrate q = migrate (not old.up && is_to_migrate old.stage) q
     by (events.Arm calls) q = stays old 0 refl q
+    by (events.ArmOther calls) q = stays old 0 refl q
     by events.Crash (found, finds, e) = stays _ 0 refl e
     by events.Stop q = stays _ 0 refl q
     by (events.Observe path moment pairs) q = operation path (ops.Observe moment pairs) q

@@ -1,5 +1,5 @@
 -- What holds of each client, through one step.
-use Rattle.std.proofs.Common.{◌≡◌, ◌⊎◌, inl, inr, ℕ, zero, suc, Bool, true, false, cond, ◌&&◌, List, [], ◌∷◌, ◌++◌, length, map, Option, Some, None, nat_le, refl, sym, subst, MatchBool}
+use Rattle.std.proofs.Common.{◌≡◌, ◌⊎◌, inl, inr, ℕ, zero, suc, Bool, true, false, cond, ◌&&◌, not, List, [], ◌∷◌, ◌++◌, length, map, Option, Some, None, nat_le, refl, sym, subst, MatchBool}
 use Rattle.std.specs.List.{AllByRecursion}
 use Rattle.std.specs.Option.{option_map_or}
 use Rattle.wm_names.specs.Paths.{Path}
@@ -18,7 +18,7 @@ use Rattle.wm_world.specs.declared.connection.Connection.{Connection}
 use Rattle.wm_world.specs.declared.event.Event.{Event}
 use Rattle.wm_world.specs.declared.event.Event.TheVariants as events
 use Rattle.wm_world.specs.Worlds.{World, at_first, connected, is_of, registry, without_answer}
-use Rattle.wm_world.specs.Steps.{BatchCut, BatchDone, Checkpointed, Cut, OpenDone, Step, asking, changed_at, operated, receiving}
+use Rattle.wm_world.specs.Steps.{BatchCut, BatchDone, Checkpointed, Cut, MigrateMet, OpenDone, Step, asking, changed_at, is_to_migrate, operated, receiving}
 
 pub all_on : (P Q : Connection → Type 0) → ((c : Connection) → P c → Q c) → (cs : List Connection) → AllByRecursion P cs → AllByRecursion Q cs
 all_on P Q f [] h = tt
@@ -77,7 +77,14 @@ each_client P old event new lasts g s = by event s
     start false (inl (found, finds, raise, accepts, e)) = to _ e g
     start false (inr (inl (rose, later, e))) = to _ e g
     start false (inr (inr (inl (rose, later, raise, (found, finds, e))))) = to _ e g
-    start false (inr (inr (inr (raise, (found, finds, why, e))))) = to _ e g
+    start false (inr (inr (inr (inl (raise, (found, finds, why, e)))))) = to _ e g
+    start false (inr (inr (inr (inr (stage, e))))) = to old e g
+
+    migrate : (b : Bool) → MatchBool b (MigrateMet old new) (new ≡ old) → AllByRecursion P new.clients
+    migrate true (inl (found, finds, e)) = to _ e g
+    migrate true (inr (inl (rose, e))) = to _ e g
+    migrate true (inr (inr (rose, (found, finds, e)))) = to _ e g
+    migrate false e = to old e g
 
     operation : (b : Bool) (path : Path) (op : Op) → new ≡ cond b (operated path op old) old → AllByRecursion P new.clients
     operation true path op e = at (root_at path (registry old)) e
@@ -91,7 +98,9 @@ each_client P old event new lasts g s = by event s
     by (events.Commands commands) q = batch (old.up && nat_le (length commands.items) max_batch) commands.items q
     by events.Checkpoint q = checkpoint old.up q
     by events.Open q = start old.up q
+    by events.Migrate q = migrate (not old.up && is_to_migrate old.stage) q
     by (events.Arm calls) q = to old q g
+    by (events.ArmOther calls) q = to old q g
     by events.Crash (found, finds, e) = to _ e lost
     by events.Stop q = to _ q lost
     by (events.Observe path moment pairs) q = operation old.up path (ops.Observe moment pairs) q

@@ -14,6 +14,7 @@ use Rattle.wm_registry.specs.declared.reply.Reply.{Reply}
 use Rattle.wm_registry.specs.declared.root.Root.{Root}
 use Rattle.wm_registry.specs.Registry.{changed, changes, is_change}
 use Rattle.wm_registry.specs.declared.version.Version.{Version}
+use Rattle.wm_registry.specs.declared.version.Version.TheVariants.{One, Two}
 use Rattle.wm_registry.specs.Roots.{State, root_at}
 use Rattle.wm_store.specs.Batches.{AreAnswered, IsMet, accepted_of, is_begin}
 use Rattle.wm_view.specs.Histories.{after_operation}
@@ -21,8 +22,8 @@ use Rattle.wm_view.specs.declared.op.Op.{Op}
 use Rattle.wm_view.specs.declared.op.Op.TheVariants as ops
 use Rattle.wm_world.specs.declared.event.Event.{Event}
 use Rattle.wm_world.specs.declared.event.Event.TheVariants as events
-use Rattle.wm_world.specs.Worlds.{World, at_first, is_of, cannot_rise, nothing_yet, registry, replay}
-use Rattle.wm_world.specs.Steps.{BatchCut, BatchDone, IsPrefix, Checkpointed, Cut, Finds, OpenDone, Run, Step, begin_on, operated}
+use Rattle.wm_world.specs.Worlds.{World, at_first, Alone, Before, Between, cannot_rise, nothing_yet, nothing_yet_of_two, in_version, is_of, registry, replay}
+use Rattle.wm_world.specs.Steps.{BatchCut, BatchDone, IsPrefix, Checkpointed, Cut, Finds, MigrateMet, OpenDone, Run, Step, begin_on, is_to_migrate, operated}
 use Rattle.wm_world.specs.Laws.{AcknowledgedStays, KeptStays, NothingInvented, RestartFinds, given, given_by, without_begins}
 use Rattle.wm_world.proofs.Batching.{none_accepted, not_begin}
 use Rattle.wm_world.proofs.Reached.{Settled, settled_shape, settled_start}
@@ -123,7 +124,14 @@ part_step old event new was s = by event s
         to (Begin ∷ []) _ e (subst (λ xs. IsPartOf xs (standing old ++ Begin ∷ [])) (sym (append-nil (found ++ Begin ∷ []))) (part_both found (standing old) (Begin ∷ []) (Begin ∷ []) (found_part old found finds) (inl (refl, tt))))
     start false (inr (inl (rose, later, e))) = to (Begin ∷ []) _ e (same (Begin ∷ []))
     start false (inr (inr (inl (rose, later, raise, (found, finds, e))))) = to (Begin ∷ []) _ e (part_both found (standing old) (begin_on found) (Begin ∷ []) (found_part old found finds) (begin_on_part found))
-    start false (inr (inr (inr (raise, (found, finds, why, e))))) = to (Begin ∷ []) _ e (found_alone found (Begin ∷ []) finds)
+    start false (inr (inr (inr (inl (raise, (found, finds, why, e)))))) = to (Begin ∷ []) _ e (found_alone found (Begin ∷ []) finds)
+    start false (inr (inr (inr (inr (stage, e))))) = to (Begin ∷ []) old e (same (Begin ∷ []))
+
+    migrate : (b : Bool) → MatchBool b (MigrateMet old new) (new ≡ old) → IsPartOf (standing new) (standing old ++ [])
+    migrate true (inl (found, finds, e)) = to [] _ e (found_alone found [] finds)
+    migrate true (inr (inl (rose, e))) = to [] _ e (same [])
+    migrate true (inr (inr (rose, (found, finds, e)))) = to [] _ e (found_alone found [] finds)
+    migrate false e = to [] old e (same [])
 
     if_fits : (b : Bool) (v : World) → standing v ≡ standing old → new ≡ cond b v old → IsPartOf (standing new) (standing old ++ [])
     if_fits true v stands e = to [] v e (subst (λ xs. IsPartOf xs (standing old ++ [])) (sym stands) (same []))
@@ -140,7 +148,9 @@ part_step old event new was s = by event s
     by (events.Commands commands) q = batch old.up refl (nat_le (length commands.items) max_batch) commands.items q
     by events.Checkpoint q = checkpoint old.up refl q
     by events.Open q = start old.up q
+    by events.Migrate q = migrate (not old.up && is_to_migrate old.stage) q
     by (events.Arm calls) q = to [] old q (same [])
+    by (events.ArmOther calls) q = to [] old q (same [])
     by events.Crash (found, finds, e) = to [] _ e (found_alone found [] finds)
     by events.Stop q = to [] _ q (same [])
     by (events.Observe path moment pairs) q = operation path (ops.Observe moment pairs) q
@@ -159,7 +169,8 @@ part_run old (event ∷ es) new was (mid, step, run) =
     (part_both (standing mid) (standing old ++ given_by event) (given es) (given es) (part_step old event mid was step) (part_same (given es))))
 
 pub nothing_invented : NothingInvented
-nothing_invented es w (faults, run) = part_run (nothing_yet faults) es w (settled_start faults) run
+nothing_invented es w (inl (faults, run)) = part_run (nothing_yet faults) es w (settled_start Two Alone faults 0) run
+nothing_invented es w (inr (faults, other, run)) = part_run (nothing_yet_of_two faults other) es w (settled_start One Before faults other) run
 
 -- ---- restarts
 
@@ -167,11 +178,11 @@ pub restart_finds : RestartFinds
 restart_finds old new down step = by (subst (λ b. MatchBool b (new ≡ old) (OpenDone old new)) down step)
   where
     Why : Type 0
-    Why = Rose old.faults new.faults ⊎ (cannot_rise old.slot ≡ true) ⊎ (changes (registry new) Begin ≡ false)
+    Why = Rose old.faults new.faults ⊎ (cannot_rise old.slot ≡ true) ⊎ (changes (registry new) Begin ≡ false) ⊎ (old.stage ≡ Between)
 
     Found : Type 0
     Found = (part : List Command) × IsPrefix part old.pending
-        × (((new.up ≡ true) × (changes (replay (old.kept ++ part)) Begin ≡ true) × (registry new ≡ replay (old.kept ++ part ++ Begin ∷ [])))
+        × (((new.up ≡ true) × (changes (replay (old.kept ++ part)) Begin ≡ true) × (registry new ≡ in_version old.version (replay (old.kept ++ part ++ Begin ∷ []))))
         ⊎ ((new.up ≡ false) × (new.kept ≡ old.kept ++ part) × Why))
 
     is_down : (v : World) → v.up ≡ old.up → new ≡ v → new.up ≡ false
@@ -183,9 +194,9 @@ restart_finds old new down step = by (subst (λ b. MatchBool b (new ≡ old) (Op
 
     by : OpenDone old new → Found
     by (inl (found, (part, begins, is), raise, accepts, e)) =
-        (part, begins, inl (ap (λ (w : World). w.up) e, ap (λ cs. changes (replay cs) Begin) (sym is) ∙ accepts, ap (λ (w : World). replay w.kept) e ∙ ap (λ cs. replay (cs ++ Begin ∷ [])) is))
+        (part, begins, inl (ap (λ (w : World). w.up) e, ap (λ cs. changes (replay cs) Begin) (sym is) ∙ accepts, ap (λ (w : World). registry w) e ∙ ap (λ cs. in_version old.version (replay (cs ++ Begin ∷ []))) is))
     by (inr (inl (rose, later, e))) = left (record old { faults = new.faults }) refl e ([], (old.pending, refl), sym (append-nil old.kept)) (inl rose)
-    by (inr (inr (inl (rose, later, raise, (found, finds, e))))) = left (record old { kept = found; pending = begin_on found; faults = new.faults; slot = new.slot }) refl e finds (inl rose)
-    by (inr (inr (inr (raise, (found, finds, inl refused, e))))) =
-        left (record old { kept = found; pending = []; slot = new.slot }) refl e finds (inr (inr (ap (λ (w : World). changes (replay w.kept) Begin) e ∙ refused)))
-    by (inr (inr (inr (raise, (found, finds, inr spent, e))))) = left (record old { kept = found; pending = []; slot = new.slot }) refl e finds (inr (inl spent))
+    by (inr (inr (inl (rose, later, raise, (found, finds, e))))) = left _ refl e finds (inl rose)
+    by (inr (inr (inr (inl (raise, (found, finds, inl refused, e)))))) = left _ refl e finds (inr (inr (inl (ap (λ (w : World). changes (replay w.kept) Begin) e ∙ refused))))
+    by (inr (inr (inr (inl (raise, (found, finds, inr spent, e)))))) = left _ refl e finds (inr (inl spent))
+    by (inr (inr (inr (inr (stage, e))))) = left old refl e ([], (old.pending, refl), sym (append-nil old.kept)) (inr (inr (inr stage)))

@@ -1,3 +1,4 @@
+pub mod Arming
 pub mod Batching
 pub mod Beginning
 pub mod Between
@@ -5,10 +6,14 @@ pub mod Bounds
 pub mod Calls
 pub mod Clients
 pub mod EachClient
+pub mod Falling
 pub mod Growing
 pub mod Kept
+pub mod Migrations
 pub mod Moments
 pub mod Opening
+pub mod OneDisk
+pub mod Others
 pub mod Owners
 pub mod Places
 pub mod Reached

@@ -6,6 +6,7 @@ use Rattle.wm_clock.specs.declared.clock_id.ClockId.{ClockId}
 use Rattle.wm_clock.specs.Clocks.{clock_text, is_number}
 use Rattle.wm_clock.specs.Laws.{OneText}
 use Rattle.wm_registry.specs.declared.version.Version.TheVariants.{Two}
+use Rattle.wm_registry.specs.declared.command.Command.{Command}
 use Rattle.wm_registry.specs.declared.root.Root.{Root}
 use Rattle.wm_registry.specs.Roots.{State, root_at}
 use Rattle.wm_names.specs.Paths.{Path}
@@ -18,14 +19,15 @@ use Rattle.wm_since.specs.Answers.{answer_to, clock_of}
 use Rattle.wm_since.specs.declared.query.Answer.{Answer}
 use Rattle.wm_since.specs.Clients.{next_question}
 use Rattle.wm_world.specs.declared.event.Event.{Event}
-use Rattle.wm_world.specs.Worlds.{World, at_first, begun_all, begun_between, history_in, is_of, live, nothing_yet, registry, replay, wants}
+use Rattle.wm_registry.specs.declared.version.Version.{Version}
+use Rattle.wm_world.specs.Worlds.{Stage, World, at_first, begun_all, begun_between, begun_on, history_in, in_version, is_of, live, registry, replay, wants}
 use Rattle.wm_world.specs.Steps.{IsReached, Run}
 use Rattle.wm_world.specs.Laws.{Gives, InRange, IsAmong, OneMoment, OneMomentOfAnswers, SameMoment}
 use Rattle.wm_world.proofs.Growing.{Extends, extends_after, ids_of, of_ids, same_Some, same_ticks, Some≢None}
 use Rattle.wm_registry.specs.Laws.{NumbersInOrder, NumbersRise}
 use Rattle.wm_registry.specs.Numbers.{InOrder, Rises}
 use Rattle.wm_world.proofs.Reached.{all_both, all_each, all_first, settled_reached}
-use Rattle.wm_world.proofs.Shapes.{IsGrown, IsUp, Shape, grows_run, runs_on, shape}
+use Rattle.wm_world.proofs.Shapes.{IsGrown, IsUp, Shape, all_reached, grows_run, leads_on, shape}
 
 -- ---- ids
 
@@ -192,12 +194,17 @@ kept_start s t hs r later o k =
           omega (arith, e, i, u, later))));
     }
 
-pub ids_start : (faults : ℕ) → Ids (nothing_yet faults)
-ids_start faults = record { begun = λ t. absurd (true≢false (sym t)); within = tt; apart = tt }
+pub ids_start : (v : Version) (stage : Stage) (faults other_faults : ℕ) → Ids (begun_on v stage faults other_faults)
+ids_start v stage faults other_faults = record { begun = λ t. absurd (true≢false (sym t)); within = tt; apart = tt }
 
 module _ (rising : NumbersRise) (ordered : NumbersInOrder) where
   rises : (old new : World) → Shape old new → Rises (registry old) (registry new)
-  rises old new s = subst (λ k. Rises (registry old) (replay k)) (sym s.kept) (rising Two old.kept s.more)
+  rises old new s =
+      let r : Rises (replay old.kept) (replay new.kept) = subst (λ k. Rises (replay old.kept) (replay k)) (sym s.kept) (rising Two old.kept s.more) in
+      record { incarnation = r.incarnation; next = r.next }
+
+  in_order_in : (v : Version) (kept : List Command) → InOrder (in_version v (replay kept))
+  in_order_in v kept = let o = ordered Two kept in record { incarnation = o.incarnation; some = o.some; next = o.next; roots = o.roots; apart = o.apart }
 
   kept_grown : (old new : World) → Shape old new → Ids old → Kept (registry new) new.histories
   kept_grown old new s ids = by s.histories
@@ -215,7 +222,7 @@ module _ (rising : NumbersRise) (ordered : NumbersInOrder) where
       by (inl e) = to old.histories e (kept_rises (registry old) (registry new) old.histories r before)
       by (inr (inl (test, op, e))) = to _ e (kept_first (registry new) test op old.histories (kept_rises (registry old) (registry new) old.histories r before))
       by (inr (inr (inl (up, e)))) = to _ e (kept_batch (registry old) (registry new) old.histories r (ids.begun up) (ordered Two old.kept).some before)
-      by (inr (inr (inr (part, later, e)))) = to _ e (kept_start (registry old) (registry new) old.histories r (omega (arith, (rising Two old.kept part).incarnation, later)) (ordered Two new.kept) before)
+      by (inr (inr (inr (part, later, e)))) = to _ e (kept_start (registry old) (registry new) old.histories r (omega (arith, (rising Two old.kept part).incarnation, later)) (in_order_in new.version new.kept) before)
 
   pub ids_shape : (old new : World) → Shape old new → Ids old → Ids new
   ids_shape old new s ids =
@@ -231,7 +238,7 @@ module _ (rising : NumbersRise) (ordered : NumbersInOrder) where
   ids_run old (event ∷ events) new i (mid, step, run) = ids_run mid events new (ids_shape old mid (shape old event mid step) i) run
 
   pub ids_reached : (w : World) → IsReached w → Ids w
-  ids_reached w (events, (faults, run)) = ids_run (nothing_yet faults) events w (ids_start faults) run
+  ids_reached w (events, leads) = all_reached Ids ids_start ids_run events w leads
 
 -- ---- one moment
 
@@ -251,7 +258,7 @@ found_apart (g ∷ gs) h a (inr m) =
     turned false t = refl
 
 pub goes_on : (old : World) (events : List Event) (new : World) → IsReached old → Run old events new → IsReached new
-goes_on old events new (before, (faults, start)) run = (before ++ events, (faults, runs_on (nothing_yet faults) before old events new start run))
+goes_on old events new (before, leads) run = (before ++ events, leads_on before old events new leads run)
 
 -- ---- answers
 

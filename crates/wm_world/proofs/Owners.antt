@@ -14,7 +14,7 @@ use Rattle.wm_since.specs.Clients.{next_question}
 use Rattle.wm_since.specs.Laws.{AnswersApply}
 use Rattle.wm_world.specs.declared.connection.Connection.{Connection}
 use Rattle.wm_world.specs.declared.event.Event.{Event}
-use Rattle.wm_world.specs.Worlds.{World, connected, is_of, live, nothing_yet, registry, wants, without_answer}
+use Rattle.wm_world.specs.Worlds.{World, connected, is_of, live, registry, wants, without_answer}
 use Rattle.wm_world.specs.Steps.{IsPrefix, Run, answer_about, applied, asking, receiving, with_answer}
 use Rattle.wm_world.specs.Laws.{ClientHolds, ClientsHold, IsClockAt, MatchesAt}
 use Rattle.wm_world.proofs.Clients.{Good, good_reached}
@@ -22,6 +22,7 @@ use Rattle.wm_world.proofs.EachClient.{Lasts, all_on, each_client}
 use Rattle.wm_world.proofs.Growing.{found_is, of_ids}
 use Rattle.wm_world.proofs.Kept.{kept_stays}
 use Rattle.wm_world.proofs.Moments.{live_found}
+use Rattle.wm_world.proofs.Shapes.{all_reached}
 
 -- the clock at which a client stands, and that of the answer on its way
 record Own (kept : List Command) (c : Connection) : Type 0 where
@@ -107,4 +108,4 @@ both_hold w (c ∷ cs) g o = (by c.mirror.clock g.0.held o.0.held, both_hold w c
     by (Some k) m i = (m, i)
 
 pub clients_hold : AnswersApply → ClientsHold
-clients_hold applies w (events, (faults, run)) = both_hold w w.clients (good_reached applies w (events, (faults, run))) (own_run (nothing_yet faults) events w tt run)
+clients_hold applies w (events, leads) = both_hold w w.clients (good_reached applies w (events, leads)) (all_reached (λ v. AllByRecursion (Own v.kept) v.clients) (λ v stage faults other. tt) own_run events w leads)

@@ -1,15 +1,18 @@
 -- What every state of a run keeps, whatever numbers the registry gives: each history is made of operations, and nothing is in flight while
 -- the server is up.
-use Rattle.std.proofs.Common.{◌≡◌, inl, inr, ℕ, ◌-◌, Bool, true, false, cond, List, [], ◌∷◌, ◌++◌, map, refl, sym, subst, ◌∙◌}
+use Rattle.std.proofs.Common.{◌≡◌, inl, inr, ℕ, ◌-◌, ◌≤◌, Bool, true, false, cond, List, [], ◌∷◌, ◌++◌, map, refl, sym, subst, ◌∙◌, arith}
 use Rattle.std.specs.List.{AllByRecursion, range_with_len}
 use Rattle.wm_registry.specs.declared.root.Root.{Root}
 use Rattle.wm_view.specs.Histories.{History, IsMade, after_operation, new_history}
 use Rattle.wm_view.specs.laws.Made.{made_after}
 use Rattle.wm_world.specs.declared.event.Event.{Event}
-use Rattle.wm_world.specs.Worlds.{World, at_first, nothing_yet, registry}
+use Rattle.wm_registry.specs.declared.command.Command.{Command}
+use Rattle.wm_registry.specs.declared.version.Version.{Version}
+use Rattle.wm_world.specs.Worlds.{Stage, World, at_first, begun_on, in_version, registry, replay}
 use Rattle.wm_world.specs.Steps.{IsReached, Run}
 use Rattle.wm_world.specs.Laws.{PendingIsOwn}
-use Rattle.wm_world.proofs.Shapes.{IsGrown, IsUp, Shape, shape}
+use Rattle.wm_world.proofs.Replays.{Accepted}
+use Rattle.wm_world.proofs.Shapes.{IsFlight, IsGrown, IsUp, Shape, all_reached, shape}
 
 -- ---- of each of a list
 
@@ -43,13 +46,21 @@ roots_made i (r ∷ roots) = ((i, r.1.number, [], refl), roots_made i roots)
 pub record Settled (w : World) : Type 0 where
   pub pending : w.up ≡ true → w.pending ≡ []
   pub made : AllByRecursion IsMade w.histories
+  pub accepted : Accepted (registry w) w.pending
+  pub first : 1 ≤ w.slot
 
 pub settled_shape : (old new : World) → Shape old new → Settled old → Settled new
-settled_shape old new s was = record { pending = λ t. clear (s.up t); made = by s.histories }
+settled_shape old new s was = record { pending = λ t. clear (s.up t); made = by s.histories; accepted = in_flight s.flight; first = omega (arith, was.first, s.slot) }
   where
     clear : IsUp old new → new.pending ≡ []
     clear (inl (up, p)) = p ∙ was.pending up
     clear (inr (c, b)) = c
+
+    in_flight : IsFlight old new → Accepted (registry new) new.pending
+    in_flight (inl (kept, pending, version)) =
+        subst (λ p. Accepted (registry new) p) (sym pending) (subst (λ (v : Version). Accepted (in_version v (replay new.kept)) old.pending) (sym version) (subst (λ (k : List Command). Accepted (in_version old.version (replay k)) old.pending) (sym kept) was.accepted))
+    in_flight (inr (inl up)) = subst (λ p. Accepted (registry new) p) (sym (clear (s.up up))) tt
+    in_flight (inr (inr accepted)) = accepted
 
     to : (hs : List History) → new.histories ≡ hs → AllByRecursion IsMade hs → AllByRecursion IsMade new.histories
     to hs e k = subst (λ ks. AllByRecursion IsMade ks) (sym e) k
@@ -64,11 +75,11 @@ settled_run : (old : World) (events : List Event) (new : World) → Settled old 
 settled_run old [] new i e = subst (λ w. Settled w) e i
 settled_run old (event ∷ events) new i (mid, step, run) = settled_run mid events new (settled_shape old mid (shape old event mid step) i) run
 
-pub settled_start : (faults : ℕ) → Settled (nothing_yet faults)
-settled_start faults = record { pending = λ t. refl; made = tt }
+pub settled_start : (v : Version) (stage : Stage) (faults other_faults : ℕ) → Settled (begun_on v stage faults other_faults)
+settled_start v stage faults other_faults = record { pending = λ t. refl; made = tt; accepted = tt; first = omega arith }
 
 pub settled_reached : (w : World) → IsReached w → Settled w
-settled_reached w (events, (faults, run)) = settled_run (nothing_yet faults) events w (settled_start faults) run
+settled_reached w (events, leads) = all_reached Settled settled_start settled_run events w leads
 
 pub pending_is_own : PendingIsOwn
 pending_is_own w reached up = (settled_reached w reached).pending up

@@ -15,7 +15,7 @@ use Rattle.wm_checkpoint.specs.laws.Numbering.{means_numbered, numbered_more}
 use Rattle.wm_registry.specs.declared.command.Command.{Command}
 use Rattle.wm_registry.specs.declared.reply.Reply.{Reply}
 use Rattle.wm_registry.specs.MachineLaws.{watches}
-use Rattle.wm_registry.specs.Registry.{after_command, empty_registry}
+use Rattle.wm_registry.specs.Registry.{after_command}
 use Rattle.wm_registry.specs.Versions.{sizes_of}
 use Rattle.wm_registry.specs.Roots.{State}
 use Rattle.wm_store.specs.Batches.{AreAnswered, IsOutOfMemory, accepted_of}
@@ -23,23 +23,26 @@ use Rattle.wm_store.specs.Stored.{Stored}
 use Rattle.wm_view.specs.Histories.{History, new_history}
 use Rattle.wm_view.specs.Summaries.{Summary, summary}
 use Rattle.wm_checkpoint.specs.Numbers.{IsNumberedTo}
-use Rattle.wm_checkpoint.specs.Layout.{sizes_2}
 use Rattle.wm_world.specs.declared.world.World.{World as Running}
+use Rattle.wm_world.specs.declared.other.Other.{Other}
+use Rattle.wm_world.specs.declared.other.Other.TheVariants.{Nothing}
 use Rattle.wm_world.specs.declared.world.Server.TheVariants.{Up, Down}
-use Rattle.wm_world.specs.Worlds.{World, begun_between, registry, replay, without_answer}
-use Rattle.wm_world.specs.Steps.{BatchCut, BatchDone, Checkpointed, Cut, batch, checkpointed, down}
-use Rattle.wm_world.specs.Refinement.{AreViews, IsServer, IsUp, Simulates, Refines, disk_of_server}
-use Rattle.wm_world.specs.Passes.{KeepsBetween, Leaves, Raises, Switches}
+use Rattle.wm_world.specs.Worlds.{World, begun_between, in_version, registry, replay, without_answer}
+use Rattle.wm_world.specs.Steps.{BatchCut, BatchDone, Checkpointed, Cut, IsReached, batch, checkpointed, down}
+use Rattle.wm_world.specs.Refinement.{AreHonest, AreViews, IsServer, IsUp, Simulates, Refines, disk_of_server, disks_of_server, disks_of_world}
+use Rattle.wm_world.specs.Passes.{KeepsBetween, Leaves, LeftBetween, Raises, Switches}
 use Rattle.wm_disk.specs.laws.Runs.{weaker, OnlyNow}
 use Rattle.wm_world.proofs.Batching.{answered_more, same_incarnation}
 use Rattle.wm_world.proofs.Between.{between_before, between_more}
 use Rattle.wm_world.proofs.Calls.{nothing}
 use Rattle.wm_world.proofs.Reached.{pending_is_own}
-use Rattle.wm_world.proofs.Replays.{numbered_replayed, replay_more}
+use Rattle.wm_world.proofs.OneDisk.{alone_calls, honest_calls, honest_now, leaves_calls}
+use Rattle.wm_world.proofs.Others.{beside_same}
+use Rattle.wm_registry.specs.Laws.{AcceptedInVersion2}
+use Rattle.wm_world.proofs.Replays.{Accepted, accepted_batch, grown}
 use Rattle.wm_registry.specs.Limits.{max_batch}
 use Rattle.wm_store.specs.Meant.{MeansAfter, MeansRegistry}
 use Rattle.wm_checkpoint.specs.Machines.{replayed}
-use Rattle.wm_registry.specs.declared.version.Version.TheVariants.{Two}
 
 -- ---- contents
 
@@ -81,30 +84,24 @@ module _ {D : Type 0} (disk : disks.Ghosts D) where
   pub now : CountsNow → (old new : D) (P : List ℕ → Type 0) → disk.honest new → LeavesOnly disk.moment disk.left_since old new P → (c : List ℕ) → disk.may_leave new c → P c
   now law old new P h run c left = run.each c (law new (disk.moment old) c h run.later left)
 
-  up_of : (old : Running D) (before : Stored D) (w : World) → old.server ≡ Up before → Refines disk old w → IsUp disk before old.shown.views.items w
-  up_of old before w is s = subst (λ x. IsServer disk x old.shown.views.items w) is s.server
+module _ {D : Type 0} (disk : disks.Ghosts D) (law : AcceptedInVersion2) where
+  up_of : (old : Running D) (before : Stored D) (other : Other D) (w : World) → old.server ≡ Up before other → Refines disk old w → IsUp disk before other old.shown.views.items w
+  up_of old before other w is s = subst (λ x. IsServer disk x old.shown.views.items w) is s.server
 
   fits : (w : World) (commands : List Command) → w.up ≡ true → length commands ≤ max_batch → (w.up && nat_le (length commands) max_batch) ≡ true
   fits w commands up short = λ i. up i && le-leb (length commands) max_batch short i
 
   -- a call that leaves what was meant
-  stays_meant : (w : World) (registry_then : State) (before after : D) (afterwards : List Command) → registry_then ≡ registry w → LeavesOnly disk.moment disk.left_since before after (MeansRegistry registry_then)
+  stays_meant : (w : World) → IsReached w → (registry_then : State) (before after : D) (afterwards : List Command) → registry_then ≡ registry w → LeavesOnly disk.moment disk.left_since before after (MeansRegistry registry_then)
       → LeavesOnly disk.moment disk.left_since before after (KeepsBetween w afterwards)
-  stays_meant w registry_then before after afterwards is run =
+  stays_meant w reached registry_then before after afterwards is run =
       weaker disk.moment disk.left_since before after (MeansRegistry registry_then) (KeepsBetween w afterwards) run
-      (λ c m. between_before w afterwards c (none_yet (registry w) w.pending c (subst (λ r. MeansRegistry r c) is m)))
-
-  -- calls of a store that is up
-  module _ (old new : Running D) (before : Stored D) (after : D) (P : List ℕ → Type 0) (is_up : old.server ≡ Up before) (there : disk_of_server disk new.server ≡ after) where
-    moved : LeavesOnly disk.moment disk.left_since before.disk after P → LeavesOnly disk.moment disk.left_since (disk_of_server disk old.server) (disk_of_server disk new.server) P
-    moved run =
-        subst (λ x. LeavesOnly disk.moment disk.left_since (disk_of_server disk x) (disk_of_server disk new.server) P) (sym is_up)
-        (subst (λ x. LeavesOnly disk.moment disk.left_since before.disk x P) (sym there) run)
+      (λ c m. between_before law w reached afterwards c (none_yet (registry w) w.pending c (subst (λ r. MeansRegistry r c) is m)))
 
   -- ---- commands
 
-  module _ (old new : Running D) (before after : Stored D) (commands : List Command) (replies : List Reply) (is_up : old.server ≡ Up before) (short : length commands ≤ max_batch) where
-    pub batch_done : new.server ≡ Up after → new.shown.replies.items ≡ replies → new.shown.clients ≡ old.shown.clients
+  module _ (old new : Running D) (before after : Stored D) (other : Other D) (commands : List Command) (replies : List Reply) (is_up : old.server ≡ Up before other) (short : length commands ≤ max_batch) where
+    pub batch_done : new.server ≡ Up after other → new.shown.replies.items ≡ replies → new.shown.clients ≡ old.shown.clients
         → new.shown.views.items ≡ old.shown.views.items ++ map summary (map (new_history after.registry.incarnation) (range_with_len before.registry.next (after.registry.next - before.registry.next)))
         → AreAnswered before.registry.version after.number after.room before.registry commands replies → (IsOutOfMemory replies → ⊥)
         → after.registry ≡ replayed after_command before.registry (accepted_of commands replies)
@@ -115,12 +112,16 @@ module _ {D : Type 0} (disk : disks.Ghosts D) where
         → (disk.honest after.disk → LeavesOnly disk.moment disk.left_since before.disk after.disk (MeansAfter before.registry (accepted_of commands replies)))
         → Simulates disk (batch commands) (Leaves disk) old new
     batch_done server said clients views answered long led honest faults whole open_yet number means numbered leaves = record {
-      honest = λ h. subst (λ x. disk.honest (disk_of_server disk x)) (sym is_up) (honest (subst (λ x. disk.honest (disk_of_server disk x)) server h));
+      honest = honest_calls disk old new before.disk after.disk other (ap (disks_of_server disk) is_up) (ap (disks_of_server disk) server) honest;
+      alone = alone_calls disk old new before.disk after.disk other (ap (disks_of_server disk) is_up) (ap (disks_of_server disk) server);
       goes = λ h w reached s.
-          let up = up_of old before w is_up s in
-          let there : disk.honest after.disk = subst (λ x. disk.honest (disk_of_server disk x)) server h in
+          let up = up_of old before other w is_up s in
+          let there : disk.honest after.disk = (subst (λ x. AreHonest disk (disks_of_server disk x)) server h).0 in
           let more : List Command = accepted_of commands replies in
-          let led_to : after.registry ≡ replay (w.kept ++ more) = led ∙ ap (λ r. replayed after_command r more) up.registry_is ∙ sym (replay_more (empty_registry Two) w.kept more) in
+          let met_before : AreAnswered (registry w).version after.number after.room (registry w) commands replies = subst (λ (r : State). AreAnswered r.version after.number after.room r commands replies) up.registry_is answered in
+          let accepted : Accepted (registry w) more = accepted_batch (registry w).version after.number after.room (registry w) commands replies met_before in
+          let same_after : in_version w.version (replay (w.kept ++ more)) ≡ replayed after_command (registry w) more = grown law w.version w.kept more accepted in
+          let led_to : after.registry ≡ in_version w.version (replay (w.kept ++ more)) = led ∙ ap (λ r. replayed after_command r more) up.registry_is ∙ sym same_after in
           let high : after.number ≤ w.slot + length commands = omega (arith, number, up.number) in
           let v : World = record w {
             kept = w.kept ++ more;
@@ -128,8 +129,8 @@ module _ {D : Type 0} (disk : disks.Ghosts D) where
             slot = w.slot + length commands;
             histories = w.histories ++ begun_between (registry w) (replay (w.kept ++ more));
           } in
-          let met : AreAnswered (registry w).version v.slot 0 (registry w) commands replies = subst (λ (r : State). AreAnswered r.version v.slot 0 r commands replies) up.registry_is (answered_more before.registry.version after.number after.room v.slot before.registry commands replies high answered) in
-          let same : (replay (w.kept ++ more)).incarnation ≡ (registry w).incarnation = ap (λ (r : State). r.incarnation) (replay_more (empty_registry Two) w.kept more) ∙ same_incarnation (registry w).version v.slot (registry w) commands replies met in
+          let met : AreAnswered (registry w).version v.slot 0 (registry w) commands replies = answered_more (registry w).version after.number after.room v.slot (registry w) commands replies high met_before in
+          let same : (replay (w.kept ++ more)).incarnation ≡ (registry w).incarnation = ap (λ (r : State). r.incarnation) same_after ∙ same_incarnation (registry w).version v.slot (registry w) commands replies met in
           let done : BatchDone w commands v = (replies, met, long, (omega arith, omega arith), refl) in (
             v,
             subst (λ b. MatchBool b (BatchDone w commands v ⊎ BatchCut w commands v) (v ≡ w)) (sym (fits w commands up.up short)) (inl done),
@@ -142,10 +143,11 @@ module _ {D : Type 0} (disk : disks.Ghosts D) where
                 number = high;
                 on = record {
                   prefix = λ c left. record {
-                    means = none_yet (replay (w.kept ++ more)) w.pending c (subst (λ r. MeansRegistry r c) led_to (means there c left));
-                    numbered = numbered_more sizes_2 (before.number + length commands) v.slot c (omega (arith, up.number)) (numbered_replayed w.kept before.registry up.registry_is (before.number + length commands) c (numbered up.whole there c left));
+                    means = inl (none_yet (registry v) w.pending c (subst (λ r. MeansRegistry r c) led_to (means there c left)));
+                    numbered = numbered_more (sizes_of w.version) (before.number + length commands) v.slot c (omega (arith, up.number)) (subst (λ (r : State). IsNumberedTo (sizes_of r.version) (before.number + length commands) c) up.registry_is (numbered up.whole there c left));
                   };
                   faults = faults ∙ up.on.faults;
+                  beside = beside_same disk other w v refl refl refl up.on.beside;
                 };
                 views_are = subst (λ vs. AreViews vs v) (sym (views ∙ (λ i. old.shown.views.items ++ map summary (map (new_history (led_to i).incarnation) (range_with_len (up.registry_is i).next ((led_to i).next - (up.registry_is i).next))))))
                     (views_more old.shown.views.items w v (begun_between (registry w) (replay (w.kept ++ more))) same refl (all_begun_in (replay (w.kept ++ more)).incarnation _) up.views_are);
@@ -153,14 +155,14 @@ module _ {D : Type 0} (disk : disks.Ghosts D) where
               replies = said;
               clients = ap (λ r. r.items) clients ∙ s.clients;
             },
-            moved old new before after.disk (KeepsBetween w (v.kept ++ v.pending)) is_up (ap (disk_of_server disk) server)
+            leaves_calls disk old new before.disk after.disk other (ap (disks_of_server disk) is_up) (ap (disks_of_server disk) server) w (v.kept ++ v.pending)
                 (weaker disk.moment disk.left_since before.disk after.disk (MeansAfter before.registry more) (KeepsBetween w (v.kept ++ v.pending)) (leaves there)
-                (λ c m. between_more w (v.kept ++ v.pending) more (ap (λ p. (w.kept ++ more) ++ p) (pending_is_own w reached up.up) ∙ append-nil (w.kept ++ more)) c (subst (λ r. MeansAfter r more c) up.registry_is m))),
+                (λ c m. between_more law w (v.kept ++ v.pending) more (ap (λ p. (w.kept ++ more) ++ p) (pending_is_own w reached up.up) ∙ append-nil (w.kept ++ more)) accepted c (subst (λ r. MeansAfter r more c) up.registry_is m))),
           );
     }
 
   -- what a store that failed leaves: the server is down with these commands in flight
-  module _ (old new : Running D) (before after : Stored D) (is_up : old.server ≡ Up before) (server : new.server ≡ Down after.disk) (gone : new.shown.views.items ≡ []) (said : new.shown.replies ≡ old.shown.replies)
+  module _ (old new : Running D) (before after : Stored D) (other : Other D) (is_up : old.server ≡ Up before other) (server : new.server ≡ Down after.disk other) (gone : new.shown.views.items ≡ []) (said : new.shown.replies ≡ old.shown.replies)
       (lost : new.shown.clients.items ≡ map without_answer old.shown.clients.items) (honest : disk.honest after.disk → disk.honest before.disk) where
     abbrev cut_to : World → ℕ → List Command → World
     cut_to w by pending = record (down w) { pending = pending; faults = disk.failures after.disk; slot = w.slot + by }
@@ -169,17 +171,18 @@ module _ {D : Type 0} (disk : disks.Ghosts D) where
         → ((c : List ℕ) → disk.may_leave after.disk c → MeansAfter before.registry pending c)
         → ((c : List ℕ) → disk.may_leave after.disk c → IsNumberedTo (sizes_of before.registry.version) (before.number + by) c) → Refines disk new (cut_to w by pending)
     cut_stands w by pending s means numbered =
-        let up = up_of old before w is_up s in
+        let up = up_of old before other w is_up s in
         record {
           server = subst (λ x. IsServer disk x new.shown.views.items (cut_to w by pending)) (sym server) (record {
             down = refl;
             none = gone;
             on = record {
               prefix = λ c left. record {
-                means = subst (λ r. MeansAfter r pending c) up.registry_is (means c left);
-                numbered = numbered_more sizes_2 (before.number + by) (w.slot + by) c (omega (arith, up.number)) (numbered_replayed w.kept before.registry up.registry_is (before.number + by) c (numbered c left));
+                means = inl (subst (λ r. MeansAfter r pending c) up.registry_is (means c left));
+                numbered = numbered_more (sizes_of w.version) (before.number + by) (w.slot + by) c (omega (arith, up.number)) (subst (λ (r : State). IsNumberedTo (sizes_of r.version) (before.number + by) c) up.registry_is (numbered c left));
               };
               faults = refl;
+              beside = beside_same disk other w (cut_to w by pending) refl refl refl up.on.beside;
             };
           });
           replies = ap (λ r. r.items) said ∙ s.replies;
@@ -189,14 +192,21 @@ module _ {D : Type 0} (disk : disks.Ghosts D) where
     is_cut : (w : World) (by : ℕ) (pending : List Command) → Refines disk old w → Rose (disk.failures before.disk) (disk.failures after.disk) → disk.failures before.disk ≤ disk.failures after.disk
         → Cut by w pending (cut_to w by pending)
     is_cut w by pending s rose later =
-        let faults = (up_of old before w is_up s).on.faults in
+        let faults = (up_of old before other w is_up s).on.faults in
         (subst (λ n. Rose n (disk.failures after.disk)) faults rose, subst (λ n. n ≤ disk.failures after.disk) faults later, (omega arith, omega arith), refl)
 
-    is_honest : disk.honest (disk_of_server disk new.server) → disk.honest (disk_of_server disk old.server)
-    is_honest h = subst (λ x. disk.honest (disk_of_server disk x)) (sym is_up) (honest (subst (λ x. disk.honest (disk_of_server disk x)) server h))
+    is_honest : AreHonest disk (disks_of_world disk new) → AreHonest disk (disks_of_world disk old)
+    is_honest = honest_calls disk old new before.disk after.disk other (ap (disks_of_server disk) is_up) (ap (disks_of_server disk) server) honest
 
-    still_there : disk.honest (disk_of_server disk new.server) → disk.honest after.disk
-    still_there h = subst (λ x. disk.honest (disk_of_server disk x)) server h
+    none_beside : (disks_of_world disk old).other ≡ Nothing → (disks_of_world disk new).other ≡ Nothing
+    none_beside = alone_calls disk old new before.disk after.disk other (ap (disks_of_server disk) is_up) (ap (disks_of_server disk) server)
+
+    still_there : AreHonest disk (disks_of_world disk new) → disk.honest after.disk
+    still_there = honest_now disk old new before.disk after.disk other (ap (disks_of_server disk) is_up) (ap (disks_of_server disk) server)
+
+    leaves_cut : (w : World) (afterwards : List Command) → LeavesOnly disk.moment disk.left_since before.disk after.disk (KeepsBetween w afterwards)
+        → LeavesOnly disk.moment disk.left_since (disks_of_world disk old).used (disks_of_world disk new).used (LeftBetween disk (disks_of_world disk old).other w afterwards) × ((disks_of_world disk new).other ≡ (disks_of_world disk old).other)
+    leaves_cut = leaves_calls disk old new before.disk after.disk other (ap (disks_of_server disk) is_up) (ap (disks_of_server disk) server)
 
     -- only a failure of the device takes down a store that was whole
     device : (w : World) (e : Refusal) → Refines disk old w → (e ≡ refusals.DeviceFailed) ⊎ (e ≡ refusals.NoMemory) ⊎ (e ≡ refusals.StoreFailed) → e ≢ refusals.NoMemory
@@ -205,14 +215,14 @@ module _ {D : Type 0} (disk : disks.Ghosts D) where
     device w e s (inr (inl m)) memory closed = absurd (memory m)
     device w e s (inr (inr x)) memory closed = by (closed x)
       where
-        up : IsUp disk before old.shown.views.items w
-        up = up_of old before w is_up s
+        up : IsUp disk before other old.shown.views.items w
+        up = up_of old before other w is_up s
 
         by : (before.failed ≡ true) ⊎ (before.closed ≡ true) → e ≡ refusals.DeviceFailed
         by (inl f) = absurd (true≢false (sym f ∙ up.whole))
         by (inr f) = absurd (true≢false (sym f ∙ up.open_yet))
 
-    pub batch_cut : CountsNow → (commands : List Command) (e : Refusal) → length commands ≤ max_batch
+    pub batch_cut : CountsNow disk → (commands : List Command) (e : Refusal) → length commands ≤ max_batch
         → (e ≡ refusals.DeviceFailed) ⊎ (e ≡ refusals.NoMemory) ⊎ (e ≡ refusals.StoreFailed) → e ≢ refusals.NoMemory → (e ≡ refusals.StoreFailed → (before.failed ≡ true) ⊎ (before.closed ≡ true))
         → (before.failed ≡ false → (replies : List Reply) × (AreAnswered before.registry.version after.number after.room before.registry commands replies
         × (disk.honest after.disk → LeavesOnly disk.moment disk.left_since before.disk after.disk (MeansAfter before.registry (accepted_of commands replies)))
@@ -221,46 +231,50 @@ module _ {D : Type 0} (disk : disks.Ghosts D) where
         → after.number ≤ before.number + length commands
         → (before.failed ≡ false → disk.honest after.disk → (c : List ℕ) → disk.may_leave after.disk c → IsNumberedTo (sizes_of before.registry.version) (before.number + length commands) c)
         → Simulates disk (batch commands) (Leaves disk) old new
-    batch_cut law commands e short kinds memory closed flight rose later number numbered = record {
+    batch_cut counts commands e short kinds memory closed flight rose later number numbered = record {
       honest = is_honest;
+      alone = none_beside;
       goes = λ h w reached s.
-          let up = up_of old before w is_up s in
+          let up = up_of old before other w is_up s in
           let d : e ≡ refusals.DeviceFailed = device w e s kinds memory closed in
           let f = flight up.whole in
           let replies : List Reply = f.0 in
           let pending : List Command = accepted_of commands replies in
           let v : World = cut_to w (length commands) pending in
           let high : after.number ≤ v.slot = omega (arith, number, up.number) in
-          let met : AreAnswered (registry w).version v.slot 0 (registry w) commands replies = subst (λ (r : State). AreAnswered r.version v.slot 0 r commands replies) up.registry_is (answered_more before.registry.version after.number after.room v.slot before.registry commands replies high f.1.0) in
+          let met_before : AreAnswered (registry w).version after.number after.room (registry w) commands replies = subst (λ (r : State). AreAnswered r.version after.number after.room r commands replies) up.registry_is f.1.0 in
+          let accepted : Accepted (registry w) pending = accepted_batch (registry w).version after.number after.room (registry w) commands replies met_before in
+          let met : AreAnswered (registry w).version v.slot 0 (registry w) commands replies = answered_more (registry w).version after.number after.room v.slot (registry w) commands replies high met_before in
           let there = still_there h in
           let cut : BatchCut w commands v = (replies, met, f.1.2 d, is_cut w (length commands) pending s (rose d) later) in (
             v,
             subst (λ b. MatchBool b (BatchDone w commands v ⊎ BatchCut w commands v) (v ≡ w)) (sym (fits w commands up.up short)) (inr cut),
-            cut_stands w (length commands) pending s (λ c left. now law before.disk after.disk (MeansAfter before.registry pending) there (f.1.1 there) c left) (numbered up.whole there),
-            moved old new before after.disk (KeepsBetween w (w.kept ++ pending)) is_up (ap (disk_of_server disk) server)
+            cut_stands w (length commands) pending s (λ c left. now disk counts before.disk after.disk (MeansAfter before.registry pending) there (f.1.1 there) c left) (numbered up.whole there),
+            leaves_cut w (w.kept ++ pending)
                 (weaker disk.moment disk.left_since before.disk after.disk (MeansAfter before.registry pending) (KeepsBetween w (w.kept ++ pending)) (f.1.1 there)
-                (λ c m. between_more w (w.kept ++ pending) pending refl c (subst (λ r. MeansAfter r pending c) up.registry_is m))),
+                (λ c m. between_more law w (w.kept ++ pending) pending refl accepted c (subst (λ r. MeansAfter r pending c) up.registry_is m))),
           );
     }
 
-    pub checkpoint_cut : CountsNow → (e : Refusal) → (e ≡ refusals.DeviceFailed) ⊎ (e ≡ refusals.NoMemory) ⊎ (e ≡ refusals.Exhausted) ⊎ (e ≡ refusals.StoreFailed) → e ≢ refusals.NoMemory → e ≢ refusals.Exhausted
+    pub checkpoint_cut : CountsNow disk → (e : Refusal) → (e ≡ refusals.DeviceFailed) ⊎ (e ≡ refusals.NoMemory) ⊎ (e ≡ refusals.Exhausted) ⊎ (e ≡ refusals.StoreFailed) → e ≢ refusals.NoMemory → e ≢ refusals.Exhausted
         → (e ≡ refusals.StoreFailed → (before.failed ≡ true) ⊎ (before.closed ≡ true))
         → (before.failed ≡ false → disk.honest after.disk → LeavesOnly disk.moment disk.left_since before.disk after.disk (MeansRegistry before.registry))
         → (e ≡ refusals.DeviceFailed → Rose (disk.failures before.disk) (disk.failures after.disk)) → disk.failures before.disk ≤ disk.failures after.disk
         → (before.failed ≡ false → disk.honest after.disk → (c : List ℕ) → disk.may_leave after.disk c → IsNumberedTo (sizes_of before.registry.version) (before.number + 1) c)
         → Simulates disk checkpointed (Switches disk) old new
-    checkpoint_cut law e kinds memory counter closed leaves rose later numbered = record {
+    checkpoint_cut counts e kinds memory counter closed leaves rose later numbered = record {
       honest = is_honest;
+      alone = none_beside;
       goes = λ h w reached s.
-          let up = up_of old before w is_up s in
+          let up = up_of old before other w is_up s in
           let d : e ≡ refusals.DeviceFailed = device w e s (three kinds) memory closed in
           let v : World = cut_to w 1 [] in
           let there = still_there h in (
             v,
             subst (λ b. MatchBool b (Checkpointed w v ⊎ Cut 1 w [] v) (v ≡ w)) (sym up.up) (inr (is_cut w 1 [] s (rose d) later)),
-            cut_stands w 1 [] s (λ c left. none_yet before.registry [] c (now law before.disk after.disk (MeansRegistry before.registry) there (leaves up.whole there) c left)) (numbered up.whole there),
+            cut_stands w 1 [] s (λ c left. none_yet before.registry [] c (now disk counts before.disk after.disk (MeansRegistry before.registry) there (leaves up.whole there) c left)) (numbered up.whole there),
             record {
-              leaves = moved old new before after.disk (KeepsBetween w (w.kept ++ [])) is_up (ap (disk_of_server disk) server) (stays_meant w before.registry before.disk after.disk (w.kept ++ []) up.registry_is (leaves up.whole there));
+              leaves = leaves_cut w (w.kept ++ []) (stays_meant w reached before.registry before.disk after.disk (w.kept ++ []) up.registry_is (leaves up.whole there));
               done = λ up. absurd (true≢false (sym up));
               spent = λ up. absurd (true≢false (sym up));
             },
@@ -283,17 +297,18 @@ module _ {D : Type 0} (disk : disks.Ghosts D) where
       → (c : List ℕ) → disk.may_leave store.disk c → (m : MeansRegistry (registry w) c) × (m.number ≡ store.number)
   counted_in w store is counted c left = subst (λ r. (m : MeansRegistry r c) × (m.number ≡ store.number)) is (counted c left)
 
-  module _ (old new : Running D) (before after : Stored D) (is_up : old.server ≡ Up before) (server : new.server ≡ Up after) (said : new.shown.replies ≡ old.shown.replies) (clients : new.shown.clients ≡ old.shown.clients) (views : new.shown.views ≡ old.shown.views) where
+  module _ (old new : Running D) (before after : Stored D) (other : Other D) (is_up : old.server ≡ Up before other) (server : new.server ≡ Up after other) (said : new.shown.replies ≡ old.shown.replies) (clients : new.shown.clients ≡ old.shown.clients) (views : new.shown.views ≡ old.shown.views) where
     pub checkpoint_done : (disk.honest after.disk → disk.honest before.disk) → disk.failures after.disk ≡ disk.failures before.disk → after.failed ≡ false → after.closed ≡ false
         → after.number ≡ before.number + 1 → after.registry ≡ before.registry
         → (disk.honest after.disk → (slot : Slot) × ((c : List ℕ) → disk.may_leave after.disk c → Means (watches after.registry.version) c slot after.number after.registry []))
         → (before.failed ≡ false → disk.honest before.disk → (c : List ℕ) → disk.may_leave before.disk c → IsCounted before c)
         → (before.failed ≡ false → disk.honest after.disk → LeavesOnly disk.moment disk.left_since before.disk after.disk (MeansRegistry before.registry)) → Simulates disk checkpointed (Switches disk) old new
     checkpoint_done honest faults whole open_yet number same means counted leaves = record {
-      honest = λ h. subst (λ x. disk.honest (disk_of_server disk x)) (sym is_up) (honest (subst (λ x. disk.honest (disk_of_server disk x)) server h));
+      honest = honest_calls disk old new before.disk after.disk other (ap (disks_of_server disk) is_up) (ap (disks_of_server disk) server) honest;
+      alone = alone_calls disk old new before.disk after.disk other (ap (disks_of_server disk) is_up) (ap (disks_of_server disk) server);
       goes = λ h w reached s.
-          let up = up_of old before w is_up s in
-          let there : disk.honest after.disk = subst (λ x. disk.honest (disk_of_server disk x)) server h in
+          let up = up_of old before other w is_up s in
+          let there : disk.honest after.disk = (subst (λ x. AreHonest disk (disks_of_server disk x)) server h).0 in
           let m = means there in
           let v : World = record w { slot = w.slot + 1 } in
           let led : after.registry ≡ registry w = same ∙ up.registry_is in
@@ -309,10 +324,11 @@ module _ {D : Type 0} (disk : disks.Ghosts D) where
                 number = high;
                 on = record {
                   prefix = λ c left. record {
-                    means = none_yet (registry w) w.pending c (subst (λ r. MeansRegistry r c) led (record { slot = m.0; number = after.number; base = after.registry; commands = []; means = m.1 c left; is = refl }));
-                    numbered = numbered_more sizes_2 after.number (w.slot + 1) c high (numbered_replayed w.kept after.registry led after.number c (means_numbered (watches after.registry.version) c m.0 after.number after.registry [] (m.1 c left)));
+                    means = inl (none_yet (registry w) w.pending c (subst (λ r. MeansRegistry r c) led (record { slot = m.0; number = after.number; base = after.registry; commands = []; means = m.1 c left; is = refl })));
+                    numbered = numbered_more (sizes_of w.version) after.number (w.slot + 1) c high (subst (λ (r : State). IsNumberedTo (sizes_of r.version) after.number c) led (means_numbered (watches after.registry.version) c m.0 after.number after.registry [] (m.1 c left)));
                   };
                   faults = faults ∙ up.on.faults;
+                  beside = beside_same disk other w v refl refl refl up.on.beside;
                 };
                 views_are = subst (λ vs. AreViews vs.items v) (sym views) (record { past = up.views_are.past; present = up.views_are.present; all = up.views_are.all; over = up.views_are.over; now = up.views_are.now; shown = up.views_are.shown });
               });
@@ -320,7 +336,7 @@ module _ {D : Type 0} (disk : disks.Ghosts D) where
               clients = ap (λ r. r.items) clients ∙ s.clients;
             },
             record {
-              leaves = moved old new before after.disk (KeepsBetween w (w.kept ++ w.pending)) is_up (ap (disk_of_server disk) server) (stays_meant w before.registry before.disk after.disk (w.kept ++ w.pending) up.registry_is (leaves up.whole there));
+              leaves = leaves_calls disk old new before.disk after.disk other (ap (disks_of_server disk) is_up) (ap (disks_of_server disk) server) w (w.kept ++ w.pending) (stays_meant w reached before.registry before.disk after.disk (w.kept ++ w.pending) up.registry_is (leaves up.whole there));
               done = λ alive rose. subst (λ x. Raises disk (disk_of_server disk x) w (disk_of_server disk new.server)) (sym is_up) (subst (λ x. Raises disk before.disk w (disk_of_server disk x)) (sym server) (record {
                 slot = m.0;
                 number = before.number;
@@ -337,22 +353,23 @@ module _ {D : Type 0} (disk : disks.Ghosts D) where
         → (before.failed ≡ false → disk.honest before.disk → (c : List ℕ) → disk.may_leave before.disk c → IsCounted before c)
         → (before.failed ≡ false → disk.honest after.disk → LeavesOnly disk.moment disk.left_since before.disk after.disk (MeansRegistry before.registry)) → Simulates disk checkpointed (Switches disk) old new
     checkpoint_spent same spent counted leaves = record {
-      honest = subst (λ x. disk.honest (disk_of_server disk x) → disk.honest (disk_of_server disk old.server)) (sym (server ∙ ap Up same ∙ sym is_up)) (λ h. h);
+      honest = honest_calls disk old new before.disk after.disk other (ap (disks_of_server disk) is_up) (ap (disks_of_server disk) server) (subst (λ (x : Stored D). disk.honest x.disk → disk.honest before.disk) (sym same) (λ h. h));
+      alone = alone_calls disk old new before.disk after.disk other (ap (disks_of_server disk) is_up) (ap (disks_of_server disk) server);
       goes = λ h w reached s.
-          let up = up_of old before w is_up s in (
+          let up = up_of old before other w is_up s in (
             w,
             subst (λ b. MatchBool b (Checkpointed w w ⊎ Cut 1 w [] w) (w ≡ w)) (sym up.up) (inl (inr (le-leb max_counter w.slot (omega (arith, spent, up.number)), refl))),
             record {
-              server = subst (λ vs. IsServer disk new.server vs.items w) (sym views) (subst (λ x. IsServer disk x old.shown.views.items w) (sym (server ∙ ap Up same ∙ sym is_up)) s.server);
+              server = subst (λ vs. IsServer disk new.server vs.items w) (sym views) (subst (λ x. IsServer disk x old.shown.views.items w) (sym (server ∙ ap (λ x. Up x other) same ∙ sym is_up)) s.server);
               replies = ap (λ r. r.items) said ∙ s.replies;
               clients = ap (λ r. r.items) clients ∙ s.clients;
             },
             record {
-              leaves = moved old new before after.disk (KeepsBetween w (w.kept ++ w.pending)) is_up (ap (disk_of_server disk) server)
-                  (stays_meant w before.registry before.disk after.disk (w.kept ++ w.pending) up.registry_is (leaves up.whole (subst (λ x. disk.honest (disk_of_server disk x)) server h)));
+              leaves = leaves_calls disk old new before.disk after.disk other (ap (disks_of_server disk) is_up) (ap (disks_of_server disk) server) w (w.kept ++ w.pending)
+                  (stays_meant w reached before.registry before.disk after.disk (w.kept ++ w.pending) up.registry_is (leaves up.whole (subst (λ x. AreHonest disk (disks_of_server disk x)) server h).0));
               done = λ alive rose. absurd (omega (arith, rose));
               spent = λ alive stayed c left.
-                  let is = counted_in w before up.registry_is (counted up.whole (subst (λ x. disk.honest (disk_of_server disk x)) (server ∙ ap Up same) h)) c (subst (λ x. disk.may_leave (disk_of_server disk x) c) is_up left) in
+                  let is = counted_in w before up.registry_is (counted up.whole (subst (λ x. AreHonest disk (disks_of_server disk x)) (server ∙ ap (λ x. Up x other) same) h).0) c (subst (λ x. disk.may_leave (disk_of_server disk x) c) is_up left) in
                   (is.0, subst (λ n. max_counter ≤ n) (sym is.1) spent);
             },
           );
@@ -360,7 +377,7 @@ module _ {D : Type 0} (disk : disks.Ghosts D) where
 
   pub too_long : OnlyNow disk → (world : Running D) (commands : List Command) → max_batch < length commands → Simulates disk (batch commands) (Leaves disk) world world
   too_long only world commands long =
-      nothing disk only world (batch commands)
+      nothing disk only law world (batch commands)
       (λ w reached s. subst (λ b. MatchBool b (BatchDone w commands w ⊎ BatchCut w commands w) (w ≡ w)) (sym (unfit w.up (nat_le (length commands) max_batch) (leb-not (length commands) long))) refl)
     where
       unfit : (a b : Bool) → b ≡ false → (a && b) ≡ false

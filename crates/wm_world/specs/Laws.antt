@@ -21,7 +21,7 @@ use Rattle.wm_since.specs.Matching.{matching_at}
 use Rattle.wm_world.specs.declared.connection.Connection.{Connection}
 use Rattle.wm_world.specs.declared.event.Event.{Event}
 use Rattle.wm_world.specs.declared.event.Event.TheVariants as events
-use Rattle.wm_world.specs.Worlds.{World, history_in, cannot_rise, live, registry, replay, wants}
+use Rattle.wm_world.specs.Worlds.{Alone, Between, World, history_in, cannot_rise, in_version, live, registry, replay, wants}
 use Rattle.wm_world.specs.Steps.{IsPrefix, BatchDone, IsReached, Leads, Run, Step, answer_about}
 
 -- ---- clients
@@ -134,8 +134,15 @@ SlotBound = (old new : World) (events : List Event) → Run old events new → n
 -- ---- restarts
 
 -- A restart finds what was kept, a prefix of what was in flight, and one Begin more, which begins an incarnation. Where the server
--- isn't up after it, the same is kept without that Begin, and the device failed, or the incarnation or the slot's number is spent.
+-- isn't up after it, the same is kept without that Begin, and the device failed, or the incarnation or the slot's number is spent, or a
+-- migration was cut and had retired the file.
 abbrev pub RestartFinds : Type 0
 RestartFinds = (old new : World) → old.up ≡ false → Step old events.Open new → (part : List Command) × IsPrefix part old.pending
-    × (((new.up ≡ true) × (changes (replay (old.kept ++ part)) Begin ≡ true) × (registry new ≡ replay (old.kept ++ part ++ Begin ∷ [])))
-    ⊎ ((new.up ≡ false) × (new.kept ≡ old.kept ++ part) × (Rose old.faults new.faults ⊎ (cannot_rise old.slot ≡ true) ⊎ (changes (registry new) Begin ≡ false))))
+    × (((new.up ≡ true) × (changes (replay (old.kept ++ part)) Begin ≡ true) × (registry new ≡ in_version old.version (replay (old.kept ++ part ++ Begin ∷ []))))
+    ⊎ ((new.up ≡ false) × (new.kept ≡ old.kept ++ part) × (Rose old.faults new.faults ⊎ (cannot_rise old.slot ≡ true) ⊎ (changes (registry new) Begin ≡ false) ⊎ (old.stage ≡ Between))))
+
+-- ---- files
+
+-- where there is no other disk, none comes, and the file stays in its version
+abbrev pub StaysAlone : Type 0
+StaysAlone = (old new : World) (events : List Event) → Run old events new → old.stage ≡ Alone → (new.stage ≡ Alone) × (new.version ≡ old.version)

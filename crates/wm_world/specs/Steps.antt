@@ -1,5 +1,5 @@
 -- How a world goes on, by one row for each kind of event.
-use Rattle.std.specs.Prelude.{◌≡◌, ◌≢◌, ◌⊎◌, ℕ, zero, suc, ◌+◌, ◌≤◌, true, false, ◌&&◌, cond, List, [], ◌∷◌, ◌++◌, length, map, nat_le, Option, Some, None, MatchBool}
+use Rattle.std.specs.Prelude.{◌≡◌, ◌≢◌, ◌⊎◌, ℕ, zero, suc, ◌+◌, ◌≤◌, true, false, ◌&&◌, not, Bool, cond, List, [], ◌∷◌, ◌++◌, length, map, nat_le, Option, Some, None, MatchBool}
 use Rattle.std.specs.List.{FoldsTo}
 use Rattle.std.specs.Option.{option_map_or}
 use Rattle.wm_disk.specs.Contents.{Rose}
@@ -22,7 +22,8 @@ use Rattle.wm_since.specs.Clients.{next_question, received}
 use Rattle.wm_world.specs.declared.connection.Connection.{Connection}
 use Rattle.wm_world.specs.declared.event.Event.{Event}
 use Rattle.wm_world.specs.declared.event.Event.TheVariants as events
-use Rattle.wm_world.specs.Worlds.{World, at_first, begun_all, begun_between, connected, is_of, cannot_rise, live, nothing_yet, registry, replay, wants, without_answer}
+use Rattle.wm_registry.specs.declared.version.Version.TheVariants.{Two}
+use Rattle.wm_world.specs.Worlds.{Stage, Alone, Before, Between, After, World, at_first, begun_all, begun_between, connected, is_of, cannot_rise, live, nothing_yet, nothing_yet_of_two, registry, replay, wants, without_answer}
 
 -- the number rose by so much at most
 abbrev pub MayRaise : ℕ → ℕ → ℕ → Type 0
@@ -78,9 +79,17 @@ Finds old found = (part : List Command) × IsPrefix part old.pending × (found �
 abbrev pub begin_on : List Command → List Command
 begin_on found = cond (changes (replay found) Begin) (Begin ∷ []) []
 
+-- where the file turns out not to be retired, the migration is to be begun anew
+abbrev pub reopened : Stage → Stage
+reopened Between = Before
+reopened Alone = Alone
+reopened Before = Before
+reopened After = After
+
 abbrev pub Opened : World → World → Type 0
 Opened old new = (found : List Command) × Finds old found × MayRaise old.slot new.slot 1 × (changes (replay found) Begin ≡ true)
     × (new ≡ record old {
+      stage = reopened old.stage;
       kept = found ++ Begin ∷ [];
       pending = [];
       up = true;
@@ -95,20 +104,54 @@ OpenCutEarly old new = Rose old.faults new.faults × (old.faults ≤ new.faults)
 -- the device failed later: what is kept is known, and the Begin may be in flight
 abbrev pub OpenCutLate : World → World → Type 0
 OpenCutLate old new = Rose old.faults new.faults × (old.faults ≤ new.faults) × MayRaise old.slot new.slot 1
-    × ((found : List Command) × Finds old found × (new ≡ record old { kept = found; pending = begin_on found; faults = new.faults; slot = new.slot }))
+    × ((found : List Command) × Finds old found × (new ≡ record old { stage = reopened old.stage; kept = found; pending = begin_on found; faults = new.faults; slot = new.slot }))
 
 -- refused, since the incarnation or the slot's number is spent
 abbrev pub OpenSpent : World → World → Type 0
 OpenSpent old new = MayRaise old.slot new.slot 1
     × ((found : List Command) × Finds old found × ((changes (replay found) Begin ≡ false) ⊎ (cannot_rise old.slot ≡ true))
-    × (new ≡ record old { kept = found; pending = []; slot = new.slot }))
+    × (new ≡ record old { stage = reopened old.stage; kept = found; pending = []; slot = new.slot }))
+
+-- refused, since a migration was cut and had retired the file
+abbrev pub OpenRetired : World → World → Type 0
+OpenRetired old new = (old.stage ≡ Between) × (new ≡ old)
 
 abbrev pub OpenDone : World → World → Type 0
-OpenDone old new = Opened old new ⊎ OpenCutEarly old new ⊎ OpenCutLate old new ⊎ OpenSpent old new
+OpenDone old new = Opened old new ⊎ OpenCutEarly old new ⊎ OpenCutLate old new ⊎ OpenSpent old new ⊎ OpenRetired old new
 
 -- a loss of power keeps what was kept, and a prefix of what was in flight
 abbrev pub Crashed : World → World → Type 0
 Crashed old new = (found : List Command) × Finds old found × (new ≡ record (down old) { kept = found; pending = [] })
+
+-- ---- a migration
+
+-- done: what is kept is known, and the server goes on with the new file, which keeps it in version 2. So the disks change places
+abbrev pub MigrateDone : World → World → Type 0
+MigrateDone old new = (found : List Command) × Finds old found
+    × (new ≡ record old { version = Two; stage = After; kept = found; pending = []; faults = old.other_faults; other_faults = old.faults })
+
+-- one of the two devices failed, which only a rise of its count tells
+abbrev pub OneFailed : World → World → Type 0
+OneFailed old new = (Rose old.faults new.faults ⊎ Rose old.other_faults new.other_faults) × (old.faults ≤ new.faults) × (old.other_faults ≤ new.other_faults)
+
+-- before the old file's content was made durable
+abbrev pub MigrateCutEarly : World → World → Type 0
+MigrateCutEarly old new = OneFailed old new × (new ≡ record old { faults = new.faults; other_faults = new.other_faults })
+
+-- later: what is kept is known, and the old file may be retired
+abbrev pub MigrateCutLate : World → World → Type 0
+MigrateCutLate old new = OneFailed old new
+    × ((found : List Command) × Finds old found × (new ≡ record old { stage = Between; kept = found; pending = []; faults = new.faults; other_faults = new.other_faults }))
+
+abbrev pub MigrateMet : World → World → Type 0
+MigrateMet old new = MigrateDone old new ⊎ MigrateCutEarly old new ⊎ MigrateCutLate old new
+
+-- there is another disk, and the migration isn't done
+abbrev pub is_to_migrate : Stage → Bool
+is_to_migrate Alone = false
+is_to_migrate Before = true
+is_to_migrate Between = true
+is_to_migrate After = false
 
 -- ---- views
 
@@ -161,13 +204,18 @@ checkpointed old new = MatchBool old.up (Checkpointed old new ⊎ Cut 1 old [] n
 abbrev pub opened : World → World → Type 0
 opened old new = MatchBool old.up (new ≡ old) (OpenDone old new)
 
+abbrev pub migrated : World → World → Type 0
+migrated old new = MatchBool (not old.up && is_to_migrate old.stage) (MigrateMet old new) (new ≡ old)
+
 -- ---- the relation. An event that doesn't fit changes nothing
 
 abbrev pub Step : World → Event → World → Type 0
 Step old (events.Commands commands) new = batch commands.items old new
 Step old events.Checkpoint new = checkpointed old new
 Step old events.Open new = opened old new
+Step old events.Migrate new = migrated old new
 Step old (events.Arm calls) new = new ≡ old
+Step old (events.ArmOther calls) new = new ≡ old
 Step old events.Crash new = Crashed old new
 Step old events.Stop new = new ≡ down old
 Step old (events.Observe path moment pairs) new = new ≡ cond old.up (operated path (ops.Observe moment pairs) old) old
@@ -181,9 +229,9 @@ Step old (events.Lose n) new = new ≡ with_client without_answer n old
 abbrev pub Run : World → List Event → World → Type 0
 Run old events new = FoldsTo Step old events new
 
--- a run over these events leads here, from nothing accepted and the server down
+-- a run over these events leads here, from nothing accepted and the server down, on one file or on two
 abbrev pub Leads : List Event → World → Type 0
-Leads events w = (faults : ℕ) × Run (nothing_yet faults) events w
+Leads events w = ((faults : ℕ) × Run (nothing_yet faults) events w) ⊎ ((faults : ℕ) × (other_faults : ℕ) × Run (nothing_yet_of_two faults other_faults) events w)
 
 abbrev pub IsReached : World → Type 0
 IsReached w = (events : List Event) × Leads events w

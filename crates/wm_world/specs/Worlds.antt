@@ -16,31 +16,57 @@ use Rattle.wm_view.specs.Histories.{History, new_history}
 use Rattle.wm_since.specs.Clients.{closed, new_client}
 use Rattle.wm_world.specs.declared.connection.Connection.{Connection}
 use Rattle.wm_checkpoint.specs.Machines.{replayed}
-use Rattle.wm_registry.specs.declared.version.Version.TheVariants.{Two}
+use Rattle.wm_registry.specs.declared.version.Version.{Version}
+use Rattle.wm_registry.specs.declared.version.Version.TheVariants.{One, Two}
+
+-- how far a migration is: there is no other disk into which the file could be migrated; it isn't begun; it was cut, so that the file in
+-- use may be retired; or it is done, and the file in use is the new one
+pub data Stage : Type 0 where
+  Alone : Stage
+  Before : Stage
+  Between : Stage
+  After : Stage
 
 pub record World : Type 0 where
+  pub version : Version  -- of the state file in use
+  pub stage : Stage
   pub kept : List Command  -- accepted and acknowledged, each Begin among them
   pub pending : List Command  -- accepted and in flight when the device failed: a restart finds a prefix of them
   pub up : Bool  -- the server is up
   pub replies : List Reply  -- those of the last batch that was done
-  pub faults : ℕ  -- how often the device has failed
+  pub faults : ℕ  -- how often the disk in use has failed
+  pub other_faults : ℕ  -- how often the disk that isn't in use has failed
   pub slot : ℕ  -- what the slot's number is at most
   pub histories : List History  -- of each incarnation and root number that was ever watched
   pub clients : List Connection
 
--- on a formatted file
+-- on a formatted file of the version
+abbrev pub begun_on : Version → Stage → ℕ → ℕ → World
+begun_on version stage faults other_faults =
+    record { version = version; stage = stage; kept = []; pending = []; up = false; replies = []; faults = faults; other_faults = other_faults; slot = 1; histories = []; clients = [] }
+
+-- on one of version 2, and no other disk
 abbrev pub nothing_yet : ℕ → World
-nothing_yet faults = record { kept = []; pending = []; up = false; replies = []; faults = faults; slot = 1; histories = []; clients = [] }
+nothing_yet faults = begun_on Two Alone faults 0
+
+-- on one of version 1, beside a disk into which it may be migrated
+abbrev pub nothing_yet_of_two : ℕ → ℕ → World
+nothing_yet_of_two faults other_faults = begun_on One Before faults other_faults
 
 -- ---- the registry
 
--- the registry after these commands, from a new file on
+-- the registry after these commands, which were accepted one after another in the version of the file at that time. A command that is
+-- accepted in version 1 does the same in version 2
 abbrev pub replay : List Command → State
 replay commands = replayed after_command (empty_registry Two) commands
 
+-- the same registry, in a file of the version
+abbrev pub in_version : Version → State → State
+in_version v s = record s { version = v }
+
 -- that of the server, and while it is down that of what is kept for certain
 abbrev pub registry : World → State
-registry w = replay w.kept
+registry w = in_version w.version (replay w.kept)
 
 -- a counter that can't rise
 abbrev pub cannot_rise : ℕ → Bool

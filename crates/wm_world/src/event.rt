@@ -15,9 +15,14 @@ pub enum Event {
     Commands(Vec<Command>),
     /// The state goes into the other slot.
     Checkpoint,
-    /// So many calls of the disk pass, and then each fails, until a crash or a stop.
+    /// The state file is migrated into the other disk, which then is the one in use. It fits while the server
+    /// is down and the migration isn't done.
+    Migrate,
+    /// So many calls of the disk in use pass, and then each fails, until a crash or a stop.
     Arm(u64),
-    /// A loss of power.
+    /// So many calls of the disk that isn't in use pass, and then each fails, until a crash or a stop.
+    ArmOther(u64),
+    /// A loss of power, of both disks.
     Crash,
     /// A stop of the process, without loss of power.
     Stop,

@@ -3,14 +3,16 @@
 ghost use Rattle.std.specs.Prelude.{◌≡◌, ◌++◌, ◌∷◌, [], cond, map, option_map, IfOk, OnOk};
 ghost use Rattle.wm_expr.specs.Meanings.{is_path_only};
 ghost use Rattle.wm_expr.specs.Views.{term};
-ghost use Rattle.wm_world.specs.Worlds.{connected, nothing_yet, without_answer};
+ghost use Rattle.wm_world.specs.Worlds.{connected, nothing_yet, nothing_yet_of_two, without_answer};
 ghost use Rattle.wm_world.specs.Steps.{Crashed as IsCrashed, Step, asking, batch, checkpointed, opened, down, operated, receiving, with_client};
-ghost use Rattle.wm_world.specs.Refinement.{Simulates, Refines, disk_of_world, disk_of_server, clients_of, number_at as number_at_lem, registry_of, replies_of, views_of};
+ghost use Rattle.wm_world.specs.Refinement.{Simulates, Refines, clients_of, disks_of_server, disks_of_world, number_at as number_at_lem, registry_of, replies_of, views_of};
 ghost use Rattle.wm_world.specs.Passes.{Armed, Halted, Leaves, Passes, PowerLost, Switches};
-ghost use Rattle.wm_world.specs.Headline.{IsFormatted};
+ghost use Rattle.wm_world.specs.Headline.{IsFormatted, IsFormattedInVersion1};
+ghost use Rattle.wm_world.specs.declared.other.Other.TheVariants.{Nothing, New};
 
 use crate::connection::Connection;
 use crate::event::Event;
+use crate::other::Other;
 use crate::{connection, starting, views};
 use std::alloc::Global;
 use wm_disk::{Crashed, NoMemory};
@@ -21,11 +23,11 @@ use wm_since::{Mirror, every_answer, every_client};
 use wm_store::{Store, every_file};
 use wm_view::{Op, View, every_operation};
 
-/// A server that is up with its store, or down.
+/// A server that is up with its store, or down, and the disk beside the one in use.
 #[derive(Drop)]
 pub(crate) enum Server<D: Crashed + Drop> {
-    Up(Store<D>),
-    Down(D),
+    Up(Store<D>, Other<D>),
+    Down(D, Other<D>),
 }
 
 impl<D: Crashed + Drop> Server<D> {
@@ -33,7 +35,7 @@ impl<D: Crashed + Drop> Server<D> {
     fn number_at(&self, path: &RootPath) -> Option<u64>
         ensures { result ≡ number_at_lem self.now path.now }
     {
-        let Server::Up(store) = self else {
+        let Server::Up(store, _) = self else {
             return None;
         };
         match store.registry().roots().get(path) {
@@ -42,12 +44,13 @@ impl<D: Crashed + Drop> Server<D> {
         }
     }
 
-    fn into_disk(self) -> D
-        ensures { result ≡ disk_of_server D.Disk self }
+    fn into_disks(self) -> (D, Other<D>)
+        ensures used { result.0 ≡ (disks_of_server D.Disk self).used }
+        ensures other { result.1 ≡ (disks_of_server D.Disk self).other }
     {
         match self {
-            Server::Up(store) => store.into_disk(),
-            Server::Down(disk) => disk,
+            Server::Up(store, other) => (store.into_disk(), other),
+            Server::Down(disk, other) => (disk, other),
         }
     }
 }
@@ -70,13 +73,15 @@ pub struct World<D: Crashed + Drop> {
 }
 
 impl<D: Crashed + Drop> World<D> {
-    /// One on a disk as a `format` that succeeded left it: down, with nothing accepted.
-    pub(crate) fn new(alloc: Global, disk: D) -> World<D>
-        ensures disk { disk_of_world D.Disk result ≡ disk }
-        ensures stands { IsFormatted D.Disk disk → Refines D.Disk result (nothing_yet (D.failures disk)) }
+    /// One on a disk as a `format` that succeeded left it, with that disk beside it: down, with nothing
+    /// accepted.
+    pub(crate) fn new(alloc: Global, disk: D, other: Other<D>) -> World<D>
+        ensures disks { disks_of_world D.Disk result ≡ record { used = disk; other = other } }
+        ensures stands { IsFormatted D.Disk disk → other ≡ Nothing → Refines D.Disk result (nothing_yet (D.failures disk)) }
+        ensures stands_on_two { IsFormattedInVersion1 D.Disk disk → (new : _) → other ≡ New new → Refines D.Disk result (nothing_yet_of_two (D.failures disk) (D.failures new)) }
     {
         World {
-            server: Server::Down(disk),
+            server: Server::Down(disk, other),
             shown: Shown {
                 replies: Vec::new(alloc),
                 views: Vec::new(alloc),
@@ -96,8 +101,13 @@ impl<D: Crashed + Drop> World<D> {
             Event::Crash => Ok(self.crash()),
             Event::Stop => Ok(self.stop()),
             Event::Lose(n) => Ok(self.lose(n)),
+            Event::Migrate => self.migrate(alloc),
             Event::Arm(calls) => {
                 self.arm(calls);
+                Ok(self)
+            }
+            Event::ArmOther(calls) => {
+                self.arm_other(calls);
                 Ok(self)
             }
             Event::Observe(path, moment, pairs) => {
@@ -118,8 +128,8 @@ impl<D: Crashed + Drop> World<D> {
         ensures { option_map (λ r. r.now) result ≡ registry_of self.now }
     {
         match &self.server {
-            Server::Up(store) => Some(store.registry()),
-            Server::Down(_) => None,
+            Server::Up(store, _) => Some(store.registry()),
+            Server::Down(_, _) => None,
         }
     }
 
@@ -150,6 +160,7 @@ impl<D: Crashed + Drop> World<D> {
         ensures { OnOk result (Simulates D.Disk (λ w v. v ≡ cond w.up (operated path.now op.now w) w) (Leaves D.Disk) self.old self.new) }
     {
         every_operation();
+        every_registry();
         let Some(number) = self.server.number_at(path) else {
             return Ok(());
         };
@@ -168,6 +179,7 @@ impl<D: Crashed + Drop> World<D> {
     fn connect(mut self, alloc: Global, path: RootPath, test: Expr) -> Result<World<D>, NoMemory>
         ensures { IfOk result (Simulates D.Disk (λ w v. v ≡ cond (is_path_only (term test)) (record w { clients = w.clients ++ connected path test ∷ [] }) w) (Leaves D.Disk) self) }
     {
+        every_registry();
         let Ok(mirror) = Mirror::new(alloc, path, test) else {
             return Ok(self);
         };
@@ -182,7 +194,8 @@ impl<D: Crashed + Drop> World<D> {
     fn put_question(&mut self, alloc: Global, n: usize) -> Result<(), NoMemory>
         ensures { OnOk result (Simulates D.Disk (λ w v. v ≡ cond w.up (with_client (asking w) n w) w) (Leaves D.Disk) self.old self.new) }
     {
-        let Server::Up(store) = &self.server else {
+        every_registry();
+        let Server::Up(store, _) = &self.server else {
             return Ok(());
         };
         if n >= self.shown.clients.len() {
@@ -209,6 +222,7 @@ impl<D: Crashed + Drop> World<D> {
     fn receive(mut self, alloc: Global, n: usize) -> Result<World<D>, NoMemory>
         ensures { IfOk result (Simulates D.Disk (λ w v. v ≡ with_client receiving n w) (Leaves D.Disk) self) }
     {
+        every_registry();
         if n >= self.shown.clients.len() {
             return Ok(self);
         }
@@ -221,6 +235,7 @@ impl<D: Crashed + Drop> World<D> {
     fn lose(mut self, n: usize) -> World<D>
         ensures { Simulates D.Disk (λ w v. v ≡ with_client without_answer n w) (Leaves D.Disk) self result }
     {
+        every_registry();
         if n >= self.shown.clients.len() {
             return self;
         }
@@ -233,8 +248,8 @@ impl<D: Crashed + Drop> World<D> {
         ensures { Simulates D.Disk (λ w v. v ≡ w) (Armed D.Disk D.plan calls) self.old self.new }
     {
         match &mut self.server {
-            Server::Up(store) => store.arm(calls),
-            Server::Down(disk) => disk.arm(calls),
+            Server::Up(store, _other) => store.arm(calls),
+            Server::Down(disk, _other) => disk.arm(calls),
         }
     }
 
@@ -242,14 +257,15 @@ impl<D: Crashed + Drop> World<D> {
     fn commands(self, alloc: Global, commands: Vec<Command>) -> Result<World<D>, NoMemory>
         ensures { IfOk result (Simulates D.Disk (batch commands.items) (Leaves D.Disk) self) }
     {
+        every_registry();
         if commands.len() > MAX_BATCH {
             return Ok(self);
         }
         let World { server, mut shown } = self;
-        let mut store = match server {
-            Server::Up(store) => store,
-            Server::Down(disk) => return Ok(World {
-                server: Server::Down(disk),
+        let (mut store, other) = match server {
+            Server::Up(store, other) => (store, other),
+            Server::Down(disk, other) => return Ok(World {
+                server: Server::Down(disk, other),
                 shown,
             }),
         };
@@ -259,13 +275,13 @@ impl<D: Crashed + Drop> World<D> {
                 starting::show(alloc, store.registry(), next, &replies, &mut shown.views)?;
                 shown.replies = replies;
                 Ok(World {
-                    server: Server::Up(store),
+                    server: Server::Up(store, other),
                     shown,
                 })
             }
             Err(refusal) => {
                 starting::unless_memory(refusal)?;
-                Ok(fallen(store.into_disk(), shown))
+                Ok(fallen(store.into_disk(), other, shown))
             }
         }
     }
@@ -274,25 +290,26 @@ impl<D: Crashed + Drop> World<D> {
     fn checkpoint(self, alloc: Global) -> Result<World<D>, NoMemory>
         ensures { IfOk result (Simulates D.Disk checkpointed (Switches D.Disk) self) }
     {
+        every_registry();
         let World { server, shown } = self;
-        let mut store = match server {
-            Server::Up(store) => store,
-            Server::Down(disk) => return Ok(World {
-                server: Server::Down(disk),
+        let (mut store, other) = match server {
+            Server::Up(store, other) => (store, other),
+            Server::Down(disk, other) => return Ok(World {
+                server: Server::Down(disk, other),
                 shown,
             }),
         };
         match store.checkpoint(alloc) {
             Ok(()) => Ok(World {
-                server: Server::Up(store),
+                server: Server::Up(store, other),
                 shown,
             }),
             Err(refusal) => {
                 if starting::takes_down(refusal)? {
-                    return Ok(fallen(store.into_disk(), shown));
+                    return Ok(fallen(store.into_disk(), other, shown));
                 }
                 Ok(World {
-                    server: Server::Up(store),
+                    server: Server::Up(store, other),
                     shown,
                 })
             }
@@ -303,28 +320,28 @@ impl<D: Crashed + Drop> World<D> {
     fn open(self, alloc: Global) -> Result<World<D>, NoMemory>
         ensures { IfOk result (Simulates D.Disk opened (Leaves D.Disk) self) }
     {
-        let World { server, mut shown } = self;
-        let disk = match server {
-            Server::Up(store) => return Ok(World {
-                server: Server::Up(store),
-                shown,
-            }),
-            Server::Down(disk) => disk,
-        };
         every_file();
         every_registry();
+        let World { server, mut shown } = self;
+        let (disk, other) = match server {
+            Server::Up(store, other) => return Ok(World {
+                server: Server::Up(store, other),
+                shown,
+            }),
+            Server::Down(disk, other) => (disk, other),
+        };
         match Store::open(alloc, disk) {
             Ok(store) => {
                 shown.views = starting::first_views(alloc, store.registry())?;
                 Ok(World {
-                    server: Server::Up(store),
+                    server: Server::Up(store, other),
                     shown,
                 })
             }
             Err((refusal, disk)) => {
                 starting::unless_memory(refusal)?;
                 Ok(World {
-                    server: Server::Down(disk),
+                    server: Server::Down(disk, other),
                     shown,
                 })
             }
@@ -335,20 +352,24 @@ impl<D: Crashed + Drop> World<D> {
     fn crash(self) -> World<D>
         ensures { Simulates D.Disk IsCrashed (PowerLost D.Disk D.plan) self result }
     {
-        fallen(self.server.into_disk().crash(), self.shown)
+        every_registry();
+        let (disk, other) = self.server.into_disks();
+        let beside = other.crash();
+        fallen(disk.crash(), beside, self.shown)
     }
 
     /// A stop of the process.
     fn stop(self) -> World<D>
         ensures { Simulates D.Disk (λ w v. v ≡ down w) (Halted D.Disk D.plan) self result }
     {
-        fallen(self.server.into_disk().stop(), self.shown)
+        let (disk, other) = self.server.into_disks();
+        fallen(disk.stop(), other.stop(), self.shown)
     }
 }
 
 /// The world when its server has gone down.
-fn fallen<D: Crashed + Drop>(disk: D, shown: Shown) -> World<D>
-    ensures down { result.server ≡ Server.Down disk }
+fn fallen<D: Crashed + Drop>(disk: D, other: Other<D>, shown: Shown) -> World<D>
+    ensures down { result.server ≡ Server.Down disk other }
     ensures views { result.shown.views.items ≡ [] }
     ensures replies { result.shown.replies ≡ shown.replies }
     ensures clients { result.shown.clients.items ≡ map without_answer shown.clients.items }
@@ -357,7 +378,7 @@ fn fallen<D: Crashed + Drop>(disk: D, shown: Shown) -> World<D>
     shown.views.clear();
     connection::lose_all(&mut shown.clients);
     World {
-        server: Server::Down(disk),
+        server: Server::Down(disk, other),
         shown,
     }
 }

@@ -3,6 +3,7 @@ use Rattle.wm_world.proofs.Kept.{acknowledged_stays, kept_stays, nothing_invente
 use Rattle.wm_world.proofs.Moments.{in_range, one_moment, one_moment_of_answers}
 use Rattle.wm_world.proofs.Owners.{clients_hold}
 use Rattle.wm_world.proofs.Reached.{pending_is_own}
+use Rattle.wm_world.proofs.Shapes.{stays_alone}
 use Rattle.wm_world.proofs.laws.every_run.Goals as goal
 
 pub returns-clause-clients : goal.returns-clause-clients
@@ -34,3 +35,6 @@ returns-clause-bound c = slot_bound
 
 pub returns-clause-restart : goal.returns-clause-restart
 returns-clause-restart c = restart_finds
+
+pub returns-clause-alone : goal.returns-clause-alone
+returns-clause-alone c = stays_alone
