@@ -8,7 +8,7 @@ use Rattle.wm_journal.specs.Records.{HoldsRecords}
 use Rattle.wm_checkpoint.specs.Layout.{Sizes, header_len, file_len, name_and_version, slot_place, slot_len, journal_place, journal_len, other_slot}
 use Rattle.wm_checkpoint.specs.Machines.{Meaning}
 use Rattle.wm_checkpoint.specs.Meanings.{MeansState, IsHeaderWith, IsNumbered, IsOpenSlot, IsOutranked, IsRetired}
-use Rattle.wm_checkpoint.specs.Retirement.{IsSetAside}
+use Rattle.wm_checkpoint.specs.Retirement.{IsMeantOrRetired}
 use Rattle.wm_checkpoint.specs.declared.layout.Slot.{Slot}
 use Rattle.wm_checkpoint.specs.declared.layout.Slot.TheVariants.{A, B}
 use Rattle.wm_checkpoint.proofs.Halves.{byte_written, done_in, first_byte}
@@ -48,8 +48,9 @@ module _ {S C : Type 0} (m : Meaning S C) (state : S) (old c : List ℕ) (k : Me
   journal_stays slot = area_behind 12 1 (journal_place l slot) journal_len old c same (omega (arith, slot_behind l slot))
 
   -- whatever the gate's value is
-  pub set_aside : IsSetAside m state old c
-  set_aside = record {
+  pub meant_or_retired : IsMeantOrRetired m state old c
+  meant_or_retired = record {
+    same = same;
     means = elim (cases_eq (get_or c 12 0) 165) [
       | inl is ↦ inr (long, subst (λ (n : ℕ). IsHeaderWith l n (area 0 4096 c)) is header)
       | inr ne ↦ inl (record {
