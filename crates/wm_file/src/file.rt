@@ -203,8 +203,8 @@ impl<S: Start> FileDisk<S> {
         }
     }
 
-    /// Opens a regular file as `open` does, or makes one as `create` does if nothing is there. Its name is durable, also if
-    /// whoever made it was killed before that. `DeviceFailed` if something is there that `open` refuses, if the file
+    /// Opens a regular file as `open` does, or makes one as `create` does if nothing is there. The folder of a file that is there is
+    /// synced too, since the program that made it may have been killed before it did that. `DeviceFailed` if something is there that `open` refuses, if the file
     /// can't be made, or if the sync of its folder failed: a file that was there stays as it was.
     pub fn open_or_create(
         files: &impl Files<File = File>,

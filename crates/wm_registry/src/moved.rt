@@ -26,7 +26,7 @@ fn roots_size(roots: &IndexMap<RootPath, Root>) -> u64
 }
 
 impl Registry {
-    /// The same registry for a file of version 2, which has a place for each that a file of version 1 holds.
+    /// The same registry for a file of version 2, which has room for every registry that fits a file of version 1.
     fn into_version_2(self) -> Registry
         ensures { result ≡ in_version_2 self }
     {
@@ -42,7 +42,7 @@ impl Registry {
 }
 
 impl FiledRegistry<Version1> {
-    /// The same registry for a file of version 2, which has a place for each that a file of version 1 holds.
+    /// The same registry, for a file of version 2.
     pub fn into_version_2(self) -> FiledRegistry<Version2>
         ensures { result ≡ in_version_2 self }
     {
