@@ -1,8 +1,8 @@
 -- What the calls of a migration say together of the two files.
-use Rattle.std.proofs.Common.{◌≡◌, ◌≢◌, ◌⊎◌, inl, inr, ◌∙◌, ℕ, List, [], refl, sym, ap, subst, arith}
+use Rattle.std.proofs.Common.{◌≡◌, ◌≢◌, ◌⊎◌, inl, inr, ◌∙◌, ℕ, List, [], ◌∷◌, refl, sym, ap, subst, arith}
 use Rattle.std.specs.Prelude.{Result, Ok, Err, IfErr, IsErrAnd, IsErrOf, OnOk}
 use Rattle.wm_disk.specs.Calls.{Calls, CallsDevice, EachLeft}
-use Rattle.wm_disk.specs.Contents.{Only, Rose}
+use Rattle.wm_disk.specs.Contents.{Only, Rose, overwritten}
 use Rattle.wm_disk.specs.Moments.{LeavesOnly, started}
 use Rattle.wm_disk.specs.declared.disk.Disk as disks
 use Rattle.wm_disk.specs.declared.refusal.Refusal.{Refusal}
@@ -12,13 +12,13 @@ use Rattle.wm_checkpoint.specs.Found.{ReadsDurably}
 use Rattle.wm_checkpoint.specs.Layout.{sizes_1}
 use Rattle.wm_checkpoint.specs.Meanings.{IsRetired, Means, MeansState}
 use Rattle.wm_checkpoint.specs.Numbers.{IsNumberedTo}
-use Rattle.wm_checkpoint.specs.Retirement.{IsSetAside}
+use Rattle.wm_checkpoint.specs.Retirement.{IsMeantOrRetired}
 use Rattle.wm_checkpoint.specs.declared.layout.Slot.TheVariants.{A}
 use Rattle.wm_registry.specs.MachineLaws.{watches}
 use Rattle.wm_registry.specs.Roots.{State, in_version_2}
 use Rattle.wm_registry.specs.declared.version.Version.TheVariants.{One, Two}
 use Rattle.wm_store.specs.Meant.{MeansRegistry}
-use Rattle.wm_store.specs.Migrations.{CallsBoth, HoldsMoved, IsMeantByOne, MovesNow, MovesOnly, StaysRetired, WritesNeither}
+use Rattle.wm_store.specs.Migrations.{CallsBoth, HoldsMoved, IsMeantByOldOrNew, HasMoved, MovesNow, MovesOnly, StaysRetired, WritesNeither}
 use Rattle.wm_store.proofs.Meant.{means_registry, version_of}
 
 -- whatever an `Ok` would have had
@@ -91,20 +91,20 @@ module _ {D : Type 0} (disk : disks.Ghosts D) where
         subst (λ (d : D). WritesNeither disk old new d new_after) (sym same) (subst (λ (d : D). WritesNeither disk old new mid d) (sym still) (reads_old old mid new r h k))
 
     -- the registry of the old file is what a crash leaves while the old file has no call
-    pub meant_still : (old new : D) (s : State) → disk.honest old → Only (disk.seen old) (disk.may_leave old) → MeansState (watches One) s (disk.seen old) → LeavesOnly disk.moment disk.left_since old old (IsMeantByOne disk new s)
+    pub meant_still : (old new : D) (s : State) → disk.honest old → Only (disk.seen old) (disk.may_leave old) → MeansState (watches One) s (disk.seen old) → LeavesOnly disk.moment disk.left_since old old (IsMeantByOldOrNew disk new s)
     meant_still old new s h only means =
-        started disk.moment disk.left_since old (IsMeantByOne disk new s) (λ c left. inl (subst (λ (x : List ℕ). MeansRegistry s x) (sym (only c (only_now old c h left))) (means_registry sizes_1 One refl s (disk.seen old) means)))
+        started disk.moment disk.left_since old (IsMeantByOldOrNew disk new s) (λ c left. inl (subst (λ (x : List ℕ). MeansRegistry s x) (sym (only c (only_now old c h left))) (means_registry sizes_1 One refl s (disk.seen old) means)))
 
     -- while the old file is retired, once the new one holds the registry
-    pub meant_aside : (old old_after new : D) (s : State) → HoldsMoved disk new s → LeavesOnly disk.moment disk.left_since old old_after (IsSetAside (watches One) s (disk.seen old)) → LeavesOnly disk.moment disk.left_since old old_after (IsMeantByOne disk new s)
-    meant_aside old old_after new s holds run = weaker disk.moment disk.left_since old old_after (IsSetAside (watches One) s (disk.seen old)) (IsMeantByOne disk new s) run (λ c aside. by c aside.means)
+    pub meant_by_either : (old old_after new : D) (s : State) → HoldsMoved disk new s → LeavesOnly disk.moment disk.left_since old old_after (IsMeantOrRetired (watches One) s (disk.seen old)) → LeavesOnly disk.moment disk.left_since old old_after (IsMeantByOldOrNew disk new s)
+    meant_by_either old old_after new s holds run = weaker disk.moment disk.left_since old old_after (IsMeantOrRetired (watches One) s (disk.seen old)) (IsMeantByOldOrNew disk new s) run (λ c left. by c left.means)
       where
-        by : (c : List ℕ) → MeansState (watches One) s c ⊎ IsRetired sizes_1 c → IsMeantByOne disk new s c
+        by : (c : List ℕ) → MeansState (watches One) s c ⊎ IsRetired sizes_1 c → IsMeantByOldOrNew disk new s c
         by c (inl m) = inl (means_registry sizes_1 One refl s c m)
         by c (inr r) = inr (r, holds)
 
-    pub numbered_aside : (old old_after : D) (s : State) → disk.honest old_after → LeavesOnly disk.moment disk.left_since old old_after (IsSetAside (watches One) s (disk.seen old)) → (n : ℕ) → IsNumberedTo sizes_1 n (disk.seen old) → EachLeft disk old_after (IsNumberedTo sizes_1 n)
-    numbered_aside old old_after s h run n all c left = (left_after_run disk counts_now old old_after (IsSetAside (watches One) s (disk.seen old)) h run c left).numbered n all
+    pub numbered_still : (old old_after : D) (s : State) → disk.honest old_after → LeavesOnly disk.moment disk.left_since old old_after (IsMeantOrRetired (watches One) s (disk.seen old)) → (n : ℕ) → IsNumberedTo sizes_1 n (disk.seen old) → EachLeft disk old_after (IsNumberedTo sizes_1 n)
+    numbered_still old old_after s h run n all c left = (left_after_run disk counts_now old old_after (IsMeantOrRetired (watches One) s (disk.seen old)) h run c left).numbered n all
 
   -- the new file was made from the registry
   pub holds_moved : (new : D) (s : State) → Only (disk.seen new) (disk.may_leave new) → Means (watches Two) (disk.seen new) A 1 (in_version_2 s) [] → HoldsMoved disk new s
@@ -114,7 +114,7 @@ module _ {D : Type 0} (disk : disks.Ghosts D) where
   stays_retired old only retired c left = subst (λ (x : List ℕ). IsRetired sizes_1 x) (sym (only c left)) retired
 
   -- the old file was read, and then the calls that move its registry came
-  pub moves_only : (old mid old_after new_after : D) (s : State) → MeansState (watches One) s (disk.seen old) → LeavesOnly disk.moment disk.left_since old mid (disk.may_leave old) → LeavesOnly disk.moment disk.left_since mid old_after (IsMeantByOne disk new_after s) → MovesOnly disk old old_after new_after
+  pub moves_only : (old mid old_after new_after : D) (s : State) → MeansState (watches One) s (disk.seen old) → LeavesOnly disk.moment disk.left_since old mid (disk.may_leave old) → LeavesOnly disk.moment disk.left_since mid old_after (IsMeantByOldOrNew disk new_after s) → MovesOnly disk old old_after new_after
   moves_only old mid old_after new_after s means until from = record {
     registry = s;
     version = version_of sizes_1 One s (disk.seen old) means;
@@ -125,10 +125,16 @@ module _ {D : Type 0} (disk : disks.Ghosts D) where
   }
 
   -- and were done
-  pub moves_now : (old mid old_after new_after : D) (s : State) → MeansState (watches One) s (disk.seen old) → LeavesOnly disk.moment disk.left_since old mid (disk.may_leave old) → LeavesOnly disk.moment disk.left_since mid old_after (IsMeantByOne disk new_after s)
-      → HoldsMoved disk new_after s → StaysRetired disk old_after → MovesNow disk old old_after new_after
+  pub moves_now : (old mid old_after new_after : D) (s : State) → MeansState (watches One) s (disk.seen old) → LeavesOnly disk.moment disk.left_since old mid (disk.may_leave old) → LeavesOnly disk.moment disk.left_since mid old_after (IsMeantByOldOrNew disk new_after s)
+      → disk.seen mid ≡ disk.seen old → HasMoved disk mid old_after new_after s → MovesNow disk old old_after new_after
   unfolding moves_only
-  moves_now old mid old_after new_after s means until from holds retired = record { moves = moves_only old mid old_after new_after s means until from; holds = holds; retired = retired }
+  moves_now old mid old_after new_after s means until from seen has = record {
+    moves = moves_only old mid old_after new_after s means until from;
+    holds = has.holds;
+    first = has.first;
+    retired = has.retired;
+    gate = has.gate ∙ ap (λ (c : List ℕ). overwritten c 12 (165 ∷ [])) seen;
+  }
 
 -- the new file was made, and the device failed while the old one was retired
 pub calls_cut : {D : Type 0} (disk : disks.Ghosts D) {T E : Type 0} (e : E) (old new old_after new_after : D) (r : Result T Refusal) → IsErrAnd r (λ x. x ≡ DeviceFailed) → CallsDevice disk {T = Unit} old old_after (Err e) → (disk.honest new_after → disk.honest new) → disk.failures new_after ≡ disk.failures new

@@ -1,13 +1,15 @@
 -- How a registry moves from a file of version 1 into one of version 2, and what a crash leaves of the two files.
-use Rattle.std.specs.Prelude.{◌≡◌, ◌≢◌, ◌⊎◌, ◌≤◌, ℕ, List, [], Result, OnOk, IfErr, IsErrOf}
+use Rattle.std.specs.Prelude.{◌≡◌, ◌≢◌, ◌⊎◌, ◌≤◌, ◌∷◌, ℕ, List, [], Result, OnOk, IfErr, IsErrOf}
 use Rattle.wm_disk.specs.Calls.{EachLeft}
-use Rattle.wm_disk.specs.Contents.{Rose}
+use Rattle.wm_disk.specs.Contents.{Rose, overwritten}
 use Rattle.wm_disk.specs.Moments.{LeavesOnly}
 use Rattle.wm_disk.specs.declared.disk.Disk as disks
 use Rattle.wm_disk.specs.declared.refusal.Refusal.{Refusal}
 use Rattle.wm_disk.specs.declared.refusal.Refusal.TheVariants.{DeviceFailed}
-use Rattle.wm_checkpoint.specs.Layout.{sizes_1}
-use Rattle.wm_checkpoint.specs.Meanings.{IsDamaged, IsRetired, Means}
+use Rattle.wm_journal.specs.Records.{open_gate}
+use Rattle.wm_checkpoint.specs.FirstFile.{IsFirstFile}
+use Rattle.wm_checkpoint.specs.Layout.{retired_place, sizes_1, sizes_2}
+use Rattle.wm_checkpoint.specs.Meanings.{IsDamaged, IsRetired, Means, slot_bytes}
 use Rattle.wm_checkpoint.specs.declared.layout.Slot.TheVariants.{A}
 use Rattle.wm_registry.specs.MachineLaws.{watches}
 use Rattle.wm_registry.specs.Roots.{State, in_version_2}
@@ -25,8 +27,8 @@ module _ {D : Type 0} (disk : disks.Ghosts D) where
   HoldsMoved new s = EachLeft disk new (λ c. Means (watches Two) c A 1 (in_version_2 s) [])
 
   -- The old file's content means the registry; or the old file is retired, and then every content of the new one means it.
-  abbrev pub IsMeantByOne : D → State → List ℕ → Type 0
-  IsMeantByOne new s content = MeansRegistry s content ⊎ (IsRetired sizes_1 content × HoldsMoved new s)
+  abbrev pub IsMeantByOldOrNew : D → State → List ℕ → Type 0
+  IsMeantByOldOrNew new s content = MeansRegistry s content ⊎ (IsRetired sizes_1 content × HoldsMoved new s)
 
   -- every content that a crash may leave of the old file is retired
   abbrev pub StaysRetired : D → Type 0
@@ -39,25 +41,43 @@ module _ {D : Type 0} (disk : disks.Ghosts D) where
     pub old_left : LeavesOnly disk.moment disk.left_since old old_after (disk.may_leave old)
     pub new_left : LeavesOnly disk.moment disk.left_since new new_after (disk.may_leave new)
 
-  -- Old was read. Then new was written while old had no call, and then old was retired while new had none. So from the reading on a crash
-  -- leaves an old file that means the registry that was read, or a retired one and a new one that means it.
+  -- Old was read. From then on a crash leaves an old file that means the registry that was read; or a retired one, and then each content
+  -- that a crash may leave of new at the call's end means it. Since any further call on new might fail and leave it torn, new means it from
+  -- before the write that retires old.
   pub record MovesOnly (old old_after new_after : D) : Type 0 where
     pub registry : State
     pub version : registry.version ≡ One
     pub meant : MeansRegistry registry (disk.seen old)
     pub read : D
     pub until : LeavesOnly disk.moment disk.left_since old read (disk.may_leave old)
-    pub from : LeavesOnly disk.moment disk.left_since read old_after (IsMeantByOne new_after registry)
+    pub from : LeavesOnly disk.moment disk.left_since read old_after (IsMeantByOldOrNew new_after registry)
 
   -- a crash at any moment of a migration leaves no other two files
   abbrev pub MigratesOnly : D → D → D → D → Type 0
   MigratesOnly old new old_after new_after = WritesNeither old new old_after new_after ⊎ MovesOnly old old_after new_after
 
+  -- of the old file nothing but the retired gate was written
+  abbrev pub HasGateAlone : D → D → Type 0
+  HasGateAlone old old_after = disk.seen old_after ≡ overwritten (disk.seen old) retired_place (open_gate ∷ [])
+
+  -- the new file is as a format makes it, with the registry in slot A
+  abbrev pub IsAsFormatted : D → State → Type 0
+  IsAsFormatted new s = IsFirstFile sizes_2 (slot_bytes (watches Two).state 1 (in_version_2 s)) (disk.seen new)
+
+  -- For private clauses: what a move of the registry has done.
+  pub record HasMoved (old old_after new_after : D) (s : State) : Type 0 where
+    pub holds : HoldsMoved new_after s
+    pub first : IsAsFormatted new_after s
+    pub retired : StaysRetired old_after
+    pub gate : HasGateAlone old old_after
+
   -- The registry that old meant stands in new, and old is retired, both durably.
   pub record MovesNow (old old_after new_after : D) : Type 0 where
     pub moves : MovesOnly old old_after new_after
     pub holds : HoldsMoved new_after moves.registry
+    pub first : IsAsFormatted new_after moves.registry
     pub retired : StaysRetired old_after
+    pub gate : HasGateAlone old old_after
 
   -- It was moved before: old is retired, and new means a registry, both durably. Nothing is written.
   pub record WasMoved (old new old_after new_after : D) : Type 0 where

@@ -13,7 +13,7 @@ ghost use Rattle.wm_registry.specs.MachineLaws.{watches};
 ghost use Rattle.wm_registry.specs.Roots.{State};
 ghost use Rattle.wm_registry.specs.declared.version.Version.TheVariants.{One, Two};
 ghost use Rattle.wm_store.specs.Meant.{MeansRegistry};
-ghost use Rattle.wm_store.specs.Migrations.{CallsBoth, HaveNoRegistry, HoldsMoved, IsMeantByOne, IsMigrated, MigratesOnly, StaysRetired, WritesNeither};
+ghost use Rattle.wm_store.specs.Migrations.{CallsBoth, HasMoved, HaveNoRegistry, IsMeantByOldOrNew, IsMigrated, MigratesOnly, WritesNeither};
 
 use std::alloc::Global;
 use wm_checkpoint::{Keeper, Version1, Version2};
@@ -25,14 +25,14 @@ use wm_registry::{FiledRegistry, Watches};
 /// registry in version 2, and nothing is written. A call that was cut is run again: as long as the old file isn't
 /// retired, the new one is made anew. So the new file is opened only after an `Ok`.
 ///
-/// `14 Damaged` if the old file means no registry in version 1, or is retired and the new one means none in
+/// `14 Damaged` if the old file means no registry in version 1 and isn't retired, or is retired and the new one means none in
 /// version 2, and `16 NoMemory` when out of memory: nothing was written. `13 DeviceFailed` if one of the two devices
 /// failed: the old file means its registry still, or it is retired and the new one means it.
 pub fn migrate<D: Disk + Drop>(alloc: Global, old: &mut D, new: &mut D) -> Result<(), Refusal>
     ensures migrated { D.honest old.new → D.honest new.new → OnOk result (IsMigrated D.Disk old.old new.old old.new new.new) }
     // A crash at any moment of the call leaves an old file that means the registry, or a retired one and a new one that means it.
     ensures any_moment { D.honest old.new → D.honest new.new → MigratesOnly D.Disk old.old new.old old.new new.new }
-    // No slot that stands open in what a crash may leave of the old file then has a greater number.
+    // The call raises no number of an open slot of the old file.
     ensures numbered { D.honest old.new → (n : ℕ) → EachLeft D.Disk old.old (IsNumberedTo sizes_1 n) → EachLeft D.Disk old.new (IsNumberedTo sizes_1 n) }
     ensures damaged { D.honest old.new → D.honest new.new → IsErrOf result damaged → HaveNoRegistry (D.seen old.old) (D.seen new.old) }
     ensures unwritten { D.honest old.new → D.honest new.new → IfErr result (λ e. e ≢ device_failed → WritesNeither D.Disk old.old new.old old.new new.new) }
@@ -57,8 +57,8 @@ fn move_registry<D: Disk + Drop>(
 ) -> Result<(), Refusal>
     requires meant { D.honest old.old → MeansState (watches One) registry (D.seen old.old) }
     requires durable { D.honest old.old → Only (D.seen old.old) (D.may_leave old.old) }
-    ensures moved { D.honest old.new → D.honest new.new → OnOk result (HoldsMoved D.Disk new.new registry × StaysRetired D.Disk old.new) }
-    ensures any_moment { D.honest old.new → D.honest new.new → LeavesOnly D.moment D.left_since old.old old.new (IsMeantByOne D.Disk new.new registry) }
+    ensures moved { D.honest old.new → D.honest new.new → OnOk result (HasMoved D.Disk old.old old.new new.new registry) }
+    ensures any_moment { D.honest old.new → D.honest new.new → LeavesOnly D.moment D.left_since old.old old.new (IsMeantByOldOrNew D.Disk new.new registry) }
     ensures numbered { D.honest old.new → (n : ℕ) → IsNumberedTo sizes_1 n (D.seen old.old) → EachLeft D.Disk old.new (IsNumberedTo sizes_1 n) }
     ensures unwritten { IfErr result (λ e. e ≢ device_failed → (old.new ≡ old.old) × (new.new ≡ new.old)) }
     ensures calls { CallsBoth D.Disk old.old new.old old.new new.new result }
@@ -90,9 +90,8 @@ fn find_moved<D: Disk + Drop>(alloc: Global, new: &mut D) -> Result<(), Refusal>
     }
 }
 
-/// Whether the registry of a file of version 1 was moved out of it: then the file is retired, and else it means a registry of
-/// version 1. Nothing is written. `14 Damaged` if it means none and isn't retired, `13 DeviceFailed` if the device failed, `16
-/// NoMemory` when out of memory.
+/// Whether a file of version 1 is retired; if it isn't, it means a registry of version 1. Nothing is written. `14 Damaged` if it means
+/// none and isn't retired, `13 DeviceFailed` if the device failed, `16 NoMemory` when out of memory.
 pub fn is_retired<D: Disk + Drop>(alloc: Global, disk: &mut D) -> Result<bool, Refusal>
     ensures retired { D.honest disk.new → IfOk result (λ b. b ≡ true → IsRetired sizes_1 (D.seen disk.old)) }
     ensures means { D.honest disk.new → IfOk result (λ b. b ≡ false → (s : State) × (s.version ≡ One) × MeansRegistry s (D.seen disk.old)) }

@@ -19,7 +19,7 @@ use Rattle.wm_registry.specs.Roots.{State, in_version_2}
 use Rattle.wm_registry.specs.VersionLaws.{same_version_after}
 use Rattle.wm_registry.specs.Versions.{sizes_of}
 use Rattle.wm_store.specs.Meant.{MeansAfter, MeansRegistry}
-use Rattle.wm_store.specs.Migrations.{HaveNoRegistry, HoldsMoved, IsMeantByOne, IsMigrated, MigratesOnly, MovesNow, MovesOnly, StaysRetired, WasMoved, WritesNeither}
+use Rattle.wm_store.specs.Migrations.{HaveNoRegistry, HoldsMoved, IsMeantByOldOrNew, IsMigrated, MigratesOnly, MovesNow, MovesOnly, StaysRetired, WasMoved, WritesNeither}
 use Rattle.wm_store.specs.Stored.{Stored}
 use Rattle.wm_store.specs.laws.Retired.{not_retired}
 use Rattle.wm_world.specs.declared.other.Other.{Other}
@@ -209,7 +209,7 @@ module _ {D : Type 0} (disk : disks.Ghosts D) where
                 (λ c left. record {
                   means = ⊎_elim (λ r. inl (none_yet (registry v) [] c (subst (λ x. MeansRegistry x c) at r)))
                       (λ r. inr (record { stage = refl; down = down.down; none = refl; retired = r.0; holds = subst (λ x. HoldsMoved disk new_after x) at r.1 }))
-                      (now disk counts m.read old_after (IsMeantByOne disk new_after m.registry) h m.from c left);
+                      (now disk counts m.read old_after (IsMeantByOldOrNew disk new_after m.registry) h m.from c left);
                   numbered = subst (λ (u : Version). IsNumberedTo (sizes_of u) w.slot c) (sym down.on.beside.1) (numbered w.slot sized c left);
                 }) s,
             passes w v disks_cut (ap (disks_of_server disk) server) (record { new_before = new; beside = refl; old = old_after; new = new_after; disks = inr refl; leaves = inr (m, at) }),

@@ -1,4 +1,4 @@
-use Rattle.std.proofs.Common.{◌≡◌, false, refl}
+use Rattle.std.proofs.Common.{false, refl}
 use Rattle.wm_checkpoint.specs.Layout.{sizes_1}
 use Rattle.wm_disk.specs.declared.refusal.Refusal.TheVariants.{Damaged}
 use Rattle.wm_registry.specs.declared.version.Version.TheVariants.{One}

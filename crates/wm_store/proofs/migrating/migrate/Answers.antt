@@ -21,7 +21,7 @@ returns-in-Ok-clause-migrated g c = λ ho hn.
     let m = c.move_registry.ensures in
     let read = m.calls.honest.0 ho in
     on_ok c.move_registry.result
-    (λ p. inl (moves_now g.D.Disk c.args.old.now c.read.new.disk c.move_registry.new.old c.move_registry.new.new c.in-Ok.registry (c.in-Ok.ensures.found read) (c.in-Ok.ensures.reads read).any_moment (m.any_moment ho hn) p.0 p.1))
+    (λ p. inl (moves_now g.D.Disk c.args.old.now c.read.new.disk c.move_registry.new.old c.move_registry.new.new c.in-Ok.registry (c.in-Ok.ensures.found read) (c.in-Ok.ensures.reads read).any_moment (m.any_moment ho hn) (c.in-Ok.ensures.reads read).seen p))
     (m.moved ho hn)
 
 pub returns-in-Ok-clause-any_moment : goal.returns-in-Ok-clause-any_moment

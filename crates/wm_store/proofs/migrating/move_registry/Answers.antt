@@ -1,12 +1,13 @@
 use Rattle.std.proofs.Common.{ℕ, List, [], sym, subst}
-use Rattle.wm_checkpoint.specs.Meanings.{Means}
-use Rattle.wm_checkpoint.specs.Layout.{sizes_1}
+use Rattle.wm_checkpoint.specs.FirstFile.{IsFirstFile}
+use Rattle.wm_checkpoint.specs.Meanings.{Means, slot_bytes}
+use Rattle.wm_checkpoint.specs.Layout.{sizes_1, sizes_2}
 use Rattle.wm_checkpoint.specs.Numbers.{IsNumberedTo}
 use Rattle.wm_checkpoint.specs.declared.layout.Slot.TheVariants.{A}
 use Rattle.wm_registry.specs.MachineLaws.{watches}
 use Rattle.wm_registry.specs.Roots.{State}
 use Rattle.wm_registry.specs.declared.version.Version.TheVariants.{Two}
-use Rattle.wm_store.proofs.TwoFiles.{calls_cut, holds_moved, meant_aside, meant_still, numbered_aside, stays_retired}
+use Rattle.wm_store.proofs.TwoFiles.{calls_cut, holds_moved, meant_by_either, meant_still, numbered_still, stays_retired}
 use Rattle.wm_store.proofs.migrating.move_registry.Goals as goal
 
 pub returns-in_err-format-clause-any_moment : goal.returns-in_err-format-clause-any_moment
@@ -25,12 +26,12 @@ returns-in_err-retire-clause-any_moment g c = λ ho hn.
     let before = c.retire.ensures.device.honest ho in
     let means = subst (λ (s : State). Means (watches Two) (D.seen new) A 1 s []) c.into_version_2-moved.ensures (c.in_ok-format.ensures.formatted hn) in
     let holds = holds_moved D new c.args.registry (c.in_ok-format.ensures.durable hn) means in
-    meant_aside D g.met.D.Disk.counts_now g.met.D.Disk.only_now old c.retire.new.disk new c.args.registry holds (c.retire.ensures.any_moment c.args.registry ho (c.requires.durable before) (c.requires.meant before))
+    meant_by_either D g.met.D.Disk.counts_now g.met.D.Disk.only_now old c.retire.new.disk new c.args.registry holds (c.retire.ensures.any_moment c.args.registry ho (c.requires.durable before) (c.requires.meant before))
 
 pub returns-in_err-retire-clause-numbered : goal.returns-in_err-retire-clause-numbered
 returns-in_err-retire-clause-numbered g c = λ ho n all.
     let before = c.retire.ensures.device.honest ho in
-    numbered_aside g.D.Disk g.met.D.Disk.counts_now g.met.D.Disk.only_now c.args.old.now c.retire.new.disk c.args.registry ho (c.retire.ensures.any_moment c.args.registry ho (c.requires.durable before) (c.requires.meant before)) n all
+    numbered_still g.D.Disk g.met.D.Disk.counts_now g.met.D.Disk.only_now c.args.old.now c.retire.new.disk c.args.registry ho (c.retire.ensures.any_moment c.args.registry ho (c.requires.durable before) (c.requires.meant before)) n all
 
 pub returns-in_err-retire-clause-calls : goal.returns-in_err-retire-clause-calls
 returns-in_err-retire-clause-calls g c =
@@ -42,10 +43,13 @@ returns-clause-moved g c = λ ho hn.
     let old = c.args.old.now in
     let new = c.format.new.disk in
     let before = c.retire.ensures.device.honest ho in
-    let means = subst (λ (s : State). Means (watches Two) (D.seen new) A 1 s []) c.into_version_2-moved.ensures (c.in_ok-format.ensures.formatted hn) in (
-      holds_moved D new c.args.registry (c.in_ok-format.ensures.durable hn) means,
-      stays_retired D c.retire.new.disk (c.in_ok-retire.ensures.durable ho) (c.in_ok-retire.ensures.retired c.args.registry ho (c.requires.meant before)),
-    )
+    let means = subst (λ (s : State). Means (watches Two) (D.seen new) A 1 s []) c.into_version_2-moved.ensures (c.in_ok-format.ensures.formatted hn) in
+    record {
+      holds = holds_moved D new c.args.registry (c.in_ok-format.ensures.durable hn) means;
+      first = subst (λ (s : State). IsFirstFile sizes_2 (slot_bytes (watches Two).state 1 s) (D.seen new)) c.into_version_2-moved.ensures (c.in_ok-format.ensures.first hn);
+      retired = stays_retired D c.retire.new.disk (c.in_ok-retire.ensures.durable ho) (c.in_ok-retire.ensures.retired c.args.registry ho (c.requires.meant before));
+      gate = c.in_ok-retire.ensures.written ho;
+    }
 
 pub returns-clause-any_moment : goal.returns-clause-any_moment
 returns-clause-any_moment g c = λ ho hn.
@@ -55,9 +59,9 @@ returns-clause-any_moment g c = λ ho hn.
     let before = c.retire.ensures.device.honest ho in
     let means = subst (λ (s : State). Means (watches Two) (D.seen new) A 1 s []) c.into_version_2-moved.ensures (c.in_ok-format.ensures.formatted hn) in
     let holds = holds_moved D new c.args.registry (c.in_ok-format.ensures.durable hn) means in
-    meant_aside D g.met.D.Disk.counts_now g.met.D.Disk.only_now old c.retire.new.disk new c.args.registry holds (c.retire.ensures.any_moment c.args.registry ho (c.requires.durable before) (c.requires.meant before))
+    meant_by_either D g.met.D.Disk.counts_now g.met.D.Disk.only_now old c.retire.new.disk new c.args.registry holds (c.retire.ensures.any_moment c.args.registry ho (c.requires.durable before) (c.requires.meant before))
 
 pub returns-clause-numbered : goal.returns-clause-numbered
 returns-clause-numbered g c = λ ho n all.
     let before = c.retire.ensures.device.honest ho in
-    numbered_aside g.D.Disk g.met.D.Disk.counts_now g.met.D.Disk.only_now c.args.old.now c.retire.new.disk c.args.registry ho (c.retire.ensures.any_moment c.args.registry ho (c.requires.durable before) (c.requires.meant before)) n all
+    numbered_still g.D.Disk g.met.D.Disk.counts_now g.met.D.Disk.only_now c.args.old.now c.retire.new.disk c.args.registry ho (c.retire.ensures.any_moment c.args.registry ho (c.requires.durable before) (c.requires.meant before)) n all
