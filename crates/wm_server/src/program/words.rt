@@ -44,7 +44,7 @@ impl Words {
 }
 
 const STATUSES: &str = "Exit status:
-  0  the input was answered to its end, or the file was made or moved
+  0  the input was answered to its end, or the file was made or migrated
   1  refused, or the input or the output failed; standard error says why
   2  the words aren't understood";
 
@@ -131,7 +131,7 @@ fn migrate_command<'a>(alloc: Global) -> Result<Command<'a>, NoMemory>
     let new = path_argument(
         alloc,
         "NEW",
-        "The path of the state file of version 2, which is made if it isn't there, and else written over",
+        "The path of the state file of version 2, which is made, or written over unless OLD is retired",
     );
     let command = Command::new(alloc, "migrate")
         .about(
