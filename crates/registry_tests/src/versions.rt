@@ -1,9 +1,9 @@
-//! Registries of each version of the state file: a trigger's number of files, both encodings, and the longest state of
-//! version 2.
+//! Registries of each version of the state file: a trigger's number of files, both encodings, the move from version 1 into version 2,
+//! and the longest state of version 2.
 use crate::checks::check;
 use crate::filed::{command_first, command_second, filed_first, filed_second};
-use crate::lines::{applied, apply, ask};
-use crate::plans::{LEAST, Plan, definition, made};
+use crate::lines::{applied, apply, ask, is_shown};
+use crate::plans::{LEAST, MORE, Plan, definition, made};
 use crate::spelling::{is_spelled, takes};
 use std::alloc::Global;
 use std::process::Abort;
@@ -109,6 +109,35 @@ fn encodes_states_by_version(rt: HostRuntime) {
     check!(rt; is_second_state(&rt, rt.alloc(), LEAST, SECOND_STATE));
     check!(rt; is_second_state(&rt, rt.alloc(), COUNTED, SECOND_STATE_COUNTED));
     check!(rt; !takes::<FiledRegistry<Version2>>(&rt, rt.alloc(), FIRST_STATE));
+}
+
+// Whether the registry of version 1 is encoded so once it is one of version 2, in as many bytes as it says, and shows what it showed.
+fn moves(rt: &impl Abort, alloc: Global, registry: Registry, (state, want): (&str, &[u8])) -> bool {
+    let moved = filed_first(rt, registry).into_version_2();
+    let is_kept = is_shown(rt, alloc, moved.registry(), state);
+    let is_second = moved.registry().version() == Version::Two;
+    let is_long = moved.registry().size() == want.len() as u64;
+    let is_spelled = is_spelled(rt, alloc, &moved, want);
+    drop(moved);
+    is_kept && is_second && is_long && is_spelled
+}
+
+/// A registry with no roots, which no start has begun.
+const EMPTY_STATE: &[u8] = b"\0\0\0\0\0\0\0\0\0\0\0\0\0\0\0\x01\0\0\0\0";
+
+/// As [`SECOND_STATE`], with the trigger that has something of each.
+const SECOND_STATE_MORE: &[u8] =
+    b"\0\0\0\0\0\0\0\0\0\0\0\0\0\0\0\x02\0\0\0\x01\0\0\0\x02\x2f\x72\0\0\0\0\0\0\0\x01\0\0\0\x01\0\0\0\x02\xc3\xa9\0\0\0\x03\0\0\0\x04make\0\0\0\0\0\0\0\x04-j 4\x01\0\0\0\x02[]\x01\x01\0";
+
+#[test]
+fn moves_a_state_into_version_2(rt: HostRuntime) {
+    let alloc = rt.alloc();
+    let empty = Registry::new(alloc, Version::One);
+    check!(rt; moves(&rt, alloc, empty, ("0 1", EMPTY_STATE)));
+    let least = with_trigger(&rt, alloc, Version::One, LEAST);
+    check!(rt; moves(&rt, alloc, least, ("0 2; /r 1 t=true", SECOND_STATE)));
+    let more = with_trigger(&rt, alloc, Version::One, MORE);
+    check!(rt; moves(&rt, alloc, more, ("0 2; /r 1 \u{e9}", SECOND_STATE_MORE)));
 }
 
 // How a trigger of that name for `/r` is met by the registry.
