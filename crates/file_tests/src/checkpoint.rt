@@ -9,6 +9,7 @@ mod cuts;
 mod damage;
 mod files;
 mod register;
+mod retired;
 mod switch;
 mod version_2;
 mod versions;

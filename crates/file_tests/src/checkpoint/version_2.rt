@@ -16,7 +16,7 @@ use wm_disk::{Crashed, MemDisk, Refusal};
 use wm_wire::Wire;
 
 /// A keeper of a register in a file of version 2.
-type LongKeeper = Keeper<MemDisk, Register, Version2>;
+pub(super) type LongKeeper = Keeper<MemDisk, Register, Version2>;
 
 /// Such a keeper, in tests always one that keeps to its disk.
 #[derive(Drop)]

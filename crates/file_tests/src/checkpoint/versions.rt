@@ -14,7 +14,7 @@ use wm_registry::Version;
 type EitherRegister = EitherKeeper<MemDisk, Register, Register>;
 
 /// The version and the state that are found on a disk, or why none are; and the disk.
-fn found(alloc: Global, disk: MemDisk) -> (Result<(Version, u64), Refusal>, MemDisk) {
+pub(super) fn found(alloc: Global, disk: MemDisk) -> (Result<(Version, u64), Refusal>, MemDisk) {
     match EitherRegister::open(alloc, disk) {
         Ok(EitherKeeper::One(keeper)) => {
             let state = *keeper.state();
@@ -42,7 +42,7 @@ fn finds(
 }
 
 /// A file of the version, of the state 4.
-fn file(rt: &impl Abort, alloc: Global, version: Version) -> Vec<u8> {
+pub(super) fn file(rt: &impl Abort, alloc: Global, version: Version) -> Vec<u8> {
     match version {
         Version::One => content_after(rt, alloc, TWO_SLOTS),
         Version::Two => two_slots(rt, alloc),
