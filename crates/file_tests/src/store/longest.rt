@@ -106,7 +106,7 @@ fn longest(version: Version) -> (u64, &'static [u8]) {
 }
 
 /// Whether the store takes so many bytes and not one more.
-fn fill_up(rt: &impl Abort, alloc: Global, store: &mut Kept) -> bool {
+pub(super) fn fill_up(rt: &impl Abort, alloc: Global, store: &mut Kept) -> bool {
     let long = word(rt, alloc, 1_024);
     let version = store.registry().version();
     for root in long_roots(version) {

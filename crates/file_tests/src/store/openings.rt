@@ -184,7 +184,7 @@ fn tells_a_failing_opening(rt: HostRuntime) {
 }
 
 /// The incarnation that an opening on these bytes begins, or what it is refused.
-fn begun_from(rt: &impl Abort, alloc: Global, content: &[u8]) -> Result<u64, Refusal> {
+pub(super) fn begun_from(rt: &impl Abort, alloc: Global, content: &[u8]) -> Result<u64, Refusal> {
     begun(alloc, disk_of(rt, alloc, 0, content))
 }
 

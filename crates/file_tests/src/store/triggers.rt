@@ -11,7 +11,7 @@ use wm_registry::{Command, Reply, Stdin, Trigger, Version};
 use wm_store::Store;
 
 /// What defines a trigger of `true` for a root, with this number of files.
-fn definition(
+pub(super) fn definition(
     rt: &impl Abort,
     alloc: Global,
     (root, name): (&str, &str),
@@ -51,7 +51,7 @@ fn define(rt: &impl Abort, alloc: Global, store: &mut Kept) -> Vec<Reply> {
 }
 
 /// A store that watches `/r`, and whether it met the triggers as it has to.
-fn defined(rt: &impl Abort, alloc: Global, version: Version) -> (Kept, bool) {
+pub(super) fn defined(rt: &impl Abort, alloc: Global, version: Version) -> (Kept, bool) {
     let mut store = opened(rt, alloc, version);
     watch(rt, alloc, &mut store, &["/r"]).expect(rt, "a watch");
     let replies = define(rt, alloc, &mut store);
@@ -68,7 +68,7 @@ fn kept(version: Version) -> &'static [(&'static str, Option<u32>)] {
 }
 
 /// Whether `/r` has these triggers.
-fn has(store: &Kept, triggers: &[(&str, Option<u32>)]) -> bool {
+pub(super) fn has(store: &Kept, triggers: &[(&str, Option<u32>)]) -> bool {
     let Some((_, root)) = store.registry().roots().iter().next() else {
         return false;
     };
