@@ -17,11 +17,12 @@ PAGES := GUIDE.md QUERIES.md FORMATS.md PROMISES.md DEFINITIONS.md ARCHITECTURE.
 EXAMPLES := build.sh compile_trigger.sh follow.py test_runner.sh
 SOURCES := crates.txt $(shell find crates -name out -prune -o -type f \( -name '*.rt' -o -name '*.antt' \) -print)
 
-.PHONY: help clean uninstall test lint build run lines serve-use quick-use feed-use install bench bench-commands bench-crawl bench-view bench-share bench-match bench-peer bench-plots clients crawl-tree session examples examples-use dist dist-use kill faults growths fuzz hostile desk-memory state-file file-calls
+.PHONY: help clean uninstall test lint edits build run lines serve-use quick-use feed-use install bench bench-commands bench-crawl bench-view bench-share bench-match bench-peer bench-plots clients crawl-tree session examples examples-use dist dist-use kill faults growths fuzz hostile desk-memory state-file file-calls
 
 help:
 	@echo "make test          the whole gate: each proof from nothing, edits that must be refused, tests, programs, and each growth of"
 	@echo "                   memory refused in three sessions, and quick-use (rt, python3, cc; some two hours on two processors)"
+	@echo "make edits         the edits that must be refused and that the gate leaves out for its time (tools/edits; rt, some 40 minutes)"
 	@echo "make lint          what the gate doesn't see: no definition's name in the specs of two crates, and no use of another crate's proofs/ (sh, awk; at once)"
 	@echo "make build         builds watchmand (rt; some 45 minutes the first time, since it proves it)"
 	@echo "make run           serves SOCKET=$(SOCKET) over STATE=$(STATE), which it makes where it isn't there, and tells what to try next"
@@ -61,6 +62,10 @@ test: lint
 lint:
 	tools/same_names.sh
 	tools/own_proofs.sh
+
+# The edits that the gate leaves out.
+edits:
+	tools/edits.sh
 
 build: $(PROGRAM)
 
