@@ -26,7 +26,7 @@ module _ {D : Type 0} (disk : disks.Ghosts D) (plan : D → Option ℕ) where
       alone = λ e. ap (λ (x : Disks D). x.other) is ∙ none_later disk (λ d e. disk.failures e ≡ disk.failures d) other later counts (sym (ap (λ (x : Disks D). x.other) was) ∙ e);
       goes = λ h w reached s.
           let plans : OnOther (IsArmed disk plan calls) other later = armed (subst (AreHonest disk) is h).1 in
-          let less : LeavesNoMore disk other later = on_other_weaker (IsArmed disk plan calls) (λ x y. NoMore (disk.may_leave x) (disk.may_leave y)) (λ x y g. g.0) other later plans in (
+          let less : LeavesNoMore disk other later = on_other_weaker (IsArmed disk plan calls) (λ x y. NoMore (disk.may_leave x) (disk.may_leave y)) (λ x y g. g.1) other later plans in (
             w,
             refl,
             record {
@@ -70,7 +70,7 @@ module _ {D : Type 0} (disk : disks.Ghosts D) (plan : D → Option ℕ) where
             w,
             refl,
             record {
-              server = subst (λ x. IsServer disk new.server x.views.items w) (sym shown) (stays w plans.0 s.server);
+              server = subst (λ x. IsServer disk new.server x.views.items w) (sym shown) (stays w plans.1 s.server);
               replies = ap (λ x. x.replies.items) shown ∙ s.replies;
               clients = ap (λ x. x.clients.items) shown ∙ s.clients;
             },

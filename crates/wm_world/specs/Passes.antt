@@ -79,9 +79,9 @@ module _ {D : Type 0} (disk : disks.Ghosts D) where
 
   -- how many calls of a disk still pass before each fails, where failures are planned
   module _ (plan : D → Option ℕ) where
-    -- a plan of failures
+    -- a plan of failures: the disk reads as before
     abbrev pub IsArmed : ℕ → D → D → Type 0
-    IsArmed calls d e = NoMore (disk.may_leave d) (disk.may_leave e) × (plan e ≡ Some calls)
+    IsArmed calls d e = (disk.seen e ≡ disk.seen d) × NoMore (disk.may_leave d) (disk.may_leave e) × (plan e ≡ Some calls)
 
     -- of the disk in use, or of the one beside it
     abbrev pub Armed : ℕ → Disks D → World → Disks D → World → Type 0
