@@ -137,7 +137,7 @@ module _ {D : Type 0} (disk : disks.Ghosts D) where
           let v : World = record w { version = Two; stage = After; kept = found; pending = []; faults = w.other_faults; other_faults = w.faults } in (
             v,
             fits w v s (inl (found, finds, refl)),
-            stands_down new_after (Old old_after) server w v down.down refl refl (same.1 ∙ down.on.beside.2) (refl, same.0 ∙ down.on.faults, retired)
+            stands_down new_after (Old old_after) server w v down.down refl refl (same.1 ∙ down.on.beside.2) (refl, refl, same.0 ∙ down.on.faults, retired)
                 (λ c left. record {
                   means = inl (none_yet (registry v) [] c (record { slot = A; number = 1; base = registry v; commands = []; means = holds c left; is = refl }));
                   numbered = numbered_more sizes_2 1 w.slot c (settled_reached w reached).first (means_numbered (watches Two) c A 1 (registry v) [] (holds c left));

@@ -75,9 +75,9 @@ module _ {D : Type 0} (disk : disks.Ghosts D) where
   prefix_later other later w c less k = record { means = ⊎_elim (λ m. inl m) (λ m. inr (moved_later other later w c less m)) k.means; numbered = k.numbered }
 
   pub beside_same : (other : Other D) (w v : World) → v.stage ≡ w.stage → v.version ≡ w.version → v.other_faults ≡ w.other_faults → IsBeside disk other w → IsBeside disk other v
-  beside_same Nothing w v stage version faults b = stage ∙ b
+  beside_same Nothing w v stage version faults b = (stage ∙ b.0, version ∙ b.1)
   beside_same (New d) w v stage version faults (is, one, count) = (⊎_elim (λ e. inl (stage ∙ e)) (λ e. inr (stage ∙ e)) is, version ∙ one, count ∙ sym faults)
-  beside_same (Old d) w v stage version faults (is, count, retired) = (stage ∙ is, count ∙ sym faults, retired)
+  beside_same (Old d) w v stage version faults (is, two, count, retired) = (stage ∙ is, version ∙ two, count ∙ sym faults, retired)
 
   pub beside_later : (other later : Other D) (w : World) → LeavesNoMore other later → FailsNoMore other later → IsBeside disk other w → IsBeside disk later w
   beside_later Nothing Nothing w less count b = b
@@ -88,7 +88,7 @@ module _ {D : Type 0} (disk : disks.Ghosts D) where
   beside_later (New d) (Old e) w less count b = absurd less
   beside_later (Old d) Nothing w less count b = absurd less
   beside_later (Old d) (New e) w less count b = absurd less
-  beside_later (Old d) (Old e) w less count b = (b.0, count ∙ b.1, λ x left. b.2 x (less x left))
+  beside_later (Old d) (Old e) w less count b = (b.0, b.1, count ∙ b.2, λ x left. b.3 x (less x left))
 
   pub none_later : (R : D → D → Type 0) (other later : Other D) → OnOther R other later → other ≡ Nothing → later ≡ Nothing
   none_later R other Nothing h e = refl
@@ -108,6 +108,6 @@ module _ {D : Type 0} (disk : disks.Ghosts D) where
 
   -- a file that turns out not to be retired
   pub beside_reopened : (other : Other D) (w v : World) → v.stage ≡ reopened w.stage → v.version ≡ w.version → v.other_faults ≡ w.other_faults → IsBeside disk other w → IsBeside disk other v
-  beside_reopened Nothing w v stage version faults b = stage ∙ ap reopened b
+  beside_reopened Nothing w v stage version faults b = (stage ∙ ap reopened b.0, version ∙ b.1)
   beside_reopened (New d) w v stage version faults (is, one, count) = (inl (⊎_elim (λ e. stage ∙ ap reopened e) (λ e. stage ∙ ap reopened e) is), version ∙ one, count ∙ sym faults)
-  beside_reopened (Old d) w v stage version faults (is, count, retired) = (stage ∙ ap reopened is, count ∙ sym faults, retired)
+  beside_reopened (Old d) w v stage version faults (is, two, count, retired) = (stage ∙ ap reopened is, version ∙ two, count ∙ sym faults, retired)

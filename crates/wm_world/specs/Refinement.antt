@@ -13,7 +13,7 @@ use Rattle.wm_registry.specs.declared.reply.Reply.{Reply}
 use Rattle.wm_registry.specs.declared.reply.Reply.TheVariants.{Refused}
 use Rattle.wm_registry.specs.Roots.{State, root_at}
 use Rattle.wm_registry.specs.Versions.{sizes_of}
-use Rattle.wm_registry.specs.declared.version.Version.TheVariants.{One}
+use Rattle.wm_registry.specs.declared.version.Version.TheVariants.{One, Two}
 use Rattle.wm_store.specs.Migrations.{HoldsMoved}
 use Rattle.wm_store.specs.Stored.{Stored}
 use Rattle.wm_view.specs.Histories.{History}
@@ -120,11 +120,12 @@ module _ {D : Type 0} (disk : disks.Ghosts D) where
     pub means : MeansAfter (registry w) w.pending content ⊎ IsMoved other w content
     pub numbered : IsNumberedTo (sizes_of w.version) w.slot content
 
-  -- The disk beside is as the stage has it, and has failed so often. That of an old file stays retired.
+  -- The disk beside is as the stage has it, and has failed so often; the file in use is of version 1 if a new one stands beside it,
+  -- and else of version 2. An old file stays retired.
   abbrev pub IsBeside : Other D → World → Type 0
-  IsBeside Nothing w = w.stage ≡ Alone
+  IsBeside Nothing w = (w.stage ≡ Alone) × (w.version ≡ Two)
   IsBeside (New new) w = ((w.stage ≡ Before) ⊎ (w.stage ≡ Between)) × (w.version ≡ One) × (disk.failures new ≡ w.other_faults)
-  IsBeside (Old old) w = (w.stage ≡ After) × (disk.failures old ≡ w.other_faults) × EachLeft disk old (IsRetired sizes_1)
+  IsBeside (Old old) w = (w.stage ≡ After) × (w.version ≡ Two) × (disk.failures old ≡ w.other_faults) × EachLeft disk old (IsRetired sizes_1)
 
   -- Every content that a crash may leave keeps the prefix, the disk in use has failed so often, and the other is as the stage has it.
   pub record IsOn (d : Disks D) (w : World) : Type 0 where

@@ -10,7 +10,7 @@ pub returns-in-Up : goal.returns-in-Up
 returns-in-Up g c = migrate_up g.D.Disk c.args.self _ c.in-Up.store c.in-Up.other c.in-Up.is refl refl
 
 pub returns-in-Nothing : goal.returns-in-Nothing
-returns-in-Nothing g c = migrate_beside g.D.Disk c.args.self _ c.in-Down.disk Nothing (c.in-Down.is ∙ ap (Down c.in-Down.disk) c.in-Nothing.is) refl refl (λ w b. ap is_to_migrate b)
+returns-in-Nothing g c = migrate_beside g.D.Disk c.args.self _ c.in-Down.disk Nothing (c.in-Down.is ∙ ap (Down c.in-Down.disk) c.in-Nothing.is) refl refl (λ w b. ap is_to_migrate b.0)
 
 pub returns-in-Old : goal.returns-in-Old
 returns-in-Old g c = migrate_beside g.D.Disk c.args.self _ c.in-Down.disk (Old c.in-Old.disk) (c.in-Down.is ∙ ap (Down c.in-Down.disk) c.in-Old.is) refl refl (λ w b. ap is_to_migrate b.0)
