@@ -27,21 +27,24 @@ use Rattle.wm_world.specs.declared.other.Other.TheVariants.{Nothing, New, Old}
 use Rattle.wm_world.specs.declared.world.World.{World as Running}
 use Rattle.wm_world.specs.declared.world.Server.TheVariants.{Up, Down}
 use Rattle.wm_world.specs.Worlds.{Before, Between, After, Stage, World, in_version, registry, replay}
-use Rattle.wm_world.specs.Steps.{Finds, IsReached, MigrateMet, OneFailed, is_to_migrate, migrated}
+use Rattle.wm_world.specs.Steps.{Finds, IsReached, MigrateMet, OneFailed, fits_migration, is_to_migrate, migrated}
 use Rattle.wm_world.specs.Refinement.{AreHonest, Disks, IsBeside, IsDown, IsMoved, IsServer, IsUp, KeepsPrefix, Simulates, Refines, disks_of_server, disks_of_world}
-use Rattle.wm_world.specs.Passes.{Migrates}
+use Rattle.wm_world.specs.Passes.{Migrates, MigratesIfFit}
 use Rattle.wm_world.proofs.Opening.{Known, OneMeaning, ReadsStand, known}
 use Rattle.wm_world.proofs.Others.{LeavesNoMore, prefix_later, prefix_same}
 use Rattle.wm_world.proofs.Reached.{settled_reached}
 use Rattle.wm_world.proofs.Stores.{CountsNow, none_yet, now}
 
 -- a migration that doesn't fit
-unfit_row : (w : World) → (not w.up && is_to_migrate w.stage) ≡ false → migrated w w
+unfit_row : (w : World) → fits_migration w ≡ false → migrated w w
 unfit_row w e = subst (λ b. MatchBool b (MigrateMet w w) (w ≡ w)) (sym e) refl
 
 -- one that does
-fit_row : (w v : World) → w.up ≡ false → is_to_migrate w.stage ≡ true → MigrateMet w v → migrated w v
-fit_row w v down begun m = subst (λ b. MatchBool b (MigrateMet w v) (v ≡ w)) (λ i. not (sym down i) && sym begun i) m
+fitting : (w : World) → w.up ≡ false → is_to_migrate w.stage ≡ true → fits_migration w ≡ true
+fitting w down begun = λ i. not (down i) && begun i
+
+fit_row : (w v : World) → fits_migration w ≡ true → MigrateMet w v → migrated w v
+fit_row w v fit m = subst (λ b. MatchBool b (MigrateMet w v) (v ≡ w)) (sym fit) m
 
 both_false : (a b : Bool) → b ≡ false → (a && b) ≡ false
 both_false true b e = e
@@ -51,12 +54,8 @@ to_migrate : (stage : Stage) → (stage ≡ Before) ⊎ (stage ≡ Between) → 
 to_migrate stage is = ⊎_elim (λ e. ap is_to_migrate e) (λ e. ap is_to_migrate e) is
 
 module _ {D : Type 0} (disk : disks.Ghosts D) where
-  -- how the disks pass
-  abbrev Way : Disks D → World → Disks D → World → Type 0
-  Way d w e v = (e ≡ d) ⊎ Migrates disk d w e v
-
   -- the server and the disks stay, where the migration doesn't fit
-  pub migrate_unfit : (old new : Running D) → new.server ≡ old.server → new.shown ≡ old.shown → ((w : World) → Refines disk old w → (not w.up && is_to_migrate w.stage) ≡ false) → Simulates disk migrated Way old new
+  pub migrate_unfit : (old new : Running D) → new.server ≡ old.server → new.shown ≡ old.shown → ((w : World) → Refines disk old w → fits_migration w ≡ false) → Simulates disk migrated (MigratesIfFit disk) old new
   migrate_unfit old new same shown unfit = record {
     honest = λ h. subst (λ x. AreHonest disk (disks_of_server disk x)) same h;
     alone = λ e. ap (λ x. (disks_of_server disk x).other) same ∙ e;
@@ -68,16 +67,16 @@ module _ {D : Type 0} (disk : disks.Ghosts D) where
         replies = ap (λ x. x.replies.items) shown ∙ s.replies;
         clients = ap (λ x. x.clients.items) shown ∙ s.clients;
       },
-      inl (ap (disks_of_server disk) same),
+      subst (λ b. MatchBool b (Migrates disk (disks_of_world disk old) w (disks_of_world disk new) w) (disks_of_world disk new ≡ disks_of_world disk old)) (sym (unfit w s)) (ap (disks_of_server disk) same),
     );
   }
 
-  pub migrate_up : (old new : Running D) (store : Stored D) (other : Other D) → old.server ≡ Up store other → new.server ≡ Up store other → new.shown ≡ old.shown → Simulates disk migrated Way old new
+  pub migrate_up : (old new : Running D) (store : Stored D) (other : Other D) → old.server ≡ Up store other → new.server ≡ Up store other → new.shown ≡ old.shown → Simulates disk migrated (MigratesIfFit disk) old new
   migrate_up old new store other was is shown = migrate_unfit old new (is ∙ sym was) shown
       (λ w s. let here : IsUp disk store other old.shown.views.items w = subst (λ x. IsServer disk x old.shown.views.items w) was s.server in ap (λ b. not b && is_to_migrate w.stage) here.up)
 
   -- there is no new disk
-  pub migrate_beside : (old new : Running D) (d : D) (other : Other D) → old.server ≡ Down d other → new.server ≡ Down d other → new.shown ≡ old.shown → ((w : World) → IsBeside disk other w → is_to_migrate w.stage ≡ false) → Simulates disk migrated Way old new
+  pub migrate_beside : (old new : Running D) (d : D) (other : Other D) → old.server ≡ Down d other → new.server ≡ Down d other → new.shown ≡ old.shown → ((w : World) → IsBeside disk other w → is_to_migrate w.stage ≡ false) → Simulates disk migrated (MigratesIfFit disk) old new
   migrate_beside old new d other was is shown isnt = migrate_unfit old new (is ∙ sym was) shown
       (λ w s. let here : IsDown disk d other old.shown.views.items w = subst (λ x. IsServer disk x old.shown.views.items w) was s.server in both_false (not w.up) (is_to_migrate w.stage) (isnt w here.on.beside))
 
@@ -108,7 +107,7 @@ module _ {D : Type 0} (disk : disks.Ghosts D) where
     seen_means w s h = ((down_of w s).on.prefix (disk.seen old) (stand old (honest.0 h))).means
 
     abbrev Migrated : World → Type 0
-    Migrated w = (v : World) × migrated w v × Refines disk new_world v × Way (disks_of_world disk old_world) w (disks_of_world disk new_world) v
+    Migrated w = (v : World) × migrated w v × Refines disk new_world v × MigratesIfFit disk (disks_of_world disk old_world) w (disks_of_world disk new_world) v
 
     -- the world that stands at the end, with the server down
     stands_down : (d : D) (other : Other D) → new_world.server ≡ Down d other → (w v : World) → v.up ≡ false → v.replies ≡ w.replies → v.clients ≡ w.clients → disk.failures d ≡ v.faults → IsBeside disk other v → EachLeft disk d (KeepsPrefix disk other v) → Refines disk old_world w → Refines disk new_world v
@@ -118,11 +117,15 @@ module _ {D : Type 0} (disk : disks.Ghosts D) where
       clients = ap (λ r. r.clients.items) shown ∙ s.clients ∙ sym cs;
     }
 
-    fits : (w v : World) → Refines disk old_world w → MigrateMet w v → migrated w v
-    fits w v s m = fit_row w v (down_of w s).down (to_migrate w.stage (down_of w s).on.beside.0) m
+    fit : (w : World) → Refines disk old_world w → fits_migration w ≡ true
+    fit w s = fitting w (down_of w s).down (to_migrate w.stage (down_of w s).on.beside.0)
 
-    passes : (w v : World) (e : Disks D) → disks_of_world disk new_world ≡ e → Migrates disk disks_were w e v → Way (disks_of_world disk old_world) w (disks_of_world disk new_world) v
-    passes w v e is m = inr (subst (λ x. Migrates disk x w (disks_of_world disk new_world) v) (sym were) (subst (λ x. Migrates disk disks_were w x v) (sym is) m))
+    fits : (w v : World) → Refines disk old_world w → MigrateMet w v → migrated w v
+    fits w v s m = fit_row w v (fit w s) m
+
+    passes : (w v : World) (e : Disks D) → Refines disk old_world w → disks_of_world disk new_world ≡ e → Migrates disk disks_were w e v → MigratesIfFit disk (disks_of_world disk old_world) w (disks_of_world disk new_world) v
+    passes w v e s is m = subst (λ b. MatchBool b (Migrates disk (disks_of_world disk old_world) w (disks_of_world disk new_world) v) (disks_of_world disk new_world ≡ disks_of_world disk old_world)) (sym (fit w s))
+        (subst (λ x. Migrates disk x w (disks_of_world disk new_world) v) (sym were) (subst (λ x. Migrates disk disks_were w x v) (sym is) m))
 
     -- ---- done
 
@@ -142,7 +145,7 @@ module _ {D : Type 0} (disk : disks.Ghosts D) where
                   means = inl (none_yet (registry v) [] c (record { slot = A; number = 1; base = registry v; commands = []; means = holds c left; is = refl }));
                   numbered = numbered_more sizes_2 1 w.slot c (settled_reached w reached).first (means_numbered (watches Two) c A 1 (registry v) [] (holds c left));
                 }) s,
-            passes w v disks_done (ap (disks_of_server disk) server) (record { new_before = new; beside = refl; old = old_after; new = new_after; disks = inl refl; leaves = leaves }),
+            passes w v disks_done s (ap (disks_of_server disk) server) (record { new_before = new; beside = refl; old = old_after; new = new_after; disks = inl refl; leaves = leaves }),
           )
 
       by_moving : (w : World) → IsReached w → Refines disk old_world w → disk.honest old_after → MovesNow disk old old_after new_after → Migrated w
@@ -155,7 +158,7 @@ module _ {D : Type 0} (disk : disks.Ghosts D) where
       by_finding w reached s h k m (inl a) = absurd (not_retired _ (disk.seen old) a.means (One, m.was))
       by_finding w reached s h k m (inr moved) = goes_on w reached s w.kept ([], (w.pending, refl), sym (append-nil w.kept)) (λ c left. moved.holds c (now disk counts new new_after (disk.may_leave new) k m.writes.new_left c left)) m.retired (inl m.writes)
 
-      pub migrate_done : (disk.honest old_after → disk.honest new_after → IsMigrated disk old new old_after new_after) → Simulates disk migrated Way old_world new_world
+      pub migrate_done : (disk.honest old_after → disk.honest new_after → IsMigrated disk old new old_after new_after) → Simulates disk migrated (MigratesIfFit disk) old_world new_world
       migrate_done is_migrated = record {
         honest = λ h. subst (AreHonest disk) (sym were) (was_honest (subst (λ x. AreHonest disk (disks_of_server disk x)) server h));
         alone = λ e. absurd (none_before e);
@@ -193,7 +196,7 @@ module _ {D : Type 0} (disk : disks.Ghosts D) where
             stands_down old_after (New new_after) server w v down.down refl refl refl (down.on.beside.0, down.on.beside.1, refl)
                 (λ c left. prefix_same disk (New new_after) w v c (record { kept = refl; pending = refl; slot = refl; version = refl; stage = refl; down = λ e. e })
                 (prefix_later disk (New new) (New new_after) w c less (down.on.prefix c (now disk counts old old_after (disk.may_leave old) h m.old_left c left)))) s,
-            passes w v disks_cut (ap (disks_of_server disk) server) (record { new_before = new; beside = refl; old = old_after; new = new_after; disks = inr refl; leaves = inl m }),
+            passes w v disks_cut s (ap (disks_of_server disk) server) (record { new_before = new; beside = refl; old = old_after; new = new_after; disks = inr refl; leaves = inl m }),
           )
 
       cut_late : (w : World) → IsReached w → Refines disk old_world w → disk.honest old_after → ((n : ℕ) → EachLeft disk old (IsNumberedTo sizes_1 n) → EachLeft disk old_after (IsNumberedTo sizes_1 n)) → MovesOnly disk old old_after new_after → Migrated w
@@ -212,11 +215,11 @@ module _ {D : Type 0} (disk : disks.Ghosts D) where
                       (now disk counts m.read old_after (IsMeantByOldOrNew disk new_after m.registry) h m.from c left);
                   numbered = subst (λ (u : Version). IsNumberedTo (sizes_of u) w.slot c) (sym down.on.beside.1) (numbered w.slot sized c left);
                 }) s,
-            passes w v disks_cut (ap (disks_of_server disk) server) (record { new_before = new; beside = refl; old = old_after; new = new_after; disks = inr refl; leaves = inr (m, at) }),
+            passes w v disks_cut s (ap (disks_of_server disk) server) (record { new_before = new; beside = refl; old = old_after; new = new_after; disks = inr refl; leaves = inr (m, at) }),
           )
 
       pub migrate_cut : (disk.honest old_after → disk.honest new_after → MigratesOnly disk old new old_after new_after)
-          → (disk.honest old_after → (n : ℕ) → EachLeft disk old (IsNumberedTo sizes_1 n) → EachLeft disk old_after (IsNumberedTo sizes_1 n)) → Simulates disk migrated Way old_world new_world
+          → (disk.honest old_after → (n : ℕ) → EachLeft disk old (IsNumberedTo sizes_1 n) → EachLeft disk old_after (IsNumberedTo sizes_1 n)) → Simulates disk migrated (MigratesIfFit disk) old_world new_world
       migrate_cut any_moment numbered = record {
         honest = λ h. subst (AreHonest disk) (sym were) (was_honest (subst (λ x. AreHonest disk (disks_of_server disk x)) server h));
         alone = λ e. absurd (none_before e);
@@ -242,7 +245,7 @@ module _ {D : Type 0} (disk : disks.Ghosts D) where
           let r : State = in_version Two (replay w.kept) in
           none r refl (record { slot = A; number = 1; base = r; commands = []; means = moved.holds (disk.seen new) (stand new (honest.1 k)); is = refl })
 
-      pub migrate_refused : (disk.honest old_after → disk.honest new_after → HaveNoRegistry (disk.seen old) (disk.seen new)) → Simulates disk migrated Way old_world new_world
+      pub migrate_refused : (disk.honest old_after → disk.honest new_after → HaveNoRegistry (disk.seen old) (disk.seen new)) → Simulates disk migrated (MigratesIfFit disk) old_world new_world
       migrate_refused none = record {
         honest = λ h. subst (AreHonest disk) (sym were) (was_honest (subst (λ x. AreHonest disk (disks_of_server disk x)) server h));
         alone = λ e. absurd (none_before e);

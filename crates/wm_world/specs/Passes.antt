@@ -1,5 +1,5 @@
 -- How the disk goes on within an event.
-use Rattle.std.specs.Prelude.{◌≡◌, ◌≤◌, ◌+◌, ◌⊎◌, ℕ, true, List, [], ◌++◌, Option, Some, None}
+use Rattle.std.specs.Prelude.{◌≡◌, ◌≤◌, ◌+◌, ◌⊎◌, ℕ, true, List, [], ◌++◌, Option, Some, None, MatchBool}
 use Rattle.wm_disk.specs.Contents.{NoMore, Only}
 use Rattle.wm_disk.specs.Moments.{LeavesOnly}
 use Rattle.wm_disk.specs.declared.disk.Disk as disks
@@ -13,7 +13,7 @@ use Rattle.wm_world.specs.declared.event.Event.TheVariants as events
 use Rattle.wm_world.specs.declared.other.Other.{Other}
 use Rattle.wm_world.specs.declared.other.Other.TheVariants.{Nothing, New, Old}
 use Rattle.wm_world.specs.Worlds.{World, in_version, registry, replay}
-use Rattle.wm_world.specs.Steps.{IsPrefix}
+use Rattle.wm_world.specs.Steps.{IsPrefix, fits_migration}
 use Rattle.wm_world.specs.Refinement.{Disks, IsMoved}
 use Rattle.wm_store.specs.Meant.{MeansRegistry}
 use Rattle.wm_store.specs.Migrations.{MovesOnly, WritesNeither}
@@ -63,6 +63,10 @@ module _ {D : Type 0} (disk : disks.Ghosts D) where
     pub disks : (e ≡ record { used = new; other = Old old }) ⊎ (e ≡ record { used = old; other = New new })
     pub leaves : WritesNeither disk d.used new_before old new ⊎ ((m : MovesOnly disk d.used old new) × (m.registry ≡ in_version w.version (replay v.kept)))
 
+  -- one that doesn't fit leaves both disks as they are
+  abbrev pub MigratesIfFit : Disks D → World → Disks D → World → Type 0
+  MigratesIfFit d w e v = MatchBool (fits_migration w) (Migrates d w e v) (e ≡ d)
+
   -- The slot's number on the disk is one higher than before, and the registry stands in that slot with no command behind it.
   pub record Raises (d : D) (w : World) (e : D) : Type 0 where
     pub slot : Slot
@@ -106,7 +110,7 @@ module _ {D : Type 0} (disk : disks.Ghosts D) where
 
     abbrev pub Passes : Event → Disks D → World → Disks D → World → Type 0
     Passes events.Checkpoint d w e v = Switches d w e v
-    Passes events.Migrate d w e v = (e ≡ d) ⊎ Migrates d w e v
+    Passes events.Migrate d w e v = MigratesIfFit d w e v
     Passes (events.Arm calls) d w e v = Armed calls d w e v
     Passes (events.ArmOther calls) d w e v = OtherArmed calls d w e v
     Passes events.Crash d w e v = PowerLost d w e v

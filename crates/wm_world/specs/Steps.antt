@@ -204,8 +204,12 @@ checkpointed old new = MatchBool old.up (Checkpointed old new ⊎ Cut 1 old [] n
 abbrev pub opened : World → World → Type 0
 opened old new = MatchBool old.up (new ≡ old) (OpenDone old new)
 
+-- a migration fits while the server is down, and there is one to be done
+abbrev pub fits_migration : World → Bool
+fits_migration w = not w.up && is_to_migrate w.stage
+
 abbrev pub migrated : World → World → Type 0
-migrated old new = MatchBool (not old.up && is_to_migrate old.stage) (MigrateMet old new) (new ≡ old)
+migrated old new = MatchBool (fits_migration old) (MigrateMet old new) (new ≡ old)
 
 -- ---- the relation. An event that doesn't fit changes nothing
 

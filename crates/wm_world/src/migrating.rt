@@ -1,9 +1,9 @@
 //! Migrates the state file of a world into the disk beside it, and plans the failures of that disk.
 //! Definitions: specs/Steps.antt, specs/Passes.antt. Tests: session_tests/src/world/two_files.rt.
-ghost use Rattle.std.specs.Prelude.{◌≡◌, ◌⊎◌, IfOk};
+ghost use Rattle.std.specs.Prelude.{◌≡◌, IfOk};
 ghost use Rattle.wm_world.specs.Steps.{migrated};
 ghost use Rattle.wm_world.specs.Refinement.{Simulates};
-ghost use Rattle.wm_world.specs.Passes.{Migrates, OtherArmed};
+ghost use Rattle.wm_world.specs.Passes.{MigratesIfFit, OtherArmed};
 
 use crate::other::Other;
 use crate::starting;
@@ -17,7 +17,7 @@ impl<D: Crashed + Drop> World<D> {
     /// The state file is migrated into the disk beside it, while the server is down and there is a disk into
     /// which it may be.
     pub(crate) fn migrate(self, alloc: Global) -> Result<World<D>, NoMemory>
-        ensures { IfOk result (Simulates D.Disk migrated (λ d w e v. (e ≡ d) ⊎ Migrates D.Disk d w e v) self) }
+        ensures { IfOk result (Simulates D.Disk migrated (MigratesIfFit D.Disk) self) }
     {
         let World { server, shown } = self;
         let (mut old, other) = match server {
