@@ -25,7 +25,7 @@ use Rattle.wm_world.specs.declared.world.Server.TheVariants.{Up, Down}
 use Rattle.wm_world.specs.Worlds.{World, at_first, connected, is_of, registry, without_answer}
 use Rattle.wm_world.specs.Steps.{BatchCut, BatchDone, Checkpointed, Cut, IsReached, OpenDone, asking, batch, changed_at, checkpointed, down, opened, operated, receiving, with_client}
 use Rattle.wm_world.specs.Refinement.{AreHonest, AreViews, Disks, IsDown, IsOn, IsServer, IsUp, Simulates, Refines, asking_by, disk_of_world, disk_of_server, disks_of_server, disks_of_world, is_root, number_at}
-use Rattle.wm_world.specs.Passes.{Leaves, LeftBetween, Switches}
+use Rattle.wm_world.specs.Passes.{Leaves, LeftBetween, Opens, Switches}
 use Rattle.wm_disk.specs.laws.Runs.{OnlyNow}
 use Rattle.wm_world.proofs.Between.{stays_put}
 use Rattle.wm_world.proofs.Clients.{Good, good_reached}
@@ -159,9 +159,18 @@ module _ {D : Type 0} (disk : disks.Ghosts D) (only : OnlyNow disk) (law : Accep
           );
     }
 
-  pub open_up : (old new : Running D) (store : Stored D) (other : Other D) → old.server ≡ Up store other → new.server ≡ Up store other → new.shown ≡ old.shown → Simulates disk opened (Leaves disk) old new
-  open_up old new store other was is shown = unfit old new (is ∙ sym was) shown opened
-      (λ w s. let here : IsUp disk store other old.shown.views.items w = subst (λ x. IsServer disk x old.shown.views.items w) was s.server in subst (λ b. MatchBool b (w ≡ w) (OpenDone w w)) (sym here.up) refl)
+  pub open_up : (old new : Running D) (store : Stored D) (other : Other D) → old.server ≡ Up store other → new.server ≡ Up store other → new.shown ≡ old.shown → Simulates disk opened (Opens disk) old new
+  open_up old new store other was is shown = record {
+    honest = honest_same old new (is ∙ sym was);
+    alone = alone_same old new (is ∙ sym was);
+    goes = λ h w reached s.
+        let here : IsUp disk store other old.shown.views.items w = subst (λ x. IsServer disk x old.shown.views.items w) was s.server in (
+          w,
+          subst (λ b. MatchBool b (w ≡ w) (OpenDone w w)) (sym here.up) refl,
+          still old new (is ∙ sym was) shown w s,
+          record { leaves = same_disks old new (is ∙ sym was) h w reached (w.kept ++ w.pending) s; retired = λ down. absurd (true≢false (sym here.up ∙ down)) },
+        );
+  }
 
   is_down : (world : Running D) (w : World) → ((store : Stored D) (other : Other D) → world.server ≡ Up store other → ⊥) → Refines disk world w → w.up ≡ false
   is_down world w not_up s = by world.server refl s.server

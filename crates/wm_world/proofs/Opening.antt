@@ -20,14 +20,16 @@ use Rattle.wm_store.specs.Stored.{Stored}
 use Rattle.wm_store.specs.laws.Retired.{not_retired}
 use Rattle.wm_view.specs.Histories.{History, new_history}
 use Rattle.wm_view.specs.Summaries.{summary}
+use Rattle.wm_checkpoint.specs.Layout.{sizes_1}
+use Rattle.wm_checkpoint.specs.Meanings.{IsRetired}
 use Rattle.wm_checkpoint.specs.Numbers.{IsNumberedTo}
 use Rattle.wm_world.specs.declared.world.World.{World as Running}
 use Rattle.wm_world.specs.declared.other.Other.{Other}
 use Rattle.wm_world.specs.declared.world.Server.TheVariants.{Up, Down}
 use Rattle.wm_world.specs.Worlds.{World, begun_all, cannot_rise, in_version, registry, replay}
 use Rattle.wm_world.specs.Steps.{IsPrefix, IsReached, Finds, OpenCutEarly, OpenCutLate, OpenDone, OpenSpent, Opened, begin_on, opened, reopened}
-use Rattle.wm_world.specs.Refinement.{IsBeside, IsDown, IsMoved, IsServer, KeepsPrefix, Simulates, Refines, disks_of_server, disks_of_world}
-use Rattle.wm_world.specs.Passes.{Leaves, LeftBetween}
+use Rattle.wm_world.specs.Refinement.{Disks, IsBeside, IsDown, IsMoved, IsServer, KeepsPrefix, Simulates, Refines, disks_of_server, disks_of_world}
+use Rattle.wm_world.specs.Passes.{Leaves, LeftBetween, Opens}
 use Rattle.wm_disk.specs.laws.Runs.{weaker}
 use Rattle.wm_world.proofs.Between.{between_from, left_before, take-drop}
 use Rattle.wm_world.proofs.Moments.{Within, ids_reached}
@@ -125,7 +127,7 @@ module _ {D : Type 0} (disk : disks.Ghosts D) where
         → (disk.honest fresh_store.disk → IsBegun disk d fresh_store)
         → (disk.honest fresh_store.disk → (c : List ℕ) → disk.may_leave fresh_store.disk c → MeansRegistry fresh_store.registry c)
         → (disk.honest fresh_store.disk → (c : List ℕ) → disk.may_leave fresh_store.disk c → IsNumberedTo (sizes_of fresh_store.registry.version) fresh_store.number c)
-        → Simulates disk opened (Leaves disk) old new
+        → Simulates disk opened (Opens disk) old new
     open_done store server said clients views honest faults whole open_yet begins means numbered = record {
       honest = honest_calls disk old new d store.disk other (ap (disks_of_server disk) is_down) (ap (disks_of_server disk) server) honest;
       alone = alone_calls disk old new d store.disk other (ap (disks_of_server disk) is_down) (ap (disks_of_server disk) server);
@@ -172,7 +174,7 @@ module _ {D : Type 0} (disk : disks.Ghosts D) where
               replies = ap (λ r. r.items) said ∙ s.replies;
               clients = ap (λ r. r.items) clients ∙ s.clients;
             },
-            started_on store.disk w v (ap (disks_of_server disk) server) (found_leaves store.disk w reached (Begin ∷ []) (kept ++ []) s k ([], refl) (accepts, tt) (λ c m. m) b.found b.opened),
+            record { leaves = started_on store.disk w v (ap (disks_of_server disk) server) (found_leaves store.disk w reached (Begin ∷ []) (kept ++ []) s k ([], refl) (accepts, tt) (λ c m. m) b.found b.opened); retired = λ down. inl row },
           );
     }
 
@@ -185,7 +187,7 @@ module _ {D : Type 0} (disk : disks.Ghosts D) where
       }
 
       abbrev Open : World → Type 0
-      Open w = (v : World) × opened w v × Refines disk new v × Leaves disk (disks_of_world disk old) w (disks_of_world disk new) v
+      Open w = (v : World) × opened w v × Refines disk new v × Opens disk (disks_of_world disk old) w (disks_of_world disk new) v
 
       as_row : (w v : World) → Refines disk old w → OpenDone w v → opened w v
       as_row w v s row = subst (λ u. MatchBool u (v ≡ w) (OpenDone w v)) (sym (down_of w s).down) row
@@ -201,7 +203,7 @@ module _ {D : Type 0} (disk : disks.Ghosts D) where
             as_row w v s (inr (inl row)),
             stands_down w v down.down refl refl refl (beside_same disk other w v refl refl refl down.on.beside)
                 (λ c left. prefix_same disk other w v c (record { kept = refl; pending = refl; slot = refl; version = refl; stage = refl; down = λ e. e }) (down.on.prefix c (less c left))) s,
-            started_on later_disk w v (ap (disks_of_server disk) server) (early_leaves later_disk w reached (w.kept ++ w.pending) s run),
+            record { leaves = started_on later_disk w v (ap (disks_of_server disk) server) (early_leaves later_disk w reached (w.kept ++ w.pending) s run); retired = λ is_down. inr (inl row) },
           )
 
       -- after it was
@@ -218,8 +220,11 @@ module _ {D : Type 0} (disk : disks.Ghosts D) where
             as_row w v s (inr (inr (inl row))),
             stands_down w v down.down refl refl refl (beside_reopened disk other w v refl refl refl down.on.beside)
                 (λ c left. record { means = inl (begin_kept (in_version w.version (replay k.found)) c (subst (λ r. MeansAfter r (Begin ∷ []) c) at (left_means c left))); numbered = numbered c left }) s,
-            started_on later_disk w v (ap (disks_of_server disk) server)
-                (found_leaves later_disk w reached (begin_on k.found) (k.found ++ begin_on k.found) s k ([], append-nil (k.found ++ begin_on k.found)) (begin_accepted w.version k.found) (λ c m. begin_kept (in_version w.version (replay k.found)) c m) found f),
+            record {
+              leaves = started_on later_disk w v (ap (disks_of_server disk) server)
+                  (found_leaves later_disk w reached (begin_on k.found) (k.found ++ begin_on k.found) s k ([], append-nil (k.found ++ begin_on k.found)) (begin_accepted w.version k.found) (λ c m. begin_kept (in_version w.version (replay k.found)) c m) found f);
+              retired = λ is_down. inr (inr (inl row));
+            },
           )
 
       -- a counter is spent
@@ -237,7 +242,7 @@ module _ {D : Type 0} (disk : disks.Ghosts D) where
             as_row w v s (inr (inr (inr (inl row)))),
             stands_down w v down.down refl refl (stood ∙ down.on.faults) (beside_reopened disk other w v refl refl refl down.on.beside)
                 (λ c left. record { means = inl (none_yet (in_version w.version (replay k.found)) [] c (subst (λ r. MeansRegistry r c) at (left_means c left))); numbered = numbered c left }) s,
-            started_on later_disk w v (ap (disks_of_server disk) server) (leaves k at),
+            record { leaves = started_on later_disk w v (ap (disks_of_server disk) server) (leaves k at); retired = λ is_down. inr (inr (inr (inl row))) },
           )
         where
           leaves : (k : Known w) → found ≡ in_version w.version (replay k.found) → LeavesOnly disk.moment disk.left_since d later_disk (LeftBetween disk other w (k.found ++ []))
@@ -260,7 +265,7 @@ module _ {D : Type 0} (disk : disks.Ghosts D) where
           → (disk.honest later_disk → e ≡ refusals.Exhausted → (found : State) × MeansRegistry found (disk.seen d) × ((c : List ℕ) → disk.may_leave later_disk c → MeansRegistry found c))
           → (disk.honest later_disk → e ≡ refusals.Exhausted → (found : State) × MeansRegistry found (disk.seen d) × LeavesOnly disk.moment disk.left_since d later_disk (λ c. disk.may_leave d c ⊎ MeansRegistry found c))
           → (disk.honest later_disk → (s : State) → MeansRegistry s (disk.seen d) → (n : ℕ) → ((c : List ℕ) → disk.may_leave d c → IsNumberedTo (sizes_of s.version) n c) → (c : List ℕ) → disk.may_leave later_disk c → IsNumberedTo (sizes_of s.version) (n + 1) c)
-          → Simulates disk opened (Leaves disk) old new
+          → Simulates disk opened (Opens disk) old new
       open_failed counts e memory kinds cut damaged retired exhausted failed stood later only still numbered = record {
         honest = honest_calls disk old new d later_disk other (ap (disks_of_server disk) is_down) (ap (disks_of_server disk) server) honest;
         alone = alone_calls disk old new d later_disk other (ap (disks_of_server disk) is_down) (ap (disks_of_server disk) server);
@@ -293,7 +298,10 @@ module _ {D : Type 0} (disk : disks.Ghosts D) where
                 w,
                 as_row w w s (inr (inr (inr (inr (between_of disk other w (disk.seen d) moved, refl))))),
                 stands_down w w down.down refl refl (stood (not_device refusals.Retired refl is) ∙ down.on.faults) down.on.beside (λ c left. down.on.prefix c (now disk counts d later_disk (disk.may_leave d) h run c left)) s,
-                started_on later_disk w w (ap (disks_of_server disk) server) (early_leaves later_disk w reached (w.kept ++ w.pending) s run),
+                record {
+                  leaves = started_on later_disk w w (ap (disks_of_server disk) server) (early_leaves later_disk w reached (w.kept ++ w.pending) s run);
+                  retired = λ was_down. inr (inr (inr (inr (subst (λ (x : Disks D). IsRetired sizes_1 (disk.seen x.used)) (sym (ap (disks_of_server disk) is_down)) (retired_of disk other w (disk.seen d) moved)))));
+                },
               )
 
           no_damage : disk.honest later_disk → (w : World) → e ≡ refusals.Damaged → MeansAfter (registry w) w.pending (disk.seen d) ⊎ IsMoved disk other w (disk.seen d) → ⊥

@@ -1,10 +1,11 @@
 -- How the disk goes on within an event.
-use Rattle.std.specs.Prelude.{◌≡◌, ◌≤◌, ◌+◌, ◌⊎◌, ℕ, true, List, [], ◌++◌, Option, Some, None, MatchBool}
+use Rattle.std.specs.Prelude.{◌≡◌, ◌≤◌, ◌+◌, ◌⊎◌, ℕ, true, false, List, [], ◌++◌, Option, Some, None, MatchBool}
 use Rattle.wm_disk.specs.Contents.{NoMore, Only}
 use Rattle.wm_disk.specs.Moments.{LeavesOnly}
 use Rattle.wm_disk.specs.declared.disk.Disk as disks
 use Rattle.wm_disk.specs.Counters.{max_counter}
-use Rattle.wm_checkpoint.specs.Meanings.{Means}
+use Rattle.wm_checkpoint.specs.Layout.{sizes_1}
+use Rattle.wm_checkpoint.specs.Meanings.{IsRetired, Means}
 use Rattle.wm_checkpoint.specs.declared.layout.Slot.{Slot}
 use Rattle.wm_registry.specs.declared.command.Command.{Command}
 use Rattle.wm_registry.specs.MachineLaws.{watches}
@@ -13,7 +14,7 @@ use Rattle.wm_world.specs.declared.event.Event.TheVariants as events
 use Rattle.wm_world.specs.declared.other.Other.{Other}
 use Rattle.wm_world.specs.declared.other.Other.TheVariants.{Nothing, New, Old}
 use Rattle.wm_world.specs.Worlds.{World, in_version, registry, replay}
-use Rattle.wm_world.specs.Steps.{IsPrefix, fits_migration}
+use Rattle.wm_world.specs.Steps.{IsPrefix, OpenCutEarly, OpenCutLate, OpenSpent, Opened, fits_migration}
 use Rattle.wm_world.specs.Refinement.{Disks, IsMoved}
 use Rattle.wm_store.specs.Meant.{MeansRegistry}
 use Rattle.wm_store.specs.Migrations.{MovesOnly, WritesNeither}
@@ -51,6 +52,12 @@ module _ {D : Type 0} (disk : disks.Ghosts D) where
   -- a crash at any moment in between leaves nothing else, and the disk beside has no call
   abbrev pub Leaves : Disks D → World → Disks D → World → Type 0
   Leaves d w e v = LeavesOnly disk.moment disk.left_since d.used e.used (LeftBetween d.other w (v.kept ++ v.pending)) × (e.other ≡ d.other)
+
+  -- a start
+  pub record Opens (d : Disks D) (w : World) (e : Disks D) (v : World) : Type 0 where
+    pub leaves : Leaves d w e v
+    -- The server comes up, or the device failed, or a counter is spent; else the file in use is retired.
+    pub retired : w.up ≡ false → Opened w v ⊎ OpenCutEarly w v ⊎ OpenCutLate w v ⊎ OpenSpent w v ⊎ IsRetired sizes_1 (disk.seen d.used)
 
   -- A migration, of a disk that is old afterwards into the one beside it, which is new afterwards: a crash at any moment leaves what one
   -- before might have left of each; or, from the moment on at which old was read, an old file that means the registry after what is kept
@@ -109,6 +116,7 @@ module _ {D : Type 0} (disk : disks.Ghosts D) where
     Halted d w e v = OnBoth Halts d e
 
     abbrev pub Passes : Event → Disks D → World → Disks D → World → Type 0
+    Passes events.Open d w e v = Opens d w e v
     Passes events.Checkpoint d w e v = Switches d w e v
     Passes events.Migrate d w e v = MigratesIfFit d w e v
     Passes (events.Arm calls) d w e v = Armed calls d w e v

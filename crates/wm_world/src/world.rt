@@ -6,7 +6,7 @@ ghost use Rattle.wm_expr.specs.Views.{term};
 ghost use Rattle.wm_world.specs.Worlds.{connected, nothing_yet, nothing_yet_of_two, without_answer};
 ghost use Rattle.wm_world.specs.Steps.{Crashed as IsCrashed, Step, asking, batch, checkpointed, opened, down, operated, receiving, with_client};
 ghost use Rattle.wm_world.specs.Refinement.{Simulates, Refines, clients_of, disks_of_server, disks_of_world, number_at as number_at_lem, registry_of, replies_of, views_of};
-ghost use Rattle.wm_world.specs.Passes.{Armed, Halted, Leaves, Passes, PowerLost, Switches};
+ghost use Rattle.wm_world.specs.Passes.{Armed, Halted, Leaves, Opens, Passes, PowerLost, Switches};
 ghost use Rattle.wm_world.specs.Headline.{IsFormatted, IsFormattedInVersion1};
 ghost use Rattle.wm_world.specs.declared.other.Other.TheVariants.{Nothing, New};
 
@@ -318,7 +318,7 @@ impl<D: Crashed + Drop> World<D> {
 
     /// A start.
     fn open(self, alloc: Global) -> Result<World<D>, NoMemory>
-        ensures { IfOk result (Simulates D.Disk opened (Leaves D.Disk) self) }
+        ensures { IfOk result (Simulates D.Disk opened (Opens D.Disk) self) }
     {
         every_file();
         every_registry();
