@@ -1,5 +1,5 @@
 -- Nothing is invented, what was acknowledged stays, and a restart finds it.
-use Rattle.std.proofs.Common.{◌≡◌, ◌⊎◌, inl, inr, ℕ, Bool, true, false, cond, not, ◌&&◌, List, [], ◌∷◌, ◌++◌, length, nat_le, Option, Some, None, refl, sym, ap, subst, ◌∙◌, append_assoc, append-nil, MatchBool}
+use Rattle.std.proofs.Common.{◌≡◌, ◌⊎◌, inl, inr, ℕ, Bool, true, false, cond, not, ◌&&◌, List, [], ◌∷◌, ◌++◌, length, nat_le, Option, Some, None, refl, sym, ap, subst, ◌∙◌, append_assoc, append-nil, MatchBool, true≢false}
 use Rattle.std.specs.Option.{option_map_or}
 use Rattle.wm_disk.specs.Contents.{Rose}
 use Rattle.wm_disk.specs.PartLaws.{part_behind, part_both, part_prefix, part_same, part_then}
@@ -22,9 +22,9 @@ use Rattle.wm_view.specs.declared.op.Op.{Op}
 use Rattle.wm_view.specs.declared.op.Op.TheVariants as ops
 use Rattle.wm_world.specs.declared.event.Event.{Event}
 use Rattle.wm_world.specs.declared.event.Event.TheVariants as events
-use Rattle.wm_world.specs.Worlds.{World, at_first, Alone, Before, Between, cannot_rise, nothing_yet, nothing_yet_of_two, in_version, is_of, registry, replay}
-use Rattle.wm_world.specs.Steps.{BatchCut, BatchDone, IsPrefix, Checkpointed, Cut, Finds, MigrateMet, OpenDone, Run, Step, begin_on, is_to_migrate, operated}
-use Rattle.wm_world.specs.Laws.{AcknowledgedStays, KeptStays, NothingInvented, RestartFinds, given, given_by, without_begins}
+use Rattle.wm_world.specs.Worlds.{World, at_first, After, Alone, Before, Between, cannot_rise, nothing_yet, nothing_yet_of_two, in_version, is_of, registry, replay}
+use Rattle.wm_world.specs.Steps.{BatchCut, BatchDone, IsPrefix, Checkpointed, Cut, Finds, MigrateMet, OpenDone, Run, Step, begin_on, fits_migration, is_to_migrate, operated}
+use Rattle.wm_world.specs.Laws.{AcknowledgedStays, KeptStays, MigrationFinds, NothingInvented, RestartFinds, given, given_by, without_begins}
 use Rattle.wm_world.proofs.Batching.{none_accepted, not_begin}
 use Rattle.wm_world.proofs.Reached.{Settled, settled_shape, settled_start}
 use Rattle.wm_world.proofs.Shapes.{shape}
@@ -200,3 +200,33 @@ restart_finds old new down step = by (subst (λ b. MatchBool b (new ≡ old) (Op
     by (inr (inr (inr (inl (raise, (found, finds, inl refused, e)))))) = left _ refl e finds (inr (inr (inl (ap (λ (w : World). changes (replay w.kept) Begin) e ∙ refused))))
     by (inr (inr (inr (inl (raise, (found, finds, inr spent, e)))))) = left _ refl e finds (inr (inl spent))
     by (inr (inr (inr (inr (stage, e))))) = left old refl e ([], (old.pending, refl), sym (append-nil old.kept)) (inr (inr (inr stage)))
+
+-- ---- migrations
+
+is_down : (up begun : Bool) → (not up && begun) ≡ true → up ≡ false
+is_down true begun e = absurd (true≢false (sym e))
+is_down false begun e = refl
+
+pub migration_finds : MigrationFinds
+migration_finds old new fits step = by (subst (λ b. MatchBool b (MigrateMet old new) (new ≡ old)) fits step)
+  where
+    down : old.up ≡ false
+    down = is_down old.up (is_to_migrate old.stage) fits
+
+    Found : Type 0
+    Found = (part : List Command) × IsPrefix part old.pending × (new.up ≡ false) × (new.kept ≡ old.kept ++ part)
+        × (((new.stage ≡ After) × (new.version ≡ Two) × (new.pending ≡ []) × (registry new ≡ in_version Two (replay (old.kept ++ part))))
+        ⊎ ((Rose old.faults new.faults ⊎ Rose old.other_faults new.other_faults) × (new.version ≡ old.version) × (fits_migration new ≡ true)))
+
+    by : MigrateMet old new → Found
+    by (inl (found, (part, begins, is), e)) = (
+      part,
+      begins,
+      ap (λ (w : World). w.up) e ∙ down,
+      ap (λ (w : World). w.kept) e ∙ is,
+      inl (ap (λ (w : World). w.stage) e, ap (λ (w : World). w.version) e, ap (λ (w : World). w.pending) e, ap registry e ∙ ap (λ cs. in_version Two (replay cs)) is),
+    )
+    by (inr (inl (failed, e))) =
+        ([], (old.pending, refl), ap (λ (w : World). w.up) e ∙ down, ap (λ (w : World). w.kept) e ∙ sym (append-nil old.kept), inr (failed.0, ap (λ (w : World). w.version) e, ap fits_migration e ∙ fits))
+    by (inr (inr (failed, (found, (part, begins, is), e)))) =
+        (part, begins, ap (λ (w : World). w.up) e ∙ down, ap (λ (w : World). w.kept) e ∙ is, inr (failed.0, ap (λ (w : World). w.version) e, ap fits_migration e ∙ (λ i. not (down i) && true)))

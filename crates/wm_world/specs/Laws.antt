@@ -10,6 +10,7 @@ use Rattle.wm_clock.specs.Clocks.{clock_text, is_clock}
 use Rattle.wm_registry.specs.declared.command.Command.{Command}
 use Rattle.wm_registry.specs.declared.command.Command.TheVariants.{Begin}
 use Rattle.wm_registry.specs.declared.root.Root.{Root}
+use Rattle.wm_registry.specs.declared.version.Version.TheVariants.{Two}
 use Rattle.wm_registry.specs.Registry.{changes}
 use Rattle.wm_registry.specs.Roots.{root_at}
 use Rattle.wm_store.specs.Batches.{accepted_of, is_begin}
@@ -21,8 +22,8 @@ use Rattle.wm_since.specs.Matching.{matching_at}
 use Rattle.wm_world.specs.declared.connection.Connection.{Connection}
 use Rattle.wm_world.specs.declared.event.Event.{Event}
 use Rattle.wm_world.specs.declared.event.Event.TheVariants as events
-use Rattle.wm_world.specs.Worlds.{Alone, Between, World, history_in, cannot_rise, in_version, live, registry, replay, wants}
-use Rattle.wm_world.specs.Steps.{IsPrefix, BatchDone, IsReached, Leads, Run, Step, answer_about}
+use Rattle.wm_world.specs.Worlds.{After, Alone, Between, World, history_in, cannot_rise, in_version, live, registry, replay, wants}
+use Rattle.wm_world.specs.Steps.{IsPrefix, BatchDone, IsReached, Leads, Run, Step, answer_about, fits_migration}
 
 -- ---- clients
 
@@ -140,6 +141,15 @@ abbrev pub RestartFinds : Type 0
 RestartFinds = (old new : World) → old.up ≡ false → Step old events.Open new → (part : List Command) × IsPrefix part old.pending
     × (((new.up ≡ true) × (changes (replay (old.kept ++ part)) Begin ≡ true) × (registry new ≡ in_version old.version (replay (old.kept ++ part ++ Begin ∷ []))))
     ⊎ ((new.up ≡ false) × (new.kept ≡ old.kept ++ part) × (Rose old.faults new.faults ⊎ (cannot_rise old.slot ≡ true) ⊎ (changes (registry new) Begin ≡ false) ⊎ (old.stage ≡ Between))))
+
+-- ---- migrations
+
+-- A migration that fits finds what was kept, and a prefix of what was in flight. It is done: the file in use has version 2, with the registry
+-- of that, and nothing is in flight; or the count of one of the devices rose, and the next migration fits. So one that isn't cut finishes.
+abbrev pub MigrationFinds : Type 0
+MigrationFinds = (old new : World) → fits_migration old ≡ true → Step old events.Migrate new → (part : List Command) × IsPrefix part old.pending × (new.up ≡ false) × (new.kept ≡ old.kept ++ part)
+    × (((new.stage ≡ After) × (new.version ≡ Two) × (new.pending ≡ []) × (registry new ≡ in_version Two (replay (old.kept ++ part))))
+    ⊎ ((Rose old.faults new.faults ⊎ Rose old.other_faults new.other_faults) × (new.version ≡ old.version) × (fits_migration new ≡ true)))
 
 -- ---- files
 

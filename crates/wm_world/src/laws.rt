@@ -1,6 +1,6 @@
 //! What holds of every run of a world: a function there for its contract alone.
 //! Definitions: specs/Laws.antt.
-ghost use Rattle.wm_world.specs.Laws.{AcknowledgedStays, ClientsHold, InRange, KeptStays, NothingInvented, OneMoment, OneMomentOfAnswers, PendingIsOwn, RestartFinds, SlotBound, StaysAlone};
+ghost use Rattle.wm_world.specs.Laws.{AcknowledgedStays, ClientsHold, InRange, KeptStays, MigrationFinds, NothingInvented, OneMoment, OneMomentOfAnswers, PendingIsOwn, RestartFinds, SlotBound, StaysAlone};
 
 use wm_clock::clock_laws;
 use wm_registry::every_registry;
@@ -22,6 +22,8 @@ pub fn every_run()
     ensures pending { PendingIsOwn }
     ensures bound { SlotBound }
     ensures restart { RestartFinds }
+    // A migration moves it, or is cut, and then the next one fits.
+    ensures migration { MigrationFinds }
     // Where there is no other disk, none comes.
     ensures alone { StaysAlone }
 {

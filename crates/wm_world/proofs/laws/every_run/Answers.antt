@@ -1,5 +1,5 @@
 use Rattle.wm_world.proofs.Bounds.{slot_bound}
-use Rattle.wm_world.proofs.Kept.{acknowledged_stays, kept_stays, nothing_invented, restart_finds}
+use Rattle.wm_world.proofs.Kept.{acknowledged_stays, kept_stays, migration_finds, nothing_invented, restart_finds}
 use Rattle.wm_world.proofs.Moments.{in_range, one_moment, one_moment_of_answers}
 use Rattle.wm_world.proofs.Owners.{clients_hold}
 use Rattle.wm_world.proofs.Reached.{pending_is_own}
@@ -35,6 +35,9 @@ returns-clause-bound c = slot_bound
 
 pub returns-clause-restart : goal.returns-clause-restart
 returns-clause-restart c = restart_finds
+
+pub returns-clause-migration : goal.returns-clause-migration
+returns-clause-migration c = migration_finds
 
 pub returns-clause-alone : goal.returns-clause-alone
 returns-clause-alone c = stays_alone
