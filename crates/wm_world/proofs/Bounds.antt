@@ -13,7 +13,7 @@ use Rattle.wm_view.specs.declared.op.Op.TheVariants as ops
 use Rattle.wm_world.specs.declared.event.Event.{Event}
 use Rattle.wm_world.specs.declared.event.Event.TheVariants as events
 use Rattle.wm_world.specs.Worlds.{World, at_first, is_of, registry}
-use Rattle.wm_world.specs.Steps.{BatchCut, BatchDone, Checkpointed, Cut, MigrateMet, OpenDone, Step, is_to_migrate, operated}
+use Rattle.wm_world.specs.Steps.{BatchCut, BatchDone, Checkpointed, Cut, MigrateEnds, OpenEnds, Step, is_to_migrate, operated}
 use Rattle.wm_world.specs.Laws.{SlotBound, raise_by}
 
 bound_step : (old : World) (event : Event) (new : World) → Step old event new → new.slot ≤ old.slot + raise_by event
@@ -34,7 +34,7 @@ bound_step old event new s = by event s
     checkpoint true (inr (rose, later, raise, e)) = raise.1
     checkpoint false e = stays old 1 refl e
 
-    start : (b : Bool) → MatchBool b (new ≡ old) (OpenDone old new) → new.slot ≤ old.slot + 1
+    start : (b : Bool) → MatchBool b (new ≡ old) (OpenEnds old new) → new.slot ≤ old.slot + 1
     start true e = stays old 1 refl e
     start false (inl (found, finds, raise, accepts, e)) = raise.1
     start false (inr (inl (rose, later, e))) = stays (record old { faults = new.faults }) 1 refl e
@@ -42,7 +42,7 @@ bound_step old event new s = by event s
     start false (inr (inr (inr (inl (raise, rest))))) = raise.1
     start false (inr (inr (inr (inr (stage, e))))) = stays old 1 refl e
 
-    migrate : (b : Bool) → MatchBool b (MigrateMet old new) (new ≡ old) → new.slot ≤ old.slot + 0
+    migrate : (b : Bool) → MatchBool b (MigrateEnds old new) (new ≡ old) → new.slot ≤ old.slot + 0
     migrate true (inl (found, finds, e)) = stays _ 0 refl e
     migrate true (inr (inl (rose, e))) = stays _ 0 refl e
     migrate true (inr (inr (rose, (found, finds, e)))) = stays _ 0 refl e

@@ -23,7 +23,7 @@ use Rattle.wm_world.specs.declared.other.Other.TheVariants.{Nothing}
 use Rattle.wm_world.specs.declared.world.Server.{Server}
 use Rattle.wm_world.specs.declared.world.Server.TheVariants.{Up, Down}
 use Rattle.wm_world.specs.Worlds.{World, at_first, connected, is_of, registry, without_answer}
-use Rattle.wm_world.specs.Steps.{BatchCut, BatchDone, Checkpointed, Cut, IsReached, OpenDone, asking, batch, changed_at, checkpointed, down, opened, operated, receiving, with_client}
+use Rattle.wm_world.specs.Steps.{BatchCut, BatchDone, Checkpointed, Cut, IsReached, OpenEnds, asking, batch, changed_at, checkpointed, down, opened, operated, receiving, with_client}
 use Rattle.wm_world.specs.Refinement.{AreHonest, AreViews, Disks, IsDown, IsOn, IsServer, IsUp, Simulates, Refines, asking_by, disk_of_world, disk_of_server, disks_of_server, disks_of_world, is_root, number_at}
 use Rattle.wm_world.specs.Passes.{Leaves, LeftBetween, Opens, Switches}
 use Rattle.wm_disk.specs.laws.Runs.{OnlyNow}
@@ -166,7 +166,7 @@ module _ {D : Type 0} (disk : disks.Ghosts D) (only : OnlyNow disk) (law : Accep
     goes = λ h w reached s.
         let here : IsUp disk store other old.shown.views.items w = subst (λ x. IsServer disk x old.shown.views.items w) was s.server in (
           w,
-          subst (λ b. MatchBool b (w ≡ w) (OpenDone w w)) (sym here.up) refl,
+          subst (λ b. MatchBool b (w ≡ w) (OpenEnds w w)) (sym here.up) refl,
           still old new (is ∙ sym was) shown w s,
           record { leaves = same_disks old new (is ∙ sym was) h w reached (w.kept ++ w.pending) s; retired = λ down. absurd (true≢false (sym here.up ∙ down)) },
         );

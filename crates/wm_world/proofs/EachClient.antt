@@ -18,7 +18,7 @@ use Rattle.wm_world.specs.declared.connection.Connection.{Connection}
 use Rattle.wm_world.specs.declared.event.Event.{Event}
 use Rattle.wm_world.specs.declared.event.Event.TheVariants as events
 use Rattle.wm_world.specs.Worlds.{World, at_first, connected, is_of, registry, without_answer}
-use Rattle.wm_world.specs.Steps.{BatchCut, BatchDone, Checkpointed, Cut, MigrateMet, OpenDone, Step, asking, changed_at, is_to_migrate, operated, receiving}
+use Rattle.wm_world.specs.Steps.{BatchCut, BatchDone, Checkpointed, Cut, MigrateEnds, OpenEnds, Step, asking, changed_at, is_to_migrate, operated, receiving}
 
 pub all_on : (P Q : Connection → Type 0) → ((c : Connection) → P c → Q c) → (cs : List Connection) → AllByRecursion P cs → AllByRecursion Q cs
 all_on P Q f [] h = tt
@@ -72,7 +72,7 @@ each_client P old event new lasts g s = by event s
     checkpoint true (inr c) = cut 1 [] c
     checkpoint false e = to old e g
 
-    start : (b : Bool) → MatchBool b (new ≡ old) (OpenDone old new) → AllByRecursion P new.clients
+    start : (b : Bool) → MatchBool b (new ≡ old) (OpenEnds old new) → AllByRecursion P new.clients
     start true e = to old e g
     start false (inl (found, finds, raise, accepts, e)) = to _ e g
     start false (inr (inl (rose, later, e))) = to _ e g
@@ -80,7 +80,7 @@ each_client P old event new lasts g s = by event s
     start false (inr (inr (inr (inl (raise, (found, finds, why, e)))))) = to _ e g
     start false (inr (inr (inr (inr (stage, e))))) = to old e g
 
-    migrate : (b : Bool) → MatchBool b (MigrateMet old new) (new ≡ old) → AllByRecursion P new.clients
+    migrate : (b : Bool) → MatchBool b (MigrateEnds old new) (new ≡ old) → AllByRecursion P new.clients
     migrate true (inl (found, finds, e)) = to _ e g
     migrate true (inr (inl (rose, e))) = to _ e g
     migrate true (inr (inr (rose, (found, finds, e)))) = to _ e g

@@ -9,7 +9,7 @@ use Rattle.wm_world.specs.declared.other.Other.TheVariants.{Nothing, New, Old}
 use Rattle.wm_world.specs.declared.world.Server.TheVariants.{Down}
 use Rattle.wm_world.specs.Worlds.{World, in_version, registry, replay, without_answer}
 use Rattle.wm_world.specs.Steps.{Crashed, IsPrefix, IsReached, down}
-use Rattle.wm_world.specs.Refinement.{AreHonest, IsBeside, IsMoved, IsOn, IsServer, KeepsPrefix, OtherIs, Simulates, Refines, disk_of_world, disks_of_server, disks_of_world}
+use Rattle.wm_world.specs.Refinement.{AreHonest, IsBeside, IsRetiredBeside, IsOn, IsServer, KeepsPrefix, OtherIs, Simulates, Refines, disk_of_world, disks_of_server, disks_of_world}
 use Rattle.wm_world.specs.Passes.{Halted, Halts, LosesPower, OnOther, PowerLost}
 use Rattle.wm_world.proofs.Between.{take-drop}
 use Rattle.wm_world.proofs.Others.{FailsNoMore, LeavesNoMore, beside_later, beside_same, moved_later, none_later, on_other_weaker, prefix_later, prefix_same}
@@ -101,7 +101,7 @@ module _ {D : Type 0} (disk : disks.Ghosts D) (plan : D → Option ℕ) where
                   subst (λ x. PowerLost disk plan (disks_of_world disk old) w (disks_of_server disk x) v) (sym server) (loses was.0, other_loses was.1),
                 )
 
-            by : MeansAfter (registry w) w.pending (disk.seen d) ⊎ IsMoved disk (disks_of_world disk old).other w (disk.seen d) → (v : World) × Crashed w v × Refines disk new v × PowerLost disk plan (disks_of_world disk old) w (disks_of_world disk new) v
+            by : MeansAfter (registry w) w.pending (disk.seen d) ⊎ IsRetiredBeside disk (disks_of_world disk old).other w (disk.seen d) → (v : World) × Crashed w v × Refines disk new v × PowerLost disk plan (disks_of_world disk old) w (disks_of_world disk new) v
             by (inl m) =
                 let part : List Command = take m.count w.pending in
                 to part (drop m.count w.pending, take-drop m.count w.pending) (w.kept ++ part) refl
@@ -111,7 +111,7 @@ module _ {D : Type 0} (disk : disks.Ghosts D) (plan : D → Option ℕ) where
                 to [] (w.pending, refl) w.kept (sym (append-nil w.kept))
                 (record { means = inr (moved_later disk (disks_of_world disk old).other other v (disk.seen d) less (ended (disks_of_world disk old).other m)); numbered = k.numbered })
               where
-                ended : (o : Other D) → IsMoved disk o w (disk.seen d) → IsMoved disk o (record (down w) { pending = [] }) (disk.seen d)
+                ended : (o : Other D) → IsRetiredBeside disk o w (disk.seen d) → IsRetiredBeside disk o (record (down w) { pending = [] }) (disk.seen d)
                 ended Nothing moved = moved
                 ended (Old old_disk) moved = moved
                 ended (New new_disk) moved = record { stage = moved.stage; down = refl; none = refl; retired = moved.retired; holds = moved.holds }

@@ -23,7 +23,7 @@ use Rattle.wm_view.specs.declared.op.Op.TheVariants as ops
 use Rattle.wm_world.specs.declared.event.Event.{Event}
 use Rattle.wm_world.specs.declared.event.Event.TheVariants as events
 use Rattle.wm_world.specs.Worlds.{World, at_first, After, Alone, Before, Between, cannot_rise, nothing_yet, nothing_yet_of_two, in_version, is_of, registry, replay}
-use Rattle.wm_world.specs.Steps.{BatchCut, BatchDone, IsPrefix, Checkpointed, Cut, Finds, MigrateMet, OpenDone, Run, Step, begin_on, fits_migration, is_to_migrate, operated}
+use Rattle.wm_world.specs.Steps.{BatchCut, BatchDone, IsPrefix, Checkpointed, Cut, Finds, MigrateEnds, OpenEnds, Run, Step, begin_on, fits_migration, is_to_migrate, operated}
 use Rattle.wm_world.specs.Laws.{AcknowledgedStays, KeptStays, MigrationFinds, NothingInvented, RestartFinds, given, given_by, without_begins}
 use Rattle.wm_world.proofs.Batching.{none_accepted, not_begin}
 use Rattle.wm_world.proofs.Reached.{Settled, settled_shape, settled_start}
@@ -118,7 +118,7 @@ part_step old event new was s = by event s
     checkpoint true up (inr (rose, later, raise, e)) = to [] _ e (subst (λ p. IsPartOf (old.kept ++ p) (standing old ++ [])) (was.pending up) (same []))
     checkpoint false up e = to [] old e (same [])
 
-    start : (u : Bool) → MatchBool u (new ≡ old) (OpenDone old new) → IsPartOf (standing new) (standing old ++ Begin ∷ [])
+    start : (u : Bool) → MatchBool u (new ≡ old) (OpenEnds old new) → IsPartOf (standing new) (standing old ++ Begin ∷ [])
     start true e = to (Begin ∷ []) old e (same (Begin ∷ []))
     start false (inl (found, finds, raise, accepts, e)) =
         to (Begin ∷ []) _ e (subst (λ xs. IsPartOf xs (standing old ++ Begin ∷ [])) (sym (append-nil (found ++ Begin ∷ []))) (part_both found (standing old) (Begin ∷ []) (Begin ∷ []) (found_part old found finds) (inl (refl, tt))))
@@ -127,7 +127,7 @@ part_step old event new was s = by event s
     start false (inr (inr (inr (inl (raise, (found, finds, why, e)))))) = to (Begin ∷ []) _ e (found_alone found (Begin ∷ []) finds)
     start false (inr (inr (inr (inr (stage, e))))) = to (Begin ∷ []) old e (same (Begin ∷ []))
 
-    migrate : (b : Bool) → MatchBool b (MigrateMet old new) (new ≡ old) → IsPartOf (standing new) (standing old ++ [])
+    migrate : (b : Bool) → MatchBool b (MigrateEnds old new) (new ≡ old) → IsPartOf (standing new) (standing old ++ [])
     migrate true (inl (found, finds, e)) = to [] _ e (found_alone found [] finds)
     migrate true (inr (inl (rose, e))) = to [] _ e (same [])
     migrate true (inr (inr (rose, (found, finds, e)))) = to [] _ e (found_alone found [] finds)
@@ -175,7 +175,7 @@ nothing_invented es w (inr (faults, other, run)) = part_run (nothing_yet_of_two 
 -- ---- restarts
 
 pub restart_finds : RestartFinds
-restart_finds old new down step = by (subst (λ b. MatchBool b (new ≡ old) (OpenDone old new)) down step)
+restart_finds old new down step = by (subst (λ b. MatchBool b (new ≡ old) (OpenEnds old new)) down step)
   where
     Why : Type 0
     Why = Rose old.faults new.faults ⊎ (cannot_rise old.slot ≡ true) ⊎ (changes (registry new) Begin ≡ false) ⊎ (old.stage ≡ Between)
@@ -192,7 +192,7 @@ restart_finds old new down step = by (subst (λ b. MatchBool b (new ≡ old) (Op
     left : (v : World) → v.up ≡ old.up → new ≡ v → Finds old v.kept → Why → Found
     left v same e (part, begins, is) why = (part, begins, inr (is_down v same e, ap (λ (w : World). w.kept) e ∙ is, why))
 
-    by : OpenDone old new → Found
+    by : OpenEnds old new → Found
     by (inl (found, (part, begins, is), raise, accepts, e)) =
         (part, begins, inl (ap (λ (w : World). w.up) e, ap (λ cs. changes (replay cs) Begin) (sym is) ∙ accepts, ap (λ (w : World). registry w) e ∙ ap (λ cs. in_version old.version (replay (cs ++ Begin ∷ []))) is))
     by (inr (inl (rose, later, e))) = left (record old { faults = new.faults }) refl e ([], (old.pending, refl), sym (append-nil old.kept)) (inl rose)
@@ -208,7 +208,7 @@ is_down true begun e = absurd (true≢false (sym e))
 is_down false begun e = refl
 
 pub migration_finds : MigrationFinds
-migration_finds old new fits step = by (subst (λ b. MatchBool b (MigrateMet old new) (new ≡ old)) fits step)
+migration_finds old new fits step = by (subst (λ b. MatchBool b (MigrateEnds old new) (new ≡ old)) fits step)
   where
     down : old.up ≡ false
     down = is_down old.up (is_to_migrate old.stage) fits
@@ -218,7 +218,7 @@ migration_finds old new fits step = by (subst (λ b. MatchBool b (MigrateMet old
         × (((new.stage ≡ After) × (new.version ≡ Two) × (new.pending ≡ []) × (registry new ≡ in_version Two (replay (old.kept ++ part))))
         ⊎ ((Rose old.faults new.faults ⊎ Rose old.other_faults new.other_faults) × (new.version ≡ old.version) × (fits_migration new ≡ true)))
 
-    by : MigrateMet old new → Found
+    by : MigrateEnds old new → Found
     by (inl (found, (part, begins, is), e)) = (
       part,
       begins,

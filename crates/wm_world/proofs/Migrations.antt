@@ -27,8 +27,8 @@ use Rattle.wm_world.specs.declared.other.Other.TheVariants.{Nothing, New, Old}
 use Rattle.wm_world.specs.declared.world.World.{World as Running}
 use Rattle.wm_world.specs.declared.world.Server.TheVariants.{Up, Down}
 use Rattle.wm_world.specs.Worlds.{Before, Between, After, Stage, World, in_version, registry, replay}
-use Rattle.wm_world.specs.Steps.{Finds, IsReached, MigrateMet, OneFailed, fits_migration, is_to_migrate, migrated}
-use Rattle.wm_world.specs.Refinement.{AreHonest, Disks, IsBeside, IsDown, IsMoved, IsServer, IsUp, KeepsPrefix, Simulates, Refines, disks_of_server, disks_of_world}
+use Rattle.wm_world.specs.Steps.{Finds, IsReached, MigrateEnds, OneFailed, fits_migration, is_to_migrate, migrated}
+use Rattle.wm_world.specs.Refinement.{AreHonest, Disks, IsBeside, IsDown, IsRetiredBeside, IsServer, IsUp, KeepsPrefix, Simulates, Refines, disks_of_server, disks_of_world}
 use Rattle.wm_world.specs.Passes.{Migrates, MigratesIfFit}
 use Rattle.wm_world.proofs.Opening.{Known, OneMeaning, ReadsStand, known}
 use Rattle.wm_world.proofs.Others.{LeavesNoMore, prefix_later, prefix_same}
@@ -37,14 +37,14 @@ use Rattle.wm_world.proofs.Stores.{CountsNow, none_yet, now}
 
 -- a migration that doesn't fit
 unfit_row : (w : World) → fits_migration w ≡ false → migrated w w
-unfit_row w e = subst (λ b. MatchBool b (MigrateMet w w) (w ≡ w)) (sym e) refl
+unfit_row w e = subst (λ b. MatchBool b (MigrateEnds w w) (w ≡ w)) (sym e) refl
 
 -- one that does
 fitting : (w : World) → w.up ≡ false → is_to_migrate w.stage ≡ true → fits_migration w ≡ true
 fitting w down begun = λ i. not (down i) && begun i
 
-fit_row : (w v : World) → fits_migration w ≡ true → MigrateMet w v → migrated w v
-fit_row w v fit m = subst (λ b. MatchBool b (MigrateMet w v) (v ≡ w)) (sym fit) m
+fit_row : (w v : World) → fits_migration w ≡ true → MigrateEnds w v → migrated w v
+fit_row w v fit m = subst (λ b. MatchBool b (MigrateEnds w v) (v ≡ w)) (sym fit) m
 
 both_false : (a b : Bool) → b ≡ false → (a && b) ≡ false
 both_false true b e = e
@@ -103,7 +103,7 @@ module _ {D : Type 0} (disk : disks.Ghosts D) where
     known_of : (w : World) → IsReached w → Refines disk old_world w → disk.honest old_after → (found : State) → MeansRegistry found (disk.seen old) → Known disk law old_world new_world old (New new) was one rising ordered stand w
     known_of w reached s h found m = known disk law old_world new_world old (New new) was one rising ordered stand w reached s (honest.0 h) found m
 
-    seen_means : (w : World) → Refines disk old_world w → disk.honest old_after → MeansAfter (registry w) w.pending (disk.seen old) ⊎ IsMoved disk (New new) w (disk.seen old)
+    seen_means : (w : World) → Refines disk old_world w → disk.honest old_after → MeansAfter (registry w) w.pending (disk.seen old) ⊎ IsRetiredBeside disk (New new) w (disk.seen old)
     seen_means w s h = ((down_of w s).on.prefix (disk.seen old) (stand old (honest.0 h))).means
 
     abbrev Migrated : World → Type 0
@@ -120,7 +120,7 @@ module _ {D : Type 0} (disk : disks.Ghosts D) where
     fit : (w : World) → Refines disk old_world w → fits_migration w ≡ true
     fit w s = fitting w (down_of w s).down (to_migrate w.stage (down_of w s).on.beside.0)
 
-    fits : (w v : World) → Refines disk old_world w → MigrateMet w v → migrated w v
+    fits : (w v : World) → Refines disk old_world w → MigrateEnds w v → migrated w v
     fits w v s m = fit_row w v (fit w s) m
 
     passes : (w v : World) (e : Disks D) → Refines disk old_world w → disks_of_world disk new_world ≡ e → Migrates disk disks_were w e v → MigratesIfFit disk (disks_of_world disk old_world) w (disks_of_world disk new_world) v
@@ -154,7 +154,7 @@ module _ {D : Type 0} (disk : disks.Ghosts D) where
           let at : m.moves.registry ≡ in_version w.version (replay k.found) = one (disk.seen old) m.moves.registry (in_version w.version (replay k.found)) m.moves.meant k.means in
           goes_on w reached s k.found k.finds (λ c left. subst (λ r. Means (watches Two) c A 1 (in_version_2 r) []) at (m.holds c left)) m.retired (inr (m.moves, at))
 
-      by_finding : (w : World) → IsReached w → Refines disk old_world w → disk.honest old_after → disk.honest new_after → WasMoved disk old new old_after new_after → MeansAfter (registry w) w.pending (disk.seen old) ⊎ IsMoved disk (New new) w (disk.seen old) → Migrated w
+      by_finding : (w : World) → IsReached w → Refines disk old_world w → disk.honest old_after → disk.honest new_after → WasMoved disk old new old_after new_after → MeansAfter (registry w) w.pending (disk.seen old) ⊎ IsRetiredBeside disk (New new) w (disk.seen old) → Migrated w
       by_finding w reached s h k m (inl a) = absurd (not_retired _ (disk.seen old) a.means (One, m.was))
       by_finding w reached s h k m (inr moved) = goes_on w reached s w.kept ([], (w.pending, refl), sym (append-nil w.kept)) (λ c left. moved.holds c (now disk counts new new_after (disk.may_leave new) k m.writes.new_left c left)) m.retired (inl m.writes)
 
@@ -234,7 +234,7 @@ module _ {D : Type 0} (disk : disks.Ghosts D) where
     -- ---- refused: never, since the old file means a registry, or the new one does
 
     module _ (server : new_world.server ≡ Down old_after (New new_after)) where
-      was_there : (w : World) → Refines disk old_world w → (h : disk.honest old_after) (k : disk.honest new_after) → HaveNoRegistry (disk.seen old) (disk.seen new) → MeansAfter (registry w) w.pending (disk.seen old) ⊎ IsMoved disk (New new) w (disk.seen old) → ⊥
+      was_there : (w : World) → Refines disk old_world w → (h : disk.honest old_after) (k : disk.honest new_after) → HaveNoRegistry (disk.seen old) (disk.seen new) → MeansAfter (registry w) w.pending (disk.seen old) ⊎ IsRetiredBeside disk (New new) w (disk.seen old) → ⊥
       was_there w s h k (inl damaged) (inl a) =
           let found : State = replayed after_command (registry w) (take a.count w.pending) in
           let version : found.version ≡ One = same_version_after (registry w) (take a.count w.pending) ∙ (down_of w s).on.beside.1 in

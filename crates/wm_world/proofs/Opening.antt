@@ -27,8 +27,8 @@ use Rattle.wm_world.specs.declared.world.World.{World as Running}
 use Rattle.wm_world.specs.declared.other.Other.{Other}
 use Rattle.wm_world.specs.declared.world.Server.TheVariants.{Up, Down}
 use Rattle.wm_world.specs.Worlds.{World, begun_all, cannot_rise, in_version, registry, replay}
-use Rattle.wm_world.specs.Steps.{IsPrefix, IsReached, Finds, OpenCutEarly, OpenCutLate, OpenDone, OpenSpent, Opened, begin_on, opened, reopened}
-use Rattle.wm_world.specs.Refinement.{Disks, IsBeside, IsDown, IsMoved, IsServer, KeepsPrefix, Simulates, Refines, disks_of_server, disks_of_world}
+use Rattle.wm_world.specs.Steps.{IsPrefix, IsReached, Finds, OpenCutEarly, OpenCutLate, OpenEnds, OpenSpent, Opened, begin_on, opened, reopened}
+use Rattle.wm_world.specs.Refinement.{Disks, IsBeside, IsDown, IsRetiredBeside, IsServer, KeepsPrefix, Simulates, Refines, disks_of_server, disks_of_world}
 use Rattle.wm_world.specs.Passes.{Leaves, LeftBetween, Opens}
 use Rattle.wm_disk.specs.laws.Runs.{weaker}
 use Rattle.wm_world.proofs.Between.{between_from, left_before, take-drop}
@@ -93,7 +93,7 @@ module _ {D : Type 0} (disk : disks.Ghosts D) where
     pub known : (w : World) → IsReached w → Refines disk old w → disk.honest d → (found : State) → MeansRegistry found (disk.seen d) → Known w
     known w reached s h found m = by (seen_keeps w s h).means
       where
-        by : MeansAfter (registry w) w.pending (disk.seen d) ⊎ IsMoved disk other w (disk.seen d) → Known w
+        by : MeansAfter (registry w) w.pending (disk.seen d) ⊎ IsRetiredBeside disk other w (disk.seen d) → Known w
         by (inl a) =
             let part : List Command = take a.count w.pending in
             record {
@@ -146,7 +146,7 @@ module _ {D : Type 0} (disk : disks.Ghosts D) where
           let v : World = record w { stage = reopened w.stage; kept = kept; pending = []; up = true; slot = w.slot + 1; histories = w.histories ++ begun_all (replay kept) } in
           let row : Opened w v = (k.found, k.finds, (omega arith, omega arith), accepts, refl) in (
             v,
-            subst (λ u. MatchBool u (v ≡ w) (OpenDone w v)) (sym (down_of w s).down) (inl row),
+            subst (λ u. MatchBool u (v ≡ w) (OpenEnds w v)) (sym (down_of w s).down) (inl row),
             record {
               server = subst (λ x. IsServer disk x new.shown.views.items v) (sym server) (record {
                 up = refl;
@@ -189,8 +189,8 @@ module _ {D : Type 0} (disk : disks.Ghosts D) where
       abbrev Open : World → Type 0
       Open w = (v : World) × opened w v × Refines disk new v × Opens disk (disks_of_world disk old) w (disks_of_world disk new) v
 
-      as_row : (w v : World) → Refines disk old w → OpenDone w v → opened w v
-      as_row w v s row = subst (λ u. MatchBool u (v ≡ w) (OpenDone w v)) (sym (down_of w s).down) row
+      as_row : (w v : World) → Refines disk old w → OpenEnds w v → opened w v
+      as_row w v s row = subst (λ u. MatchBool u (v ≡ w) (OpenEnds w v)) (sym (down_of w s).down) row
 
       -- before the content was durable
       early : (w : World) → IsReached w → Refines disk old w → Rose (disk.failures d) (disk.failures later_disk) → disk.failures d ≤ disk.failures later_disk → ((c : List ℕ) → disk.may_leave later_disk c → disk.may_leave d c)
@@ -290,7 +290,7 @@ module _ {D : Type 0} (disk : disks.Ghosts D) where
 
           -- the content that is there is retired: nothing happened
           retired_stays : (h : disk.honest later_disk) (w : World) → IsReached w → Refines disk old w → e ≡ refusals.Retired → LeavesOnly disk.moment disk.left_since d later_disk (disk.may_leave d) ⊎ ((found : State) × FindsRegistry disk d later_disk found)
-              → MeansAfter (registry w) w.pending (disk.seen d) ⊎ IsMoved disk other w (disk.seen d) → Open w
+              → MeansAfter (registry w) w.pending (disk.seen d) ⊎ IsRetiredBeside disk other w (disk.seen d) → Open w
           retired_stays h w reached s is left (inl m) = absurd (not_retired _ (disk.seen d) m.means (retired h is))
           retired_stays h w reached s is (inr (found, f)) (inr moved) = absurd (not_retired found (disk.seen d) f.means (retired h is))
           retired_stays h w reached s is (inl run) (inr moved) =
@@ -304,7 +304,7 @@ module _ {D : Type 0} (disk : disks.Ghosts D) where
                 },
               )
 
-          no_damage : disk.honest later_disk → (w : World) → e ≡ refusals.Damaged → MeansAfter (registry w) w.pending (disk.seen d) ⊎ IsMoved disk other w (disk.seen d) → ⊥
+          no_damage : disk.honest later_disk → (w : World) → e ≡ refusals.Damaged → MeansAfter (registry w) w.pending (disk.seen d) ⊎ IsRetiredBeside disk other w (disk.seen d) → ⊥
           no_damage h w is (inl m) = let s = replayed after_command (registry w) (take m.count w.pending) in (damaged h is s.version).0 s m.means
           no_damage h w is (inr moved) = (damaged h is One).1 (retired_of disk other w (disk.seen d) moved)
 

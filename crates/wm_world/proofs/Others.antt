@@ -13,7 +13,7 @@ use Rattle.wm_world.specs.declared.other.Other.{Other}
 use Rattle.wm_world.specs.declared.other.Other.TheVariants.{Nothing, New, Old}
 use Rattle.wm_world.specs.Worlds.{Between, World, in_version, registry, replay}
 use Rattle.wm_world.specs.Steps.{reopened}
-use Rattle.wm_world.specs.Refinement.{IsBeside, IsMoved, KeepsPrefix}
+use Rattle.wm_world.specs.Refinement.{IsBeside, IsRetiredBeside, KeepsPrefix}
 use Rattle.wm_world.specs.Passes.{OnOther}
 
 -- the same commands are kept and in flight in the same file, the slot's number has the same bound, and the server is no more up
@@ -47,7 +47,7 @@ module _ {D : Type 0} (disk : disks.Ghosts D) where
   abbrev pub FailsNoMore : Other D → Other D → Type 0
   FailsNoMore other later = OnOther (λ d e. disk.failures e ≡ disk.failures d) other later
 
-  pub moved_same : (other : Other D) (w v : World) (c : List ℕ) → SameKept w v → IsMoved disk other w c → IsMoved disk other v c
+  pub moved_same : (other : Other D) (w v : World) (c : List ℕ) → SameKept w v → IsRetiredBeside disk other w c → IsRetiredBeside disk other v c
   moved_same Nothing w v c s m = m
   moved_same (Old d) w v c s m = m
   moved_same (New d) w v c s m = record {
@@ -58,7 +58,7 @@ module _ {D : Type 0} (disk : disks.Ghosts D) where
     holds = subst (λ r. HoldsMoved disk d r) (sym (same_registry w v s)) m.holds;
   }
 
-  pub moved_later : (other later : Other D) (w : World) (c : List ℕ) → LeavesNoMore other later → IsMoved disk other w c → IsMoved disk later w c
+  pub moved_later : (other later : Other D) (w : World) (c : List ℕ) → LeavesNoMore other later → IsRetiredBeside disk other w c → IsRetiredBeside disk later w c
   moved_later Nothing later w c less m = absurd m
   moved_later (Old d) later w c less m = absurd m
   moved_later (New d) Nothing w c less m = absurd less
@@ -96,12 +96,12 @@ module _ {D : Type 0} (disk : disks.Ghosts D) where
   none_later R other (Old d) h e = let absent : OnOther R Nothing (Old d) = subst (λ o. OnOther R o (Old d)) e h in absurd absent
 
   -- a content that is retired
-  pub retired_of : (other : Other D) (w : World) (c : List ℕ) → IsMoved disk other w c → IsRetired sizes_1 c
+  pub retired_of : (other : Other D) (w : World) (c : List ℕ) → IsRetiredBeside disk other w c → IsRetired sizes_1 c
   retired_of Nothing w c m = absurd m
   retired_of (New d) w c m = m.retired
   retired_of (Old d) w c m = absurd m
 
-  pub between_of : (other : Other D) (w : World) (c : List ℕ) → IsMoved disk other w c → w.stage ≡ Between
+  pub between_of : (other : Other D) (w : World) (c : List ℕ) → IsRetiredBeside disk other w c → w.stage ≡ Between
   between_of Nothing w c m = absurd m
   between_of (New d) w c m = m.stage
   between_of (Old d) w c m = absurd m

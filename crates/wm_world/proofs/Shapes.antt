@@ -16,7 +16,7 @@ use Rattle.wm_view.specs.declared.op.Op.TheVariants as ops
 use Rattle.wm_world.specs.declared.event.Event.{Event}
 use Rattle.wm_world.specs.declared.event.Event.TheVariants as events
 use Rattle.wm_world.specs.Worlds.{Alone, Before, Between, After, Stage, World, at_first, begun_on, nothing_yet, nothing_yet_of_two, begun_all, begun_between, in_version, is_of, registry, replay}
-use Rattle.wm_world.specs.Steps.{BatchCut, BatchDone, Checkpointed, Cut, Leads, MigrateMet, OpenDone, Opened, Run, Step, begin_on, down, is_to_migrate, operated, reopened}
+use Rattle.wm_world.specs.Steps.{BatchCut, BatchDone, Checkpointed, Cut, Leads, MigrateEnds, OpenEnds, Opened, Run, Step, begin_on, down, is_to_migrate, operated, reopened}
 use Rattle.wm_world.specs.Laws.{StaysAlone}
 use Rattle.wm_world.proofs.Growing.{Grows, extends_after, grows_append, grows_at, grows_same, grows_then}
 use Rattle.wm_world.proofs.Replays.{Accepted, accepted_batch, began, replay_more}
@@ -150,7 +150,7 @@ found_down : (old v w : World) → w ≡ v → (part : List Command) → v.kept 
 found_down old v w e part kept histories is_down accepted slot alone =
     like old v w e (record { more = part; kept = kept; histories = inl histories; up = not_up old v is_down; flight = inr (inr accepted); slot = slot; alone = alone })
 
-opening : (old new : World) → old.up ≡ false → OpenDone old new → Shape old new
+opening : (old new : World) → old.up ≡ false → OpenEnds old new → Shape old new
 opening old new is_down (inl o) = opened old new o
 opening old new is_down (inr (inl (rose, later, e))) = let v : World = record old { faults = new.faults } in as_it_was old v new e refl refl (not_up old v is_down) (inl (refl, refl, refl)) (omega arith) refl refl
 opening old new is_down (inr (inr (inl (rose, later, raise, (found, (part, begins, is), e))))) =
@@ -159,22 +159,22 @@ opening old new is_down (inr (inr (inr (inl (raise, (found, (part, begins, is), 
     found_down old (record old { stage = reopened old.stage; kept = found; pending = []; slot = new.slot }) new e part is refl is_down tt raise.0 (λ a. (ap reopened a, refl))
 opening old new is_down (inr (inr (inr (inr (stage, e))))) = same old new e
 
-start : (old new : World) → MatchBool old.up (new ≡ old) (OpenDone old new) → Shape old new
+start : (old new : World) → MatchBool old.up (new ≡ old) (OpenEnds old new) → Shape old new
 start old new = either old.up refl
   where
-    either : (u : Bool) → old.up ≡ u → MatchBool u (new ≡ old) (OpenDone old new) → Shape old new
+    either : (u : Bool) → old.up ≡ u → MatchBool u (new ≡ old) (OpenEnds old new) → Shape old new
     either true up e = same old new e
     either false down o = opening old new down o
 
 -- ---- a migration
 
-migration : (old new : World) → old.up ≡ false → is_to_migrate old.stage ≡ true → MigrateMet old new → Shape old new
+migration : (old new : World) → old.up ≡ false → is_to_migrate old.stage ≡ true → MigrateEnds old new → Shape old new
 migration old new is_down fits m = by m
   where
     not_alone : (v : World) → old.stage ≡ Alone → (v.stage ≡ Alone) × (v.version ≡ old.version)
     not_alone v a = absurd (true≢false (sym fits ∙ ap is_to_migrate a))
 
-    by : MigrateMet old new → Shape old new
+    by : MigrateEnds old new → Shape old new
     by (inl (found, (part, begins, is), e)) =
         let v : World = record old { version = Two; stage = After; kept = found; pending = []; faults = old.other_faults; other_faults = old.faults } in found_down old v new e part is refl is_down tt (omega arith) (not_alone v)
     by (inr (inl (rose, e))) =
@@ -182,10 +182,10 @@ migration old new is_down fits m = by m
     by (inr (inr (rose, (found, (part, begins, is), e)))) =
         let v : World = record old { stage = Between; kept = found; pending = []; faults = new.faults; other_faults = new.other_faults } in found_down old v new e part is refl is_down tt (omega arith) (not_alone v)
 
-migrate : (old new : World) → MatchBool (not old.up && is_to_migrate old.stage) (MigrateMet old new) (new ≡ old) → Shape old new
+migrate : (old new : World) → MatchBool (not old.up && is_to_migrate old.stage) (MigrateEnds old new) (new ≡ old) → Shape old new
 migrate old new = either old.up refl (is_to_migrate old.stage) refl
   where
-    either : (u : Bool) → old.up ≡ u → (t : Bool) → is_to_migrate old.stage ≡ t → MatchBool (not u && t) (MigrateMet old new) (new ≡ old) → Shape old new
+    either : (u : Bool) → old.up ≡ u → (t : Bool) → is_to_migrate old.stage ≡ t → MatchBool (not u && t) (MigrateEnds old new) (new ≡ old) → Shape old new
     either true up t fits e = same old new e
     either false down true fits m = migration old new down fits m
     either false down false fits e = same old new e

@@ -15,7 +15,7 @@ use Rattle.wm_world.specs.declared.other.Other.{Other}
 use Rattle.wm_world.specs.declared.other.Other.TheVariants.{Nothing, New, Old}
 use Rattle.wm_world.specs.Worlds.{World, in_version, registry, replay}
 use Rattle.wm_world.specs.Steps.{IsPrefix, OpenCutEarly, OpenCutLate, OpenSpent, Opened, fits_migration}
-use Rattle.wm_world.specs.Refinement.{Disks, IsMoved}
+use Rattle.wm_world.specs.Refinement.{Disks, IsRetiredBeside}
 use Rattle.wm_store.specs.Meant.{MeansRegistry}
 use Rattle.wm_store.specs.Migrations.{MovesOnly, WritesNeither}
 
@@ -47,7 +47,7 @@ OnBoth R d e = R d.used e.used × OnOther R d.other e.other
 module _ {D : Type 0} (disk : disks.Ghosts D) where
   -- what a crash in between may leave of the disk in use: what keeps the prefix, or a file that was retired before
   abbrev pub LeftBetween : Other D → World → List Command → List ℕ → Type 0
-  LeftBetween other w afterwards content = KeepsBetween w afterwards content ⊎ IsMoved disk other w content
+  LeftBetween other w afterwards content = KeepsBetween w afterwards content ⊎ IsRetiredBeside disk other w content
 
   -- a crash at any moment in between leaves nothing else, and the disk beside has no call
   abbrev pub Leaves : Disks D → World → Disks D → World → Type 0

@@ -110,14 +110,14 @@ module _ {D : Type 0} (disk : disks.Ghosts D) where
     pub retired : IsRetired sizes_1 content
     pub holds : HoldsMoved disk new (registry w)
 
-  abbrev pub IsMoved : Other D → World → List ℕ → Type 0
-  IsMoved Nothing w content = ⊥
-  IsMoved (New new) w content = IsMovedTo new w content
-  IsMoved (Old old) w content = ⊥
+  abbrev pub IsRetiredBeside : Other D → World → List ℕ → Type 0
+  IsRetiredBeside Nothing w content = ⊥
+  IsRetiredBeside (New new) w content = IsMovedTo new w content
+  IsRetiredBeside (Old old) w content = ⊥
 
   -- The content means the replay of what is kept and a prefix of what is in flight; or it is retired, and the new file means that.
   pub record KeepsPrefix (other : Other D) (w : World) (content : List ℕ) : Type 0 where
-    pub means : MeansAfter (registry w) w.pending content ⊎ IsMoved other w content
+    pub means : MeansAfter (registry w) w.pending content ⊎ IsRetiredBeside other w content
     pub numbered : IsNumberedTo (sizes_of w.version) w.slot content
 
   -- The disk beside is as the stage has it, and has failed so often; the file in use is of version 1 if a new one stands beside it,

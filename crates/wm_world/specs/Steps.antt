@@ -116,8 +116,8 @@ OpenSpent old new = MayRaise old.slot new.slot 1
 abbrev pub OpenRetired : World → World → Type 0
 OpenRetired old new = (old.stage ≡ Between) × (new ≡ old)
 
-abbrev pub OpenDone : World → World → Type 0
-OpenDone old new = Opened old new ⊎ OpenCutEarly old new ⊎ OpenCutLate old new ⊎ OpenSpent old new ⊎ OpenRetired old new
+abbrev pub OpenEnds : World → World → Type 0
+OpenEnds old new = Opened old new ⊎ OpenCutEarly old new ⊎ OpenCutLate old new ⊎ OpenSpent old new ⊎ OpenRetired old new
 
 -- a loss of power keeps what was kept, and a prefix of what was in flight
 abbrev pub Crashed : World → World → Type 0
@@ -134,7 +134,7 @@ MigrateDone old new = (found : List Command) × Finds old found
 abbrev pub OneFailed : World → World → Type 0
 OneFailed old new = (Rose old.faults new.faults ⊎ Rose old.other_faults new.other_faults) × (old.faults ≤ new.faults) × (old.other_faults ≤ new.other_faults)
 
--- before the old file's content was made durable
+-- before anything was written
 abbrev pub MigrateCutEarly : World → World → Type 0
 MigrateCutEarly old new = OneFailed old new × (new ≡ record old { faults = new.faults; other_faults = new.other_faults })
 
@@ -143,8 +143,8 @@ abbrev pub MigrateCutLate : World → World → Type 0
 MigrateCutLate old new = OneFailed old new
     × ((found : List Command) × Finds old found × (new ≡ record old { stage = Between; kept = found; pending = []; faults = new.faults; other_faults = new.other_faults }))
 
-abbrev pub MigrateMet : World → World → Type 0
-MigrateMet old new = MigrateDone old new ⊎ MigrateCutEarly old new ⊎ MigrateCutLate old new
+abbrev pub MigrateEnds : World → World → Type 0
+MigrateEnds old new = MigrateDone old new ⊎ MigrateCutEarly old new ⊎ MigrateCutLate old new
 
 -- there is another disk, and the migration isn't done
 abbrev pub is_to_migrate : Stage → Bool
@@ -202,14 +202,14 @@ abbrev pub checkpointed : World → World → Type 0
 checkpointed old new = MatchBool old.up (Checkpointed old new ⊎ Cut 1 old [] new) (new ≡ old)
 
 abbrev pub opened : World → World → Type 0
-opened old new = MatchBool old.up (new ≡ old) (OpenDone old new)
+opened old new = MatchBool old.up (new ≡ old) (OpenEnds old new)
 
 -- a migration fits while the server is down, and there is one to be done
 abbrev pub fits_migration : World → Bool
 fits_migration w = not w.up && is_to_migrate w.stage
 
 abbrev pub migrated : World → World → Type 0
-migrated old new = MatchBool (fits_migration old) (MigrateMet old new) (new ≡ old)
+migrated old new = MatchBool (fits_migration old) (MigrateEnds old new) (new ≡ old)
 
 -- ---- the relation. An event that doesn't fit changes nothing
 

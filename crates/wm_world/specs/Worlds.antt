@@ -19,7 +19,7 @@ use Rattle.wm_checkpoint.specs.Machines.{replayed}
 use Rattle.wm_registry.specs.declared.version.Version.{Version}
 use Rattle.wm_registry.specs.declared.version.Version.TheVariants.{One, Two}
 
--- how far a migration is: there is no other disk into which the file could be migrated; it isn't begun; it was cut, so that the file in
+-- how far a migration is: there is no other disk into which the file could be migrated; it is to be begun, perhaps anew; it was cut, so that the file in
 -- use may be retired; or it is done, and the file in use is the new one
 pub data Stage : Type 0 where
   Alone : Stage

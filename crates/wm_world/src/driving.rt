@@ -66,7 +66,8 @@ pub fn drive<D: Crashed + Drop>(
 }
 
 /// A world after these events, over two disks: on the old one, as a `format` of version 1 that succeeded left
-/// it, until [`Event::Migrate`] is done, and then on the new one, whatever it held. Elsewise as [`drive`].
+/// it, until [`Event::Migrate`] is done, and then on the new one, whatever it held. Otherwise as [`drive`].
+/// Nothing is promised of a run if either disk breaks its laws.
 pub fn drive_two<D: Crashed + Drop>(
     alloc: Global,
     old: D,

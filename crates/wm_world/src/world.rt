@@ -73,7 +73,7 @@ pub struct World<D: Crashed + Drop> {
 }
 
 impl<D: Crashed + Drop> World<D> {
-    /// One on a disk as a `format` that succeeded left it, with that disk beside it: down, with nothing
+    /// One on a disk as a `format` that succeeded left it, with the other disk beside it: down, with nothing
     /// accepted.
     pub(crate) fn new(alloc: Global, disk: D, other: Other<D>) -> World<D>
         ensures disks { disks_of_world D.Disk result ≡ record { used = disk; other = other } }

@@ -1,4 +1,4 @@
-use Rattle.std.proofs.Common.{rules, sym, ap, subst, ◌∙◌}
+use Rattle.std.proofs.Common.{rules, sym, subst}
 use Rattle.wm_world.specs.Passes.{LosesPower, OnOther}
 use Rattle.wm_world.specs.Refinement.{OtherIs}
 use Rattle.wm_world.proofs.Falling.{crash_met}
