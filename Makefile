@@ -17,7 +17,7 @@ PAGES := GUIDE.md QUERIES.md FORMATS.md PROMISES.md DEFINITIONS.md ARCHITECTURE.
 EXAMPLES := build.sh compile_trigger.sh follow.py test_runner.sh
 SOURCES := crates.txt $(shell find crates -name out -prune -o -type f \( -name '*.rt' -o -name '*.antt' \) -print)
 
-.PHONY: help clean uninstall test lint edits build run lines serve-use quick-use feed-use install bench bench-commands bench-crawl bench-view bench-share bench-match bench-peer bench-plots clients crawl-tree session examples examples-use dist dist-use kill faults growths fuzz hostile desk-memory state-file file-calls
+.PHONY: help clean uninstall test lint edits build run lines serve-use quick-use feed-use install bench bench-commands bench-crawl bench-view bench-share bench-match bench-peer bench-plots clients crawl-tree session examples examples-use dist dist-use kill faults growths sweep fuzz hostile desk-memory state-file file-calls
 
 help:
 	@echo "make test          the whole gate: each proof from nothing, edits that must be refused, tests, programs, and each growth of"
@@ -44,6 +44,8 @@ help:
 	@echo "make kill          kills the built program again and again, a migration too, and looks for what it answered (python3); make faults:"
 	@echo "                   each call that it makes of its state file, or of a migration's two, fails once (python3, strace); make growths: each growth of memory in three"
 	@echo "                   sessions is refused once (python3, cc)"
+	@echo "make sweep         a migration cut at each of its 150 device calls with 67 ends each: 10,050 cuts, of which make test takes"
+	@echo "                   228 (rt; some 30 processor minutes)"
 	@echo "make fuzz          random lines, state files and clients, each reply beside a model's in Python (python3; some two minutes;"
 	@echo "                   tools/fuzz/fuzz.py --minutes 60 for an hour, --seed for other ones)"
 	@echo "make hostile       the memory of a server beside 31 clients that ask for as much as they can (python3; some two minutes, 4 GB)"
@@ -166,6 +168,10 @@ faults: $(PROGRAM)
 # Each growth of memory that the built program asks for in three sessions is refused once: the answer is right, or 16 and right when asked again.
 growths: $(PROGRAM)
 	tools/growths.py $(PROGRAM)
+
+# Each device call of a migration cut, with each of 67 ends.
+sweep:
+	tools/migration_sweep.sh
 
 # Kills the built program in the midst of commands, again and again, and looks for what it answered.
 kill: $(PROGRAM)

@@ -9,8 +9,10 @@ use wm_view::{Listing, Pairs};
 use wm_world::{Connection, Event, World, drive};
 
 mod clients;
+mod migrations;
 mod restarts;
 mod sweep;
+mod two_files;
 
 /// A world after these events on a new file.
 fn driven<D: Crashed + Drop>(

@@ -1,4 +1,4 @@
-//! Every prefix of a list of events of every kind, under choices of what a crash leaves.
+//! Every prefix of a list of events of every kind on one disk, under choices of what a crash leaves.
 use super::{found, put, root, seen, shown_after, watch};
 use crate::checks::check;
 use std::alloc::Global;
@@ -6,7 +6,7 @@ use std::process::Abort;
 use wm_expr::Expr;
 use wm_world::Event;
 
-/// The event at a place, from 0 on: one of every kind.
+/// The event at a place, from 0 on: one of every kind, but for those of two disks.
 fn event_at(rt: &impl Abort, alloc: Global, place: usize) -> Event {
     match place {
         0 | 14 | 16 => Event::Open,
