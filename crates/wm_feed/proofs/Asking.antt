@@ -9,11 +9,11 @@ use Rattle.std.specs.declared.cmp.Ordering.{Ordering}
 use Rattle.std.specs.declared.cmp.Ordering.TheVariants.{Less, Equal, Greater}
 use Rattle.std.proofs.lemmas.Map.Lookups.{exact_bytes}
 use Rattle.wm_names.specs.Paths.{Path, is_rel_path, path_cmp, same_path}
-use Rattle.wm_feed.specs.Records.{nothing, entry, folder_alone, doubt}
-use Rattle.wm_feed.specs.Batches.{Gathered, entry_path, max_paths, with_content, with_folder, with_asked_path, with_text, with_whole}
+use Rattle.wm_feed.specs.Records.{Happened, content_changed, file_changed, folder_changed, made, removed, left, came, nothing, entry, folder_alone, doubt}
+use Rattle.wm_feed.specs.Batches.{Gathered, entry_path, max_paths, with_content, with_holder, changes_holder, with_folder, with_folder_text, with_asked_path, with_text, with_whole}
 use Rattle.wm_feed.specs.Laws.{EntryAsksForBoth, NoneIsDropped, is_asked_path}
 
-path_itself : (p : Path) → same_path p p ≡ true
+pub path_itself : (p : Path) → same_path p p ≡ true
 path_itself p = ap is_eq (tied_itself nat_list_cmp_total p)
 
 twice : (a b : Bool) → (a || b) ≡ (a || (a || b))
@@ -97,13 +97,48 @@ module _ (text : Path) (a : Gathered) where
   text_whole : (with_text text a).is_whole ≡ false → a.is_whole ≡ false
   text_whole = elim (is_rel_path text) as (λ v. (cond v (with_asked_path text a) a).is_whole ≡ false → a.is_whole ≡ false) [ true ↦ path_whole text a | false ↦ λ w. w ]
 
-  content_paths : (b : Bool) → (with_content b text a).paths ≡ a.paths
-  content_paths true = elim (is_rel_path text) as (λ v. (cond v (with_folder text a) a).paths ≡ a.paths) [ true ↦ folder_paths text a | false ↦ refl ]
-  content_paths false = refl
+  folder_text_paths : (with_folder_text text a).paths ≡ a.paths
+  folder_text_paths = elim (is_rel_path text) as (λ v. (cond v (with_folder text a) a).paths ≡ a.paths) [ true ↦ folder_paths text a | false ↦ refl ]
 
-  content_whole : (b : Bool) → (with_content b text a).is_whole ≡ false → a.is_whole ≡ false
-  content_whole true = elim (is_rel_path text) as (λ v. (cond v (with_folder text a) a).is_whole ≡ false → a.is_whole ≡ false) [ true ↦ folder_whole text a | false ↦ λ w. w ]
-  content_whole false = λ w. w
+  folder_text_whole : (with_folder_text text a).is_whole ≡ false → a.is_whole ≡ false
+  folder_text_whole = elim (is_rel_path text) as (λ v. (cond v (with_folder text a) a).is_whole ≡ false → a.is_whole ≡ false) [ true ↦ folder_whole text a | false ↦ λ w. w ]
+
+  content_paths : (h : Happened) → (with_content h text a).paths ≡ a.paths
+  content_paths content_changed = refl
+  content_paths file_changed = refl
+  content_paths folder_changed = folder_text_paths
+  content_paths made = folder_text_paths
+  content_paths removed = folder_text_paths
+  content_paths (left c) = folder_text_paths
+  content_paths (came c) = folder_text_paths
+
+  content_whole : (h : Happened) → (with_content h text a).is_whole ≡ false → a.is_whole ≡ false
+  content_whole content_changed = λ w. w
+  content_whole file_changed = λ w. w
+  content_whole folder_changed = folder_text_whole
+  content_whole made = folder_text_whole
+  content_whole removed = folder_text_whole
+  content_whole (left c) = folder_text_whole
+  content_whole (came c) = folder_text_whole
+
+  holder_keeps : (h : Happened) → (q : Path) → is_asked_path q a.paths ≡ true → is_asked_path q (with_holder h text a).paths ≡ true
+  holder_keeps content_changed q asked = asked
+  holder_keeps file_changed q asked = text_keeps q asked
+  holder_keeps folder_changed q asked = text_keeps q asked
+  holder_keeps made q asked = text_keeps q asked
+  holder_keeps removed q asked = text_keeps q asked
+  holder_keeps (left c) q asked = text_keeps q asked
+  holder_keeps (came c) q asked = text_keeps q asked
+
+  holder_has : (h : Happened) → changes_holder h ≡ true → is_rel_path text ≡ true → (with_holder h text a).is_whole ≡ false
+      → is_asked_path text (with_holder h text a).paths ≡ true
+  holder_has content_changed never = elim (true≢false (sym never)) [ ]
+  holder_has file_changed _ = text_has
+  holder_has folder_changed _ = text_has
+  holder_has made _ = text_has
+  holder_has removed _ = text_has
+  holder_has (left c) _ = text_has
+  holder_has (came c) _ = text_has
 
 -- ---- what is told
 
@@ -112,17 +147,17 @@ none_is_dropped nothing a p h = h
 none_is_dropped doubt a p h = h
 none_is_dropped (folder_alone folder) a p h = text_keeps folder a p h
 none_is_dropped (entry folder name b) a p h =
-    ap (is_asked_path p) (content_paths (entry_path folder name) (with_text (entry_path folder name) (with_text folder a)) b)
-    ∙ text_keeps (entry_path folder name) (with_text folder a) p (text_keeps folder a p h)
+    ap (is_asked_path p) (content_paths (entry_path folder name) (with_text (entry_path folder name) (with_holder b folder a)) b)
+    ∙ text_keeps (entry_path folder name) (with_holder b folder a) p (holder_keeps folder a b p h)
 
 pub entry_asks_for_both : EntryAsksForBoth
 entry_asks_for_both folder name b a w =
     let path : Path = entry_path folder name in
-    let first : Gathered = with_text folder a in
+    let first : Gathered = with_holder b folder a in
     let second : Gathered = with_text path first in
     let held : (with_content b path second).paths ≡ second.paths = content_paths path second b in
     let second_part : second.is_whole ≡ false = content_whole path second b w in
     let first_part : first.is_whole ≡ false = text_whole path first second_part in (
-      λ fits. ap (is_asked_path folder) held ∙ text_keeps path first folder (text_has folder a fits first_part),
+      λ changes. λ fits. ap (is_asked_path folder) held ∙ text_keeps path first folder (holder_has folder a b changes fits first_part),
       λ fits. ap (is_asked_path path) held ∙ text_has path first fits second_part,
     )

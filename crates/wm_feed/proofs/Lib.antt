@@ -1,5 +1,12 @@
 mod Cutting
 mod Texts
 mod Lines
-mod Written
 mod Asking
+mod Once
+mod Telling
+mod Numerals
+mod Written
+mod Below
+mod Ordered
+mod Listing
+mod Places

@@ -1,15 +1,20 @@
 -- Records that are written are read as what was written.
-use Rattle.std.proofs.Common.{◌≡◌, ◌+◌, ◌-◌, ◌<◌, ◌==◌, ℕ, suc, Bool, true, false, not, [], ◌∷◌, ◌++◌, length, take, drop, refl, sym, ap, ap₂, ◌∙◌, arith, Some, length-append}
-use Rattle.std.specs.Prelude.{◌&&◌, option_map}
+use Rattle.std.proofs.Common.{◌≡◌, ◌+◌, ◌-◌, ◌<◌, ◌==◌, ℕ, suc, Bool, true, false, not, [], ◌∷◌, ◌++◌, length, take, drop, refl, sym, ap, ap₂, ◌∙◌, arith, add-one, drop-cons, eqb-true, get_or, Some, length-append}
+use Rattle.std.specs.Prelude.{◌&&◌, ◌^◌, Option, None, option_map}
+use Rattle.std.specs.Fmt.{decimal}
 use Rattle.std.specs.Cmp.{tied_itself}
 use Rattle.std.specs.Cmp.Lexicographic.{nat_list_cmp_total}
 use Rattle.std.specs.List.{position, position_or_len}
 use Rattle.std.specs.Ordering.{is_eq}
 use Rattle.std.specs.Str.{bytes_eq}
 use Rattle.std.proofs.lemmas.Bool.{lt-ltb}
+use Rattle.std.proofs.lemmas.List.{take-append-drop}
+use Rattle.std.proofs.lemmas.List.Quantifiers.{position-Some}
 use Rattle.std.proofs.lemmas.Map.Text.{is_eq-slice_cmp}
-use Rattle.wm_feed.specs.Records.{Bytes, behind_root, below_of, cut_of, of_record, with_events, with_folder, with_name, without_last_slash}
+use Rattle.wm_feed.specs.Records.{Bytes, behind_root, below_of, cut_of, of_record, with_cookie, with_events, with_folder, with_name, without_last_slash}
 use Rattle.wm_feed.specs.Laws.{EntryIsTold, LostIsDoubted, WrittenIsRead, folder_path, no_zero}
+use Rattle.wm_feed.specs.Numbers.{numbered}
+use Rattle.wm_feed.proofs.Numerals.{no_zero_decimal}
 
 and_left : (a b : Bool) → (a && b) ≡ true → a ≡ true
 and_left true b h = refl
@@ -53,13 +58,14 @@ cut_at_zero xs ys h =
     ∙ ap₂ (λ (a b : Bytes). Some (a, b)) (take_all xs (0 ∷ ys)) (drop_behind xs ys 0)
 
 pub written_is_read : WrittenIsRead
-written_is_read folder events name f e n =
-    ap with_folder (cut_at_zero folder (events ++ 0 ∷ 47 ∷ (name ++ 0 ∷ [])) f)
-    ∙ ap (with_events folder) (cut_at_zero events (47 ∷ (name ++ 0 ∷ [])) e)
-    ∙ ap (with_name folder events) (cut_at_zero (47 ∷ name) [] n)
+written_is_read folder events cookie name f e c n =
+    ap with_folder (cut_at_zero folder (events ++ 0 ∷ (cookie ++ 0 ∷ 47 ∷ (name ++ 0 ∷ []))) f)
+    ∙ ap (with_events folder) (cut_at_zero events (cookie ++ 0 ∷ 47 ∷ (name ++ 0 ∷ [])) e)
+    ∙ ap (with_cookie folder events) (cut_at_zero cookie (47 ∷ (name ++ 0 ∷ [])) c)
+    ∙ ap (with_name folder events cookie) (cut_at_zero (47 ∷ name) [] n)
 
 pub lost_is_doubted : LostIsDoubted
-lost_is_doubted root folder events name f e n lost = ap (of_record root) (written_is_read folder events name f e n) ∙ rw lost refl
+lost_is_doubted root folder events cookie name f e c n lost = ap (of_record root) (written_is_read folder events cookie name f e c n) ∙ rw lost refl
 
 -- ---- folders below a root
 
@@ -80,6 +86,35 @@ below_is root [] = rw (behind_itself root (47 ∷ [])) refl
 below_is root (b ∷ below) = rw (behind_itself root (47 ∷ ((b ∷ below) ++ 47 ∷ []))) (slash_taken b below)
 
 pub entry_is_told : EntryIsTold
-entry_is_told root below events b name f e n lost move folder_text name_text =
-    ap (of_record root) (written_is_read (folder_path root below) events (b ∷ name) f e n)
-    ∙ rw (lost, below_is root below, move, folder_text, name_text) refl
+entry_is_told root below events cookie b name f e c n lost folder_text name_text =
+    ap (of_record root) (written_is_read (folder_path root below) events cookie (b ∷ name) f e c n)
+    ∙ rw (lost, below_is root below, folder_text, name_text) refl
+
+-- ---- a number in front
+
+abbrev pub first_part : Option (Bytes × Bytes) → Bytes
+first_part None = []
+first_part (Some p) = p.0
+
+abbrev pub second_part : Option (Bytes × Bytes) → Bytes
+second_part None = []
+second_part (Some p) = p.1
+
+-- what is cut at a zero byte is what stands before it and behind it
+pub cut_joins : (bytes before behind : Bytes) → cut_of bytes ≡ Some (before, behind) → bytes ≡ before ++ 0 ∷ behind
+cut_joins bytes before behind h = by (position (λ x. x == 0) bytes) refl h
+  where
+    by : (o : Option ℕ) → position (λ x. x == 0) bytes ≡ o → option_map {U = Bytes × Bytes} (λ i. (take i bytes, drop (i + 1) bytes)) o ≡ Some (before, behind) → bytes ≡ before ++ 0 ∷ behind
+    by None e s = cc
+    by (Some i) e s =
+        let at = position-Some (λ x. x == 0) bytes i 0 e in
+        let zero_there : get_or bytes i 0 ≡ 0 = eqb-true (get_or bytes i 0) 0 at.1 in
+        let front : take i bytes ≡ before = ap first_part s in
+        let back : drop (suc i) bytes ≡ behind = ap (λ k. drop k bytes) (sym (add-one i)) ∙ ap second_part s in
+        sym (take-append-drop i bytes)
+        ∙ ap (λ l. take i bytes ++ l) (drop-cons bytes i 0 at.0)
+        ∙ ap (λ x. take i bytes ++ x ∷ drop (suc i) bytes) zero_there
+        ∙ ap₂ (λ (x y : Bytes). x ++ 0 ∷ y) front back
+
+pub cut_numbered : (bytes : Bytes) (n : ℕ) (rest : Bytes) → n < 2 ^ 64 → bytes ≡ numbered n rest → cut_of bytes ≡ Some (decimal n, rest)
+cut_numbered bytes n rest h e = ap cut_of e ∙ cut_at_zero (decimal n) rest (no_zero_decimal n h)

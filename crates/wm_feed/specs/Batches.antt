@@ -2,7 +2,7 @@
 use Rattle.std.specs.Prelude.{ℕ, Bool, true, List, [], ◌∷◌, ◌++◌, false, length, nat_lt, if◌then◌else◌}
 use Rattle.std.specs.BTreeSet.{insert_key}
 use Rattle.wm_names.specs.Paths.{Path, is_rel_path, path_cmp}
-use Rattle.wm_feed.specs.Records.{RecordTells, nothing, entry, folder_alone, doubt}
+use Rattle.wm_feed.specs.Records.{Happened, RecordTells, content_changed, file_changed, nothing, entry, folder_alone, doubt}
 
 -- the most paths, and the most folders
 abbrev pub max_paths : ℕ
@@ -44,12 +44,22 @@ abbrev pub entry_path : Path → Path → Path
 entry_path [] name = name
 entry_path (b ∷ folder) name = (b ∷ folder) ++ 47 ∷ name
 
-abbrev pub with_content : Bool → Path → Gathered → Gathered
-with_content is_folder path a = if is_folder then with_folder_text path a else a
+abbrev pub with_content : Happened → Path → Gathered → Gathered
+with_content content_changed path a = a
+with_content file_changed path a = a
+with_content _ path a = with_folder_text path a
+
+-- whether the folder of an entry changed too: not if the content of a file did alone
+abbrev pub changes_holder : Happened → Bool
+changes_holder content_changed = false
+changes_holder _ = true
+
+abbrev pub with_holder : Happened → Path → Gathered → Gathered
+with_holder change folder a = if changes_holder change then with_text folder a else a
 
 -- an entry asks for itself and its folder, and to be crawled where it is a folder; a doubt asks for the whole root
 abbrev pub gathered_by : RecordTells → Gathered → Gathered
 gathered_by nothing a = a
-gathered_by (entry folder name is_folder) a = with_content is_folder (entry_path folder name) (with_text (entry_path folder name) (with_text folder a))
+gathered_by (entry folder name change) a = with_content change (entry_path folder name) (with_text (entry_path folder name) (with_holder change folder a))
 gathered_by (folder_alone folder) a = with_text folder a
 gathered_by doubt a = with_whole a

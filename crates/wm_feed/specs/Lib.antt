@@ -3,3 +3,14 @@ pub mod Batches
 pub mod Observes
 pub mod Laws
 pub mod Flows
+pub mod Checks
+pub mod Renames
+pub mod Numbers
+pub mod Once
+pub mod Syncs
+pub mod Roots
+pub mod Steps
+pub mod Renewed
+pub mod Strays
+pub mod Lasting
+pub mod Words

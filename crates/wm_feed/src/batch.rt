@@ -1,11 +1,11 @@
 //! What a few records ask for together: paths to look at, each once, and folders to crawl.
-//! Definitions: specs/Batches.antt. Tests: serve_tests/src/feeds/batches.rt.
+//! Definitions: specs/Batches.antt. Tests: feed_tests/src/batches.rt.
 ghost use Rattle.std.specs.Prelude.{◌≡◌, Some, None, OnOk, IfOk, string_bytes, if◌then◌else◌};
 ghost use Rattle.wm_names.specs.Paths.{is_rel_path};
-ghost use Rattle.wm_feed.specs.Records.{tells_of};
-ghost use Rattle.wm_feed.specs.Batches.{gathered_by, entry_path, nothing_asked, with_content, with_folder, with_folder_text, with_asked_path, with_text};
+ghost use Rattle.wm_feed.specs.Records.{change_in, tells_of};
+ghost use Rattle.wm_feed.specs.Batches.{gathered_by, entry_path, nothing_asked, with_content, with_holder, with_folder, with_folder_text, with_asked_path, with_text};
 
-use crate::record::Told;
+use crate::record::{Change, Told};
 use std::alloc::Global;
 use std::collections::BTreeSet;
 use std::marker::Model;
@@ -109,14 +109,36 @@ impl Batch {
     }
 
     /// Adds the content of an entry, where it is a folder.
-    fn put_content(&mut self, alloc: Global, is_folder: bool, text: &str) -> Result<(), NoMemory>
-        ensures { OnOk result (self.new ≡ with_content is_folder text.now self.old) }
+    fn put_content(&mut self, alloc: Global, change: Change<'_>, text: &str) -> Result<(), NoMemory>
+        ensures { OnOk result (self.new ≡ with_content (change_in change.entry) text.now self.old) }
     {
-        if is_folder {
-            self.put_folder_text(alloc, text)
-        } else {
-            Ok(())
+        match change {
+            Change::Content | Change::File => Ok(()),
+            _ => self.put_folder_text(alloc, text),
         }
+    }
+
+    /// Adds the folder of an entry, unless the entry's content alone changed.
+    fn put_holder(
+        &mut self,
+        alloc: Global,
+        change: Change<'_>,
+        folder: &str,
+    ) -> Result<(), NoMemory>
+        ensures { OnOk result (self.new ≡ with_holder (change_in change.entry) folder.now self.old) }
+    {
+        match change {
+            Change::Content => Ok(()),
+            _ => self.put_text(alloc, folder),
+        }
+    }
+
+    /// Adds a folder, with what is in it.
+    pub fn add_folder(&mut self, folder: &RelPath) -> Result<(), NoMemory>
+        ensures { OnOk result (self.new ≡ with_folder folder.now (with_asked_path folder.now self.old)) }
+    {
+        self.put(folder.copy()?)?;
+        self.put_folder(folder.copy()?)
     }
 
     /// Adds what a record tells: an entry and its folder, to be crawled too where the entry is one. A
@@ -134,19 +156,19 @@ impl Batch {
             Told::Entry {
                 folder,
                 name,
-                is_folder,
+                change,
             } => {
                 let path = join(alloc, folder, name)?;
-                self.put_text(alloc, folder)?;
+                self.put_holder(alloc, change, folder)?;
                 self.put_text(alloc, path.as_str())?;
-                self.put_content(alloc, is_folder, path.as_str())
+                self.put_content(alloc, change, path.as_str())
             }
         }
     }
 }
 
 /// The path that a text is, where it is one.
-fn path_of(alloc: Global, text: &str) -> Result<Option<RelPath>, NoMemory>
+pub(crate) fn path_of(alloc: Global, text: &str) -> Result<Option<RelPath>, NoMemory>
     ensures { IfOk result (λ p. p ≡ (if is_rel_path text.now then Some text.now else None)) }
 {
     match RelPath::read(alloc, text) {
@@ -166,4 +188,12 @@ fn join(alloc: Global, folder: &str, name: &str) -> Result<String, NoMemory>
     }
     text.push_str(name)?;
     Ok(text)
+}
+
+/// The path of a name in a folder, where it is one.
+pub(crate) fn path_in(alloc: Global, folder: &str, name: &str) -> Result<Option<RelPath>, NoMemory>
+    ensures { IfOk result (λ p. p ≡ (if is_rel_path (entry_path folder.now name.now) then Some (entry_path folder.now name.now) else None)) }
+{
+    let text = join(alloc, folder, name)?;
+    path_of(alloc, text.as_str())
 }

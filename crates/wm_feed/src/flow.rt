@@ -1,5 +1,5 @@
 //! Bytes that came, cut into records.
-//! Definitions: specs/Flows.antt. Tests: serve_tests/src/feeds/flows.rt.
+//! Definitions: specs/Flows.antt. Tests: feed_tests/src/flows.rt.
 ghost use Rattle.std.specs.Prelude.{◌≡◌, ◌≤◌, ◌++◌, ◌-◌, ◌∷◌, [], List, ℕ, Some, length, nat_lt, MatchBool, MatchOption, OnOk, OnErr};
 ghost use Rattle.memchr.specs.Find.{FindsNeedle};
 ghost use Rattle.wm_feed.specs.Flows.{StandsNowhere, IsSplitBehind, record_end};

@@ -1,5 +1,5 @@
 //! The line that tells what stands at paths. Definitions: specs/Observes.antt.
-//! Tests: serve_tests/src/feeds/observes.rt.
+//! Tests: feed_tests/src/observes.rt.
 ghost use Rattle.std.specs.Prelude.{◌≡◌, IfOk, Some, map, string_bytes};
 ghost use Rattle.serde_json.specs.Read.{read};
 ghost use Rattle.serde_json.specs.View.{view, items_view, items_of};

@@ -1,8 +1,27 @@
 //! What a record of inotifywait means. Definitions: specs/Records.antt.
-//! Tests: serve_tests/src/feeds/records.rt.
+//! Tests: feed_tests/src/records.rt.
 ghost use Rattle.std.specs.Prelude.{◌≡◌, ◌==◌, option_map};
 ghost use Rattle.std.specs.List.{position};
-ghost use Rattle.wm_feed.specs.Records.{at_name, behind_root, below_of, cut_of, told_entry, has as has_lem, inner_path, is_lost as is_lost_lem, is_move_of_folder as is_move_of_folder_lem, is_own_end as is_own_end_lem, name_of as name_of_lem, own_of, record_in, record_of, tells_of, record_tells, without_last_slash as without_last_slash_lem};
+ghost use Rattle.wm_feed.specs.Records.{at_name, behind_root, below_of, change_in, happened_in, happened_to_file, is_listed_anew as is_listed_anew_lem, cut_of, told_happened, has as has_lem, inner_path, is_lost as is_lost_lem, is_own_end as is_own_end_lem, name_of as name_of_lem, own_of, record_in, record_of, tells_of, told_elsewhere, told_other, record_tells, without_last_slash as without_last_slash_lem};
+
+/// What happened to an entry of a folder.
+#[derive(Clone, Copy, Debug, PartialEq, Eq)]
+pub enum Change<'a> {
+    /// It is no folder, and its content or what is known of it changed, while its folder stayed the same.
+    Content,
+    /// It is no folder, and was made, removed or renamed.
+    File,
+    /// It is a folder, or was one, and something about it changed.
+    Folder,
+    /// It is a folder that was made there.
+    Made,
+    /// It was a folder, and was removed.
+    Removed,
+    /// It was a folder, and was renamed to elsewhere; the word names the move.
+    Left(&'a [u8]),
+    /// It is a folder that was renamed from elsewhere; the word names the move.
+    Came(&'a [u8]),
+}
 
 /// What a record tells of a root.
 #[derive(Clone, Copy, Debug, PartialEq, Eq)]
@@ -14,23 +33,42 @@ pub enum Told<'a> {
     Entry {
         folder: &'a str,
         name: &'a str,
-        /// The entry is a folder, or was one.
-        is_folder: bool,
+        change: Change<'a>,
     },
     /// A folder may have changed, by an entry whose name no view holds.
     Folder {
         folder: &'a str,
     },
-    /// More may have changed than is told, or folders may not be watched by their names any longer.
+    /// More may have changed than is told, or a folder got a name, or lost one, that no view holds.
     Doubt,
+}
+
+impl<'a> Told<'a> {
+    /// The same of another folder.
+    pub fn at(self, folder: &'a str) -> Told<'a>
+        ensures { tells_of result ≡ told_elsewhere folder.now (tells_of self.entry) }
+    {
+        match self {
+            Told::Entry { name, change, .. } => Told::Entry {
+                folder,
+                name,
+                change,
+            },
+            Told::Folder { .. } => Told::Folder { folder },
+            Told::Nothing => Told::Nothing,
+            Told::Doubt => Told::Doubt,
+        }
+    }
 }
 
 /// The parts of a record.
 #[derive(Clone, Copy)]
-struct Parts<'a> {
-    folder: &'a [u8],
-    events: &'a [u8],
-    name: &'a [u8],
+pub(crate) struct Parts<'a> {
+    pub(crate) folder: &'a [u8],
+    pub(crate) events: &'a [u8],
+    /// What a folder's departure and its arrival have in common.
+    pub(crate) cookie: &'a [u8],
+    pub(crate) name: &'a [u8],
 }
 
 /// The place of the first zero byte.
@@ -41,7 +79,7 @@ fn first_zero(bytes: &[u8]) -> Option<usize>
 }
 
 /// The bytes before the first zero byte, and those behind it.
-fn cut(bytes: &[u8]) -> Option<(&[u8], &[u8])>
+pub(crate) fn cut(bytes: &[u8]) -> Option<(&[u8], &[u8])>
     ensures { option_map (λ p. (p.0.now, p.1.now)) result ≡ cut_of bytes.now }
 {
     match first_zero(bytes) {
@@ -60,23 +98,25 @@ fn name_of<'a>(named: &'a [u8], rest: &[u8]) -> Option<&'a [u8]>
     }
 }
 
-/// The parts of a record: three, each ended by a zero byte, the last with a slash in front.
-fn parts_of(bytes: &[u8]) -> Option<Parts<'_>>
+/// The parts of a record: four, each ended by a zero byte, the last with a slash in front.
+pub(crate) fn parts_of(bytes: &[u8]) -> Option<Parts<'_>>
     ensures { option_map record_in result ≡ record_of bytes.now }
 {
     let (folder, rest) = cut(bytes)?;
     let (events, rest) = cut(rest)?;
+    let (cookie, rest) = cut(rest)?;
     let (named, rest) = cut(rest)?;
     let name = name_of(named, rest)?;
     Some(Parts {
         folder,
         events,
+        cookie,
         name,
     })
 }
 
 /// Whether an event is among those of a record, which commas part.
-fn has(events: &[u8], event: &[u8]) -> bool
+pub(crate) fn has(events: &[u8], event: &[u8]) -> bool
     ensures { result ≡ has_lem events.now event.now }
 {
     events.split(|byte| *byte == b',').any(|one| one == event)
@@ -96,11 +136,44 @@ fn is_own_end(events: &[u8]) -> bool
     has(events, b"DELETE_SELF") || has(events, b"MOVE_SELF")
 }
 
-/// Whether a folder got another name: inotifywait may then tell what is in it by a wrong one.
-fn is_move_of_folder(events: &[u8]) -> bool
-    ensures { result ≡ is_move_of_folder_lem events.now }
+/// Whether an entry was made, removed or renamed, so that its folder changed too.
+fn is_listed_anew(events: &[u8]) -> bool
+    ensures { result ≡ is_listed_anew_lem events.now }
 {
-    has(events, b"ISDIR") && (has(events, b"MOVED_FROM") || has(events, b"MOVED_TO"))
+    has(events, b"CREATE")
+        || has(events, b"DELETE")
+        || has(events, b"MOVED_FROM")
+        || has(events, b"MOVED_TO")
+}
+
+/// What happened to an entry that is no folder.
+fn file_change_of<'a>(events: &[u8]) -> Change<'a>
+    ensures { change_in result ≡ happened_to_file events.now }
+{
+    if is_listed_anew(events) {
+        Change::File
+    } else {
+        Change::Content
+    }
+}
+
+/// What happened to an entry.
+fn change_of<'a>(events: &[u8], cookie: &'a [u8]) -> Change<'a>
+    ensures { change_in result ≡ happened_in events.now cookie.now }
+{
+    if !has(events, b"ISDIR") {
+        file_change_of(events)
+    } else if has(events, b"MOVED_FROM") {
+        Change::Left(cookie)
+    } else if has(events, b"MOVED_TO") {
+        Change::Came(cookie)
+    } else if has(events, b"CREATE") {
+        Change::Made
+    } else if has(events, b"DELETE") {
+        Change::Removed
+    } else {
+        Change::Folder
+    }
 }
 
 /// A path without the slash at its end, which only an empty one lacks.
@@ -137,20 +210,31 @@ fn below<'a>(root: &[u8], folder: &'a [u8]) -> Option<&'a [u8]>
     inner(behind(root, folder)?)
 }
 
+/// What is told of a change below the root whose folder or name isn't a text. A folder that moves is a doubt there, since the
+/// folders in it may be told by that name from then on.
+fn other<'a>(told: Told<'a>, change: Change<'a>) -> Told<'a>
+    ensures { tells_of result ≡ told_other (tells_of told.entry) (change_in change.entry) }
+{
+    match change {
+        Change::Left(_) | Change::Came(_) => Told::Doubt,
+        _ => told,
+    }
+}
+
 /// What is told of an entry of a folder below the root.
-fn entry<'a>(folder: &'a [u8], name: &'a [u8], is_folder: bool) -> Told<'a>
-    ensures { tells_of result ≡ told_entry folder.now name.now is_folder }
+fn entry<'a>(folder: &'a [u8], name: &'a [u8], change: Change<'a>) -> Told<'a>
+    ensures { tells_of result ≡ told_happened folder.now name.now (change_in change.entry) }
 {
     let Ok(folder) = str::from_utf8(folder) else {
-        return Told::Nothing;
+        return other(Told::Nothing, change);
     };
     match str::from_utf8(name) {
         Ok(name) => Told::Entry {
             folder,
             name,
-            is_folder,
+            change,
         },
-        Err(_) => Told::Folder { folder },
+        Err(_) => other(Told::Folder { folder }, change),
     }
 }
 
@@ -165,13 +249,12 @@ fn own<'a>(folder: &[u8], events: &[u8]) -> Told<'a>
 }
 
 /// What is told of a name in a folder below the root.
-fn named<'a>(folder: &'a [u8], events: &[u8], name: &'a [u8]) -> Told<'a>
-    ensures { tells_of result ≡ at_name folder.now events.now name.now }
+fn named<'a>(folder: &'a [u8], events: &[u8], cookie: &'a [u8], name: &'a [u8]) -> Told<'a>
+    ensures { tells_of result ≡ at_name folder.now events.now cookie.now name.now }
 {
     match name {
         [] => own(folder, events),
-        _ if is_move_of_folder(events) => Told::Doubt,
-        _ => entry(folder, name, has(events, b"ISDIR")),
+        _ => entry(folder, name, change_of(events, cookie)),
     }
 }
 
@@ -186,7 +269,7 @@ pub fn read_record<'a>(root: &str, bytes: &'a [u8]) -> Told<'a>
         return Told::Doubt;
     }
     match below(root.as_bytes(), parts.folder) {
-        Some(folder) => named(folder, parts.events, parts.name),
+        Some(folder) => named(folder, parts.events, parts.cookie, parts.name),
         None => Told::Doubt,
     }
 }

@@ -1,4 +1,4 @@
-//! What the system tells of the watches of a process. Tests: serve_tests/src/feeds/watches.rt.
+//! What the system tells of the watches of a process. Tests: feed_tests/src/watches.rt.
 
 use std::collections::BTreeSet;
 use wm_disk::NoMemory;
