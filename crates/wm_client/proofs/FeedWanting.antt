@@ -30,16 +30,15 @@ kind_wanted app words k wanted same kinds shows = go (kinds (ap is_simple_and_fr
 
 -- ---- what is there for each word
 
-pub no_socket : (root_word : Option Text) (wanted : FeedWanted) → wanted ≡ feed_shown 2 → FeedTellsOf None root_word wanted
-no_socket root_word wanted is = subst (FeedTellsOf None root_word) (sym is) (refl, λ s r tells. some≢none s (sym tells.socket_is))
-
-pub no_root : (socket_word : Option Text) (wanted : FeedWanted) → wanted ≡ feed_shown 2 → FeedTellsOf socket_word None wanted
-no_root socket_word wanted is = subst (FeedTellsOf socket_word None) (sym is) (refl, λ s r tells. some≢none r (sym tells.root_is))
+pub no_socket : (root_word event_word : Option Text) (wanted : FeedWanted) → wanted ≡ feed_shown 2 → FeedTellsOf None root_word event_word wanted
+no_socket root_word event_word wanted is = subst (FeedTellsOf None root_word event_word) (sym is) (refl, refl)
 
 -- what clap's matches give for the words is what was found
-pub found_told : (m : ArgMatches) (socket_word root_word : Option Text) (wanted : FeedWanted) → socket_word ≡ first_value (found_of m) (codes "SOCKET")
-    → root_word ≡ first_value (found_of m) (codes "ROOT") → FeedTellsOf socket_word root_word wanted → FeedFindsFor (rows_of (found_of m)) wanted
-found_told m socket_word root_word wanted s r tells =
+pub found_told : (m : ArgMatches) (socket_word root_word event_word : Option Text) (wanted : FeedWanted) → socket_word ≡ first_value (found_of m) (codes "SOCKET")
+    → root_word ≡ first_value (found_of m) (codes "ROOT") → event_word ≡ first_value (found_of m) (codes "every-event")
+    → FeedTellsOf socket_word root_word event_word wanted → FeedFindsFor (rows_of (found_of m)) wanted
+found_told m socket_word root_word event_word wanted s r e tells =
     let rows : (id : Text) → first_value (found_of m) id ≡ first_of id (rows_of (found_of m)) = first_value-rows (found_of m) in
-    subst (λ (o : Option Text). FeedTellsOf o (first_of (codes "ROOT") (rows_of (found_of m))) wanted) (s ∙ rows (codes "SOCKET"))
-    (subst (λ (o : Option Text). FeedTellsOf socket_word o wanted) (r ∙ rows (codes "ROOT")) tells)
+    subst (λ (o : Option Text). FeedTellsOf o (first_of (codes "ROOT") (rows_of (found_of m))) (first_of (codes "every-event") (rows_of (found_of m))) wanted) (s ∙ rows (codes "SOCKET"))
+    (subst (λ (o : Option Text). FeedTellsOf socket_word o (first_of (codes "every-event") (rows_of (found_of m))) wanted) (r ∙ rows (codes "ROOT"))
+    (subst (λ (o : Option Text). FeedTellsOf socket_word root_word o wanted) (e ∙ rows (codes "every-event")) tells))

@@ -1,7 +1,11 @@
+mod Asking
 mod FeedWanting
 mod Lines
+mod Passing
 mod Printing
 mod Refusals
 mod ReplyLines
+mod Sending
+mod Synced
 mod Telling
 mod Wanting

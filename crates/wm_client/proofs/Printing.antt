@@ -6,7 +6,7 @@ use Rattle.std.proofs.lemmas.List.Folds.{list_all-append}
 use Rattle.wm_client.specs.Talks.{PrintsLines, has_come_whole}
 use Rattle.wm_client.proofs.Lines.{grown_twice}
 
-concat-append : (xs ys : List (List ℕ)) → concat (xs ++ ys) ≡ concat xs ++ concat ys
+pub concat-append : (xs ys : List (List ℕ)) → concat (xs ++ ys) ≡ concat xs ++ concat ys
 concat-append [] ys = refl
 concat-append (x ∷ xs) ys = ap (λ (bytes : List ℕ). x ++ bytes) (concat-append xs ys) ∙ sym (append_assoc x (concat xs) (concat ys))
 

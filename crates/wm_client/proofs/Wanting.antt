@@ -7,7 +7,7 @@ use Rattle.clap.specs.Words.{App, first_of, first_value, HasMatchesOf, IsAmong, 
 use Rattle.clap.specs.declared.error.ErrorKind.{ErrorKind}
 use Rattle.clap.specs.declared.error.ErrorKind.TheVariants.{OutOfMemory}
 use Rattle.clap.specs.declared.parser.ArgMatches.{ArgMatches}
-use Rattle.wm_client.specs.ClientWords.{AsksFor, FindsFor, TellsCount, TellsOf, Wanted, shown_for_kind, shown_status, wmctl_app}
+use Rattle.wm_client.specs.ClientWords.{AsksFor, FindsFor, SyncWanted, TellsOption, TellsOf, TellsSync, Wanted, shown_for_kind, shown_status, wmctl_app}
 
 some≢none : {X : Type 0} (x : X) → Some x ≡ None → ⊥
 some≢none x same = true≢false (ap is_some same)
@@ -31,30 +31,44 @@ kind_wanted app words k wanted same kinds shows = go (kinds (ap is_simple_and_fr
 
 -- ---- what is there for each word
 
-pub no_socket : (json_word follow_word : Option Text) (wanted : Wanted) → wanted ≡ shown_status 2 → TellsOf None json_word follow_word wanted
-no_socket json_word follow_word wanted is = subst (TellsOf None json_word follow_word) (sym is) (refl, λ s j n tells. some≢none s (sym tells.socket_is))
+pub no_socket : (json_word follow_word sync_word timeout_word : Option Text) (wanted : Wanted) → wanted ≡ shown_status 2
+    → TellsOf None json_word follow_word sync_word timeout_word wanted
+no_socket json_word follow_word sync_word timeout_word wanted is =
+    subst (TellsOf None json_word follow_word sync_word timeout_word) (sym is) (refl, λ s j n o tells. some≢none s (sym tells.socket_is))
 
-pub no_json : (socket_word follow_word : Option Text) (wanted : Wanted) → wanted ≡ shown_status 2 → TellsOf socket_word None follow_word wanted
-no_json socket_word follow_word wanted is = subst (TellsOf socket_word None follow_word) (sym is) (refl, λ s j n tells. some≢none j (sym tells.json_is))
+pub no_json : (socket_word follow_word sync_word timeout_word : Option Text) (wanted : Wanted) → wanted ≡ shown_status 2
+    → TellsOf socket_word None follow_word sync_word timeout_word wanted
+no_json socket_word follow_word sync_word timeout_word wanted is =
+    subst (TellsOf socket_word None follow_word sync_word timeout_word) (sym is) (refl, λ s j n o tells. some≢none j (sym tells.json_is))
 
 some_same : {X : Type 0} (x y : X) → Some x ≡ Some y → x ≡ y
 some_same x y same = ap (λ o. unwrap_or o x) same
 
-pub two_lines : (socket_word follow_word : Option Text) (json : Text) (wanted : Wanted) → list_any (λ byte. byte == 10) json ≡ true → wanted ≡ shown_status 2
-    → TellsOf socket_word (Some json) follow_word wanted
-two_lines socket_word follow_word json wanted has is = subst (TellsOf socket_word (Some json) follow_word) (sym is)
-    (refl, λ s j n tells. true≢false (sym has ∙ ap (list_any (λ byte. byte == 10)) (some_same json j tells.json_is) ∙ tells.one_line))
+pub two_lines : (socket_word follow_word sync_word timeout_word : Option Text) (json : Text) (wanted : Wanted) → list_any (λ byte. byte == 10) json ≡ true
+    → wanted ≡ shown_status 2 → TellsOf socket_word (Some json) follow_word sync_word timeout_word wanted
+two_lines socket_word follow_word sync_word timeout_word json wanted has is = subst (TellsOf socket_word (Some json) follow_word sync_word timeout_word) (sym is)
+    (refl, λ s j n o tells. true≢false (sym has ∙ ap (list_any (λ byte. byte == 10)) (some_same json j tells.json_is) ∙ tells.one_line))
 
-pub no_number : (socket_word json_word follow_word : Option Text) (wanted : Wanted) → ((n : ℕ) → TellsCount follow_word n → ⊥) → wanted ≡ shown_status 2
-    → TellsOf socket_word json_word follow_word wanted
-no_number socket_word json_word follow_word wanted none is = subst (TellsOf socket_word json_word follow_word) (sym is) (refl, λ s j n tells. none n tells.follow_is)
+pub no_number : (socket_word json_word follow_word sync_word timeout_word : Option Text) (wanted : Wanted) → ((n : ℕ) → TellsOption 0 follow_word n → ⊥)
+    → wanted ≡ shown_status 2 → TellsOf socket_word json_word follow_word sync_word timeout_word wanted
+no_number socket_word json_word follow_word sync_word timeout_word wanted none is =
+    subst (TellsOf socket_word json_word follow_word sync_word timeout_word) (sym is) (refl, λ s j n o tells. none n tells.follow_is)
+
+pub no_sync : (socket_word json_word follow_word sync_word timeout_word : Option Text) (wanted : Wanted) → ((o : Option SyncWanted) → TellsSync sync_word timeout_word o → ⊥)
+    → wanted ≡ shown_status 2 → TellsOf socket_word json_word follow_word sync_word timeout_word wanted
+no_sync socket_word json_word follow_word sync_word timeout_word wanted none is =
+    subst (TellsOf socket_word json_word follow_word sync_word timeout_word) (sym is) (refl, λ s j n o tells. none o tells.sync_is)
 
 -- what clap's matches give for the words is what was found
-pub found_told : (m : ArgMatches) (socket_word json_word follow_word : Option Text) (wanted : Wanted) → socket_word ≡ first_value (found_of m) (codes "SOCKET")
+pub found_told : (m : ArgMatches) (socket_word json_word follow_word sync_word timeout_word : Option Text) (wanted : Wanted) → socket_word ≡ first_value (found_of m) (codes "SOCKET")
     → json_word ≡ first_value (found_of m) (codes "JSON") → follow_word ≡ first_value (found_of m) (codes "follow")
-    → TellsOf socket_word json_word follow_word wanted → FindsFor (rows_of (found_of m)) wanted
-found_told m socket_word json_word follow_word wanted s j f tells =
+    → sync_word ≡ first_value (found_of m) (codes "sync") → timeout_word ≡ first_value (found_of m) (codes "sync-timeout")
+    → TellsOf socket_word json_word follow_word sync_word timeout_word wanted → FindsFor (rows_of (found_of m)) wanted
+found_told m socket_word json_word follow_word sync_word timeout_word wanted s j f y t tells =
     let rows : (id : Text) → first_value (found_of m) id ≡ first_of id (rows_of (found_of m)) = first_value-rows (found_of m) in
-    subst (λ (o : Option Text). TellsOf o (first_of (codes "JSON") (rows_of (found_of m))) (first_of (codes "follow") (rows_of (found_of m))) wanted) (s ∙ rows (codes "SOCKET"))
-    (subst (λ (o : Option Text). TellsOf socket_word o (first_of (codes "follow") (rows_of (found_of m))) wanted) (j ∙ rows (codes "JSON"))
-    (subst (λ (o : Option Text). TellsOf socket_word json_word o wanted) (f ∙ rows (codes "follow")) tells))
+    let at : Text → Option Text = λ id. first_of id (rows_of (found_of m)) in
+    subst (λ (o : Option Text). TellsOf o (at (codes "JSON")) (at (codes "follow")) (at (codes "sync")) (at (codes "sync-timeout")) wanted) (s ∙ rows (codes "SOCKET"))
+    (subst (λ (o : Option Text). TellsOf socket_word o (at (codes "follow")) (at (codes "sync")) (at (codes "sync-timeout")) wanted) (j ∙ rows (codes "JSON"))
+    (subst (λ (o : Option Text). TellsOf socket_word json_word o (at (codes "sync")) (at (codes "sync-timeout")) wanted) (f ∙ rows (codes "follow"))
+    (subst (λ (o : Option Text). TellsOf socket_word json_word follow_word o (at (codes "sync-timeout")) wanted) (y ∙ rows (codes "sync"))
+    (subst (λ (o : Option Text). TellsOf socket_word json_word follow_word sync_word o wanted) (t ∙ rows (codes "sync-timeout")) tells))))

@@ -8,20 +8,33 @@ use Rattle.clap.specs.Words.{App, IsAmong, Row, Rule, Text, fault_of, first_of, 
 use Rattle.clap.specs.declared.builder.ArgAction.TheVariants.{Set}
 use Rattle.clap.specs.declared.error.ErrorKind.{ErrorKind}
 use Rattle.clap.specs.declared.error.ErrorKind.TheVariants as kind
+use Rattle.wm_client.specs.declared.words.Request.{Request}
+use Rattle.wm_client.specs.declared.words.Sync.{Sync}
 use Rattle.wm_client.specs.declared.words.Words.{Words}
 use Rattle.wm_client.specs.declared.words.Words.TheVariants as words
 
 -- ---- what may be asked
 
+-- a sync of the root at this path, which is waited for so many milliseconds
+pub record SyncWanted : Type 0 where
+  pub root : Text
+  pub timeout : ℕ
+
 pub data Wanted : Type 0 where
-  -- this line is sent to the socket of this path, and so many lines are printed beside the reply
-  talk_to : Text → Text → ℕ → Wanted
+  -- this line is sent to the socket of this path, and so many lines are printed beside the reply; a sync may be wanted before
+  talk_to : Text → Text → ℕ → Option SyncWanted → Wanted
   -- a text is shown, and the program ends with this status
   shown_status : ℕ → Wanted
 
+abbrev pub sync_wanted_of : Sync → SyncWanted
+sync_wanted_of sync = record { root = string_bytes sync.root; timeout = sync.timeout }
+
+abbrev pub request_wanted_of : Request → Wanted
+request_wanted_of r = talk_to (string_bytes r.socket) (string_bytes r.json) r.follow (option_map sync_wanted_of r.sync)
+
 -- what a `Words` of the code says, but for the text that it shows
 abbrev pub wanted_of : Words → Wanted
-wanted_of (words.Talk socket json follow) = talk_to (string_bytes socket) (string_bytes json) follow
+wanted_of (words.Talk request) = request_wanted_of request
 wanted_of (words.Shown text status) = shown_status status
 
 -- the text of a word that may be there
@@ -34,8 +47,9 @@ text_of = option_map (λ s. s.now)
 abbrev pub needed_rule : Text → Rule
 needed_rule id = record (new_rule id) { action = Some Set; required = true }
 
-abbrev pub follow_rule : Rule
-follow_rule = record (new_rule (codes "follow")) { long = Some (codes "follow"); action = Some Set; value_names = 1 }
+-- an option with a value
+abbrev pub option_rule : Text → Rule
+option_rule id = record (new_rule id) { long = Some id; action = Some Set; value_names = 1 }
 
 abbrev pub bare_wmctl : App
 bare_wmctl = record {
@@ -43,32 +57,44 @@ bare_wmctl = record {
   subs = [];
 }
 
+abbrev pub words_app : App
+words_app = with_rule (with_rule bare_wmctl (needed_rule (codes "SOCKET"))) (needed_rule (codes "JSON"))
+
 abbrev pub wmctl_app : App
-wmctl_app = with_rule (with_rule (with_rule bare_wmctl (needed_rule (codes "SOCKET"))) (needed_rule (codes "JSON"))) follow_rule
+wmctl_app = with_rule (with_rule (with_rule words_app (option_rule (codes "follow"))) (option_rule (codes "sync"))) (option_rule (codes "sync-timeout"))
 
 -- ---- what clap finds in the words
 
--- the number that `--follow` tells: decimal digits, with a plus before them or none, below 2^32; 0 where it isn't there
-abbrev pub TellsCount : Option Text → ℕ → Type 0
-TellsCount None n = n ≡ 0
-TellsCount (Some text) n = IsNumeral 10 (without_leading_plus text) × (n < 2 ^ 32) × (n ≡ digits_value 10 (without_leading_plus text))
+-- the number that an option tells: decimal digits, with a plus before them or none, below 2^32; the default if it isn't there
+abbrev pub TellsOption : ℕ → Option Text → ℕ → Type 0
+TellsOption default None n = n ≡ default
+TellsOption default (Some text) n = IsNumeral 10 (without_leading_plus text) × (n < 2 ^ 32) × (n ≡ digits_value 10 (without_leading_plus text))
 
--- these words are there for SOCKET, JSON and `--follow`, and tell this line, which has no newline (10), and this number
-pub record TellsTalk (socket_word json_word follow_word : Option Text) (socket json : Text) (follow : ℕ) : Type 0 where
+-- what is there for `--sync` and `--sync-timeout` tells this sync: no timeout without a root, and a second if none is told
+abbrev pub TellsSync : (sync_word timeout_word : Option Text) → Option SyncWanted → Type 0
+TellsSync None timeout_word sync = (timeout_word ≡ None) × (sync ≡ None)
+TellsSync (Some root) timeout_word None = ⊥
+TellsSync (Some root) timeout_word (Some sync) = (sync.root ≡ root) × TellsOption 1000 timeout_word sync.timeout
+
+-- these words are there for SOCKET, JSON and the options, and tell this line, which has no newline (10), this number and this sync
+pub record TellsTalk (socket_word json_word follow_word sync_word timeout_word : Option Text) (socket json : Text) (follow : ℕ) (sync : Option SyncWanted) : Type 0 where
   pub socket_is : socket_word ≡ Some socket
   pub json_is : json_word ≡ Some json
   pub one_line : list_any (λ byte. byte == 10) json ≡ false
-  pub follow_is : TellsCount follow_word follow
+  pub follow_is : TellsOption 0 follow_word follow
+  pub sync_is : TellsSync sync_word timeout_word sync
 
 -- what they tell is wanted; where that is no talk, it is a fault
-abbrev pub TellsOf : (socket_word json_word follow_word : Option Text) → Wanted → Type 0
-TellsOf socket_word json_word follow_word (talk_to socket json follow) = TellsTalk socket_word json_word follow_word socket json follow
-TellsOf socket_word json_word follow_word (shown_status status) =
-    (status ≡ 2) × ((socket json : Text) (follow : ℕ) → TellsTalk socket_word json_word follow_word socket json follow → ⊥)
+abbrev pub TellsOf : (socket_word json_word follow_word sync_word timeout_word : Option Text) → Wanted → Type 0
+TellsOf socket_word json_word follow_word sync_word timeout_word (talk_to socket json follow sync) =
+    TellsTalk socket_word json_word follow_word sync_word timeout_word socket json follow sync
+TellsOf socket_word json_word follow_word sync_word timeout_word (shown_status status) =
+    (status ≡ 2) × ((socket json : Text) (follow : ℕ) (sync : Option SyncWanted) → TellsTalk socket_word json_word follow_word sync_word timeout_word socket json follow sync → ⊥)
 
 -- what was found is wanted
 abbrev pub FindsFor : List Row → Wanted → Type 0
-FindsFor rows wanted = TellsOf (first_of (codes "SOCKET") rows) (first_of (codes "JSON") rows) (first_of (codes "follow") rows) wanted
+FindsFor rows wanted =
+    TellsOf (first_of (codes "SOCKET") rows) (first_of (codes "JSON") rows) (first_of (codes "follow") rows) (first_of (codes "sync") rows) (first_of (codes "sync-timeout") rows) wanted
 
 -- what an error of this kind shows: help and the version as asked, all else as a fault; running out of memory is never shown
 abbrev pub shown_for_kind : ErrorKind → Option Wanted

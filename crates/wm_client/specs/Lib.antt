@@ -1,7 +1,10 @@
+pub mod Asks
 pub mod ClientWords
 pub mod Ends
 pub mod FeedWords
 pub mod RefusalLines
 pub mod ReplyLaws
 pub mod Statuses
+pub mod Syncs
 pub mod Talks
+pub mod Waits

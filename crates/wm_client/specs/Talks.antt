@@ -28,6 +28,14 @@ refusal_start = codes "{\"error\":"
 abbrev pub is_refusal_line : List ℕ → Bool
 is_refusal_line line = bytes_eq (take (length refusal_start) line) refusal_start
 
+-- these bytes are a start of a line, which may be all of it
+abbrev pub IsStartOf : List ℕ → List ℕ → Type 0
+IsStartOf line start = (rest : List ℕ) × (line ≡ start ++ rest)
+
+-- a known output grew by a start of a line
+abbrev pub AppendsStart : Option (List ℕ) → Option (List ℕ) → List ℕ → Type 0
+AppendsStart held holds line = (start : List ℕ) × IsStartOf line start × Appends held holds start
+
 -- just some of the first n lines of an input were printed, from the first on, each of them whole
 abbrev pub PrintsSome : ℕ → List ℕ → Option (List ℕ) → Option (List ℕ) → Type 0
 PrintsSome n input held holds = (k : ℕ) × (k ≤ n) × HasLines k input × Appends held holds (lines_first k input)

@@ -1,5 +1,6 @@
 //! All of `wmfeed` but the feed itself, with its status. Definitions: specs/Ends. Tests: feed_tests, tools/feed_use.py.
-ghost use Rattle.std.specs.Prelude.{◌≡◌, ◌⊎◌, ℕ, List, map};
+ghost use Rattle.std.specs.Prelude.{◌≡◌, ◌⊎◌, ℕ, Bool, List, Option, Some, map};
+ghost use Rattle.wm_client.specs.ClientWords.{text_of};
 ghost use Rattle.wm_client.specs.Ends.{EndsAsAsked, MayEnd, status_of_stop};
 ghost use Rattle.wm_client.specs.FeedWords.{feed_to};
 ghost use Rattle.wm_client.specs.declared.stop.Stop.{Stop};
@@ -12,22 +13,30 @@ use std::io::Write;
 use wm_disk::{NoMemory, Refusal};
 use wm_names::RootPath;
 
-/// What tells a server of the changes below a root.
+/// What tells a server of changes.
 pub trait Feeder {
-    /// A feed to the socket of this path, of this root, may stop for this cause.
-    ghost may_stop: { Self → List ℕ → List ℕ → Stop → Type 0 };
+    /// A feed to the socket of this path, of this root or of each watched root, with the flag for every event, may stop for this cause.
+    ghost may_stop: { Self → List ℕ → Option (List ℕ) → Bool → Stop → Type 0 };
 
-    /// Feeds the server at the socket of a path, until there is a cause to stop.
-    fn feed(&self, alloc: Global, socket: &str, root: &RootPath) -> Stop
-        ensures { may_stop self.now socket.now root.now result };
+    /// Feeds the server at the socket of a path, until there is a cause to stop: with what changes below a root, or below each watched root
+    /// if none is named. If `is_every_event`, a path is told also if its event shows nothing new.
+    fn feed(
+        &self,
+        alloc: Global,
+        socket: &str,
+        root: Option<&RootPath>,
+        is_every_event: bool,
+    ) -> Stop
+        ensures { may_stop self.now socket.now (text_of root.entry) is_every_event result };
 }
 
-/// Runs `wmfeed` with the words after its own name, and gives its status: 0 if the root isn't watched any longer,
-/// and for help and the version; 1 if inotifywait couldn't be started, ten watches in a row ended before each folder
-/// was seen to be watched, the server refused a request, memory ran out, or help or the version can't be printed; 2 if
-/// the words aren't understood, or ROOT is no root's path; 3 if the server ended, or its socket failed.
+/// Runs `wmfeed` with the words after its own name, and returns its status: 0 if ROOT isn't watched any longer, and for help
+/// and the version; 1 if no folder is at ROOT, inotifywait couldn't be started, ten watches in a row came to nothing, the server
+/// refused a request, memory ran out, or help or the version can't be printed; 2 if the words aren't understood, or ROOT is no
+/// root's path; 3 if the server ended, or its socket failed. Without ROOT the feed goes on until a signal ends it, unless it
+/// can't begin: then the status is 1.
 ///
-/// The cause is told on `faults`, of a refusal its number and name, as `wmfeed: 17 TooMany`.
+/// The cause is reported on `faults`, of a refusal its number and name, as `wmfeed: 17 TooMany`.
 pub fn wmfeed<F: Feeder, W: Write, E: Write>(
     alloc: Global,
     feeder: &F,
@@ -39,9 +48,16 @@ pub fn wmfeed<F: Feeder, W: Write, E: Write>(
 {
     match FeedWords::read(alloc, words) {
         Ok(FeedWords::Shown { text, status }) => show(text.as_str(), status, printer, faults),
-        Ok(FeedWords::Feed { socket, root }) => {
-            feed(alloc, feeder, socket.as_str(), root.as_str(), faults)
-        }
+        Ok(
+            FeedWords::Feed {
+                socket,
+                root,
+                is_every_event,
+            },
+        ) => match root {
+            Some(root) => feed(alloc, feeder, &socket, &root, is_every_event, faults),
+            None => end(feeder.feed(alloc, &socket, None, is_every_event), faults),
+        },
         Err(NoMemory) => end(Stop::NoMemory, faults),
     }
 }
@@ -52,12 +68,16 @@ fn feed<F: Feeder, E: Write>(
     feeder: &F,
     socket: &str,
     root: &str,
+    is_every_event: bool,
     faults: &mut E,
 ) -> u8
-    ensures { (result ≡ 1) ⊎ MayEnd (F.may_stop feeder.now) (feed_to socket.now root.now) result }
+    ensures { (result ≡ 1) ⊎ MayEnd (F.may_stop feeder.now) (feed_to socket.now (Some root.now) is_every_event) result }
 {
     match RootPath::read(alloc, root) {
-        Ok(root) => end(feeder.feed(alloc, socket, &root), faults),
+        Ok(root) => end(
+            feeder.feed(alloc, socket, Some(&root), is_every_event),
+            faults,
+        ),
         Err(Refusal::NoMemory) => end(Stop::NoMemory, faults),
         Err(_) => {
             let _told = tell("wmfeed: ROOT is no root's path (4 BadPath)\n", faults);
@@ -70,20 +90,13 @@ fn feed<F: Feeder, E: Write>(
 fn end<E: Write>(stop: Stop, faults: &mut E) -> u8
     ensures { result ≡ status_of_stop stop }
 {
-    let (status, told) = match stop {
-        Stop::WatchGone => (0, "the root isn't watched any longer"),
-        Stop::ServerGone => (3, "the server ended"),
-        Stop::Refused(refusal) | Stop::RefusedForNow(refusal) => (1, refusal.text()),
-        Stop::Unreadable => (1, "a reply can't be read"),
-        Stop::Unwatched => (1, "inotifywait couldn't be started"),
-        Stop::Doubt | Stop::Ended | Stop::Unwatchable => (
-            1,
-            "inotifywait ends, or folders stay without a watch",
-        ),
-        Stop::NoMemory => (1, "16 NoMemory"),
+    let status = match stop {
+        Stop::WatchGone => 0,
+        Stop::ServerGone => 3,
+        _ => 1,
     };
     // If even this can't be told, the status tells it.
-    for text in ["wmfeed: ", told, "\n"] {
+    for text in ["wmfeed: ", stop.text(), "\n"] {
         let _told = tell(text, faults);
     }
     status

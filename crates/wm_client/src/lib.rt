@@ -2,8 +2,9 @@
 //! but the feed itself.
 //!
 //! [`Words`] is what the words of `wmctl` ask for (specs/ClientWords.antt), [`talk`] sends a request and
-//! prints the reply (specs/Talks.antt), and [`wmctl`] is all of the program, with the status that it may end with
-//! (specs/Statuses.antt). [`every_reply`] says what is taken for a refusal (specs/ReplyLaws.antt), and [`refusal_of`] which one it is (specs/RefusalLines.antt). [`FeedWords`] is what the words of
+//! prints the reply (specs/Talks.antt), [`synced_talk`] does so once a feed has removed a file (specs/Syncs.antt), which it makes by a
+//! [`SyncSystem`] (specs/Waits.antt; [`SyncFiles`] is the operating system's), and [`wmctl`] is all of the program, with the status that it
+//! may end with (specs/Statuses.antt). [`every_reply`] says what is taken for a refusal (specs/ReplyLaws.antt), and [`refusal_of`] which one it is (specs/RefusalLines.antt). [`FeedWords`] is what the words of
 //! `wmfeed` ask for (specs/FeedWords.antt), and [`wmfeed`] all of that program over a [`Feeder`], with its status (specs/Ends.antt).
 #![tactic(auto)]
 
@@ -12,9 +13,14 @@ mod feeding;
 mod laws;
 mod program;
 mod refused;
+mod root_number;
 mod showing;
 mod stop;
+mod sync_files;
+mod sync_system;
+mod syncing;
 mod talking;
+mod timer;
 mod words;
 
 pub use feed_words::FeedWords;
@@ -22,6 +28,10 @@ pub use feeding::{Feeder, wmfeed};
 pub use laws::every_reply;
 pub use program::wmctl;
 pub use refused::refusal_of;
+pub use root_number::root_number_of;
 pub use stop::Stop;
+pub use sync_files::SyncFiles;
+pub use sync_system::SyncSystem;
+pub use syncing::{SyncEnd, synced_talk};
 pub use talking::{TalkEnd, talk};
-pub use words::Words;
+pub use words::{Request, Sync, Words};

@@ -1,4 +1,4 @@
-//! The refusal that a reply is. Definitions: specs/RefusalLines. Tests: serve_tests/src/wmctl/talks.rt.
+//! The refusal that a reply is. Definitions: specs/RefusalLines. Tests: client_tests/src/wmctl/talks.rt.
 ghost use Rattle.std.specs.Prelude.{◌≡◌, true, false, MatchOption};
 ghost use Rattle.std.specs.List.{list_any};
 ghost use Rattle.wm_client.specs.RefusalLines.{IsRefusalOf, is_refused_by, start_of_refusal};
@@ -60,7 +60,7 @@ fn start_of(refusal: Refusal) -> &'static [u8]
 }
 
 /// Whether a line begins as that of a refusal.
-fn is_of(refusal: Refusal, line: &[u8]) -> bool
+pub(crate) fn is_of(refusal: Refusal, line: &[u8]) -> bool
     ensures { result ≡ is_refused_by refusal line.now }
 {
     line.starts_with(start_of(refusal))

@@ -1,5 +1,5 @@
 //! Texts that a program shows, and its status behind them.
-//! Tests: serve_tests/src/wmctl/sockets.rt.
+//! Tests: client_tests/src/wmctl/sockets.rt.
 ghost use Rattle.std.specs.Prelude.{◌≡◌, ◌≢◌, ◌⊎◌};
 ghost use Rattle.std.specs.Io.KnownBytes.{Appends};
 

@@ -13,6 +13,8 @@ pub enum Stop {
     RefusedForNow(Refusal),
     /// The root isn't watched any longer.
     WatchGone,
+    /// No folder was at the root's path when the feed began.
+    NoFolder,
     /// The server ended, or its socket failed.
     ServerGone,
     /// The server refused a request, by this refusal.
@@ -23,11 +25,29 @@ pub enum Stop {
     Ended,
     /// inotifywait couldn't be started, or no time could be set for reading what it tells.
     Unwatched,
-    /// Ten watches in a row ended before each folder was seen to be watched: inotifywait ended, or folders stay
-    /// without a watch.
+    /// Ten watches in a row came to nothing before each folder was seen to be watched: inotifywait ended, or folders stayed without a
+    /// watch.
     Unwatchable,
     /// Memory ran out.
     NoMemory,
+}
+
+impl Stop {
+    /// What is told of it, of a refusal its number and name.
+    pub fn text(self) -> &'static str {
+        match self {
+            Stop::WatchGone => "the root isn't watched any longer",
+            Stop::NoFolder => "no folder is at ROOT",
+            Stop::ServerGone => "the server ended",
+            Stop::Refused(refusal) | Stop::RefusedForNow(refusal) => refusal.text(),
+            Stop::Unreadable => "a reply can't be read",
+            Stop::Unwatched => "inotifywait couldn't be started",
+            Stop::Doubt | Stop::Ended | Stop::Unwatchable => {
+                "inotifywait ends, or folders stay without a watch"
+            }
+            Stop::NoMemory => "16 NoMemory",
+        }
+    }
 }
 
 impl From<NoMemory> for Stop {

@@ -1,9 +1,9 @@
 //! A talk with a server: one request, its reply, and lines that come after it. Definitions: specs/Talks.
-//! Tests: serve_tests/src/wmctl/talks.rt.
+//! Tests: client_tests/src/wmctl/talks.rt.
 ghost use Rattle.std.specs.Prelude.{◌≡◌, ◌≢◌, ◌∷◌, ◌++◌, [], ℕ, true, false, codes, length, List, Some, IfErr, IfOk, Ok};
 ghost use Rattle.std.specs.Io.BufRead.{drop_through, take_through};
 ghost use Rattle.std.specs.Io.KnownBytes.{Appends};
-ghost use Rattle.wm_client.specs.Talks.{HasLines, Prints, PrintsBefore, PrintsLines, PrintsReply, PrintsSome, is_refusal_line, has_come_whole, lines_first};
+ghost use Rattle.wm_client.specs.Talks.{AppendsStart, HasLines, Prints, PrintsBefore, PrintsLines, PrintsReply, PrintsSome, is_refusal_line, has_come_whole, lines_first};
 
 use std::alloc::Global;
 use std::io::{BufRead, ErrorKind, Write};
@@ -62,15 +62,36 @@ pub fn talk<S: Write, R: BufRead, W: Write>(
     print_lines(follow, replies, &mut line, printer)
 }
 
-/// Sends a request and its newline. `false` if a write failed.
-fn send<S: Write>(json: &str, sender: &mut S) -> bool
-    ensures { result ≡ true → Appends (S.contents sender.old) (S.contents sender.new) (json.now ++ codes "\n") }
+/// Sends a request and its newline. `false` if a write failed: what was sent is a start of them.
+pub(crate) fn send<S: Write>(json: &str, sender: &mut S) -> bool
+    ensures sent { result ≡ true → Appends (S.contents sender.old) (S.contents sender.new) (json.now ++ codes "\n") }
+    ensures start { AppendsStart (S.contents sender.old) (S.contents sender.new) (json.now ++ codes "\n") }
 {
-    sender.write_all(json.as_bytes()).is_ok() && sender.write_all(b"\n").is_ok()
+    send_bytes(json.as_bytes(), sender) && send_bytes(b"\n", sender)
+}
+
+/// Sends bytes. `false` if a write failed: what was sent is a start of them.
+fn send_bytes<S: Write>(bytes: &[u8], sender: &mut S) -> bool
+    ensures sent { result ≡ true → Appends (S.contents sender.old) (S.contents sender.new) bytes.now }
+    ensures start { AppendsStart (S.contents sender.old) (S.contents sender.new) bytes.now }
+{
+    let mut sent = 0;
+    for _ in 0..u64::MAX {
+        if sent >= bytes.len() {
+            return true;
+        }
+        match sender.write(bytes.split_at(sent).1) {
+            Ok(0) => return false,
+            Ok(count) => sent += count,
+            Err(error) if error.kind() == ErrorKind::Interrupted => {}
+            Err(_) => return false,
+        }
+    }
+    false
 }
 
 /// Whether a reply is a refusal, by how the server begins its line.
-fn is_refusal(line: &[u8]) -> bool
+pub(crate) fn is_refusal(line: &[u8]) -> bool
     ensures { result ≡ is_refusal_line line.now }
 {
     line.starts_with(b"{\"error\":")
@@ -125,14 +146,17 @@ fn print_line<R: BufRead, W: Write>(
 }
 
 /// Prints a line. `false` if that failed.
-fn print<W: Write>(line: &[u8], printer: &mut W) -> bool
+pub(crate) fn print<W: Write>(line: &[u8], printer: &mut W) -> bool
     ensures { result ≡ true → Appends (W.contents printer.old) (W.contents printer.new) line.now }
 {
     printer.write_all(line).is_ok()
 }
 
 /// Reads the next line that comes.
-fn read_line<R: BufRead>(replies: &mut R, line: &mut Vec<u8>) -> Result<TalkEnd, NoMemory>
+pub(crate) fn read_line<R: BufRead>(
+    replies: &mut R,
+    line: &mut Vec<u8>,
+) -> Result<TalkEnd, NoMemory>
     ensures whole { result ≡ Ok TalkEnd.Told → has_come_whole line.new.items ≡ true }
     ensures told { result ≡ Ok TalkEnd.Told → (input : List ℕ) → R.remaining replies.old ≡ Some input → (line.new.items ≡ take_through 10 input) × (R.remaining replies.new ≡ Some (drop_through 10 input)) }
     ensures alone { IfOk result (λ end. (end ≢ TalkEnd.Refused) × (end ≢ TalkEnd.Unsent) × (end ≢ TalkEnd.Unprinted)) }

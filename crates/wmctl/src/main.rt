@@ -3,10 +3,11 @@
 
 use std::io::ErrorKind;
 use std::process::ExitCode;
-use std::{env, io};
-use wm_client::wmctl;
+use std::time::Instant;
+use std::{env, io, process};
+use wm_client::{SyncFiles, wmctl};
 
-/// Meets the words. An error is that of memory, or of a word that isn't UTF-8.
+/// Handles the words. An error is that of memory, or of a word that isn't UTF-8.
 fn run(rt: &HostRuntime) -> io::Result<u8> {
     let alloc = rt.alloc();
     let args: Vec<String> = env::args(rt)?.skip(1).collect(alloc)?;
@@ -14,7 +15,12 @@ fn run(rt: &HostRuntime) -> io::Result<u8> {
     let mut printer = io::writer(rt);
     let errors = rt.stderr();
     let mut faults = io::writer(&errors);
-    Ok(wmctl(alloc, rt, &words, &mut printer, &mut faults))
+    let system = SyncFiles {
+        rt,
+        process: process::id(rt.process()),
+        begun: Instant::now(rt)?,
+    };
+    Ok(wmctl(alloc, rt, &system, &words, &mut printer, &mut faults))
 }
 
 fn main(rt: HostRuntime) -> io::Result<ExitCode> {

@@ -1,11 +1,11 @@
-use Rattle.std.proofs.Common.{◌≡◌, ◌∙◌, ap₂, rules}
-use Rattle.clap.specs.Words.{app_of, with_rule}
-use Rattle.wm_client.specs.ClientWords.{bare_wmctl}
+use Rattle.std.proofs.Common.{◌∙◌, ap₂}
+use Rattle.clap.specs.Words.{with_rule}
 use Rattle.wm_client.proofs.words.command.Goals as goal
 
 pub returns : goal.returns
 returns c =
-    let bare : app_of c.in_ok-bin_name.field-0 ≡ bare_wmctl = search rules in
-    let one = c.in_ok-arg.ensures.shape c.needed.ensures.local ∙ ap₂ with_rule bare c.needed.ensures.rule in
+    let one = c.in_ok-arg.ensures.shape c.needed.ensures.local ∙ ap₂ with_rule c.in_ok-bare.ensures c.needed.ensures.rule in
     let two = c.in_ok-arg-2.ensures.shape c.needed-2.ensures.local ∙ ap₂ with_rule one c.needed-2.ensures.rule in
-    c.in_ok-command.ensures.shape c.follow.ensures.local ∙ ap₂ with_rule two c.follow.ensures.rule
+    let three = c.in_ok-arg-3.ensures.shape c.option.ensures.local ∙ ap₂ with_rule two c.option.ensures.rule in
+    let four = c.in_ok-arg-4.ensures.shape c.option-2.ensures.local ∙ ap₂ with_rule three c.option-2.ensures.rule in
+    c.in_ok-command.ensures.shape c.option-3.ensures.local ∙ ap₂ with_rule four c.option-3.ensures.rule
