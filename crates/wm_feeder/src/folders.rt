@@ -1,146 +1,130 @@
-//! Whether inotifywait watches each folder that the server knows. Between its reading of a new folder
-//! and its watch of it, inotifywait misses a folder that is made there; the system's list of its watches tells.
+//! Which of the folders that are to be checked inotifywait doesn't watch: the system's list of its watches tells.
 //! Tests: feed_tests, tools/feed_use.py.
 
-use crate::sending::hand_over;
+use crate::asking::FOLDERS;
+use crate::root::Root;
 use crate::server::Server;
 use crate::system::System;
-use serde_json::{Value, json};
-use std::alloc::Global;
+use crate::watch::Watch;
 use std::collections::BTreeSet;
 use wm_client::Stop;
+use wm_disk::Refusal;
+use wm_feed::Checks;
+use wm_names::RelPath;
 
-/// The members of a query that asks for the names of all folders.
-const FOLDERS: &str =
-    "\"expression\":[\"allof\",\"exists\",[\"type\",\"d\"]],\"fields\":[\"name\"]";
+/// Folders that are still to be read, and those that have to be watched.
+#[derive(Drop)]
+struct Walk {
+    unread: Vec<RelPath>,
+    unsure: Vec<RelPath>,
+}
 
-/// The clock of a reply.
-fn clock_of(alloc: Global, reply: &Value) -> Result<Option<String>, Stop> {
-    match reply.get("clock").and_then(Value::as_str) {
-        Some(clock) => Ok(Some(String::from_str(alloc, clock)?)),
-        None => Ok(None),
+impl Walk {
+    /// Goes on with a folder. One that was told to be made is watched.
+    fn enter(&mut self, checks: &Checks, path: RelPath) -> Result<(), Stop> {
+        if !checks.is_made(&path) {
+            self.unsure.push(path.copy()?)?;
+        }
+        self.unread.push(path)?;
+        Ok(())
     }
 }
 
-/// Whether a path below a root is a folder that isn't watched, though it can be.
-fn is_missed<Y: System>(
-    system: &Y,
-    alloc: Global,
-    root: &str,
-    path: &str,
-    watched: &BTreeSet<u64>,
-) -> Result<bool, Stop> {
-    let text = format!(in alloc; "{root}/{path}")?;
-    match system.folder(text.as_str()) {
-        Some(number) if !watched.contains(&number) => Ok(system.is_readable(text.as_str())),
-        _ => Ok(false),
+impl<Y: System> Root<'_, Y> {
+    /// Whether a path below the root is a folder that isn't watched, though it can be.
+    fn is_missed(&self, path: &RelPath, watched: &BTreeSet<u64>) -> Result<bool, Stop> {
+        let text = self.whole(path.as_str())?;
+        match self.system.folder(text.as_str()) {
+            Some(number) if !watched.contains(&number) => {
+                Ok(self.system.names(self.alloc, text.as_str())?.is_some())
+            }
+            _ => Ok(false),
+        }
     }
-}
 
-/// Whether one of the folders that a reply lists is missed.
-fn is_any_missed<Y: System>(
-    system: &Y,
-    alloc: Global,
-    root: &str,
-    reply: &Value,
-    watched: &BTreeSet<u64>,
-) -> Result<bool, Stop> {
-    let Some(files) = reply.get("files").and_then(Value::as_array) else {
-        return Err(Stop::Unreadable);
-    };
-    for file in files {
-        if let Some(path) = file.as_str() {
-            if is_missed(system, alloc, root, path, watched)? {
-                return Ok(true);
+    /// Goes on with the folders in a folder. A name that no view holds is passed over.
+    fn read_folder(&self, walk: &mut Walk, checks: &Checks, folder: &RelPath) -> Result<(), Stop> {
+        let folder = folder.as_str();
+        let text = self.whole(folder)?;
+        let Some(names) = self.system.names(self.alloc, text.as_str())? else {
+            return Ok(());
+        };
+        for name in &names {
+            let whole = format!(in self.alloc; "{text}/{name}")?;
+            if self.system.folder(whole.as_str()).is_none() {
+                continue;
+            }
+            let path = format!(in self.alloc; "{folder}/{name}")?;
+            match RelPath::read(self.alloc, path.as_str()) {
+                Ok(path) => walk.enter(checks, path)?,
+                Err(Refusal::NoMemory) => return Err(Stop::NoMemory),
+                Err(_) => {}
             }
         }
-    }
-    Ok(false)
-}
-
-/// A text as JSON has it.
-fn quoted(alloc: Global, text: &str) -> Result<String, Stop> {
-    let value = json!(in alloc; text)?;
-    Ok(value.to_string(alloc)?)
-}
-
-/// The value that a reply is.
-fn value_of(alloc: Global, reply: &[u8]) -> Result<Value, Stop> {
-    let Ok(text) = str::from_utf8(reply) else {
-        return Err(Stop::Unreadable);
-    };
-    let Ok(value) = Value::from_str(alloc, text) else {
-        return Err(Stop::Unreadable);
-    };
-    Ok(value)
-}
-
-/// Which folders were seen to be watched: those that the server knew at a clock.
-#[derive(Drop)]
-pub(crate) struct Seen {
-    clock: Option<String>,
-}
-
-impl Seen {
-    pub(crate) fn new() -> Seen {
-        Seen { clock: None }
+        Ok(())
     }
 
-    /// The member of a query that tells since when it asks, if any.
-    fn since(&self, alloc: Global) -> Result<String, Stop> {
-        let Some(clock) = &self.clock else {
-            return Ok(String::new(alloc));
+    /// The folders in the parts that are to be checked, but for those that were told to be made there.
+    fn unsure_of(&self, checks: &Checks) -> Result<Vec<RelPath>, Stop> {
+        let mut walk = Walk {
+            unread: Vec::new(self.alloc),
+            unsure: Vec::new(self.alloc),
         };
-        let clock = quoted(alloc, clock.as_str())?;
-        Ok(format!(in alloc; ",\"since\":{clock}")?)
-    }
-
-    /// The request for the folders that came since.
-    fn request(&self, alloc: Global, root: &str) -> Result<String, Stop> {
-        let root = quoted(alloc, root)?;
-        let since = self.since(alloc)?;
-        Ok(format!(in alloc; "[\"query\",{root},{{{FOLDERS}{since}}}]")?)
-    }
-
-    /// Asks for the folders that came since.
-    fn ask<Y: System>(
-        &self,
-        alloc: Global,
-        server: &mut Server<Y>,
-        root: &str,
-    ) -> Result<(), Stop> {
-        let request = self.request(alloc, root)?;
-        hand_over(alloc, server, request.as_str())
-    }
-
-    /// Whether each folder that a reply lists is watched by a process, or can't be read: then its clock is kept.
-    fn take<Y: System>(
-        &mut self,
-        system: &Y,
-        alloc: Global,
-        root: &str,
-        reply: &Value,
-        process: u32,
-    ) -> Result<bool, Stop> {
-        let watched = system.watched(alloc, process)?;
-        if is_any_missed(system, alloc, root, reply, &watched)? {
-            return Ok(false);
+        let mut last: Option<RelPath> = None;
+        for part in checks.parts() {
+            let is_done = match &last {
+                Some(top) => part.under(top),
+                None => false,
+            };
+            if is_done {
+                continue;
+            }
+            walk.enter(checks, part.copy()?)?;
+            last = Some(part.copy()?);
         }
-        self.clock = clock_of(alloc, reply)?;
-        Ok(true)
+        for _ in 0..u64::MAX {
+            let Some(folder) = walk.unread.pop() else {
+                break;
+            };
+            self.read_folder(&mut walk, checks, &folder)?;
+        }
+        Ok(walk.unsure)
     }
 
-    /// Whether each folder that the server knows is watched by a process, or can't be read.
-    pub(crate) fn are_watched<Y: System>(
-        &mut self,
-        system: &Y,
-        alloc: Global,
+    /// The numbers of all files that are watched.
+    fn watched_by(&self, watches: &[Watch<Y>]) -> Result<BTreeSet<u64>, Stop> {
+        let mut all = BTreeSet::new(self.alloc);
+        for watch in watches {
+            for number in &self.system.watched(self.alloc, watch.process())? {
+                all.insert(*number)?;
+            }
+        }
+        Ok(all)
+    }
+
+    /// The folders that are to be checked and aren't watched, though they can be. The list of watches is read only where a folder
+    /// may have been missed.
+    pub(crate) fn missed(
+        &self,
         server: &mut Server<Y>,
-        root: &str,
-        process: u32,
-    ) -> Result<bool, Stop> {
-        self.ask(alloc, server, root)?;
-        let reply = value_of(alloc, server.reply())?;
-        self.take(system, alloc, root, &reply, process)
+        watches: &[Watch<Y>],
+        checks: &Checks,
+    ) -> Result<BTreeSet<RelPath>, Stop> {
+        let unsure = if checks.is_all() {
+            self.list(server, FOLDERS)?
+        } else {
+            self.unsure_of(checks)?
+        };
+        let mut missed = BTreeSet::new(self.alloc);
+        if unsure.is_empty() {
+            return Ok(missed);
+        }
+        let watched = self.watched_by(watches)?;
+        for path in &unsure {
+            if self.is_missed(path, &watched)? {
+                missed.insert(path.copy()?)?;
+            }
+        }
+        Ok(missed)
     }
 }

@@ -6,17 +6,31 @@
 //! private clauses (server.rt); what asks the system has none.
 #![tactic(auto)]
 
+mod asking;
+mod besides;
+mod crawling;
+mod feed;
 mod feeding;
+mod feeds;
 mod folders;
+mod gathering;
 mod inotify;
 mod inotifywait;
+mod line_sender;
 mod looking;
+mod looks;
+mod ready;
+mod root;
+mod root_feed;
+mod said;
 mod sending;
 mod server;
+mod syncing;
 mod system;
 mod watch;
 
-pub use feeding::feed_by;
+pub use feeding::{Order, feed_by};
 pub use inotify::Inotify;
-pub use inotifywait::Inotifywait;
-pub use system::{System, Watcher};
+pub use inotifywait::{Inotifywait, RecordSocket};
+pub use line_sender::LineSender;
+pub use system::{Records, System, Watcher};

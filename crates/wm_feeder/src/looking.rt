@@ -12,6 +12,8 @@ pub(crate) struct Looking<'a, T> {
     tree: &'a T,
     folder: String,
     is_real: bool,
+    /// The folders of paths that aren't there.
+    pub(crate) unreal: Vec<RelPath>,
 }
 
 impl<'a, T: Tree> Looking<'a, T> {
@@ -21,7 +23,21 @@ impl<'a, T: Tree> Looking<'a, T> {
             tree,
             folder: String::new(alloc),
             is_real: true,
+            unreal: Vec::new(alloc),
         }
+    }
+
+    /// Looks whether a folder is there.
+    fn enter(&mut self, alloc: Global, folder: &str) -> Result<(), Stop> {
+        self.is_real = self.are_folders(alloc, folder)?;
+        if !self.is_real {
+            if let Ok(path) = RelPath::read(alloc, folder) {
+                self.unreal.push(path)?;
+            }
+        }
+        self.folder.clear();
+        self.folder.push_str(folder)?;
+        Ok(())
     }
 
     /// What stands at a path; of a link, the link itself.
@@ -64,9 +80,7 @@ impl<'a, T: Tree> Looking<'a, T> {
         let text = path.as_str();
         if let Some((folder, _)) = text.rsplit_once('/') {
             if folder != self.folder.as_str() {
-                self.is_real = self.are_folders(alloc, folder)?;
-                self.folder.clear();
-                self.folder.push_str(folder)?;
+                self.enter(alloc, folder)?;
             }
             if !self.is_real {
                 return Ok(None);

@@ -10,20 +10,28 @@ use wm_client::Stop;
 use wm_crawler::Tree;
 use wm_names::RootPath;
 
-/// A running inotifywait, which is read: what it says, and its records.
-pub trait Watcher: Read {
-    /// How long a reading waits for bytes; `None`: until there are some. A reading that waited so long fails with `WouldBlock`.
+/// The stream to which all inotifywaits of a feed write their records.
+pub trait Records: Read {
+    /// How long a reading waits for bytes, or that it doesn't wait. If none come, it fails with `WouldBlock`.
     fn set_patience(&mut self, patience: Option<Duration>) -> io::Result<()>;
+}
+
+/// A running inotifywait.
+pub trait Watcher {
+    /// Reads what it says beside its records. It fails with `WouldBlock` if nothing was said, and reads nothing if it ended.
+    fn read_words(&mut self, room: &mut [u8]) -> io::Result<usize>;
 
     /// The number of its process.
-    fn id(&self) -> u32;
+    fn process(&self) -> u32;
 
     /// Ends it.
-    fn end(self);
+    fn end(&mut self);
 }
 
 /// A system: its sockets, its programs, its files and its time.
 pub trait System {
+    type Records: Records + Drop;
+
     type Watcher: Watcher + Drop;
 
     /// The two directions of a session with a server.
@@ -37,8 +45,18 @@ pub trait System {
     fn connect(&self, alloc: Global, socket: &str) -> Result<(Self::Sender, Self::Replies), Stop>
         ensures { IfErr result (λ stop. (stop ≡ Stop.ServerGone) ⊎ (stop ≡ Stop.NoMemory)) };
 
-    /// Starts inotifywait on a root. `Unwatched` if it can't be started, and `NoMemory`.
-    fn watch(&self, alloc: Global, root: &str) -> Result<Self::Watcher, Stop>;
+    /// A stream for records. `Unwatched` if inotifywait can't be started, and `NoMemory`.
+    fn records(&self, alloc: Global) -> Result<Self::Records, Stop>;
+
+    /// Starts inotifywait on the folders at these paths and those below them. It writes this number in front of each of its records.
+    /// `Unwatched` if it can't be started, and `NoMemory`.
+    fn watch(
+        &self,
+        alloc: Global,
+        records: &Self::Records,
+        number: u64,
+        folders: &[String],
+    ) -> Result<Self::Watcher, Stop>;
 
     /// What stands at the paths below a root.
     fn files(&self, root: RootPath) -> Self::Files;
@@ -49,8 +67,23 @@ pub trait System {
     /// The number of the folder at a path; `None` if no folder is there. A link isn't followed.
     fn folder(&self, path: &str) -> Option<u64>;
 
-    /// Whether the folder at a path can be read.
-    fn is_readable(&self, path: &str) -> bool;
+    /// The device and the number of the folder that a root's path leads to; `None` if it leads to none.
+    fn identity(&self, root: &str) -> Option<(u64, u64)>;
+
+    /// The names in the folder at a path; `None` if it can't be read, and none if no folder is there. A name that is no text is left out.
+    fn names(&self, alloc: Global, path: &str) -> Result<Option<Vec<String>>, Stop>;
+
+    /// Makes a folder that this user alone may use, if none is there, and returns whether one is there now.
+    fn make_folder(&self, path: &str) -> bool;
+
+    /// Removes a file, or an empty folder, if it is there.
+    fn remove(&self, path: &str);
+
+    /// Reports a line to the user.
+    fn tell(&self, line: &str);
+
+    /// The time since some moment, in milliseconds.
+    fn now(&self) -> u64;
 
     /// Waits.
     fn sleep(&self, time: Duration);

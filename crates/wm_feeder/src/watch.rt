@@ -1,15 +1,11 @@
-//! inotifywait as a feed sees it: what it says once each folder is watched, and then its records.
-//! Tests: feed_tests, tools/feed_use.py.
+//! One inotifywait as a feed sees it: its number, and what it says beside its records. Tests: feed_tests, tools/feed_use.py.
 
+use crate::root::Root;
 use crate::system::{System, Watcher};
-use std::alloc::Global;
-use std::io::{ErrorKind, Read};
-use std::time::Duration;
+use std::io;
+use std::io::ErrorKind;
 use wm_client::Stop;
-use wm_feed::Flow;
-
-/// What inotifywait says once each folder is watched.
-const ESTABLISHED: &[u8] = b"Watches established.\n";
+use wm_feed::Words;
 
 /// What came of a reading.
 #[derive(Clone, Copy, Debug, PartialEq, Eq)]
@@ -17,83 +13,108 @@ pub(crate) enum Got {
     Some,
     /// Nothing came for so long.
     Nothing,
-    /// inotifywait ended.
+    /// What was read from ended.
     End,
+}
+
+/// What a reading came to.
+pub(crate) fn got_of(read: io::Result<usize>) -> Got {
+    match read {
+        Ok(0) => Got::End,
+        Ok(_) => Got::Some,
+        Err(error) => match error.kind() {
+            ErrorKind::WouldBlock | ErrorKind::TimedOut | ErrorKind::Interrupted => Got::Nothing,
+            _ => Got::End,
+        },
+    }
 }
 
 /// A running inotifywait.
 #[derive(Drop)]
 pub(crate) struct Watch<Y: System> {
+    number: u64,
     watcher: Y::Watcher,
-    pub(crate) flow: Flow,
+    words: Words,
+    is_established: bool,
 }
 
 impl<Y: System> Watch<Y> {
-    /// A watch of each folder of a root, which is there once this returns.
-    pub(crate) fn start(alloc: Global, system: &Y, root: &str) -> Result<Watch<Y>, Stop> {
-        let mut watch = Watch {
-            watcher: system.watch(alloc, root)?,
-            flow: Flow::new(alloc),
-        };
-        match watch.await_established() {
-            Ok(()) => Ok(watch),
-            Err(stop) => {
-                watch.end();
-                Err(stop)
-            }
-        }
+    /// Starts an inotifywait on folders.
+    pub(crate) fn start(
+        root: &Root<'_, Y>,
+        records: &Y::Records,
+        number: u64,
+        folders: &[String],
+    ) -> Result<Watch<Y>, Stop> {
+        Ok(Watch {
+            number,
+            watcher: root.system.watch(root.alloc, records, number, folders)?,
+            words: Words::new(root.alloc),
+            is_established: false,
+        })
     }
 
-    /// Reads until each folder is watched.
-    fn await_established(&mut self) -> Result<(), Stop> {
-        if self.watcher.set_patience(None).is_err() {
-            return Err(Stop::Unwatched);
-        }
+    /// The number in front of its records.
+    pub(crate) fn number(&self) -> u64 {
+        self.number
+    }
+
+    /// The number of its process.
+    pub(crate) fn process(&self) -> u32 {
+        self.watcher.process()
+    }
+
+    /// Whether it watches each of its folders.
+    pub(crate) fn is_established(&self) -> bool {
+        self.is_established
+    }
+
+    /// Reports to the user what it said, if it said anything for a user.
+    fn tell_words(&mut self, root: &mut Root<'_, Y>) -> Result<bool, Stop> {
+        let mut is_any = false;
         for _ in 0..u64::MAX {
-            if self.flow.skip_through(ESTABLISHED) {
-                return Ok(());
+            let Some(line) = self.words.take_line(root.alloc)? else {
+                break;
+            };
+            let text = format!(in root.alloc; "wmfeed: inotifywait: {line}")?;
+            root.said.tell(root.system, text)?;
+            is_any = true;
+        }
+        Ok(is_any)
+    }
+
+    /// Reads what it says.
+    fn read_words(&mut self) -> Result<Got, Stop> {
+        let mut room = [0u8; 4_096];
+        let read = self.watcher.read_words(&mut room);
+        if let Ok(n) = &read {
+            self.words.push(&room[..(*n).min(room.len())])?;
+        }
+        Ok(got_of(read))
+    }
+
+    /// Reports to the user what it says, whether it said anything for a user, and whether it ended.
+    pub(crate) fn hear(&mut self, root: &mut Root<'_, Y>) -> Result<Got, Stop> {
+        let mut heard = Got::Nothing;
+        for _ in 0..u64::MAX {
+            let got = self.read_words()?;
+            if self.tell_words(root)? {
+                heard = Got::Some;
             }
-            match self.read()? {
-                Got::Some | Got::Nothing => {}
+            if self.words.take_established() {
+                self.is_established = true;
+            }
+            match got {
+                Got::Some => {}
+                Got::Nothing => return Ok(heard),
                 Got::End => break,
             }
         }
-        Err(Stop::Ended)
+        Ok(Got::End)
     }
 
-    /// How long a reading waits for bytes.
-    pub(crate) fn set_patience(&mut self, patience: Duration) -> Result<(), Stop> {
-        match self.watcher.set_patience(Some(patience)) {
-            Ok(()) => Ok(()),
-            Err(_) => Err(Stop::Unwatched),
-        }
-    }
-
-    /// Reads what has come, and waits for it if nothing has.
-    pub(crate) fn read(&mut self) -> Result<Got, Stop> {
-        let mut room = [0u8; 65_536];
-        match self.watcher.read(&mut room) {
-            Ok(0) => Ok(Got::End),
-            Ok(n) => {
-                self.flow.push(&room[..n])?;
-                Ok(Got::Some)
-            }
-            Err(error) => match error.kind() {
-                ErrorKind::WouldBlock | ErrorKind::TimedOut | ErrorKind::Interrupted => {
-                    Ok(Got::Nothing)
-                }
-                _ => Ok(Got::End),
-            },
-        }
-    }
-
-    /// The number of the process.
-    pub(crate) fn id(&self) -> u32 {
-        self.watcher.id()
-    }
-
-    /// Ends inotifywait.
-    pub(crate) fn end(self) {
+    /// Ends it.
+    pub(crate) fn end(&mut self) {
         self.watcher.end();
     }
 }

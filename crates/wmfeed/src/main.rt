@@ -3,6 +3,7 @@
 
 use std::io::ErrorKind;
 use std::process::ExitCode;
+use std::time::Instant;
 use std::{env, io};
 use wm_client::wmfeed;
 use wm_feeder::Inotify;
@@ -15,7 +16,8 @@ fn run(rt: &HostRuntime) -> io::Result<u8> {
     let mut printer = io::writer(rt);
     let errors = rt.stderr();
     let mut faults = io::writer(&errors);
-    let feeder = Inotify { rt };
+    let begun = Instant::now(rt)?;
+    let feeder = Inotify { rt, begun };
     Ok(wmfeed(alloc, &feeder, &words, &mut printer, &mut faults))
 }
 

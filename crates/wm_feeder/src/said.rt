@@ -1,0 +1,37 @@
+//! What a feed told its user: each line once. Tests: feed_tests, tools/feed_use.py.
+
+use crate::system::System;
+use std::alloc::Global;
+use std::collections::BTreeSet;
+use wm_client::Stop;
+
+/// How many lines are kept: then all may be told again.
+const MAX_LINES: usize = 1_024;
+
+/// The lines that were told.
+#[derive(Drop)]
+pub(crate) struct Said {
+    lines: BTreeSet<String>,
+}
+
+impl Said {
+    /// Nothing was told.
+    pub(crate) fn new(alloc: Global) -> Said {
+        Said {
+            lines: BTreeSet::new(alloc),
+        }
+    }
+
+    /// Tells a line, if it wasn't told yet.
+    pub(crate) fn tell<Y: System>(&mut self, system: &Y, line: String) -> Result<(), Stop> {
+        if self.lines.contains(&line) {
+            return Ok(());
+        }
+        system.tell(line.as_str());
+        if self.lines.len() >= MAX_LINES {
+            self.lines.clear();
+        }
+        self.lines.insert(line)?;
+        Ok(())
+    }
+}
