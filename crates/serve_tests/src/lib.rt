@@ -1,5 +1,5 @@
 //! Tests of a server: its words and requests in tables, and sessions over a socket that a test serves, with the
-//! system's folders and programs; and of `wmctl` and `wmfeed`.
+//! system's folders and programs.
 //!
 //! Each server stands on files of its own names in the folder where the tests run.
 #![tactic(auto)]
@@ -12,8 +12,6 @@ mod client;
 mod contradictions;
 #[cfg(test)]
 mod crawls;
-#[cfg(test)]
-mod feeds;
 #[cfg(test)]
 mod forgetting;
 #[cfg(test)]
@@ -32,7 +30,5 @@ mod sessions;
 mod sockets;
 #[cfg(test)]
 mod triggers;
-#[cfg(test)]
-mod wmctl;
 #[cfg(test)]
 mod words;

@@ -10,6 +10,16 @@ const ASKED: &[(&[&str], &str)] = &[
     (&["--follow=4294967295", "s", "[]"], "talk s [] 4294967295"),
     (&["s", "--", "-1"], "talk s -1 0"),
     (&["s", ""], "talk s  0"),
+    (&["s", "[]", "--sync", "/r"], "talk s [] 0 /r 1000"),
+    (
+        &["--sync=/r", "--sync-timeout", "0", "s", "[]", "--follow=1"],
+        "talk s [] 1 /r 0",
+    ),
+    (
+        &["s", "[]", "--sync", "/r", "--sync-timeout=4294967295"],
+        "talk s [] 0 /r 4294967295",
+    ),
+    (&["s", "[]", "--sync", ""], "talk s [] 0  1000"),
     (&["--help"], "shown 0"),
     (&["s", "-V"], "shown 0"),
     (&[], "shown 2"),
@@ -21,15 +31,30 @@ const ASKED: &[(&[&str], &str)] = &[
     (&["s", "[]", "--follow", "4294967296"], "shown 2"),
     (&["s", "[]", "--follow=-1"], "shown 2"),
     (&["s", "[]", "--follow=1", "--follow=2"], "shown 2"),
+    (&["s", "[]", "--sync"], "shown 2"),
+    (&["s", "[]", "--sync-timeout", "5"], "shown 2"),
+    (&["s", "[]", "--sync=/r", "--sync-timeout="], "shown 2"),
+    (&["s", "[]", "--sync=/r", "--sync-timeout=-1"], "shown 2"),
+    (
+        &["s", "[]", "--sync=/r", "--sync-timeout=4294967296"],
+        "shown 2",
+    ),
+    (&["s", "[]", "--sync=/r", "--sync=/q"], "shown 2"),
+    (&["s", "--sync", "/r"], "shown 2"),
 ];
 
 fn asked(alloc: Global, words: &Words) -> Result<String, AllocError> {
     match words {
-        Words::Talk {
-            socket,
-            json,
-            follow,
-        } => format!(in alloc; "talk {socket} {json} {follow}"),
+        Words::Talk(request) => {
+            let (socket, json, follow) = (&request.socket, &request.json, request.follow);
+            match &request.sync {
+                Some(sync) => {
+                    let (root, timeout) = (&sync.root, sync.timeout);
+                    format!(in alloc; "talk {socket} {json} {follow} {root} {timeout}")
+                }
+                None => format!(in alloc; "talk {socket} {json} {follow}"),
+            }
+        }
         Words::Shown { text: _, status } => format!(in alloc; "shown {status}"),
     }
 }

@@ -1,5 +1,6 @@
 //! The program against a socket that the test itself serves.
 use crate::checks::check;
+use crate::wmctl::systems::{AT_ONCE, Plan, Planned};
 use std::alloc::Global;
 use std::io::{BufRead, BufReader, Write};
 use std::os::unix::net::{UnixListener, UnixStream};
@@ -41,6 +42,18 @@ const ENDS: &[(&str, &[&str], u8, &str, &str)] = &[
     ),
 ];
 
+/// Runs the program, with a feed of this plan.
+fn run(
+    rt: &HostRuntime,
+    plan: Plan,
+    words: &[&str],
+    output: &mut Vec<u8>,
+    faults: &mut Vec<u8>,
+) -> u8 {
+    let system = Planned::new(plan);
+    wmctl(rt.alloc(), rt, &system, words, output, faults)
+}
+
 #[test]
 fn ends_of_the_table(rt: HostRuntime) {
     const PATH: &str = "wm_client_socket";
@@ -55,7 +68,7 @@ fn ends_of_the_table(rt: HostRuntime) {
         let (_, ended) = thread::join(
             &rt,
             || answer(&rt, alloc, &listener, lines),
-            || wmctl(alloc, &rt, &all, &mut output, &mut faults),
+            || run(&rt, AT_ONCE, &all, &mut output, &mut faults),
         );
         check!(rt; ended == *status, (words, ended));
         check!(rt; output.as_slice() == printed.as_bytes(), words);
@@ -96,7 +109,7 @@ fn prints_the_refusal_of_a_session(rt: HostRuntime) {
         let (_, ended) = thread::join(
             &rt,
             || refuse(&rt, &listener, told),
-            || wmctl(alloc, &rt, &[PATH, "[1]"], &mut output, &mut faults),
+            || run(&rt, AT_ONCE, &[PATH, "[1]"], &mut output, &mut faults),
         );
         check!(rt; ended == *status, (told, ended));
         check!(rt; output.as_slice() == printed.as_bytes(), told);
@@ -117,7 +130,7 @@ fn shows_help_where_it_prints_and_faults_where_it_tells_them(rt: HostRuntime) {
     for (words, status, printed, told) in SHOWN {
         let mut output = Vec::new(rt.alloc());
         let mut faults = Vec::new(rt.alloc());
-        let ended = wmctl(rt.alloc(), &rt, words, &mut output, &mut faults);
+        let ended = run(&rt, AT_ONCE, words, &mut output, &mut faults);
         check!(rt; ended == *status, (words, ended));
         check!(rt; output.starts_with(printed.as_bytes()) && output.is_empty() == printed.is_empty(), words);
         check!(rt; faults.starts_with(told.as_bytes()) && faults.is_empty() == told.is_empty(), words);
@@ -129,7 +142,7 @@ fn tells_that_nobody_serves_a_socket(rt: HostRuntime) {
     let mut output = Vec::new(rt.alloc());
     let mut faults = Vec::new(rt.alloc());
     let words = ["wm_client_nowhere", "[]"];
-    let status = wmctl(rt.alloc(), &rt, &words, &mut output, &mut faults);
+    let status = run(&rt, AT_ONCE, &words, &mut output, &mut faults);
     check!(rt; status == 3 && output.is_empty());
     check!(rt; faults.as_slice() == b"wmctl: no reply\n".as_slice());
 }
