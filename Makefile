@@ -17,7 +17,7 @@ PAGES := GUIDE.md QUERIES.md FORMATS.md PROMISES.md DEFINITIONS.md ARCHITECTURE.
 EXAMPLES := build.sh compile_trigger.sh follow.py test_runner.sh
 SOURCES := crates.txt $(shell find crates -name out -prune -o -type f \( -name '*.rt' -o -name '*.antt' \) -print)
 
-.PHONY: help clean uninstall test lint edits build run lines serve-use quick-use feed-use install bench bench-commands bench-crawl bench-view bench-share bench-match bench-peer bench-plots clients crawl-tree session examples examples-use dist dist-use kill faults growths sweep fuzz hostile desk-memory state-file file-calls
+.PHONY: help clean uninstall test lint edits build run lines serve-use quick-use feed-use install bench bench-commands bench-crawl bench-view bench-share bench-match bench-peer bench-feed bench-plots clients crawl-tree session examples examples-use dist dist-use kill faults growths sweep fuzz hostile desk-memory state-file file-calls
 
 help:
 	@echo "make test          the whole gate: each proof from nothing, edits that must be refused, tests, programs, and each growth of"
@@ -26,7 +26,7 @@ help:
 	@echo "make lint          what the gate doesn't see: no definition's name in the specs of two crates, and no use of another crate's proofs/ (sh, awk; at once)"
 	@echo "make build         builds watchmand (rt; some 45 minutes the first time, since it proves it)"
 	@echo "make run           serves SOCKET=$(SOCKET) over STATE=$(STATE), which it makes where it isn't there, and tells what to try next"
-	@echo "                   (it and all below build what they run first, by rt; only clients, bench-peer and bench-plots use the network)"
+	@echo "                   (it and all below build what they run first, by rt; only clients, bench-peer, bench-feed and bench-plots use the network)"
 	@echo "make lines         answers request lines from standard input over STATE=$(STATE)"
 	@echo "make install       puts watchmand, wmctl and wmfeed into PREFIX/bin (PREFIX=$(PREFIX)), with man pages, completion, systemd user units and"
 	@echo "                   docs (UNIT_PREFIX: where the units are to find the programs, if not in PREFIX); make uninstall takes them away"
@@ -37,10 +37,12 @@ help:
 	@echo "make state-file    a file with two owners, a format that fails, a killed one; make file-calls: its calls (strace)"
 	@echo "make serve-use     rough use of a server by the built program (python3; setpriv, if root); make clients: Watchman's own clients talk"
 	@echo "                   to it; make bench-peer: it beside Watchman 4.9.0 (both python3; apt-get, where Watchman isn't installed; cc);"
-	@echo "                   make bench-plots: the same in three runs, and the plots and the table of bench/README.md"
+	@echo "                   make bench-plots: the same in three runs, and the plots and the table of bench/README.md; make bench-feed: it"
+	@echo "                   and its feed beside Watchman, while files change (some five minutes)"
 	@echo "make quick-use     what rough use has found wrong, and the quick part of serve-use, kill, faults and feed-use, in some three minutes"
 	@echo "                   (python3; strace and inotify-tools for what needs them)"
-	@echo "make feed-use      a feed beside a server: its views against fresh crawls, its latency, its ends (python3, git, inotify-tools)"
+	@echo "make feed-use      a feed beside a server, in some seventy cases: its views against what stands in the folders, questions about now, its"
+	@echo "                   ends (python3, git, inotify-tools, setpriv; strace, rsync, vim, unshare for what needs them; some ten minutes)"
 	@echo "make kill          kills the built program again and again, a migration too, and looks for what it answered (python3); make faults:"
 	@echo "                   each call that it makes of its state file, or of a migration's two, fails once (python3, strace); make growths: each growth of memory in three"
 	@echo "                   sessions is refused once (python3, cc)"
@@ -91,7 +93,7 @@ run: $(PROGRAM) $(CLIENT) $(FEED)
 	@echo "  $(CLIENT) $(SOCKET) '[\"watch\",\"$(CURDIR)\"]'"
 	@echo "  $(CLIENT) $(SOCKET) '[\"query\",\"$(CURDIR)\",{\"expression\":[\"suffix\",\"md\"],\"fields\":[\"name\"]}]'"
 	@echo "  $(CLIENT) $(SOCKET) '[\"subscribe\",\"$(CURDIR)\",\"s\",{\"expression\":[\"suffix\",\"md\"],\"fields\":[\"name\"]}]' --follow 1"
-	@echo "  $(FEED) $(SOCKET) '$(CURDIR)'   # tells it what changes here (inotify-tools)"
+	@echo "  $(FEED) $(SOCKET)   # tells it what changes in all that is watched (inotify-tools)"
 	@MALLOC_TRIM_THRESHOLD_=131072 $(PROGRAM) serve $(STATE) $(SOCKET)
 
 lines: $(PROGRAM)
@@ -106,7 +108,7 @@ serve-use: $(PROGRAM)
 quick-use: $(PROGRAM) $(CLIENT) $(FEED)
 	tools/quick.py $(PROGRAM) $(CLIENT) $(FEED)
 
-# A feed beside a server: random changes, checkouts of 10,000 files, lost events, ends and starts.
+# A feed beside a server, one case for each thing that files, folders, roots and processes do: tools/feed_use.py --only CASE for one.
 feed-use: $(PROGRAM) $(CLIENT) $(FEED)
 	tools/feed_use.py $(PROGRAM) $(CLIENT) $(FEED)
 
@@ -121,8 +123,8 @@ install: $(PROGRAM) $(CLIENT) $(FEED)
 	ln -sf watchmand $(DESTDIR)$(PREFIX)/share/bash-completion/completions/wmctl
 	ln -sf watchmand $(DESTDIR)$(PREFIX)/share/bash-completion/completions/wmfeed
 	sed 's|@PREFIX@|$(UNIT_PREFIX)|' systemd/watchmand.service > $(DESTDIR)$(PREFIX)/lib/systemd/user/watchmand.service
-	sed 's|@PREFIX@|$(UNIT_PREFIX)|' systemd/wmfeed@.service > $(DESTDIR)$(PREFIX)/lib/systemd/user/wmfeed@.service
-	chmod 644 $(addprefix $(DESTDIR)$(PREFIX)/lib/systemd/user/,watchmand.service wmfeed@.service)
+	sed 's|@PREFIX@|$(UNIT_PREFIX)|' systemd/wmfeed.service > $(DESTDIR)$(PREFIX)/lib/systemd/user/wmfeed.service
+	chmod 644 $(addprefix $(DESTDIR)$(PREFIX)/lib/systemd/user/,watchmand.service wmfeed.service)
 	install -m 644 LICENSE README.md CHANGELOG.md $(DESTDIR)$(PREFIX)/share/doc/watchmand
 	install -m 644 $(addprefix docs/,$(PAGES)) $(DESTDIR)$(PREFIX)/share/doc/watchmand/docs
 	install -m 755 $(addprefix examples/,$(EXAMPLES)) $(DESTDIR)$(PREFIX)/share/doc/watchmand/examples
@@ -132,7 +134,7 @@ uninstall:
 	rm -f $(addprefix $(DESTDIR)$(PREFIX)/bin/,watchmand wmctl wmfeed)
 	rm -f $(addprefix $(DESTDIR)$(PREFIX)/share/man/man1/,watchmand.1 wmctl.1 wmfeed.1)
 	rm -f $(addprefix $(DESTDIR)$(PREFIX)/share/bash-completion/completions/,watchmand wmctl wmfeed)
-	rm -f $(addprefix $(DESTDIR)$(PREFIX)/lib/systemd/user/,watchmand.service wmfeed@.service)
+	rm -f $(addprefix $(DESTDIR)$(PREFIX)/lib/systemd/user/,watchmand.service wmfeed.service wmfeed@.service)
 	rm -rf $(DESTDIR)$(PREFIX)/share/doc/watchmand
 
 # An archive of what `install` puts into a prefix, with stripped programs, for a machine with the GNU C library alone.
@@ -228,7 +230,11 @@ bench-share: $(PROGRAM) $(ASK)
 bench-peer: $(PROGRAM) $(FEED)
 	bench/peer.sh $(PROGRAM) --feed $(FEED)
 
-# The same in three runs, and the two plots of bench/README.md from their own numbers.
+# A server with its feed beside Watchman while files change: times, processor time and memory of all their processes together.
+bench-feed: $(PROGRAM) $(FEED)
+	bench/peer.sh $(PROGRAM) --feed-alone $(FEED) --runs 3
+
+# The same as bench-peer in three runs, and the two plots of bench/README.md from their own numbers.
 bench-plots: $(PROGRAM) $(FEED)
 	bench/peer.sh $(PROGRAM) --feed $(FEED) --runs 3 --json bench/peer.json
 	bench/plots.py bench/peer.json bench

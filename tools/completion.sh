@@ -41,8 +41,12 @@ offers "'[\"watch-list\"]'" wmctl socket "'[\"watch-l"
 offers "'[\"recrawl\",\"$folder\"" wmctl socket "'[\"rec"
 offers '--follow' wmctl socket x --f
 offers '1 4294967295' wmctl socket x --follow ''
+offers '--sync --sync-timeout' wmctl socket x --s
+offers 'socket state' wmctl socket x --sync ''
+offers '1000' wmctl socket x --sync . --sync-timeout ''
 offers 'socket' wmfeed so
 offers 'state' wmfeed socket st
 offers '' wmfeed socket state s
-offers '--help --version' wmfeed --
+offers '--every-event --help --version' wmfeed --
+offers '--every-event' wmfeed socket --e
 [ "$failed" = 0 ] && echo "the completion offers what it has to"

@@ -40,7 +40,7 @@ if command -v systemd-analyze > "$folder/found"; then
   mkdir -p "$folder/home/.local"
   ln -s "$folder/bin" "$folder/home/.local/bin"
   HOME=$folder/home XDG_RUNTIME_DIR=$folder MANPATH=$folder/share/man systemd-analyze verify --user "$folder/lib/systemd/user/watchmand.service" \
-    "$folder/lib/systemd/user/wmfeed@.service"
+    "$folder/lib/systemd/user/wmfeed.service"
   echo "the units have no fault"
 fi
 bash -n "$folder/share/bash-completion/completions/wmctl"

@@ -9,7 +9,8 @@ import os, shutil, subprocess, sys, time
 HERE = os.path.dirname(os.path.abspath(__file__))
 ROUGH = ["sessions_and_rows", "subscribers", "many_sessions", "lines_that_are_wrong", "roots_that_are_odd", "triggers_that_are_odd", "sockets_that_are_there",
          "words_and_ends", "kills"]
-FEED = ["--rounds", "3", "--seed", "1", "random_changes", "changes_by_many", "ends", "starts_again"]
+FEED = ["--rounds", "3", "--seed", "1", "--only", "create", "rename_folders", "rename_out_and_in", "exchange", "folders_at_once", "odd_names", "random_changes", "changes_by_many", "made_anew",
+        "there_and_back", "inotifywait_killed", "nothing_survives", "feed_of_a_root", "roots_of_one_feed", "feed_before_the_server", "sync_rounds", "sync_by_wmctl", "every_event"]
 
 
 def parts(watchmand, wmctl, wmfeed):
