@@ -36,8 +36,12 @@ _wmctl() {
     local word=${COMP_WORDS[COMP_CWORD]} before=${COMP_WORDS[COMP_CWORD - 1]}
     if [[ $before == --follow ]]; then
         _watchmand_words '1 4294967295'
+    elif [[ $before == --sync ]]; then
+        _watchmand_files
+    elif [[ $before == --sync-timeout ]]; then
+        _watchmand_words '1000'
     elif [[ $word == -* ]]; then
-        _watchmand_words '--follow --help --version'
+        _watchmand_words '--follow --sync --sync-timeout --help --version'
     elif ((COMP_CWORD == 1)); then
         _watchmand_files
     elif ((COMP_CWORD == 2)); then
@@ -62,7 +66,7 @@ _wmctl_json() {
 _wmfeed() {
     COMPREPLY=()
     if [[ ${COMP_WORDS[COMP_CWORD]} == -* ]]; then
-        _watchmand_words '--help --version'
+        _watchmand_words '--every-event --help --version'
     elif ((COMP_CWORD < 3)); then
         _watchmand_files
     fi
