@@ -1,12 +1,12 @@
 -- The places that a name may stand for, as they are found.
-use Rattle.std.proofs.Common.{◌≡◌, ◌⊎◌, inl, inr, ℕ, zero, suc, ◌+◌, ◌<◌, ◌≤◌, Bool, true, false, cond, List, [], ◌∷◌, ◌++◌, length, get_or, Option, Some, None, refl, sym, ap, ◌∙◌, arith, true≢false}
+use Rattle.std.proofs.Common.{◌≡◌, ◌⊎◌, inl, inr, ℕ, zero, suc, ◌+◌, ◌<◌, ◌≤◌, Bool, true, false, not, cond, List, [], ◌∷◌, ◌++◌, length, get_or, Option, Some, None, refl, sym, ap, ◌∙◌, arith, true≢false}
 use Rattle.std.specs.Prelude.{◌||◌, ◌&&◌}
 use Rattle.std.specs.List.{fold}
-use Rattle.std.proofs.lemmas.Bool.{and_from, and_parts, cases_lt, or_cases, or_left, or_right}
-use Rattle.std.proofs.lemmas.List.{append-nil, append_assoc, get_or_append_left}
+use Rattle.std.proofs.lemmas.Bool.{and_from, and_parts, cases_lt, not-true, or_cases, or_left, or_parts, or_right}
+use Rattle.std.proofs.lemmas.List.{append-nil, append_assoc, get_or_append_left, length-append}
 use Rattle.std.proofs.lemmas.List.Folds.{Any-from_list_any, list_any-append, list_any_at}
 use Rattle.wm_names.specs.Paths.{Path, same_path}
-use Rattle.wm_feed.specs.Renames.{AreClosed, ArePlaces, Renamed, has, has_next, held_moved, is_place, with_ends, with_place}
+use Rattle.wm_feed.specs.Renames.{AreClosed, ArePlaces, Renamed, StandsForMany, are_different, has, has_next, held_moved, is_place, with_ends, with_place}
 use Rattle.wm_feed.proofs.Asking.{path_itself}
 use Rattle.wm_feed.proofs.Below.{same→≡}
 
@@ -57,6 +57,33 @@ next_kept (one ∷ renamed) p xs ys e h =
 
 -- ---- what is a rename away
 
+-- ---- no path stands twice
+
+same_turned : (p x : Path) → same_path p x ≡ false → same_path x p ≡ false
+same_turned p x h = by (same_path x p) refl
+  where
+    by : (b : Bool) → same_path x p ≡ b → b ≡ false
+    by false e = refl
+    by true e = sym (ap (same_path p) (same→≡ x p e) ∙ path_itself p) ∙ h
+
+different_more : (p : Path) (xs : List Path) → is_place p xs ≡ false → are_different xs ≡ true → are_different (xs ++ p ∷ []) ≡ true
+different_more p [] h d = refl
+different_more p (x ∷ xs) h d =
+    let first : same_path p x ≡ false = (or_parts (same_path p x) (is_place p xs) h).0 in
+    let later : is_place p xs ≡ false = (or_parts (same_path p x) (is_place p xs) h).1 in
+    let parts = and_parts (not (is_place x xs)) (are_different xs) d in
+    let alone : is_place x xs ≡ false = not-true (is_place x xs) parts.0 in
+    let new : is_place x (xs ++ p ∷ []) ≡ false = list_any-append (λ q. same_path x q) xs (p ∷ []) ∙ ap (λ b. b || (same_path x p || false)) alone ∙ ap (λ b. b || false) (same_turned p x first) in
+    and_from (not (is_place x (xs ++ p ∷ []))) (are_different (xs ++ p ∷ [])) (ap not new) (different_more p xs later parts.1)
+
+place_different : (o : Option Path) (xs : List Path) → are_different xs ≡ true → are_different (with_place o xs) ≡ true
+place_different None xs d = d
+place_different (Some p) xs d = by (is_place p xs) refl
+  where
+    by : (b : Bool) → is_place p xs ≡ b → are_different (cond b xs (xs ++ p ∷ [])) ≡ true
+    by true e = d
+    by false e = different_more p xs e d
+
 module _ (p : Path) where
   abbrev pub all_ends : List Path → List Renamed → List Path
   all_ends xs renamed = fold (λ all one. with_ends p one all) xs renamed
@@ -84,6 +111,18 @@ module _ (p : Path) where
       (has_kept there second last later (has_kept there first second (place_extends back first) (place_has there xs)))
       (has_kept back second last later (place_has back first)))
       (all_next renamed second)
+
+  pub all_different : (renamed : List Renamed) (xs : List Path) → are_different xs ≡ true → are_different (all_ends xs renamed) ≡ true
+  all_different [] xs d = d
+  all_different (one ∷ renamed) xs d =
+      all_different renamed (with_ends p one xs)
+      (place_different (held_moved one.to one.from p) (with_place (held_moved one.from one.to p) xs) (place_different (held_moved one.from one.to p) xs d))
+
+  pub all_longer : (renamed : List Renamed) (xs : List Path) → length xs ≤ length (all_ends xs renamed)
+  all_longer renamed xs =
+      let more = all_extend renamed xs in
+      let longer : length (all_ends xs renamed) ≡ length xs + length more.0 = ap length more.1 ∙ length-append xs more.0 in
+      omega (arith, longer)
 
   -- ---- and nothing else
 
@@ -123,11 +162,13 @@ get_same [] k d e h = absurd (omega arith)
 get_same (x ∷ xs) zero d e h = refl
 get_same (x ∷ xs) (suc k) d e h = get_same xs k d e (omega arith)
 
--- of the first n places each that is a rename away is among them
+-- there are n different places, and of the first n of them each that is a rename away is among them
 pub record AreSoFar (renamed : List Renamed) (name : Path) (n : ℕ) (places : List Path) : Type 0 where
   pub there : is_place name places ≡ true
   pub next : (k : ℕ) → k < n → k < length places → has_next renamed (get_or places k name) places ≡ true
   pub fewest : (others : List Path) → is_place name others ≡ true → AreClosed renamed others → (q : Path) → is_place q places ≡ true → is_place q others ≡ true
+  pub many : n ≤ length places
+  pub different : are_different places ≡ true
 
 module _ (renamed : List Renamed) (name : Path) where
   pub places_begin : AreSoFar renamed name 0 (name ∷ [])
@@ -135,6 +176,8 @@ module _ (renamed : List Renamed) (name : Path) where
     there = place_last name [];
     next = λ k low high. absurd (omega arith);
     fewest = λ others h closed q e. by q others h (or_cases (same_path q name) false e);
+    many = omega arith;
+    different = refl;
   }
     where
       by : (q : Path) (others : List Path) → is_place name others ≡ true → (same_path q name ≡ true) ⊎ (false ≡ true) → is_place q others ≡ true
@@ -146,6 +189,8 @@ module _ (renamed : List Renamed) (name : Path) where
     there = place_kept name places (all_ends p places renamed) (all_extend p renamed places) before.there;
     next = λ k small high. by k (cases_lt k n) small;
     fewest = λ others h closed. all_within p renamed places others (closed p (before.fewest others h closed p among)) (before.fewest others h closed);
+    many = let longer = all_longer p renamed places in omega (arith, longer, low);
+    different = all_different p renamed places before.different;
   }
     where
       here : p ≡ get_or places n name
@@ -165,6 +210,14 @@ module _ (renamed : List Renamed) (name : Path) where
           let at : k ≡ n = omega arith in
           let is : get_or (all_ends p places renamed) k name ≡ p = same k (omega arith) ∙ ap (λ i. get_or places i name) at ∙ sym here in
           ap (λ q. has_next renamed q (all_ends p places renamed)) is ∙ all_next p renamed places
+
+  pub places_many : (n : ℕ) (places : List Path) → AreSoFar renamed name n places → 64 ≤ n → StandsForMany renamed name
+  places_many n places done high = record {
+    places = places;
+    many = let long = done.many in omega (arith, long, high);
+    different = done.different;
+    needed = done.fewest;
+  }
 
   pub places_end : (n : ℕ) (places : List Path) → AreSoFar renamed name n places → length places ≤ n → ArePlaces renamed name places
   places_end n places done high = record {

@@ -1,5 +1,5 @@
 -- What a few records ask for together.
-use Rattle.std.specs.Prelude.{ℕ, Bool, true, List, [], ◌∷◌, ◌++◌, false, length, nat_lt, if◌then◌else◌}
+use Rattle.std.specs.Prelude.{ℕ, Bool, true, not, ◌&&◌, ◌==◌, List, [], ◌∷◌, ◌++◌, false, length, nat_lt, if◌then◌else◌}
 use Rattle.std.specs.BTreeSet.{insert_key}
 use Rattle.wm_names.specs.Paths.{Path, is_rel_path, path_cmp}
 use Rattle.wm_feed.specs.Records.{Happened, RecordTells, content_changed, file_changed, nothing, entry, folder_alone, doubt}
@@ -16,6 +16,9 @@ pub record Gathered : Type 0 where
 
 abbrev pub nothing_asked : Gathered
 nothing_asked = record { paths = []; folders = []; is_whole = false }
+
+abbrev pub asks_nothing : Gathered → Bool
+asks_nothing a = (length a.paths == 0) && ((length a.folders == 0) && not a.is_whole)
 
 abbrev pub with_whole : Gathered → Gathered
 with_whole a = record { paths = a.paths; folders = a.folders; is_whole = true }

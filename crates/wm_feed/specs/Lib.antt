@@ -11,6 +11,9 @@ pub mod Syncs
 pub mod Roots
 pub mod Steps
 pub mod Renewed
-pub mod Strays
+pub mod Orphans
 pub mod Lasting
 pub mod Words
+pub mod Releases
+pub mod Bursts
+pub mod Watched

@@ -1,5 +1,5 @@
 -- The places that the name of a folder may stand for once folders were renamed.
-use Rattle.std.specs.Prelude.{◌≡◌, ℕ, ◌++◌, ◌∷◌, [], Bool, true, false, ◌&&◌, ◌||◌, List, Option, Some, None, drop, length, nat_lt, if◌then◌else◌}
+use Rattle.std.specs.Prelude.{◌≡◌, ◌≤◌, ℕ, not, ◌++◌, ◌∷◌, [], Bool, true, false, ◌&&◌, ◌||◌, List, Option, Some, None, drop, length, nat_lt, if◌then◌else◌}
 use Rattle.std.specs.List.{list_all, list_any, position, remove, slice_get}
 use Rattle.std.specs.Str.{bytes_eq}
 use Rattle.wm_names.specs.Paths.{Path, is_rel_path, is_under, same_path}
@@ -37,9 +37,9 @@ certain names = record { is_certain = true; names = names }
 abbrev pub uncertain : FolderNames → Followed
 uncertain names = record { is_certain = false; names = names }
 
--- the path is that of a folder that left, or stood in one
-abbrev pub has_left : Path → FolderNames → Bool
-has_left p names = list_any (λ one. same_path p one.path || is_under one.path p) names.departed
+-- a folder left by a move of this word and didn't come yet
+abbrev pub has_departed : Bytes → FolderNames → Bool
+has_departed cookie names = list_any (λ one. bytes_eq one.cookie cookie) names.departed
 
 -- a folder left, of which 1,024 are kept
 abbrev pub departed_by : Bytes → Path → FolderNames → Followed
@@ -128,3 +128,15 @@ pub record ArePlaces (renamed : List Renamed) (name : Path) (places : List Path)
   pub there : is_place name places ≡ true
   pub closed : AreClosed renamed places
   pub fewest : (others : List Path) → is_place name others ≡ true → AreClosed renamed others → (p : Path) → is_place p places ≡ true → is_place p others ≡ true
+
+-- no path stands twice
+abbrev pub are_different : List Path → Bool
+are_different [] = true
+are_different (p ∷ places) = not (is_place p places) && are_different places
+
+-- too many places: each list that has the name and is closed has these different paths, which are 64 at least
+pub record StandsForMany (renamed : List Renamed) (name : Path) : Type 0 where
+  pub places : List Path
+  pub many : 64 ≤ length places
+  pub different : are_different places ≡ true
+  pub needed : (others : List Path) → is_place name others ≡ true → AreClosed renamed others → (p : Path) → is_place p places ≡ true → is_place p others ≡ true

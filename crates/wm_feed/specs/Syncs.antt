@@ -1,9 +1,10 @@
 -- Syncs: what a record tells of one, and which of them are ready.
-use Rattle.std.specs.Prelude.{ℕ, Bool, not, ◌&&◌, ◌||◌, ◌==◌, List, [], ◌∷◌, ◌++◌, Option, Some, None, length, map, nat_lt, codes, if◌then◌else◌}
+use Rattle.std.specs.Prelude.{ℕ, Bool, not, ◌+◌, ◌-◌, ◌^◌, ◌&&◌, ◌||◌, ◌==◌, List, [], ◌∷◌, ◌++◌, Option, Some, None, length, map, min, nat_le, nat_lt, codes, if◌then◌else◌}
 use Rattle.std.specs.List.{filter, list_all, list_any}
 use Rattle.std.specs.Str.{bytes_eq, is_utf8}
 use Rattle.wm_feed.specs.declared.sync.Synced.{Synced}
 use Rattle.wm_feed.specs.declared.sync.Synced.TheVariants as synced
+use Rattle.wm_feed.specs.Batches.{Gathered, asks_nothing}
 use Rattle.wm_feed.specs.Records.{Bytes, Record, has, record_of}
 use Rattle.wm_feed.specs.Once.{each_once, is_in_texts}
 
@@ -39,10 +40,40 @@ sync_tells folder bytes = sync_of folder (record_of bytes)
 
 -- ---- which are ready
 
--- a sync, and a watch that told it
+-- a sync, a watch that reported it, and the number of the last batch that has something of what came before it
 pub record SyncTold : Type 0 where
   pub name : Bytes
   pub watch : ℕ
+  pub batch : ℕ
+
+-- the syncs that were reported, how many batches were sent, and up to which of them all were answered
+pub record SyncsKept : Type 0 where
+  pub told : List SyncTold
+  pub sent : ℕ
+  pub answered : ℕ
+
+-- the first batch is the crawl by which a feed begins
+abbrev pub no_syncs : SyncsKept
+no_syncs = record { told = []; sent = 1; answered = 0 }
+
+abbrev pub next_batch : ℕ → ℕ
+next_batch n = min (n + 1) (2 ^ 64 - 1)
+
+-- what was gathered is sent as the next batch
+abbrev pub with_sent : SyncsKept → SyncsKept
+with_sent s = record { told = s.told; sent = next_batch s.sent; answered = s.answered }
+
+-- the server has answered each batch that was sent
+abbrev pub with_answered : SyncsKept → SyncsKept
+with_answered s = record { told = s.told; sent = s.sent; answered = s.sent }
+
+-- no answer counts: more happened than was sent
+abbrev pub with_lost : SyncsKept → SyncsKept
+with_lost s = record { told = s.told; sent = s.sent; answered = 0 }
+
+-- the last batch that has something of what came so far: the one that is gathered, or else the one that was sent last
+abbrev pub last_batch : Gathered → SyncsKept → ℕ
+last_batch gathered s = if asks_nothing gathered then s.sent else next_batch s.sent
 
 abbrev pub is_sync_told : Bytes → ℕ → SyncTold → Bool
 is_sync_told name watch one = (one.watch == watch) && bytes_eq one.name name
@@ -51,21 +82,35 @@ abbrev pub was_told : Bytes → ℕ → List SyncTold → Bool
 was_told name watch told = list_any (λ one. is_sync_told name watch one) told
 
 -- one more, unless it was told before or 4,096 were
-abbrev pub with_told : Bytes → ℕ → List SyncTold → List SyncTold
-with_told name watch told =
-    if was_told name watch told || not (nat_lt (length told) 4096)
-    then told
-    else told ++ record { name = name; watch = watch } ∷ []
+abbrev pub with_told : Bytes → ℕ → Gathered → SyncsKept → SyncsKept
+with_told name watch gathered s =
+    if was_told name watch s.told || not (nat_lt (length s.told) 4096)
+    then s
+    else record { told = s.told ++ record { name = name; watch = watch; batch = last_batch gathered s } ∷ []; sent = s.sent; answered = s.answered }
 
--- each of the watches told it; without a watch none is ready
-abbrev pub is_sync_ready : Bytes → List ℕ → List SyncTold → Bool
-is_sync_ready name watches told = nat_lt 0 (length watches) && list_all (λ watch. was_told name watch told) watches
+-- a watch reported it, and the server has answered all that came before
+abbrev pub is_sync_answered : ℕ → Bytes → ℕ → SyncTold → Bool
+is_sync_answered answered name watch one = is_sync_told name watch one && nat_le one.batch answered
+
+abbrev pub was_answered : ℕ → Bytes → ℕ → List SyncTold → Bool
+was_answered answered name watch told = list_any (λ one. is_sync_answered answered name watch one) told
+
+-- so did each of the watches; without a watch none is ready
+abbrev pub is_sync_ready : ℕ → Bytes → List ℕ → List SyncTold → Bool
+is_sync_ready answered name watches told = nat_lt 0 (length watches) && list_all (λ watch. was_answered answered name watch told) watches
 
 abbrev pub sync_names : List SyncTold → List Bytes
 sync_names told = map (λ one. one.name) told
 
-abbrev pub ready_names : List ℕ → List SyncTold → List Bytes
-ready_names watches told = each_once (filter (λ name. is_sync_ready name watches told) (sync_names told))
+abbrev pub ready_names : List ℕ → SyncsKept → List Bytes
+ready_names watches s = each_once (filter (λ name. is_sync_ready s.answered name watches s.told) (sync_names s.told))
 
-abbrev pub forgotten : List Bytes → List SyncTold → List SyncTold
-forgotten names told = filter (λ one. not (is_in_texts one.name names)) told
+abbrev pub with_syncs : List SyncTold → SyncsKept → SyncsKept
+with_syncs told s = record { told = told; sent = s.sent; answered = s.answered }
+
+abbrev pub forgotten : List Bytes → SyncsKept → SyncsKept
+forgotten names s = with_syncs (filter (λ one. not (is_in_texts one.name names)) s.told) s
+
+-- those of the others whose clients took their files away are forgotten
+abbrev pub kept_of : List Bytes → SyncsKept → SyncsKept
+kept_of names s = with_syncs (filter (λ one. is_in_texts one.name names) s.told) s

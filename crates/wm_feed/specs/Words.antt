@@ -19,16 +19,20 @@ begins_with front line = bytes_eq front (take (length front) line)
 abbrev pub ends_with : Bytes → Bytes → Bool
 ends_with back line = bytes_eq back (drop (length line - length back) line)
 
--- no greeting, and not that a folder was gone before it could be watched
+-- no greeting
+abbrev pub is_complaint : Bytes → Bool
+is_complaint line = not (length line == 0) && not (begins_with (codes "Setting up watches.") line)
+
+-- not that a folder was gone before it could be watched, or a file in it
 abbrev pub is_for_user : Bytes → Bool
-is_for_user line = not (length line == 0) && (not (begins_with (codes "Setting up watches.") line) && not (ends_with (codes "No such file or directory") line))
+is_for_user line = not (ends_with (codes "No such file or directory") line)
 
 -- the end of a line
 abbrev pub ended : Said → Said
 ended s =
     if bytes_eq s.line (codes "Watches established.")
     then record { line = []; lines = s.lines; is_established = true }
-    else record { line = []; lines = (if is_for_user s.line then s.lines ++ s.line ∷ [] else s.lines); is_established = s.is_established }
+    else record { line = []; lines = (if is_complaint s.line then s.lines ++ s.line ∷ [] else s.lines); is_established = s.is_established }
 
 -- a byte more, of which 4,096 are kept for a line; a newline (10) ends it
 abbrev pub with_byte : Said → ℕ → Said

@@ -3,7 +3,7 @@
 ghost use Rattle.std.specs.Prelude.{◌≡◌, Some, None, OnOk, IfOk, string_bytes, if◌then◌else◌};
 ghost use Rattle.wm_names.specs.Paths.{is_rel_path};
 ghost use Rattle.wm_feed.specs.Records.{change_in, tells_of};
-ghost use Rattle.wm_feed.specs.Batches.{gathered_by, entry_path, nothing_asked, with_content, with_holder, with_folder, with_folder_text, with_asked_path, with_text};
+ghost use Rattle.wm_feed.specs.Batches.{asks_nothing, gathered_by, entry_path, nothing_asked, with_content, with_holder, with_folder, with_folder_text, with_asked_path, with_text};
 
 use crate::record::{Change, Told};
 use std::alloc::Global;
@@ -62,6 +62,13 @@ impl Batch {
         ensures { result ≡ self.now.is_whole }
     {
         self.is_whole
+    }
+
+    /// Whether nothing is asked for.
+    pub fn is_empty(&self) -> bool
+        ensures { result ≡ asks_nothing self.now }
+    {
+        self.paths.is_empty() && self.folders.is_empty() && !self.is_whole
     }
 
     /// Adds a path, where there is room.

@@ -1,13 +1,12 @@
 //! The names by which watched folders may be told. inotifywait follows a folder that is renamed, and those below it, but not each
 //! of them: some are told by an old name from then on. Definitions: specs/Renames.antt. Tests: feed_tests/src/renames.rt.
 
-ghost use Rattle.std.specs.Prelude.{◌≡◌, ◌≤◌, ◌<◌, ◌||◌, length, nat_lt, slice_index_or, IfOk, IfSome, MatchOption, OnOk};
+ghost use Rattle.std.specs.Prelude.{◌≡◌, ◌≤◌, ◌<◌, length, nat_lt, slice_index_or, IfOk, MatchOption, OnOk};
 ghost use Rattle.std.specs.List.{fold, list_any, position};
 ghost use Rattle.std.specs.Str.{bytes_eq};
-ghost use Rattle.wm_names.specs.Paths.{is_under, same_path};
 ghost use Rattle.wm_feed.specs.Batches.{entry_path};
 ghost use Rattle.wm_feed.specs.Records.{tells_of};
-ghost use Rattle.wm_feed.specs.Renames.{ArePlaces, came_by, followed_by, has_left as has_left_lem, held_moved, is_place, joins as joins_lem, departed_by, nothing_renamed, renamed_to, with_ends, with_place};
+ghost use Rattle.wm_feed.specs.Renames.{ArePlaces, StandsForMany, came_by, followed_by, has_departed as has_departed_lem, held_moved, is_place, joins as joins_lem, departed_by, nothing_renamed, renamed_to, with_ends, with_place};
 
 use crate::batch::{path_in, path_of};
 use crate::record::{Change, Told};
@@ -53,13 +52,6 @@ impl Departure {
         ensures { result ≡ bytes_eq self.now.cookie cookie.now }
     {
         self.cookie.as_slice() == cookie
-    }
-
-    /// Whether a path is that of the folder, or stood in it.
-    fn has(&self, path: &RelPath) -> bool
-        ensures { result ≡ (same_path path.now self.now.path || is_under self.now.path path.now) }
-    {
-        path.same(&self.path) || path.under(&self.path)
     }
 
     /// The folder's path.
@@ -196,11 +188,11 @@ impl Renames {
         self.renames.len() > 0
     }
 
-    /// Whether a path is that of a folder that left, or stood in one. What happens there is told by its old name.
-    pub fn has_left(&self, path: &RelPath) -> bool
-        ensures { result ≡ has_left_lem path.now self.now }
+    /// Whether a folder left by a move of this word and didn't come yet.
+    pub fn has_departed(&self, cookie: &[u8]) -> bool
+        ensures { result ≡ has_departed_lem cookie.now self.now }
     {
-        self.left.iter().any(|one| one.has(path))
+        self.left.iter().any(|one| one.is_by(cookie))
     }
 
     /// Follows what a record tells. `false` where the names can't be followed any longer: a folder came from elsewhere after one had
@@ -310,9 +302,9 @@ impl Renames {
     }
 
     /// The places that a name of a folder may stand for: the name itself, and each that renames join it to, however many and in
-    /// whatever direction. `None` where they are too many.
+    /// whatever direction. `None` if they are too many: 64 at least.
     pub fn places(&self, alloc: Global, name: &RelPath) -> Result<Option<Vec<RelPath>>, NoMemory>
-        ensures { IfOk result (λ o. IfSome o (λ v. ArePlaces self.now.renamed name.now v.items)) }
+        ensures { IfOk result (λ o. MatchOption o (StandsForMany self.now.renamed name.now) (λ v. ArePlaces self.now.renamed name.now v.items)) }
     {
         let mut places = Vec::new(alloc);
         places.push(name.copy()?)?;

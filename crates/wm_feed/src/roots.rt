@@ -26,19 +26,6 @@ fn add_root(alloc: Global, roots: &mut Vec<RootPath>, root: &RootPath) -> Result
     Ok(())
 }
 
-/// The roots that stand in the first list and not in the second, each once.
-fn missing(alloc: Global, roots: &[RootPath], from: &[RootPath]) -> Result<Vec<RootPath>, NoMemory>
-    ensures { IfOk result (λ v. v.items ≡ only_in roots.now from.now) }
-{
-    let mut missing = Vec::new(alloc);
-    for root in roots {
-        if !is_listed(root, from) {
-            add_root(alloc, &mut missing, root)?;
-        }
-    }
-    Ok(missing)
-}
-
 /// The roots to begin with: those that are listed and aren't fed, each once, in the order of the list. `NoMemory`.
 pub fn to_begin(
     alloc: Global,
@@ -47,16 +34,11 @@ pub fn to_begin(
 ) -> Result<Vec<RootPath>, NoMemory>
     ensures { IfOk result (λ v. v.items ≡ only_in listed.now fed.now) }
 {
-    missing(alloc, listed, fed)
-}
-
-/// The roots to end: those that are fed and aren't listed, each once, in the order in which they are fed. `NoMemory`.
-pub fn to_end(
-    alloc: Global,
-    fed: &[RootPath],
-    listed: &[RootPath],
-) -> Result<Vec<RootPath>, NoMemory>
-    ensures { IfOk result (λ v. v.items ≡ only_in fed.now listed.now) }
-{
-    missing(alloc, fed, listed)
+    let mut missing = Vec::new(alloc);
+    for root in listed {
+        if !is_listed(root, fed) {
+            add_root(alloc, &mut missing, root)?;
+        }
+    }
+    Ok(missing)
 }

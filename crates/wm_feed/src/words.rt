@@ -1,7 +1,7 @@
 //! What inotifywait says beside its records. Definitions: specs/Words.antt. Tests: feed_tests/src/words.rt.
 
 ghost use Rattle.std.specs.Prelude.{◌≡◌, ◌∷◌, [], List, ℕ, false, string_bytes, IfOk, MatchOption, OnOk};
-ghost use Rattle.wm_feed.specs.Words.{Said, ended, is_for_user as is_for_user_lem, line_as_text, nothing_said, with_byte, with_bytes};
+ghost use Rattle.wm_feed.specs.Words.{Said, ended, is_complaint as is_complaint_lem, is_for_user as is_for_user_lem, line_as_text, nothing_said, with_byte, with_bytes};
 
 use std::alloc::Global;
 use std::marker::Model;
@@ -56,13 +56,19 @@ impl Model for Words {
     ghost view = { λ w. record { line = w.line.items; lines = w.lines.items; is_established = w.is_established } };
 }
 
-/// Whether a line is for a user: no greeting, and not that a folder was gone before it could be watched.
+/// Whether a line is a complaint, and no greeting.
+fn is_complaint(line: &[u8]) -> bool
+    ensures { result ≡ is_complaint_lem line.now }
+{
+    !line.is_empty() && !line.starts_with(b"Setting up watches.")
+}
+
+/// Whether a complaint is for a user. That a folder was gone before it could be watched isn't, or a file in it: inotifywait says so of
+/// folders too that are there and stay without a watch.
 pub fn is_for_user(line: &[u8]) -> bool
     ensures { result ≡ is_for_user_lem line.now }
 {
-    !line.is_empty()
-        && !line.starts_with(b"Setting up watches.")
-        && !line.ends_with(b"No such file or directory")
+    !line.ends_with(b"No such file or directory")
 }
 
 impl Words {
@@ -83,7 +89,7 @@ impl Words {
     {
         if self.line.as_slice() == ESTABLISHED {
             self.is_established = true;
-        } else if is_for_user(&self.line) {
+        } else if is_complaint(&self.line) {
             let bytes = self.line.clone()?;
             self.lines.push(Line { bytes })?;
         }
@@ -124,7 +130,7 @@ impl Words {
         is_established
     }
 
-    /// The next line for a user; one that is no text is told as such. `NoMemory`: the line is dropped.
+    /// The next complaint; one that is no text is told as such. `NoMemory`: the line is dropped.
     pub fn take_line(&mut self, alloc: Global) -> Result<Option<String>, NoMemory>
         ensures { IfOk result (λ o. MatchOption o ((self.old.lines ≡ []) × (self.new ≡ self.old)) (λ s. (line : List ℕ) × (self.old ≡ record { line = self.new.line; lines = line ∷ self.new.lines; is_established = self.new.is_established }) × (string_bytes s ≡ line_as_text line))) }
     {

@@ -1,5 +1,5 @@
 use Rattle.std.proofs.Common.{◌≡◌, ◌+◌, ◌<◌, ◌∷◌, [], ◌++◌, length, get_or, arith, sym, ap, ap₂, subst, ◌∙◌}
-use Rattle.wm_feed.proofs.Places.{AreSoFar, places_begin, places_end, places_next}
+use Rattle.wm_feed.proofs.Places.{AreSoFar, places_begin, places_end, places_many, places_next}
 use Rattle.wm_feed.proofs.renames.Renames.places.Goals as goal
 
 pub loop-next-init : goal.loop-next-init
@@ -21,3 +21,8 @@ loop-next-preserved c =
     let low : l.next < length l.places.items = omega (arith, found.0, ap length c.deref.ensures.value) in
     let here : place ≡ get_or l.places.items l.next place = found.1 ∙ ap (λ ps. get_or ps l.next place) c.deref.ensures.value in
     subst (AreSoFar c.args.self.now.renamed c.args.name.now (l.next + 1)) (sym c.in_ok-add_next.ensures) (places_next c.args.self.now.renamed c.args.name.now l.next l.places.items place l.invariant low here)
+
+pub returns : goal.returns
+returns c =
+    let l = c.loop-next in
+    places_many c.args.self.now.renamed c.args.name.now l.next l.places.items l.invariant (omega (arith, c.loop-next-test.false))

@@ -5,4 +5,4 @@ use Rattle.wm_feed.specs.Syncs.{is_sync_ready, sync_names}
 use Rattle.wm_feed.proofs.syncs.Syncs.ready.Given as goal
 
 abbrev pub invariant-loop-one : goal.invariant-loop-one
-invariant-loop-one l = map string_bytes l.ready.items ≡ each_once (filter (λ name. is_sync_ready name l.watches l.one-items) (take l.one-index (sync_names l.one-items)))
+invariant-loop-one l = map string_bytes l.ready.items ≡ each_once (filter (λ name. is_sync_ready l.self.answered name l.watches l.one-items) (take l.one-index (sync_names l.one-items)))

@@ -11,8 +11,8 @@ pub record Unplaced : Type 0 where
   pub names : List Path
   pub ended : List Path
 
-abbrev pub no_strays : Unplaced
-no_strays = record { names = []; ended = [] }
+abbrev pub no_orphans : Unplaced
+no_orphans = record { names = []; ended = [] }
 
 -- of both 65,536 are kept
 abbrev pub with_name : Path → Unplaced → Unplaced

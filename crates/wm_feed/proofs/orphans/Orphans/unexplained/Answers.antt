@@ -4,8 +4,8 @@ use Rattle.std.specs.List.Sorted.{IsStrictlySortedBy}
 use Rattle.std.proofs.lemmas.List.{take_all}
 use Rattle.std.proofs.lemmas.List.Kept.{IsStrictlySortedBy-filter}
 use Rattle.wm_names.specs.Paths.{Path, path_cmp}
-use Rattle.wm_feed.specs.Strays.{is_explained}
-use Rattle.wm_feed.proofs.strays.Strays.unexplained.Goals as goal
+use Rattle.wm_feed.specs.Orphans.{is_explained}
+use Rattle.wm_feed.proofs.orphans.Orphans.unexplained.Goals as goal
 
 pub set_of-requires : goal.set_of-requires
 set_of-requires c =

@@ -1,9 +1,9 @@
 //! Names of folders by which something was told, and at which no folder is. One that was removed or renamed is told to be so later;
-//! of any other it isn't known which folder the name stands for. Definitions: specs/Strays.antt. Tests: feed_tests/src/strays.rt.
+//! of any other it isn't known which folder the name stands for. Definitions: specs/Orphans.antt. Tests: feed_tests/src/orphans.rt.
 
 ghost use Rattle.std.specs.Prelude.{◌≡◌, length, nat_lt, IfOk, OnOk};
 ghost use Rattle.wm_feed.specs.Steps.{is_below_any};
-ghost use Rattle.wm_feed.specs.Strays.{is_explained as is_explained_lem, no_strays, unexplained, with_end, with_name};
+ghost use Rattle.wm_feed.specs.Orphans.{is_explained as is_explained_lem, no_orphans, unexplained, with_end, with_name};
 
 use crate::paths::{listed, set_of};
 use std::alloc::Global;
@@ -13,17 +13,17 @@ use wm_disk::NoMemory;
 use wm_names::RelPath;
 
 /// The most names, and the most folders that something happened to, which are kept: what is more is passed over.
-const MAX_STRAYS: usize = 65_536;
+const MAX_ORPHANS: usize = 65_536;
 
 /// Names at which no folder is, and the folders that something happened to since.
 #[derive(Drop)]
-pub struct Strays {
+pub struct Orphans {
     names: BTreeSet<RelPath>,
     ended: BTreeSet<RelPath>,
 }
 
-impl Model for Strays {
-    ghost use Rattle.wm_feed.specs.Strays.{Unplaced};
+impl Model for Orphans {
+    ghost use Rattle.wm_feed.specs.Orphans.{Unplaced};
 
     ghost Value = { Unplaced };
 
@@ -44,12 +44,12 @@ fn is_explained(path: &RelPath, ended: &BTreeSet<RelPath>) -> bool
     ended.contains(path) || is_below(path, ended)
 }
 
-impl Strays {
+impl Orphans {
     /// None yet.
-    pub fn new(alloc: Global) -> Strays
-        ensures { result ≡ no_strays }
+    pub fn new(alloc: Global) -> Orphans
+        ensures { result ≡ no_orphans }
     {
-        Strays {
+        Orphans {
             names: BTreeSet::new(alloc),
             ended: BTreeSet::new(alloc),
         }
@@ -66,7 +66,7 @@ impl Strays {
     pub fn add(&mut self, name: RelPath) -> Result<(), NoMemory>
         ensures { OnOk result (self.new ≡ with_name name self.old) }
     {
-        if self.names.len() < MAX_STRAYS {
+        if self.names.len() < MAX_ORPHANS {
             self.names.insert(name)?;
         }
         Ok(())
@@ -76,7 +76,7 @@ impl Strays {
     pub fn end(&mut self, folder: &RelPath) -> Result<(), NoMemory>
         ensures { OnOk result (self.new ≡ with_end folder.now self.old) }
     {
-        if self.are_any() && self.ended.len() < MAX_STRAYS {
+        if self.are_any() && self.ended.len() < MAX_ORPHANS {
             self.ended.insert(folder.copy()?)?;
         }
         Ok(())
@@ -105,7 +105,7 @@ impl Strays {
 
     /// Forgets all of them.
     pub fn clear(&mut self)
-        ensures { self.new ≡ no_strays }
+        ensures { self.new ≡ no_orphans }
     {
         self.names.clear();
         self.ended.clear();
