@@ -80,7 +80,7 @@ pub(crate) fn watched_roots<Y: System>(
     roots_of(alloc, &reply)
 }
 
-/// The clock that a reply tells.
+/// The clock of a reply.
 pub(crate) fn clock_of(alloc: Global, reply: &[u8]) -> Result<String, Stop> {
     let reply = value_of(alloc, reply)?;
     match reply.get("clock").and_then(Value::as_str) {

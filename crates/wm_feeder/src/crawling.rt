@@ -1,4 +1,4 @@
-//! Crawls, also around folders that the server can't read: what stands beside them is told, and they are named to the user, once.
+//! Crawls, also around folders that the server can't read: what stands beside them is sent, and they are reported to the user, once.
 //! Tests: feed_tests, tools/feed_use.py.
 
 use crate::asking::ALL;
@@ -68,7 +68,7 @@ impl<Y: System> Root<'_, Y> {
         self.tell_gone(server, &detour)
     }
 
-    /// Reads a folder that the server can't crawl, tells what stands in it, and has its folders crawled.
+    /// Reads a folder that the server can't crawl, sends what stands in it, and has its folders crawled.
     fn read_part(
         &mut self,
         server: &mut Server<Y>,
@@ -129,7 +129,7 @@ impl<Y: System> Root<'_, Y> {
         Ok(())
     }
 
-    /// Tells what is gone from the folders that were read here.
+    /// Sends what is gone from the folders that were read here.
     fn tell_gone(&mut self, server: &mut Server<Y>, detour: &Detour) -> Result<(), Stop> {
         let mut pairs = Vec::new(self.alloc);
         for path in self.list(server, ALL)? {

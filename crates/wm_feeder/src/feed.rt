@@ -8,7 +8,7 @@ use crate::watch::{Got, Watch};
 use std::collections::BTreeSet;
 use std::mem;
 use wm_client::Stop;
-use wm_feed::{Batch, Lasting, Synced, Syncs, read_record, read_sync};
+use wm_feed::{Batch, Burst, Lasting, Synced, Syncs, read_record, read_sync};
 use wm_names::{RelPath, Subtree};
 
 /// How long no record may come before the server is asked whether the root is still watched, how long it may be until the root's path
@@ -17,10 +17,8 @@ pub(crate) const IDLE: u64 = 1_000;
 
 const UNHEARD: u64 = 100;
 
-/// From which batch in a row on, each sent right behind the other, what comes is gathered for so long before it is sent, in milliseconds.
-const MANY_SENT: u32 = 4;
-
-const GATHERED: u64 = 3;
+/// How long after a complaint of inotifywait the making of the folder that it may be of is reported at the latest, in milliseconds.
+const COMPLAINED: u64 = 1_000;
 
 /// How long a root that isn't ready waits until it is asked for again, in milliseconds.
 const UNREADY: u64 = 10;
@@ -59,27 +57,23 @@ pub(crate) struct Feed<Y: System> {
     /// The folders that were seen to have no watch, and the names that stood for no folder.
     pub(crate) missing: Lasting,
     pub(crate) nameless: Lasting,
-    /// The folders that are watched besides, by so many inotifywaits more; those that another one begins to watch; and how often in a
-    /// row one more ended at once.
-    pub(crate) besides: BTreeSet<RelPath>,
+    /// The folders that further inotifywaits watch, and how many those are; the folders that another one begins to watch; and how often
+    /// in a row one more ended at once.
+    pub(crate) rewatched: BTreeSet<RelPath>,
     pub(crate) more: u32,
     pub(crate) adding: Vec<RelPath>,
     pub(crate) failures: u32,
+    /// Until when a folder may have no watch though its making is reported.
+    doubted_until: u64,
     /// When the root's path was last looked at, inotifywait heard, a record taken, and the server asked.
     seen_at: u64,
     heard_at: u64,
     pub(crate) came_at: u64,
     asked_at: u64,
     /// When it is time for a look though no moment is quiet.
-    pub(crate) look_at: u64,
-    /// When the last batch was sent, and how many were sent in a row.
-    sent_at: u64,
-    sent: u32,
-}
-
-/// Whether a batch asks for nothing.
-fn is_empty(batch: &Batch) -> bool {
-    batch.paths().is_empty() && batch.folders().is_empty() && !batch.is_whole()
+    pub(crate) check_at: u64,
+    /// The batches that were sent in a row.
+    burst: Burst,
 }
 
 /// Starts one more inotifywait on folders, and on that of the root's syncs.
@@ -107,9 +101,9 @@ impl<Y: System> Feed<Y> {
         turn: &mut Turn<'_, Y>,
         identity: Identity,
         number: u64,
+        sync_folder: Option<String>,
     ) -> Result<Feed<Y>, Stop> {
         let alloc = root.alloc;
-        let sync_folder = root.make_sync_folder(turn.syncs, number)?;
         let folder = root.whole("")?;
         let watch = start_watch(root, turn, &sync_folder, &[folder])?;
         let mut watches = Vec::new(alloc);
@@ -128,17 +122,17 @@ impl<Y: System> Feed<Y> {
             is_missed: false,
             missing: Lasting::new(alloc),
             nameless: Lasting::new(alloc),
-            besides: BTreeSet::new(alloc),
+            rewatched: BTreeSet::new(alloc),
             more: 0,
             adding: Vec::new(alloc),
             failures: 0,
+            doubted_until: 0,
             seen_at: now,
             heard_at: 0,
             came_at: now,
             asked_at: now,
-            look_at: 0,
-            sent_at: 0,
-            sent: 0,
+            check_at: 0,
+            burst: Burst::new(),
         })
     }
 
@@ -163,17 +157,23 @@ impl<Y: System> Feed<Y> {
             match read_sync(folder.as_str(), record) {
                 Synced::Elsewhere => {}
                 Synced::Nothing => return Ok(()),
-                Synced::Asked(name) => return Ok(self.syncs.told(root.alloc, name, number)?),
+                Synced::Asked(name) => {
+                    return Ok(self.syncs.told(root.alloc, name, number, &self.batch)?);
+                }
             }
         }
         self.came_at = root.system.now();
         let told = read_record(root.path.as_str(), record);
         self.gathering
-            .take(root.alloc, &mut self.batch, told, number)
+            .take(root.alloc, &mut self.batch, told, number)?;
+        if self.came_at < self.doubted_until {
+            self.gathering.checks.forget_made();
+        }
+        Ok(())
     }
 
     /// Whether the root's path still leads to what is watched.
-    fn look_at_root(&mut self, root: &Root<'_, Y>) -> Result<(), Stop> {
+    fn check_root(&mut self, root: &Root<'_, Y>) -> Result<(), Stop> {
         let now = root.system.now();
         if now.saturating_sub(self.seen_at) < IDLE {
             return Ok(());
@@ -193,7 +193,10 @@ impl<Y: System> Feed<Y> {
             return Ok(());
         };
         match watch.hear(root)? {
-            Got::Some => self.gathering.check_all(),
+            Got::Some => {
+                self.gathering.check_all();
+                self.doubted_until = root.system.now().saturating_add(COMPLAINED);
+            }
             Got::Nothing => {}
             Got::End if place > 0 && !watch.is_established() => {
                 watch.end();
@@ -207,7 +210,7 @@ impl<Y: System> Feed<Y> {
     }
 
     /// Hears what inotifywait says beside its records, now and then, and always while one begins or a client waits: it complains of a
-    /// folder before it tells what happens next.
+    /// folder before it reports what happens next.
     fn hear(&mut self, root: &mut Root<'_, Y>) -> Result<(), Stop> {
         let now = root.system.now();
         let is_awaited = !self.is_established() || self.syncs.are_any();
@@ -239,8 +242,10 @@ impl<Y: System> Feed<Y> {
         self.take_waiting_syncs(root, 0)?;
         self.check_closed(root)?;
         self.batch = Batch::new(root.alloc);
+        self.syncs.send();
         root.crawl(turn.server, &Subtree::Whole)?;
         root.observe_nothing(turn.server)?;
+        self.syncs.answer();
         self.is_crawled = true;
         Ok(())
     }
@@ -255,37 +260,32 @@ impl<Y: System> Feed<Y> {
         Ok(())
     }
 
-    /// How long what came is still gathered, in milliseconds: not at all, unless many batches were sent in a row and no client waits.
-    pub(crate) fn gathers(&self, now: u64) -> u64 {
-        if is_empty(&self.batch) || self.sent < MANY_SENT || self.syncs.are_any() {
-            0
-        } else {
-            self.sent_at.saturating_add(GATHERED).saturating_sub(now)
-        }
+    /// The root is to be crawled: what the server answered until now isn't all that happened.
+    pub(crate) fn doubt_answers(&mut self) {
+        self.is_crawled = false;
+        self.syncs.lose();
     }
 
-    /// Counts a batch that is to be sent among those in a row.
-    fn count_sent(&mut self, now: u64) {
-        let is_next = now.saturating_sub(self.sent_at) <= GATHERED.saturating_add(1);
-        self.sent = if is_next && !self.syncs.are_any() {
-            self.sent.saturating_add(1)
-        } else {
-            0
-        };
+    /// How long what came is still gathered, in milliseconds.
+    pub(crate) fn gathers(&self, now: u64) -> u64 {
+        self.burst.held_back(now, self.syncs.are_any(), &self.batch)
     }
 
     /// Sends what came, if anything did.
     fn send(&mut self, root: &mut Root<'_, Y>, turn: &mut Turn<'_, Y>) -> Result<(), Stop> {
         let now = root.system.now();
-        if is_empty(&self.batch) || self.gathers(now) > 0 {
+        if self.batch.is_empty() || self.gathers(now) > 0 {
             return Ok(());
         }
-        self.count_sent(now);
+        self.burst.count(now, self.syncs.are_any());
         self.check_closed(root)?;
         let batch = mem::replace(&mut self.batch, Batch::new(root.alloc));
-        root.send(turn.server, &batch, &mut self.gathering.strays)?;
-        self.sent_at = root.system.now();
-        self.asked_at = self.sent_at;
+        self.syncs.send();
+        root.send(turn.server, &batch, &mut self.gathering.orphans)?;
+        self.syncs.answer();
+        let now = root.system.now();
+        self.burst.answer(now);
+        self.asked_at = now;
         Ok(())
     }
 
@@ -297,7 +297,7 @@ impl<Y: System> Feed<Y> {
         }
         self.asked_at = now;
         match root.number(turn.server)? {
-            None => self.is_crawled = false,
+            None => self.doubt_answers(),
             Some(number) if number != self.number => return Err(Stop::Doubt),
             Some(_) => {}
         }
@@ -310,14 +310,14 @@ impl<Y: System> Feed<Y> {
         root: &mut Root<'_, Y>,
         turn: &mut Turn<'_, Y>,
     ) -> Result<(), Stop> {
-        self.look_at_root(root)?;
+        self.check_root(root)?;
         self.hear(root)?;
         if !self.is_crawled {
             return self.crawl(root, turn);
         }
         self.add_established(root)?;
         self.send(root, turn)?;
-        self.look_if_due(root, turn)?;
+        self.check_if_due(root, turn)?;
         self.release_syncs(root)?;
         self.ask_if_idle(root, turn)
     }
@@ -329,7 +329,7 @@ impl<Y: System> Feed<Y> {
         } else if !self.is_crawled {
             UNREADY
         } else {
-            self.patience_of_looks()
+            self.patience_of_checks()
         }
     }
 

@@ -24,7 +24,7 @@ pub struct Order<'a> {
     pub socket: &'a str,
     /// The root, or each watched root.
     pub root: Option<&'a RootPath>,
-    /// Whether a path is told also if its event shows nothing new.
+    /// Whether a path is sent also if its event shows nothing new.
     pub is_every_event: bool,
 }
 
@@ -63,17 +63,13 @@ fn feed_root<Y: System>(
 }
 
 /// What is to be done for each root after a reading. An error is one of the session.
-fn turn_all<Y: System>(
-    alloc: Global,
-    feeds: &mut Feeds<'_, Y>,
-    server: &mut Server<Y>,
-) -> Result<(), Stop> {
+fn turn_all<Y: System>(feeds: &mut Feeds<'_, Y>, server: &mut Server<Y>) -> Result<(), Stop> {
     for place in 0..feeds.roots.len() {
         if let Err(stop) = feeds.turn_one(server, place) {
             if is_of_session(stop) {
                 return Err(stop);
             }
-            feeds.rest(alloc, place, stop)?;
+            feeds.rest(place, stop)?;
         }
     }
     Ok(())
@@ -94,7 +90,7 @@ fn feed_session<Y: System>(
             feeds.follow(&listed)?;
             list_at = now.saturating_add(LISTED);
         }
-        turn_all(alloc, feeds, server)?;
+        turn_all(feeds, server)?;
         feeds.read(LISTED)?;
     }
     Ok(())

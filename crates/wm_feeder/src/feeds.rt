@@ -91,13 +91,13 @@ impl<'a, Y: System> Feeds<'a, Y> {
     }
 
     /// Reports to the user why the root at a place can't be fed, and lets it rest. One that isn't watched any longer goes with the next list.
-    pub(crate) fn rest(&mut self, alloc: Global, place: usize, stop: Stop) -> Result<(), Stop> {
+    pub(crate) fn rest(&mut self, place: usize, stop: Stop) -> Result<(), Stop> {
         let Some(one) = self.roots.get_mut(place) else {
             return Ok(());
         };
         if stop != Stop::WatchGone {
             let root = one.root.path.as_str();
-            let line = format!(in alloc; "wmfeed: {root}: {}", stop.text())?;
+            let line = format!(in self.alloc; "wmfeed: {root}: {}", stop.text())?;
             one.root.said.tell(self.system, line)?;
         }
         one.pause(UNFED);

@@ -1,4 +1,4 @@
-//! Which of the folders that are to be checked inotifywait doesn't watch: the system's list of its watches tells.
+//! Which of the folders that are to be checked inotifywait doesn't watch, by the system's list of its watches.
 //! Tests: feed_tests, tools/feed_use.py.
 
 use crate::asking::FOLDERS;
@@ -20,7 +20,7 @@ struct Walk {
 }
 
 impl Walk {
-    /// Goes on with a folder. One that was told to be made is watched.
+    /// Goes on with a folder. One whose making was reported is watched.
     fn enter(&mut self, checks: &Checks, path: RelPath) -> Result<(), Stop> {
         if !checks.is_made(&path) {
             self.unsure.push(path.copy()?)?;
@@ -64,7 +64,7 @@ impl<Y: System> Root<'_, Y> {
         Ok(())
     }
 
-    /// The folders in the parts that are to be checked, but for those that were told to be made there.
+    /// The folders in the parts that are to be checked, but for those whose making there was reported.
     fn unsure_of(&self, checks: &Checks) -> Result<Vec<RelPath>, Stop> {
         let mut walk = Walk {
             unread: Vec::new(self.alloc),

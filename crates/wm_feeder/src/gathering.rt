@@ -4,13 +4,13 @@
 use std::alloc::Global;
 use wm_client::Stop;
 use wm_disk::Refusal;
-use wm_feed::{Batch, Change, Checks, Renames, Strays, Told};
+use wm_feed::{Batch, Change, Checks, Orphans, Renames, Told};
 use wm_names::RelPath;
 
-/// The most departures, and the most arrivals, that wait for one another.
+/// The most arrivals that wait for their departures.
 const MAX_WAITING: usize = 1_024;
 
-/// A folder that came before it was told to have left: another inotifywait tells that, later.
+/// A folder whose arrival was reported before its departure: another inotifywait reports that, later.
 #[derive(Drop)]
 struct Arrival {
     cookie: Vec<u8>,
@@ -25,35 +25,35 @@ pub(crate) struct Gathering {
     pub(crate) checks: Checks,
     /// Whether a watch may have been lost by a folder that moved, since all folders were last to be checked.
     is_moved: bool,
-    /// The watch that told last, if it told that a folder left, and the word of the move.
+    /// The watch that reported last, if it reported that a folder left, and the word of the move.
     leaving: Option<(u64, Vec<u8>)>,
-    /// The words of the moves of folders that left and didn't come yet, and the folders that came and didn't leave yet.
-    departed: Vec<Vec<u8>>,
+    /// The folders that came and didn't leave yet, and whether one of them isn't kept any longer.
     arrived: Vec<Arrival>,
-    /// The names by which something was told where no folder is.
-    pub(crate) strays: Strays,
-    /// The last folder that was told, and its places.
+    is_forgotten: bool,
+    /// The names by which something was reported where no folder is.
+    pub(crate) orphans: Orphans,
+    /// The last folder that was reported, and its places.
     folder: String,
     places: Vec<RelPath>,
 }
 
 impl Gathering {
-    /// For a watch that began: each folder is told by its name, and all are to be checked.
+    /// For a watch that began: each folder is reported by its name, and all are to be checked.
     pub(crate) fn new(alloc: Global) -> Gathering {
         Gathering {
             renames: Renames::new(alloc),
             checks: Checks::all(alloc),
             is_moved: false,
             leaving: None,
-            departed: Vec::new(alloc),
             arrived: Vec::new(alloc),
-            strays: Strays::new(alloc),
+            is_forgotten: false,
+            orphans: Orphans::new(alloc),
             folder: String::new(alloc),
             places: Vec::new(alloc),
         }
     }
 
-    /// Adds what is told of one folder to a batch.
+    /// Adds what is reported of one folder to a batch.
     fn add(
         &mut self,
         alloc: Global,
@@ -89,7 +89,7 @@ impl Gathering {
         Ok(())
     }
 
-    /// Adds what is told to a batch, for each place of its folder.
+    /// Adds what is reported to a batch, for each place of its folder.
     fn add_at_places(
         &mut self,
         alloc: Global,
@@ -110,7 +110,7 @@ impl Gathering {
         Ok(())
     }
 
-    /// Whether a watch may have been lost by a folder that moved. inotifywait keeps its watches if it tells of the arrival right
+    /// Whether a watch may have been lost by a folder that moved. inotifywait keeps its watches if it reports the arrival right
     /// behind the departure.
     pub(crate) fn is_moved(&self) -> bool {
         self.is_moved || self.leaving.is_some()
@@ -123,7 +123,7 @@ impl Gathering {
         self.checks.ask_for_all();
     }
 
-    /// Whether a move is that of the folder which this watch told last to have left.
+    /// Whether a move is that of the folder of which this watch reported last that it left.
     fn is_arrival(&self, watch: u64, cookie: &[u8]) -> bool {
         match &self.leaving {
             Some((by, word)) => *by == watch && word.as_slice() == cookie,
@@ -159,21 +159,6 @@ impl Gathering {
         }
     }
 
-    /// Whether a folder left by a move of this word and didn't come yet. It comes now.
-    fn take_departure(&mut self, cookie: &[u8]) -> bool {
-        match self
-            .departed
-            .iter()
-            .position(|one| one.as_slice() == cookie)
-        {
-            Some(place) => {
-                self.departed.remove(place);
-                true
-            }
-            None => false,
-        }
-    }
-
     /// The folder that came by a move of this word before it left.
     fn take_arrival(&mut self, cookie: &[u8]) -> Option<Arrival> {
         let place = self
@@ -183,7 +168,7 @@ impl Gathering {
         Some(self.arrived.remove(place))
     }
 
-    /// Keeps a folder that came and didn't leave yet.
+    /// Keeps a folder that came and didn't leave yet, in place of the one that came first if there are too many.
     fn keep_arrival(
         &mut self,
         alloc: Global,
@@ -193,6 +178,7 @@ impl Gathering {
     ) -> Result<(), Stop> {
         if self.arrived.len() >= MAX_WAITING {
             self.arrived.remove(0);
+            self.is_forgotten = true;
         }
         self.arrived.push(Arrival {
             cookie: Vec::from_slice(alloc, cookie)?,
@@ -202,7 +188,8 @@ impl Gathering {
         Ok(())
     }
 
-    /// Follows a folder that left. If it came before, by another inotifywait, it is known now where it is, and told once more.
+    /// Follows a folder that left. If it came before, by another inotifywait, it is known now where it is, and its arrival is added once
+    /// more. `Doubt` if its arrival may be one that isn't kept any longer.
     fn leave(
         &mut self,
         alloc: Global,
@@ -220,14 +207,14 @@ impl Gathering {
             self.rename(alloc, came)?;
             return self.add_at_places(alloc, batch, came, arrival.folder.as_str());
         }
-        if self.departed.len() >= MAX_WAITING {
-            self.departed.remove(0);
+        if self.is_forgotten {
+            Err(Stop::Doubt)
+        } else {
+            Ok(())
         }
-        self.departed.push(Vec::from_slice(alloc, cookie)?)?;
-        Ok(())
     }
 
-    /// Follows the folder that a record tells to have moved, if it does.
+    /// Follows the folder that moved by a record, if one did.
     fn follow(&mut self, alloc: Global, batch: &mut Batch, told: Told<'_>) -> Result<(), Stop> {
         let Told::Entry {
             folder,
@@ -240,8 +227,9 @@ impl Gathering {
         match change {
             Change::Left(cookie) => self.leave(alloc, batch, told, cookie),
             Change::Came(cookie) => {
+                let has_departed = self.renames.has_departed(cookie);
                 self.rename(alloc, told)?;
-                if !self.take_departure(cookie) {
+                if !has_departed {
                     self.keep_arrival(alloc, cookie, folder, name)?;
                 }
                 Ok(())
@@ -250,7 +238,7 @@ impl Gathering {
         }
     }
 
-    /// Adds what a record of a watch tells to a batch. `Doubt` if more may have changed.
+    /// Adds what a record of a watch reports to a batch. `Doubt` if more may have changed.
     pub(crate) fn take(
         &mut self,
         alloc: Global,

@@ -20,7 +20,7 @@ use wm_crawler::FolderTree;
 use wm_feed::add_watched;
 use wm_names::RootPath;
 
-/// A feeder that is told by inotifywait what changes.
+/// A feeder to which inotifywait reports what changes.
 #[derive(Clone, Copy)]
 pub struct Inotify<'a, R> {
     /// The system that it runs on.
@@ -138,7 +138,7 @@ impl<'a, R: Net + Processes + Files + Clock + Eprint + AllocGlobal> System for I
         for descriptor in 3..16 {
             let path = format!(in alloc; "/proc/{process}/fdinfo/{descriptor}")?;
             if let Ok(text) = fs::read_to_string(self.rt, path.as_str()) {
-                add_watched(text.as_str(), &mut numbers)?;
+                add_watched(alloc, &mut numbers, text.as_str())?;
             }
         }
         Ok(numbers)
@@ -178,7 +178,7 @@ impl<'a, R: Net + Processes + Files + Clock + Eprint + AllocGlobal> System for I
     }
 
     fn tell(&self, line: &str) {
-        // If even this can't be told, the feed goes on.
+        // If even this can't be reported, the feed goes on.
         let _told = self.rt.eprintln(line);
     }
 

@@ -18,7 +18,7 @@ use wm_client::Stop;
 /// byte behind each, and a newline at the end. So a zero byte and a newline together stand at ends of records alone.
 const FORMAT: &str = "%0%w%0%e%0%c%0/%f%0";
 
-/// What is to be told. inotifywait tells of lost events only where it is asked to.
+/// What is to be reported. inotifywait reports lost events only if it is asked to.
 const EVENTS: &str =
     "modify,attrib,close_write,move,create,delete,delete_self,move_self,unmount,q_overflow";
 

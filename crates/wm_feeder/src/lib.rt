@@ -1,13 +1,13 @@
-//! The feed of `wmfeed`: it tells a server what inotifywait tells of a folder.
+//! The feed of `wmfeed`: it sends a server what inotifywait reports of a folder.
 //!
 //! [`feed_by`] feeds a server over a [`System`], which is all that a feed asks of the system that it runs on; [`Inotify`] is that of the
 //! program, and its `Feeder`. The rest of the program is `wmfeed` of `wm_client`. What a record means, what a
-//! few ask for together and the line that tells it stand in `wm_feed`, with their contracts. What a reply is taken for has
+//! few ask for together and the line that sends it stand in `wm_feed`, with their contracts. What a reply is taken for has
 //! private clauses (server.rt); what asks the system has none.
 #![tactic(auto)]
 
 mod asking;
-mod besides;
+mod checks;
 mod crawling;
 mod feed;
 mod feeding;
@@ -18,7 +18,6 @@ mod inotify;
 mod inotifywait;
 mod line_sender;
 mod looking;
-mod looks;
 mod ready;
 mod root;
 mod root_feed;
@@ -27,6 +26,7 @@ mod sending;
 mod server;
 mod syncing;
 mod system;
+mod unwatched;
 mod watch;
 
 pub use feeding::{Order, feed_by};

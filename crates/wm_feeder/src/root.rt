@@ -34,7 +34,7 @@ pub(crate) struct Root<'a, Y: System> {
     pub(crate) said: Said,
     /// The folders that couldn't be read.
     pub(crate) closed: BTreeSet<RelPath>,
-    /// Whether an event that shows nothing new is told all the same.
+    /// Whether an event that shows nothing new is sent all the same.
     pub(crate) is_every_event: bool,
     /// Since when the server hasn't crawled the root, or when a crawl was last asked for.
     pub(crate) unready_at: Option<u64>,
@@ -128,7 +128,7 @@ impl<'a, Y: System> Root<'a, Y> {
         hand_over(self.alloc, server, line.as_str())
     }
 
-    /// Tells pairs, in lines of so many.
+    /// Sends pairs, in lines of so many.
     pub(crate) fn observe(
         &self,
         server: &mut Server<Y>,
@@ -145,7 +145,7 @@ impl<'a, Y: System> Root<'a, Y> {
         Ok(())
     }
 
-    /// Tells pairs, in short lines.
+    /// Sends pairs, in short lines.
     fn observe_few(
         &self,
         server: &mut Server<Y>,

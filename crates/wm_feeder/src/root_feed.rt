@@ -2,6 +2,7 @@
 
 use crate::feed::{Feed, Turn};
 use crate::root::Root;
+use crate::syncing::SyncFolders;
 use crate::system::System;
 use wm_client::Stop;
 use wm_names::Subtree;
@@ -22,10 +23,11 @@ const UNREADY: u64 = 10;
 pub(crate) struct RootFeed<'a, Y: System> {
     pub(crate) root: Root<'a, Y>,
     feed: Option<Feed<Y>>,
+    sync_folders: SyncFolders,
     /// When the next watch may begin.
     begin_at: u64,
     faults: u32,
-    /// Whether it was told that no folder is at the root's path.
+    /// Whether it was sent that no folder is at the root's path.
     is_emptied: bool,
     /// Why the watch has to end.
     stop: Option<Stop>,
@@ -35,6 +37,7 @@ impl<'a, Y: System> RootFeed<'a, Y> {
     /// A root that isn't watched yet.
     pub(crate) fn new(root: Root<'a, Y>) -> RootFeed<'a, Y> {
         RootFeed {
+            sync_folders: SyncFolders::new(root.alloc),
             root,
             feed: None,
             begin_at: 0,
@@ -59,7 +62,7 @@ impl<'a, Y: System> RootFeed<'a, Y> {
         }
     }
 
-    /// More may have changed than was told.
+    /// More may have changed than was reported.
     pub(crate) fn doubt(&mut self) {
         self.stop = Some(Stop::Doubt);
     }
@@ -67,7 +70,7 @@ impl<'a, Y: System> RootFeed<'a, Y> {
     /// The server was away: the root is to be crawled.
     pub(crate) fn recrawl(&mut self) {
         if let Some(feed) = &mut self.feed {
-            feed.is_crawled = false;
+            feed.doubt_answers();
         }
     }
 
@@ -90,7 +93,8 @@ impl<'a, Y: System> RootFeed<'a, Y> {
             return Ok(());
         };
         self.is_emptied = false;
-        self.feed = Some(Feed::start(&self.root, turn, identity, number)?);
+        let sync_folder = self.sync_folders.make(&self.root, turn.syncs, number)?;
+        self.feed = Some(Feed::start(&self.root, turn, identity, number, sync_folder)?);
         Ok(())
     }
 
@@ -120,7 +124,7 @@ impl<'a, Y: System> RootFeed<'a, Y> {
     }
 
     /// How a feed ends whose watches end again and again: by the refusal that ended the last of them, if one did. What is there
-    /// now is told once more.
+    /// now is crawled once more.
     fn give_up(&mut self, turn: &mut Turn<'_, Y>, last: Stop) -> Stop {
         self.faults = 0;
         let _told = self.root.crawl(turn.server, &Subtree::Whole);
@@ -135,6 +139,7 @@ impl<'a, Y: System> RootFeed<'a, Y> {
         if let Some(stop) = self.stop.take() {
             return Err(stop);
         }
+        self.sync_folders.remove_old(&self.root)?;
         match &mut self.feed {
             Some(feed) => feed.turn(&mut self.root, turn),
             None => self.begin(turn),
@@ -178,12 +183,12 @@ impl<'a, Y: System> RootFeed<'a, Y> {
         }
     }
 
-    /// Ends the feed of the root.
+    /// Ends the feed of the root, and removes the folder of its syncs.
     pub(crate) fn end(&mut self) {
         if let Some(feed) = &mut self.feed {
             feed.end();
-            feed.remove_sync_folder(&self.root);
         }
         self.feed = None;
+        self.sync_folders.remove_but(&self.root, None);
     }
 }

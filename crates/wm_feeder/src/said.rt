@@ -1,28 +1,28 @@
-//! What a feed told its user: each line once. Tests: feed_tests, tools/feed_use.py.
+//! What a feed reported to its user: each line once. Tests: feed_tests, tools/feed_use.py.
 
 use crate::system::System;
 use std::alloc::Global;
 use std::collections::BTreeSet;
 use wm_client::Stop;
 
-/// How many lines are kept: then all may be told again.
+/// How many lines are kept: then all may be reported again.
 const MAX_LINES: usize = 1_024;
 
-/// The lines that were told.
+/// The lines that were reported.
 #[derive(Drop)]
 pub(crate) struct Said {
     lines: BTreeSet<String>,
 }
 
 impl Said {
-    /// Nothing was told.
+    /// Nothing was reported.
     pub(crate) fn new(alloc: Global) -> Said {
         Said {
             lines: BTreeSet::new(alloc),
         }
     }
 
-    /// Tells a line, if it wasn't told yet.
+    /// Reports a line, if it wasn't reported yet.
     pub(crate) fn tell<Y: System>(&mut self, system: &Y, line: String) -> Result<(), Stop> {
         if self.lines.contains(&line) {
             return Ok(());

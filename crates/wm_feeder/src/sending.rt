@@ -1,4 +1,4 @@
-//! A batch told to the server, in the order of its steps. Tests: feed_tests, tools/feed_use.py.
+//! A batch sent to the server, in the order of its steps. Tests: feed_tests, tools/feed_use.py.
 
 use crate::asking::{clock_of, quoted};
 use crate::looking::Looking;
@@ -7,15 +7,15 @@ use crate::server::{Asked, Server};
 use crate::system::System;
 use std::collections::BTreeSet;
 use wm_client::Stop;
-use wm_feed::{Batch, Step, Strays, steps_of, unshown};
+use wm_feed::{Batch, Orphans, Step, steps_of, unshown};
 use wm_names::{Meta, RelPath};
 
 /// Paths with what stands there.
 type Pairs = Vec<(RelPath, Option<Meta>)>;
 
 impl<Y: System> Root<'_, Y> {
-    /// What stands at paths now. What can't be told of a path, in a folder that can't be read, is left out.
-    fn look(&self, paths: &[RelPath], strays: &mut Strays) -> Result<Pairs, Stop> {
+    /// What stands at paths now. What can't be known of a path, in a folder that can't be read, is left out.
+    fn look(&self, paths: &[RelPath], orphans: &mut Orphans) -> Result<Pairs, Stop> {
         let mut looking = Looking::new(self.alloc, &self.files);
         let mut pairs = Vec::new(self.alloc);
         for path in paths {
@@ -26,7 +26,7 @@ impl<Y: System> Root<'_, Y> {
             }
         }
         for folder in looking.unreal {
-            strays.add(folder)?;
+            orphans.add(folder)?;
         }
         Ok(pairs)
     }
@@ -46,7 +46,7 @@ impl<Y: System> Root<'_, Y> {
         Ok(changed)
     }
 
-    /// Tells pairs, and of those that show nothing new that they are gone and there again.
+    /// Sends pairs, and of those that show nothing new that they are gone and there again.
     fn observe_every(&self, server: &mut Server<Y>, pairs: &Pairs) -> Result<(), Stop> {
         if let Asked::Refused(refusal) = self.ask(server, "clock")? {
             return Err(stop_of(refusal));
@@ -63,14 +63,14 @@ impl<Y: System> Root<'_, Y> {
         self.observe(server, &renewed)
     }
 
-    /// Looks paths up and tells what stands there.
+    /// Looks paths up and sends what stands there.
     fn tell(
         &self,
         server: &mut Server<Y>,
         paths: &[RelPath],
-        strays: &mut Strays,
+        orphans: &mut Orphans,
     ) -> Result<(), Stop> {
-        let pairs = self.look(paths, strays)?;
+        let pairs = self.look(paths, orphans)?;
         if self.is_every_event {
             self.observe_every(server, &pairs)
         } else {
@@ -78,21 +78,21 @@ impl<Y: System> Root<'_, Y> {
         }
     }
 
-    /// Tells what a batch asks for, step by step. The folders that aren't where they were told are strays.
+    /// Sends what a batch asks for, step by step. The names of folders that aren't there are orphans.
     pub(crate) fn send(
         &mut self,
         server: &mut Server<Y>,
         batch: &Batch,
-        strays: &mut Strays,
+        orphans: &mut Orphans,
     ) -> Result<(), Stop> {
         for step in steps_of(self.alloc, batch)? {
             match step {
                 Step::Crawl(part) => self.crawl(server, &part)?,
-                Step::Observe(paths) => self.tell(server, &paths, strays)?,
+                Step::Observe(paths) => self.tell(server, &paths, orphans)?,
             }
         }
         for folder in batch.folders() {
-            strays.end(folder)?;
+            orphans.end(folder)?;
         }
         Ok(())
     }

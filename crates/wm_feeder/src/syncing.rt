@@ -4,20 +4,79 @@
 use crate::feed::Feed;
 use crate::root::Root;
 use crate::system::System;
+use std::alloc::Global;
 use wm_client::Stop;
 
-impl<Y: System> Root<'_, Y> {
-    /// Makes the folder of the root's syncs; its path, or `None` if it can't be made.
-    pub(crate) fn make_sync_folder(
-        &self,
+/// How long a folder that can't be removed stays until it is tried again, in milliseconds.
+const OLD: u64 = 1_000;
+
+/// The folders that a feed made for a root's syncs, and that may be there still: that of the root's view, and before it those of its
+/// earlier views, in which clients wait.
+#[derive(Drop)]
+pub(crate) struct SyncFolders {
+    made: Vec<String>,
+    /// When the earlier ones are tried again.
+    try_at: u64,
+}
+
+impl SyncFolders {
+    /// None was made yet.
+    pub(crate) fn new(alloc: Global) -> SyncFolders {
+        SyncFolders {
+            made: Vec::new(alloc),
+            try_at: 0,
+        }
+    }
+
+    /// Makes the folder of the view of this number, and removes those of earlier views; its path, or `None` if it can't be made.
+    pub(crate) fn make<Y: System>(
+        &mut self,
+        root: &Root<'_, Y>,
         syncs: &str,
         number: u64,
     ) -> Result<Option<String>, Stop> {
-        let folder = format!(in self.alloc; "{syncs}/{number}")?;
-        let is_made = self.system.make_folder(syncs) && self.system.make_folder(folder.as_str());
-        if is_made { Ok(Some(folder)) } else { Ok(None) }
+        let folder = format!(in root.alloc; "{syncs}/{number}")?;
+        self.remove_but(root, Some(folder.as_str()));
+        self.try_at = root.system.now().saturating_add(OLD);
+        if !root.system.make_folder(syncs) || !root.system.make_folder(folder.as_str()) {
+            return Ok(None);
+        }
+        if !self.made.contains(&folder) {
+            self.made
+                .push(String::from_str(root.alloc, folder.as_str())?)?;
+        }
+        Ok(Some(folder))
     }
 
+    /// Removes those of earlier views, now and then: in one of them a client may have waited.
+    pub(crate) fn remove_old<Y: System>(&mut self, root: &Root<'_, Y>) -> Result<(), Stop> {
+        let now = root.system.now();
+        if self.made.len() < 2 || now < self.try_at {
+            return Ok(());
+        }
+        self.try_at = now.saturating_add(OLD);
+        let Some(last) = self.made.last() else {
+            return Ok(());
+        };
+        let kept = String::from_str(root.alloc, last.as_str())?;
+        self.remove_but(root, Some(kept.as_str()));
+        Ok(())
+    }
+
+    /// Removes all but one. Each stays if a file is in it: a client waits for what isn't with the server.
+    pub(crate) fn remove_but<Y: System>(&mut self, root: &Root<'_, Y>, kept: Option<&str>) {
+        for folder in &self.made {
+            if kept != Some(folder.as_str()) {
+                root.system.remove(folder.as_str());
+            }
+        }
+        self.made.retain(|one| {
+            kept == Some(one.as_str()) || root.system.folder(one.as_str()).is_some()
+        });
+    }
+}
+
+impl<Y: System> Root<'_, Y> {
     /// Removes files of a folder.
     fn remove_files(&self, folder: &str, names: &[String]) -> Result<(), Stop> {
         for name in names {
@@ -29,7 +88,7 @@ impl<Y: System> Root<'_, Y> {
 }
 
 impl<Y: System> Feed<Y> {
-    /// Takes the syncs that wait in their folder as told by the watches from this place on.
+    /// Takes the syncs that wait in their folder as reported by the watches from this place on.
     pub(crate) fn take_waiting_syncs(
         &mut self,
         root: &Root<'_, Y>,
@@ -43,29 +102,14 @@ impl<Y: System> Feed<Y> {
         };
         for watch in self.watches.iter().skip(first) {
             for name in &names {
-                self.syncs.told(root.alloc, name.as_str(), watch.number())?;
+                self.syncs
+                    .told(root.alloc, name.as_str(), watch.number(), &self.batch)?;
             }
         }
         Ok(())
     }
 
-    /// The syncs that a watch told and whose files aren't among these names.
-    fn withdrawn_of(
-        &self,
-        root: &Root<'_, Y>,
-        watch: u64,
-        names: &[String],
-    ) -> Result<Vec<String>, Stop> {
-        let mut withdrawn = Vec::new(root.alloc);
-        for name in self.syncs.ready(root.alloc, &[watch])? {
-            if !names.contains(&name) {
-                withdrawn.push(name)?;
-            }
-        }
-        Ok(withdrawn)
-    }
-
-    /// Forgets the syncs whose clients took their files away: an inotifywait that began since doesn't tell them.
+    /// Forgets the syncs whose clients took their files away: an inotifywait that began since doesn't report them.
     pub(crate) fn forget_withdrawn_syncs(&mut self, root: &Root<'_, Y>) -> Result<(), Stop> {
         let Some(folder) = &self.sync_folder else {
             return Ok(());
@@ -73,21 +117,13 @@ impl<Y: System> Feed<Y> {
         let Some(names) = root.system.names(root.alloc, folder.as_str())? else {
             return Ok(());
         };
-        for place in 0..self.watches.len() {
-            let number = match self.watches.get(place) {
-                Some(watch) => watch.number(),
-                None => break,
-            };
-            let withdrawn = self.withdrawn_of(root, number, &names)?;
-            self.syncs.forget(&withdrawn);
-        }
+        self.syncs.keep(&names);
         Ok(())
     }
 
-    /// Removes the files of the syncs that each watch told, once all that was told before is sent and each folder is seen to be watched.
+    /// Removes the files of the syncs that are released.
     pub(crate) fn release_syncs(&mut self, root: &Root<'_, Y>) -> Result<(), Stop> {
-        let is_owed = self.has_looks() || self.gathering.is_moved() || !self.adding.is_empty();
-        if is_owed || !self.syncs.are_any() {
+        if !self.syncs.are_any() {
             return Ok(());
         }
         let Some(folder) = &self.sync_folder else {
@@ -97,16 +133,16 @@ impl<Y: System> Feed<Y> {
         for watch in &self.watches {
             numbers.push(watch.number())?;
         }
-        let ready = self.syncs.ready(root.alloc, &numbers)?;
-        root.remove_files(folder.as_str(), &ready)?;
-        self.syncs.forget(&ready);
+        let is_moved = self.gathering.is_moved() || !self.adding.is_empty();
+        let released = self.syncs.released(
+            root.alloc,
+            &numbers,
+            &self.gathering.checks,
+            &self.gathering.orphans,
+            is_moved,
+        )?;
+        root.remove_files(folder.as_str(), &released)?;
+        self.syncs.forget(&released);
         Ok(())
-    }
-
-    /// Removes the folder of the root's syncs. It stays if a sync waits in it, which wasn't met.
-    pub(crate) fn remove_sync_folder(&self, root: &Root<'_, Y>) {
-        if let Some(folder) = &self.sync_folder {
-            root.system.remove(folder.as_str());
-        }
     }
 }

@@ -5,7 +5,7 @@ use crate::system::{System, Watcher};
 use std::io;
 use std::io::ErrorKind;
 use wm_client::Stop;
-use wm_feed::Words;
+use wm_feed::{Words, is_for_user};
 
 /// What came of a reading.
 #[derive(Clone, Copy, Debug, PartialEq, Eq)]
@@ -69,15 +69,17 @@ impl<Y: System> Watch<Y> {
         self.is_established
     }
 
-    /// Reports to the user what it said, if it said anything for a user.
+    /// Reports to the user what it said for a user; whether it complained.
     fn tell_words(&mut self, root: &mut Root<'_, Y>) -> Result<bool, Stop> {
         let mut is_any = false;
         for _ in 0..u64::MAX {
             let Some(line) = self.words.take_line(root.alloc)? else {
                 break;
             };
-            let text = format!(in root.alloc; "wmfeed: inotifywait: {line}")?;
-            root.said.tell(root.system, text)?;
+            if is_for_user(line.as_bytes()) {
+                let text = format!(in root.alloc; "wmfeed: inotifywait: {line}")?;
+                root.said.tell(root.system, text)?;
+            }
             is_any = true;
         }
         Ok(is_any)
@@ -93,7 +95,7 @@ impl<Y: System> Watch<Y> {
         Ok(got_of(read))
     }
 
-    /// Reports to the user what it says, whether it said anything for a user, and whether it ended.
+    /// Reports to the user what it says for a user; whether it complained, and whether it ended.
     pub(crate) fn hear(&mut self, root: &mut Root<'_, Y>) -> Result<Got, Stop> {
         let mut heard = Got::Nothing;
         for _ in 0..u64::MAX {

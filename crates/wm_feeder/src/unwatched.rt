@@ -1,4 +1,4 @@
-//! Folders that inotifywait missed, which others watch besides. Tests: feed_tests, tools/feed_use.py.
+//! Folders that inotifywait missed, which further inotifywaits watch. Tests: feed_tests, tools/feed_use.py.
 
 use crate::feed::{Feed, Turn, start_watch};
 use crate::root::Root;
@@ -36,13 +36,13 @@ impl<Y: System> Root<'_, Y> {
 }
 
 impl<Y: System> Feed<Y> {
-    /// Adds the folders that are watched besides, where they stand now: one inotifywait more takes the place of the others then.
-    fn add_watched_besides(
+    /// Adds the folders that further inotifywaits watch, where they stand now: one more takes the place of the others then.
+    fn add_rewatched(
         &self,
         root: &Root<'_, Y>,
         missed: &mut BTreeSet<RelPath>,
     ) -> Result<(), Stop> {
-        for name in &self.besides {
+        for name in &self.rewatched {
             for place in self.gathering.places(root.alloc, name)? {
                 let text = root.whole(place.as_str())?;
                 if root.system.folder(text.as_str()).is_some() {
@@ -55,7 +55,7 @@ impl<Y: System> Feed<Y> {
 
     /// Starts one more inotifywait for folders that were missed. Where many do so already, one takes the place of all of them. One that
     /// ends at once again and again is a fault.
-    pub(crate) fn watch_besides(
+    pub(crate) fn watch_missed(
         &mut self,
         root: &Root<'_, Y>,
         turn: &mut Turn<'_, Y>,
@@ -66,7 +66,7 @@ impl<Y: System> Feed<Y> {
             return Err(Stop::Doubt);
         }
         if self.more >= MAX_MORE {
-            self.add_watched_besides(root, &mut missed)?;
+            self.add_rewatched(root, &mut missed)?;
         }
         let (tops, folders) = root.tops_of(&missed)?;
         let watch = start_watch(root, turn, &self.sync_folder, &folders)?;
@@ -75,7 +75,7 @@ impl<Y: System> Feed<Y> {
         Ok(())
     }
 
-    /// Goes on once the inotifywait that was started last watches its folders: what stands there is told, and they are checked.
+    /// Goes on once the inotifywait that was started last watches its folders: what stands there is crawled, and they are checked.
     pub(crate) fn add_established(&mut self, root: &Root<'_, Y>) -> Result<(), Stop> {
         if self.adding.is_empty() || !self.is_established() {
             return Ok(());
@@ -84,7 +84,7 @@ impl<Y: System> Feed<Y> {
         for top in mem::replace(&mut self.adding, Vec::new(root.alloc)) {
             self.gathering.checks.ask_for(top.copy()?)?;
             self.batch.add_folder(&top)?;
-            self.besides.insert(top)?;
+            self.rewatched.insert(top)?;
         }
         self.failures = 0;
         if self.more >= MAX_MORE {

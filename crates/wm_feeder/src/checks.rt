@@ -23,13 +23,13 @@ const SYNCED: u64 = 2;
 const MISSING_SYNCED: u64 = 5;
 
 impl<Y: System> Feed<Y> {
-    /// Whether a folder is at one of the places that a name may stand for, or was removed or renamed there. One that left and wasn't told
+    /// Whether a folder is at one of the places that a name may stand for, or was removed or renamed there. One that left and wasn't reported
     /// to arrive may still be in the root, in a folder that isn't watched yet, so it isn't known where it is.
     fn is_known(&self, root: &Root<'_, Y>, name: &RelPath) -> Result<bool, Stop> {
         for place in &self.gathering.places(root.alloc, name)? {
             let text = root.whole(place.as_str())?;
             if root.system.folder(text.as_str()).is_some()
-                || self.gathering.strays.has_ended(place)
+                || self.gathering.orphans.has_ended(place)
             {
                 return Ok(true);
             }
@@ -46,18 +46,18 @@ impl<Y: System> Feed<Y> {
         }
     }
 
-    /// Looks whether each name by which something was told stands for a folder, or for one that was removed or renamed since. Of any
+    /// Looks whether each name by which something was reported stands for a folder, or for one that was removed or renamed since. Of any
     /// other it isn't known where that happened.
-    fn look_at_strays(&mut self, root: &Root<'_, Y>) -> Result<(), Stop> {
+    fn check_orphans(&mut self, root: &Root<'_, Y>) -> Result<(), Stop> {
         let alloc = root.alloc;
         let mut unknown = BTreeSet::new(alloc);
-        for name in &self.gathering.strays.unexplained(alloc)? {
+        for name in &self.gathering.orphans.unexplained(alloc)? {
             if !self.is_known(root, name)? {
                 unknown.insert(name.copy()?)?;
             }
         }
         if unknown.is_empty() {
-            self.gathering.strays.clear();
+            self.gathering.orphans.clear();
         }
         let now = root.system.now();
         if self.nameless.take(alloc, unknown, now, MISSING)?.is_empty() {
@@ -68,7 +68,7 @@ impl<Y: System> Feed<Y> {
     }
 
     /// Looks whether the folders that are to be checked are watched.
-    fn look_at_folders(&mut self, root: &Root<'_, Y>, turn: &mut Turn<'_, Y>) -> Result<(), Stop> {
+    fn check_folders(&mut self, root: &Root<'_, Y>, turn: &mut Turn<'_, Y>) -> Result<(), Stop> {
         let missed = root.missed(turn.server, &self.watches, &self.gathering.checks)?;
         if missed.is_empty() {
             self.gathering.checks.clear();
@@ -80,37 +80,38 @@ impl<Y: System> Feed<Y> {
         if missed.is_empty() {
             return Ok(());
         }
-        self.watch_besides(root, turn, missed)
+        self.watch_missed(root, turn, missed)
     }
 
     /// Looks for names and folders, and says when to do so next though no moment is quiet.
-    fn look(&mut self, root: &Root<'_, Y>, turn: &mut Turn<'_, Y>) -> Result<(), Stop> {
+    fn check(&mut self, root: &Root<'_, Y>, turn: &mut Turn<'_, Y>) -> Result<(), Stop> {
         let begun = root.system.now();
-        if self.gathering.strays.are_any() {
-            self.look_at_strays(root)?;
+        if self.gathering.orphans.are_any() {
+            self.check_orphans(root)?;
         }
         if self.gathering.checks.are_any() {
-            self.look_at_folders(root, turn)?;
+            self.check_folders(root, turn)?;
         }
         let now = root.system.now();
         let took = now.saturating_sub(begun);
-        self.look_at = now.saturating_add(took.saturating_mul(TIMES).max(BUSY));
+        self.check_at = now.saturating_add(took.saturating_mul(TIMES).max(BUSY));
         Ok(())
     }
 
     /// Whether there are folders or names to look for.
-    pub(crate) fn has_looks(&self) -> bool {
-        self.gathering.checks.are_any() || self.gathering.strays.are_any()
+    pub(crate) fn has_checks(&self) -> bool {
+        self.gathering.checks.are_any() || self.gathering.orphans.are_any()
     }
 
     /// Looks for folders and names in a quiet moment, now and then in a busy one, and at once if a client waits for a sync. Folders
     /// that moved may have taken a watch from another one.
-    pub(crate) fn look_if_due(
+    pub(crate) fn check_if_due(
         &mut self,
         root: &Root<'_, Y>,
         turn: &mut Turn<'_, Y>,
     ) -> Result<(), Stop> {
-        if !self.adding.is_empty() {
+        // The folders of a batch that isn't sent yet aren't in the server's list.
+        if !self.adding.is_empty() || !self.batch.is_empty() {
             return Ok(());
         }
         let now = root.system.now();
@@ -119,17 +120,17 @@ impl<Y: System> Feed<Y> {
         if self.gathering.is_moved() && (is_synced || quiet >= IDLE) {
             self.gathering.check_all();
         }
-        if self.has_looks() && (is_synced || quiet >= UNSEEN || now >= self.look_at) {
-            self.look(root, turn)?;
+        if self.has_checks() && (is_synced || quiet >= UNSEEN || now >= self.check_at) {
+            self.check(root, turn)?;
         }
         Ok(())
     }
 
     /// How long the feed may wait for records once the root is crawled, in milliseconds.
-    pub(crate) fn patience_of_looks(&self) -> u64 {
+    pub(crate) fn patience_of_checks(&self) -> u64 {
         if self.syncs.are_any() {
             SYNCED
-        } else if self.has_looks() {
+        } else if self.has_checks() {
             UNSEEN
         } else {
             IDLE
