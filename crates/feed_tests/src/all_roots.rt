@@ -86,6 +86,28 @@ watch 3 socket.sync/3 /t/
         ..ALL
     },
     Run {
+        what: "the folder of a root that isn't watched any longer is removed, also if a request was refused before the list lacked the root",
+        ready: Ready {
+            sessions: &[Some([
+                BEGUN_BOTH,
+                r#"{"error":"5 NotWatched","version":"w1"}
+{"roots":["/s"],"version":"w1"}
+"#,
+            ])],
+            records: &[(100, b"1\0/r/\0MODIFY\00\0/a.c\0\n"), (700, b"")],
+            ..READY
+        },
+        log: &[
+            BEGINS_BOTH,
+            r#"["observe","/r",[["a.c",{"mtime_ms":17,"size":3,"type":"f"}]]]
+end 1
+["watch-list"]
+remove socket.sync/1
+"#,
+        ],
+        ..ALL
+    },
+    Run {
         what: "lost events of one root leave the other alone, and records of its ended watch are ignored",
         ready: Ready {
             sessions: &[Some([
@@ -160,6 +182,9 @@ wmfeed: inotifywait couldn't be started
         ..ALL
     },
     // the list is asked for at 535 ms, and the server is looked for at 600 and 800
+];
+
+const SERVERS: &[Run] = &[
     Run {
         what: "a server that ends and is back has its roots crawled, by the inotifywaits that watch them, and then syncs are removed",
         ready: Ready {
@@ -320,4 +345,9 @@ wmfeed: inotifywait couldn't be started
 #[test]
 fn runs_of_all_roots(rt: HostRuntime) {
     check_runs(&rt, rt.alloc(), RUNS);
+}
+
+#[test]
+fn servers_that_go(rt: HostRuntime) {
+    check_runs(&rt, rt.alloc(), SERVERS);
 }

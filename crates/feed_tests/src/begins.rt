@@ -208,7 +208,7 @@ const UNWATCHABLE: Run = Run {
         FOLDERS,
         "watch 4 socket.sync/1 /r/new\nend 4\n",
         FOLDERS,
-        "end 1\n[\"clock\",\"/r\"]\n",
+        "end 1\n[\"clock\",\"/r\"]\nremove socket.sync/1\n",
     ],
     ..ONE_ROOT
 };

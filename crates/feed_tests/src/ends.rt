@@ -191,7 +191,7 @@ remove socket.sync/1
             records: &[(100, b"1\0\0Q_OVERFLOW\00\0/\0\n")],
             ..READY
         },
-        log: &[BEGINS, "end 1\n[\"clock\",\"/r\"]\n"],
+        log: &[BEGINS, "end 1\n[\"clock\",\"/r\"]\nremove socket.sync/1\n"],
         status: 1,
         reported: "wmfeed: inotifywait couldn't be started\n",
         ..ONE_ROOT
@@ -260,6 +260,7 @@ end 9
 watch 10 socket.sync/1 /r/
 end 10
 ["recrawl","/r"]
+remove socket.sync/1
 "#,
     ],
     status: 1,
@@ -367,6 +368,7 @@ watch 10 socket.sync/1 /r/
 ["recrawl","/r"]
 end 10
 ["recrawl","/r"]
+remove socket.sync/1
 "#,
     ],
     status: 1,

@@ -69,6 +69,7 @@ remove socket.sync/1/7
             r#"["clock","/r"]
 end 1
 ["clock","/r"]
+remove socket.sync/1
 "#,
         ],
         ..ONE_ROOT

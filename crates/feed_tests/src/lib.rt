@@ -12,6 +12,8 @@ mod batches;
 #[cfg(test)]
 mod begins;
 #[cfg(test)]
+mod bursts;
+#[cfg(test)]
 mod changes;
 #[cfg(test)]
 mod checked_folders;
@@ -38,6 +40,8 @@ mod numbered;
 #[cfg(test)]
 mod observes;
 #[cfg(test)]
+mod orphans;
+#[cfg(test)]
 mod paths;
 #[cfg(test)]
 mod records;
@@ -54,13 +58,11 @@ mod runs;
 #[cfg(test)]
 mod steps;
 #[cfg(test)]
-mod strays;
-#[cfg(test)]
 mod sync;
 #[cfg(test)]
-mod sync_besides;
-#[cfg(test)]
 mod sync_runs;
+#[cfg(test)]
+mod sync_watches;
 #[cfg(test)]
 mod syncs;
 #[cfg(test)]

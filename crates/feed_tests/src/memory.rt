@@ -26,8 +26,9 @@ pub struct Ready {
     pub slow: u64,
     /// How many inotifywaits can be started.
     pub starts: u64,
-    /// The records that come.
+    /// The records that come, and the place of one that is read several times at once, with how often.
     pub records: Coming,
+    pub repeated: Option<(usize, u64)>,
     /// What each inotifywait says beside them: one behind the last says what the last does.
     pub words: &'static [Coming],
     /// The numbers of the folders that each inotifywait watches: one behind the last watches what the last does.
@@ -98,9 +99,20 @@ fn behind(place: usize, bytes: &[u8]) -> usize {
 #[derive(Clone, Copy)]
 pub struct Stream<'a> {
     records: Coming,
+    repeated: Option<(usize, u64)>,
     place: usize,
     patience: u64,
     done: &'a Done,
+}
+
+impl Stream<'_> {
+    /// How often the next record is read at once.
+    fn times(&self) -> u64 {
+        match self.repeated {
+            Some((place, times)) if place == self.place => times,
+            _ => 1,
+        }
+    }
 }
 
 impl Read for Stream<'_> {
@@ -109,10 +121,15 @@ impl Read for Stream<'_> {
         let by = now.saturating_add(self.patience);
         match come(self.records, self.place, by) {
             Some((moment, bytes)) => {
+                let times = self.times();
                 self.place = behind(self.place, bytes);
                 self.done.pass(moment.saturating_sub(now));
-                let mut bytes = bytes;
-                bytes.read(room)
+                let mut all = Vec::new(self.done.alloc());
+                for _ in 0..times {
+                    all.extend_from_slice(bytes)?;
+                }
+                let mut all = all.as_slice();
+                all.read(room)
             }
             None => {
                 self.done.pass(self.patience);
@@ -241,6 +258,7 @@ impl<'a> System for Memory<'a> {
         }
         Ok(Stream {
             records: self.ready.records,
+            repeated: self.ready.repeated,
             place: 0,
             patience: 0,
             done: self.done,

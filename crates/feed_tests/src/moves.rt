@@ -1,6 +1,7 @@
 //! What a feed sends of folders that move, and of names at which no folder is.
 use crate::memory::Ready;
 use crate::runs::{BEGINS, BEGUN, ENDS, FOLDERS, ONE_ROOT, READY, Run, check_runs};
+use wm_names::Kind;
 
 /// Each ends as the root isn't watched any longer.
 const RUNS: &[Run] = &[
@@ -144,6 +145,7 @@ remove socket.sync/1
             r#"["observe","/r",[["o/b",null]]]
 end 1
 ["clock","/r"]
+remove socket.sync/1
 "#,
         ],
         // looked for at 120 ms, and again until 180
@@ -178,6 +180,140 @@ end 1
         ..ONE_ROOT
     },
 ];
+
+/// What a feed does as an inotifywait more watches the folder `d/e`.
+const WATCHES_MORE: &str = r#"["recrawl","/r","d"]
+["observe","/r",[["d",{"mtime_ms":18,"size":4096,"type":"d"}]]]
+watch 2 socket.sync/1 /r/d/e
+["recrawl","/r","d/e"]
+["observe","/r",[["d/e",{"mtime_ms":22,"size":4096,"type":"d"}]]]
+"#;
+
+/// Moves from the folder of one inotifywait to that of another one, which reports the arrival first.
+const EARLY: &[Run] = &[
+    Run {
+        what: "a folder whose arrival is reported before its departure is known by both names from then on",
+        ready: Ready {
+            sessions: &[Some([
+                BEGUN,
+                r#"{"clock":"c:1:1:2","version":"w1"}
+{"clock":"c:1:1:2","version":"w1"}
+{"clock":"c:1:1:2","version":"w1"}
+{"clock":"c:1:1:2","version":"w1"}
+{"clock":"c:1:1:3","version":"w1"}
+{"clock":"c:1:1:3","version":"w1"}
+{"clock":"c:1:1:4","version":"w1"}
+{"clock":"c:1:1:4","version":"w1"}
+{"clock":"c:1:1:4","version":"w1"}
+{"clock":"c:1:1:5","version":"w1"}
+{"clock":"c:1:1:5","files":["d"],"is_fresh_instance":true,"version":"w1"}
+{"error":"5 NotWatched","version":"w1"}
+"#,
+            ])],
+            records: &[
+                (100, b"1\0/r/\0CREATE,ISDIR\00\0/d\0\n"),
+                (300, b"1\0/r/\0MOVED_TO,ISDIR\08a1\0/y\0\n"),
+                (350, b"2\0/r/d/e/\0MOVED_FROM,ISDIR\08a1\0/o\0\n"),
+                (400, b"2\0/r/d/e/o/\0MODIFY\00\0/b\0\n"),
+            ],
+            paths: &[
+                ("/r/d", Kind::Folder, 4_096, 18),
+                ("/r/y", Kind::Folder, 4_096, 23),
+                ("/r/y/b", Kind::File, 6, 24),
+            ],
+            folders: &[("/r/d", 5), ("/r/d/e", 6), ("/r/y", 7)],
+            watched: &[&[5], &[6, 7]],
+            ..READY
+        },
+        log: &[
+            BEGINS,
+            WATCHES_MORE,
+            r#"["recrawl","/r","y"]
+["observe","/r",[["y",{"mtime_ms":23,"size":4096,"type":"d"}]]]
+["recrawl","/r","d/e/o"]
+["recrawl","/r","y"]
+["observe","/r",[["d/e",{"mtime_ms":22,"size":4096,"type":"d"}],["d/e/o",null],["y",{"mtime_ms":23,"size":4096,"type":"d"}]]]
+["observe","/r",[["d/e/o/b",null],["y/b",{"mtime_ms":24,"size":6,"type":"f"}]]]
+"#,
+            FOLDERS,
+            r#"["clock","/r"]
+end 1
+end 2
+remove socket.sync/1
+"#,
+        ],
+        ..ONE_ROOT
+    },
+    Run {
+        what: "one of more than 1,024 arrivals whose departures weren't reported leads to a new watch once its departure is reported",
+        ready: Ready {
+            sessions: &[Some([
+                BEGUN,
+                r#"{"clock":"c:1:1:2","version":"w1"}
+{"clock":"c:1:1:2","version":"w1"}
+{"clock":"c:1:1:2","version":"w1"}
+{"clock":"c:1:1:2","version":"w1"}
+{"clock":"c:1:1:3","version":"w1"}
+{"clock":"c:1:1:3","version":"w1"}
+{"clock":"c:1:1:4","version":"w1"}
+{"clock":"c:1:1:4","version":"w1"}
+{"clock":"c:1:1:4","version":"w1"}
+{"clock":"c:1:1:4","version":"w1"}
+{"clock":"c:1:1:5","version":"w1"}
+{"clock":"c:1:1:5","version":"w1"}
+{"clock":"c:1:1:5","files":["d"],"is_fresh_instance":true,"version":"w1"}
+{"error":"5 NotWatched","version":"w1"}
+"#,
+            ])],
+            records: &[
+                (100, b"1\0/r/\0CREATE,ISDIR\00\0/d\0\n"),
+                (300, b"1\0/r/\0MOVED_TO,ISDIR\08a1\0/y\0\n"),
+                (350, b"1\0/r/\0MOVED_TO,ISDIR\08a3\0/z\0\n"),
+                (
+                    400,
+                    b"2\0/r/d/e/\0MOVED_FROM,ISDIR\08a1\0/o\0\n2\0/r/d/e/o/\0MODIFY\00\0/b\0\n",
+                ),
+            ],
+            repeated: Some((2, 1_024)),
+            paths: &[
+                ("/r/d", Kind::Folder, 4_096, 18),
+                ("/r/y", Kind::Folder, 4_096, 23),
+                ("/r/y/b", Kind::File, 6, 24),
+                ("/r/z", Kind::Folder, 4_096, 25),
+            ],
+            folders: &[("/r/d", 5), ("/r/d/e", 6), ("/r/y", 7), ("/r/z", 8)],
+            watched: &[&[5, 8], &[6, 7], &[5, 6, 7, 8]],
+            ..READY
+        },
+        log: &[
+            BEGINS,
+            WATCHES_MORE,
+            r#"["recrawl","/r","y"]
+["observe","/r",[["y",{"mtime_ms":23,"size":4096,"type":"d"}]]]
+["recrawl","/r","z"]
+["observe","/r",[["z",{"mtime_ms":25,"size":4096,"type":"d"}]]]
+end 1
+end 2
+["clock","/r"]
+watch 3 socket.sync/1 /r/
+["clock","/r"]
+["recrawl","/r"]
+["observe","/r",[]]
+"#,
+            FOLDERS,
+            r#"["clock","/r"]
+end 3
+remove socket.sync/1
+"#,
+        ],
+        ..ONE_ROOT
+    },
+];
+
+#[test]
+fn early_arrivals(rt: HostRuntime) {
+    check_runs(&rt, rt.alloc(), EARLY);
+}
 
 #[test]
 fn moves_of_the_table(rt: HostRuntime) {

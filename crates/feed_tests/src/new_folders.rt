@@ -277,7 +277,60 @@ wmfeed: the root isn't watched any longer
     ..ONE_ROOT
 };
 
-const BESIDES: &[Run] = &[MANY, COMPLAINT];
+const VANISHED: Run = Run {
+    what: "a new folder that inotifywait couldn't watch, since a file in it went while it was read, is watched besides",
+    ready: Ready {
+        sessions: &[Some([
+            BEGUN_EMPTY,
+            r#"{"clock":"c:1:1:2","version":"w1"}
+{"clock":"c:1:1:3","version":"w1"}
+{"clock":"c:1:1:3","files":["d"],"is_fresh_instance":true,"version":"w1"}
+{"clock":"c:1:1:3","files":["d"],"is_fresh_instance":true,"version":"w1"}
+{"clock":"c:1:1:3","files":["d"],"is_fresh_instance":true,"version":"w1"}
+{"clock":"c:1:1:3","files":["d"],"is_fresh_instance":true,"version":"w1"}
+{"clock":"c:1:1:3","version":"w1"}
+{"clock":"c:1:1:3","version":"w1"}
+{"clock":"c:1:1:3","files":["d"],"is_fresh_instance":true,"version":"w1"}
+{"error":"5 NotWatched","version":"w1"}
+"#,
+        ])],
+        words: &[&[
+            (0, ESTABLISHED),
+            (
+                100,
+                b"Couldn't watch new directory /r/d/: No such file or directory\n",
+            ),
+        ]],
+        records: &[(100, b"1\0/r/\0CREATE,ISDIR\00\0/d\0\n")],
+        folders: &[("/r/d", 5)],
+        watched: &[&[], &[5]],
+        ..READY
+    },
+    log: &[
+        BEGINS,
+        r#"["recrawl","/r","d"]
+["observe","/r",[["d",{"mtime_ms":18,"size":4096,"type":"d"}]]]
+"#,
+        // missed at 120, 140, 160 and 180 ms
+        FOLDERS,
+        FOLDERS,
+        FOLDERS,
+        FOLDERS,
+        r#"watch 2 socket.sync/1 /r/d
+["recrawl","/r","d"]
+["observe","/r",[["d",{"mtime_ms":18,"size":4096,"type":"d"}]]]
+"#,
+        FOLDERS,
+        r#"["clock","/r"]
+end 1
+end 2
+remove socket.sync/1
+"#,
+    ],
+    ..ONE_ROOT
+};
+
+const BESIDES: &[Run] = &[MANY, COMPLAINT, VANISHED];
 
 #[test]
 fn new_folders_of_the_table(rt: HostRuntime) {

@@ -123,7 +123,7 @@ fn tells_what_it_cannot_follow(rt: HostRuntime) {
     let mut renames = Renames::new(rt.alloc());
     let parted = [Left("", "a", "1"), Came("", "b", "1"), Came("", "c", "2")];
     check!(rt; follow(&rt, rt.alloc(), &mut renames, &parted) && renames.are_any());
-    let path = RelPath::read(rt.alloc(), "a/x").expect(&rt, "a path");
-    check!(rt; !renames.has_left(&path));
-    check!(rt; follow(&rt, rt.alloc(), &mut renames, &[Left("", "a", "3")]) && renames.has_left(&path));
+    check!(rt; !renames.has_departed(b"1") && !renames.has_departed(b"2"));
+    check!(rt; follow(&rt, rt.alloc(), &mut renames, &[Left("", "a", "3")]));
+    check!(rt; renames.has_departed(b"3") && !renames.has_departed(b"2"));
 }

@@ -62,6 +62,7 @@ remove socket.sync/1
 ["observe","/r",[["a.c",{"mtime_ms":17,"size":3,"type":"f"}]]]
 end 1
 ["clock","/r"]
+remove socket.sync/1
 "#,
         ],
         took: Some(1_201),
@@ -104,7 +105,7 @@ remove socket.sync/1
         ..ONE_ROOT
     },
     Run {
-        what: "a root that the server has another number of, since it was watched anew, is watched anew here too",
+        what: "a root that the server has another number of, since it was watched anew, is watched anew here too, and the folder of the old number is removed",
         ready: Ready {
             sessions: &[Some([
                 BEGUN,
@@ -123,10 +124,12 @@ remove socket.sync/1
             r#"["clock","/r"]
 end 1
 ["clock","/r"]
+remove socket.sync/1
 watch 2 socket.sync/2 /r/
 ["clock","/r"]
 end 2
 ["clock","/r"]
+remove socket.sync/2
 watch 3 socket.sync/3 /r/
 ["clock","/r"]
 ["recrawl","/r"]
@@ -136,6 +139,44 @@ remove socket.sync/3
         ],
         // asked at 1,035 ms, again when watch 2 is there at 1,051, and crawled at 1,067
         took: Some(1_067),
+        ..ONE_ROOT
+    },
+    Run {
+        what: "a folder of an old number in which a client waits is removed later, within a second",
+        ready: Ready {
+            sessions: &[Some([
+                BEGUN,
+                r#"{"clock":"c:1:2:1","version":"w1"}
+{"clock":"c:1:2:1","version":"w1"}
+{"clock":"c:1:2:1","version":"w1"}
+{"clock":"c:1:2:2","version":"w1"}
+{"clock":"c:1:2:2","version":"w1"}
+{"clock":"c:1:2:2","files":["d"],"is_fresh_instance":true,"version":"w1"}
+{"error":"5 NotWatched","version":"w1"}
+"#,
+            ])],
+            folders: &[("/r/d", 5), ("socket.sync/1", 9)],
+            ..READY
+        },
+        log: &[
+            BEGINS,
+            r#"["clock","/r"]
+end 1
+["clock","/r"]
+remove socket.sync/1
+watch 2 socket.sync/2 /r/
+["clock","/r"]
+["recrawl","/r"]
+["observe","/r",[]]
+"#,
+            FOLDERS,
+            r#"remove socket.sync/1
+["clock","/r"]
+end 2
+remove socket.sync/1
+remove socket.sync/2
+"#,
+        ],
         ..ONE_ROOT
     },
 ];

@@ -21,6 +21,7 @@ pub const READY: Ready = Ready {
     slow: 0,
     starts: 20,
     records: &[],
+    repeated: None,
     words: &[AT_ONCE],
     watched: &[&[5]],
     paths: &[

@@ -12,7 +12,7 @@ eventfd-count:                0\n";
 #[test]
 fn numbers_of_two_folders(rt: HostRuntime) {
     let mut watched = BTreeSet::new(rt.alloc());
-    check!(rt; add_watched(TOLD, &mut watched).is_ok());
+    check!(rt; add_watched(rt.alloc(), &mut watched, TOLD).is_ok());
     check!(rt; watched.len() == 2);
     check!(rt; watched.contains(&10_993_875) && watched.contains(&16));
 }

@@ -28,6 +28,10 @@ fn lines_for_a_user(rt: HostRuntime) {
         .expect(&rt, "memory")
         .expect(&rt, "a line");
     check!(rt; line.as_str() == "Please wait");
+    words
+        .push(b"Couldn't watch new directory /r/d/: No such file or directory\n")
+        .expect(&rt, "memory");
+    check!(rt; words.take_line(alloc).expect(&rt, "memory").is_some());
     check!(rt; !is_for_user(b"Couldn't watch new directory /r/d: No such file or directory"));
     check!(rt; is_for_user(b"Couldn't watch new directory /r/d: Permission denied"));
 }
