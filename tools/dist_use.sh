@@ -36,12 +36,19 @@ alone watchmand lines "$at/state" < "$here/first_session.lines" > "$folder/repli
 cmp "$folder/replies" "$here/first_session.replies"
 echo "the first session is answered byte for byte"
 if command -v mandoc > "$folder/found"; then mandoc -Tlint -Wwarning "$folder"/share/man/man1/*.1 && echo "the man pages have no fault"; fi
+# Unpacked into ~/.local: the units are then where systemd looks for those of a user.
+mkdir -p "$folder/home/.local"
+ln -s "$folder/bin" "$folder/home/.local/bin"
+ln -s "$folder/share" "$folder/home/.local/share"
 if command -v systemd-analyze > "$folder/found"; then
-  mkdir -p "$folder/home/.local"
-  ln -s "$folder/bin" "$folder/home/.local/bin"
-  HOME=$folder/home XDG_RUNTIME_DIR=$folder MANPATH=$folder/share/man systemd-analyze verify --user "$folder/lib/systemd/user/watchmand.service" \
-    "$folder/lib/systemd/user/wmfeed.service"
+  HOME=$folder/home XDG_RUNTIME_DIR=$folder MANPATH=$folder/share/man systemd-analyze verify --user "$folder/share/systemd/user/watchmand.service" \
+    "$folder/share/systemd/user/wmfeed.service"
   echo "the units have no fault"
+fi
+if command -v systemctl > "$folder/found"; then
+  env -u XDG_DATA_HOME -u XDG_CONFIG_HOME HOME="$folder/home" XDG_RUNTIME_DIR="$folder" systemctl --user enable watchmand wmfeed
+  for unit in watchmand wmfeed; do [ -e "$folder/home/.config/systemd/user/default.target.wants/$unit.service" ]; done
+  echo "the units are enabled by name"
 fi
 bash -n "$folder/share/bash-completion/completions/wmctl"
 bash -n "$folder/share/bash-completion/completions/wmfeed"

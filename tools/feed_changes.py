@@ -5,10 +5,11 @@ NAMES = ["a", "b c", "new\nline", "col:on,comma", "é\U0001F600", "tab\t", "-", 
 
 
 class Changer:
-    """Random changes of a folder: each is one of these methods, on what stands there by its own account."""
+    """Random changes of a folder: each is one of these methods, on what stands there by its own account. Where several change one folder at once no
+    link leads above the root (up): one that takes a folder's place while another one reads it would have the root itself removed or renamed."""
 
-    def __init__(self, root, seed):
-        self.root, self.random = root, random.Random(seed)
+    def __init__(self, root, seed, up=".."):
+        self.root, self.random, self.up = root, random.Random(seed), up
 
     def folders(self):
         return [root for root, _, _ in os.walk(self.root)]
@@ -46,7 +47,7 @@ class Changer:
 
     def link(self):
         with contextlib.suppress(OSError):
-            os.symlink(self.random.choice([".", "..", "nowhere", self.folder()]), f"{self.folder()}/{self.name()}")
+            os.symlink(self.random.choice([".", self.up, "nowhere", self.folder()]), f"{self.folder()}/{self.name()}")
 
     def remove(self):
         path = self.any()
@@ -85,7 +86,7 @@ class Changer:
         if path and not os.path.islink(path):
             shutil.rmtree(path, ignore_errors=True)
             with contextlib.suppress(OSError):
-                os.symlink("..", path) if self.random.random() < 0.5 else open(path, "w").close()
+                os.symlink(self.up, path) if self.random.random() < 0.5 else open(path, "w").close()
 
     def change(self):
         steps = [self.write] * 6 + [self.folders_deep] * 2 + [self.remove] * 2 + [self.move] * 2

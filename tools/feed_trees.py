@@ -231,7 +231,7 @@ def changes_by_many():
             client = made.client()
 
             def change(n):
-                changer = Changer(made.root, programs.seed + 10 * number + n)
+                changer = Changer(made.root, programs.seed + 10 * number + n, up=".")
                 for _ in range(80):
                     with contextlib.suppress(OSError):
                         changer.change()
