@@ -15,10 +15,15 @@ mkdir "$root" "$out"
 
 ask() { "$wmctl" "$socket" "$1"; }
 
-# The sources that changed since a clock or a cursor ($1; all of them for an empty one). What is deleted is listed too. A refusal is told and fails.
+# The sources that changed since a clock or a cursor ($1; all of them for an empty one), as of now. What is deleted is listed too. It waits until
+# the feed has sent all that happened before; status 3 means that no feed runs and nothing was asked: then the server looks at every file first.
 changed() {
+  query="[\"query\",\"$root\",{${1:+\"since\":\"$1\",}\"expression\":[\"suffix\",\"c\"],\"fields\":[\"name\"]}]"
+  synced=0
+  "$wmctl" "$socket" "$query" --sync "$root" 2> "$top/unsynced" || synced=$?
+  [ "$synced" = 3 ] || return "$synced"
   ask "[\"recrawl\",\"$root\"]" > "$top/looked" || { cat "$top/looked" && return 1; }
-  ask "[\"query\",\"$root\",{${1:+\"since\":\"$1\",}\"expression\":[\"suffix\",\"c\"],\"fields\":[\"name\"]}]"
+  ask "$query"
 }
 
 names_of() { sed -e 's/.*"files":\[//' -e 's/\],"is_fresh_instance".*//' -e 's/","/\
