@@ -99,8 +99,7 @@ fn leaves(
     failures == 0 && refused.is_none() && written
 }
 
-/// A script with two words behind it, whether the files are appended, what it reads, the file that
-/// it writes, and what it writes there.
+/// A script with two words behind it, whether files are appended, its input, its file, the text there.
 type Row = (&'static str, bool, Stdin, &'static str, &'static str);
 
 const ROWS: &[Row] = &[
