@@ -210,11 +210,11 @@ at_kept n c Replaced = refl
 at_kept n c Unchanged = omega arith
 at_kept n c (Refused e) = omega arith
 
-pub few_answers : (n : ℕ) (cs : List Call) (rs : List Reply) → length (answers_from n cs rs) ≤ length cs
-few_answers n [] rs = omega arith
-few_answers n (c ∷ cs) [] = omega arith
-few_answers n (c ∷ cs) (r ∷ rs) = let f = few_answers (at_next n r) cs rs in omega (arith, f)
+pub all_answered : (n : ℕ) (cs : List Call) (rs : List Reply) → length rs ≡ length cs → length (answers_from n cs rs) ≡ length cs
+all_answered n [] rs e = refl
+all_answered n (c ∷ cs) [] e = absurd (omega (arith, e))
+all_answered n (c ∷ cs) (r ∷ rs) e = ap suc (all_answered (at_next n r) cs rs (omega (arith, e)))
 
-pub few_refused : (n : ℕ) (e : Refusal) (cs : List Call) → length (all_refused n e cs) ≤ length cs
-few_refused n e [] = omega arith
-few_refused n e (c ∷ cs) = let f = few_refused n e cs in omega (arith, f)
+pub each_refused : (n : ℕ) (e : Refusal) (cs : List Call) → length (all_refused n e cs) ≡ length cs
+each_refused n e [] = refl
+each_refused n e (c ∷ cs) = ap suc (each_refused n e cs)

@@ -10,7 +10,7 @@ use Rattle.wm_groupcommit.specs.declared.queued.Answer.{Answer}
 use Rattle.wm_groupcommit.specs.declared.locked.deliveries.Delivery.{Delivery}
 use Rattle.wm_groupcommit.specs.declared.locked.deliveries.ReplyView.{ReplyView}
 use Rattle.wm_groupcommit.specs.Books.{Right, AllRight}
-use Rattle.wm_groupcommit.specs.ReplyQueues.{reply_view, newcomer, StartsWith, KeepsBase, RightFor, IsLater, answers_in, base_of, list_of, FitsEnd, Replying, Gave, Took}
+use Rattle.wm_groupcommit.specs.ReplyQueues.{reply_view, unnamed, end_to, newcomer, StartsWith, KeepsBase, RightFor, IsLater, answers_in, base_of, list_of, AreTo, FitsEnd, Replying, Gave, Took}
 use Rattle.wm_groupcommit.proofs.Answering.{AllRight-front}
 
 pub StartsWith-all : (l : List Call) → StartsWith l l
@@ -53,67 +53,98 @@ answers_in-push : (items : List Delivery) (x : Delivery) → answers_in (items +
 answers_in-push [] x = refl
 answers_in-push (i ∷ items) x = ap (λ l. i.answer ∷ l) (answers_in-push items x)
 
-abbrev Ends : ℕ → Option State → List Call → List ReplyView → Type 0
-Ends writer base list views = (port : ℕ) (v : ReplyView) → get_elem? views port ≡ some v → FitsEnd writer base list port v
+AreTo-push : (seat : Option ℕ) (xs : List Answer) (a : Answer) → AreTo seat xs → seat ≡ Some a.call.seat → AreTo seat (xs ++ a ∷ [])
+AreTo-push seat [] a h e = (e, tt)
+AreTo-push seat (x ∷ xs) a h e = (h.0, AreTo-push seat xs a h.1 e)
 
-ends_set : (writer : ℕ) (base : Option State) (list : List Call) (views : List ReplyView) (port : ℕ) (w : ReplyView) → FitsEnd writer base list port w
-    → ((j : ℕ) (u : ReplyView) → j ≢ port → get_elem? views j ≡ some u → FitsEnd writer base list j u) → Ends writer base list (set views port w)
-ends_set writer base list views port w mine others j u e =
-    ⊎_elim (λ (x : (j ≡ port) × (w ≡ u)). subst (λ (y : ℕ × ReplyView). FitsEnd writer base list y.0 y.1) (λ i. (sym x.0 i, x.1 i)) mine) (λ (x : (j ≢ port) × (get_elem? views j ≡ some u)). others j u x.0 x.1) (at_set views port j w u e)
+some_seat : (n : ℕ) → None ≡ Some n → ⊥
+some_seat n e = cc
+
+-- a queue of no seat yet holds nothing
+nothing_to : (n : ℕ) (xs : List Answer) → AreTo None xs → AreTo (Some n) xs
+nothing_to n [] h = tt
+nothing_to n (a ∷ xs) h = absurd (some_seat a.call.seat h.0)
+
+abbrev Ends : Option ℕ → ℕ → Option State → List Call → List ReplyView → Type 0
+Ends seat writer base list views = (port : ℕ) (v : ReplyView) → get_elem? views port ≡ some v → FitsEnd seat writer base list port v
+
+ends_set : (seat : Option ℕ) (writer : ℕ) (base : Option State) (list : List Call) (views : List ReplyView) (port : ℕ) (w : ReplyView) → FitsEnd seat writer base list port w
+    → ((j : ℕ) (u : ReplyView) → j ≢ port → get_elem? views j ≡ some u → FitsEnd seat writer base list j u) → Ends seat writer base list (set views port w)
+ends_set seat writer base list views port w mine others j u e =
+    ⊎_elim (λ (x : (j ≡ port) × (w ≡ u)). subst (λ (y : ℕ × ReplyView). FitsEnd seat writer base list y.0 y.1) (λ i. (sym x.0 i, x.1 i)) mine) (λ (x : (j ≢ port) × (get_elem? views j ≡ some u)). others j u x.0 x.1) (at_set views port j w u e)
 
 off : false ≡ true → ⊥
 off e = true≢false (sym e)
 
-pub begins : Replying [] (reply_view true None [] [] ∷ [])
-begins = (0, None, [], one, refl)
+pub begins : Replying [] (unnamed ∷ [])
+begins = (None, 0, None, [], one, refl, tt)
   where
-    one : (port : ℕ) (v : ReplyView) → get_elem? (reply_view true None [] [] ∷ []) port ≡ some v → FitsEnd 0 None [] port v
-    one zero v e = subst (FitsEnd 0 None [] 0) (some-injective _ _ e) ((λ _. (refl, refl, refl)), (tt, StartsWith-all []), refl)
+    one : (port : ℕ) (v : ReplyView) → get_elem? (unnamed ∷ []) port ≡ some v → FitsEnd None 0 None [] port v
+    one zero v e = subst (FitsEnd None 0 None [] 0) (some-injective _ _ e) ((refl, λ _. refl), (λ _. (refl, refl, refl)), (tt, StartsWith-all []), refl)
     one (suc port) v e = absurd (some-ne-none v (sym e))
 
-pub forks : (port : ℕ) (v : ReplyView) → Forks Replying port v v newcomer
-forks port v items views h at =
-    (h.0, h.1, h.2, λ j u e. ⊎_elim (λ was. ends_set h.0 h.1 h.2 views port v (h.3 port v at) (λ k y _ e'. h.3 k y e') j u was) (λ (same : newcomer ≡ u). subst (FitsEnd h.0 h.1 h.2 j) same ((λ x. absurd (off x)), (tt, (h.2, refl)), refl)) (at_snoc (set views port v) newcomer u j e), h.4)
+-- the queue of no seat gets one, and its only end becomes two
+pub forks : (n port : ℕ) → Forks Replying port unnamed (end_to n) (newcomer n)
+forks n port items views h at =
+    let mine = h.4 port unnamed at in
+    let here : port ≡ h.1 = mine.0.1 (sym mine.0.0) in
+    let mine' : FitsEnd (Some n) h.1 h.2 h.3 port (end_to n) = ((refl, λ e. absurd (some_seat n (sym e))), (λ _. (here, (mine.1 refl).1, (mine.1 refl).2)), mine.2, refl) in
+    let alone = λ (j : ℕ) (u : ReplyView) (apart : j ≢ port) (e : get_elem? views j ≡ some u). absurd (apart ((h.4 j u e).0.1 (sym mine.0.0) ∙ sym here)) in (
+      Some n,
+      h.1,
+      h.2,
+      h.3,
+      λ j u e. ⊎_elim (λ was. ends_set (Some n) h.1 h.2 h.3 views port (end_to n) mine' alone j u was)
+          (λ (same : newcomer n ≡ u). subst (FitsEnd (Some n) h.1 h.2 h.3 j) same ((refl, λ e'. absurd (some_seat n (sym e'))), (λ x. absurd (off x)), (tt, (h.3, refl)), refl)) (at_snoc (set views port (end_to n)) (newcomer n) u j e),
+      h.5,
+      nothing_to n (answers_in items) (subst (λ s. AreTo s (answers_in items)) (sym mine.0.0) h.6),
+    )
 
-pub gives : (n port : ℕ) (v : ReplyView) (x : Delivery) → v.writes ≡ true → IsLater v (base_of x) (list_of x) → Right x.seen.value.base (list_of x) x.answer → Pushes Replying n port v x (λ w. Gave v x w)
-gives n port v x may later right items views _ h at =
-    let mine = h.3 port v at in
-    let known = mine.0 may in
-    let w = reply_view v.writes (base_of x) (list_of x) v.got in
-    let keeps : KeepsBase h.1 (base_of x) = subst (λ b. KeepsBase b (base_of x)) known.1 later.0 in
-    let longer : StartsWith (list_of x) h.2 = subst (λ l. StartsWith (list_of x) l) known.2 later.1 in
-    let Fits : ℕ → ReplyView → Type 0 = FitsEnd h.0 (base_of x) (list_of x) in (
+pub gives : (n port : ℕ) (v : ReplyView) (x : Delivery) → v.writes ≡ true → IsLater v (base_of x) (list_of x) → Right x.seen.value.base (list_of x) x.answer → v.seat ≡ Some x.answer.call.seat
+    → Pushes Replying n port v x (λ w. Gave v x w)
+gives n port v x may later right own items views _ h at =
+    let mine = h.4 port v at in
+    let known = mine.1 may in
+    let w = reply_view v.writes v.seat (base_of x) (list_of x) v.got in
+    let keeps : KeepsBase h.2 (base_of x) = subst (λ b. KeepsBase b (base_of x)) known.1 later.0 in
+    let longer : StartsWith (list_of x) h.3 = subst (λ l. StartsWith (list_of x) l) known.2 later.1 in
+    let queued : RightFor (base_of x) (list_of x) (answers_in items) = RightFor-later h.2 (base_of x) h.3 (list_of x) (answers_in items) keeps longer h.5 in (
       w,
       (
         h.0,
+        h.1,
         base_of x,
         list_of x,
-        ends_set h.0 (base_of x) (list_of x) views port w
-            ((λ _. (known.0, refl, refl)), (refl, StartsWith-all (list_of x)), RightFor-later v.base (base_of x) v.list (list_of x) v.got later.0 later.1 mine.2)
+        ends_set h.0 h.1 (base_of x) (list_of x) views port w
+            (mine.0, (λ _. (known.0, refl, refl)), (refl, StartsWith-all (list_of x)), RightFor-later v.base (base_of x) v.list (list_of x) v.got later.0 later.1 mine.3)
             (λ j u apart e.
-            let theirs = h.3 j u e in (
-              (λ k. absurd (apart ((theirs.0 k).0 ∙ sym known.0))),
-              (KeepsBase-trans u.base h.1 (base_of x) theirs.1.0 keeps, StartsWith-trans u.list h.2 (list_of x) theirs.1.1 longer),
-              theirs.2,
+            let theirs = h.4 j u e in (
+              theirs.0,
+              (λ k. absurd (apart ((theirs.1 k).0 ∙ sym known.0))),
+              (KeepsBase-trans u.base h.2 (base_of x) theirs.2.0 keeps, StartsWith-trans u.list h.3 (list_of x) theirs.2.1 longer),
+              theirs.3,
             )),
-        subst (λ l. RightFor (base_of x) (list_of x) l) (sym (answers_in-push items x)) (RightFor-append (base_of x) (list_of x) (answers_in items) (x.answer ∷ []) (RightFor-later h.1 (base_of x) h.2 (list_of x) (answers_in items) keeps longer h.4) (right, tt)),
+        subst (λ l. RightFor (base_of x) (list_of x) l) (sym (answers_in-push items x)) (RightFor-append (base_of x) (list_of x) (answers_in items) (x.answer ∷ []) queued (right, tt)),
+        subst (AreTo h.0) (sym (answers_in-push items x)) (AreTo-push h.0 (answers_in items) x.answer h.6 (sym mine.0.0 ∙ own)),
       ),
       refl,
     )
 
 pub gets : (port : ℕ) (v : ReplyView) → Pops Replying port v (Took v)
 gets port v x items views h at =
-    let mine = h.3 port v at in
+    let mine = h.4 port v at in
     let got = v.got ++ x.answer ∷ [] in
-    let w = reply_view v.writes h.1 h.2 got in
-    let right : RightFor h.1 h.2 got = RightFor-append h.1 h.2 v.got (x.answer ∷ []) (RightFor-later v.base h.1 v.list h.2 v.got mine.1.0 mine.1.1 mine.2) (RightFor-head h.1 h.2 x.answer (answers_in items) h.4) in (
+    let w = reply_view v.writes v.seat h.2 h.3 got in
+    let right : RightFor h.2 h.3 got = RightFor-append h.2 h.3 v.got (x.answer ∷ []) (RightFor-later v.base h.2 v.list h.3 v.got mine.2.0 mine.2.1 mine.3) (RightFor-head h.2 h.3 x.answer (answers_in items) h.5) in (
       w,
       (
         h.0,
         h.1,
         h.2,
-        ends_set h.0 h.1 h.2 views port w ((λ k. ((mine.0 k).0, refl, refl)), (KeepsBase-all h.1, StartsWith-all h.2), right) (λ j u _ e. h.3 j u e),
-        RightFor-rest h.1 h.2 x.answer (answers_in items) h.4,
+        h.3,
+        ends_set h.0 h.1 h.2 h.3 views port w (mine.0, (λ k. ((mine.1 k).0, refl, refl)), (KeepsBase-all h.2, StartsWith-all h.3), right) (λ j u _ e. h.4 j u e),
+        RightFor-rest h.2 h.3 x.answer (answers_in items) h.5,
+        h.6.1,
       ),
-      (refl, mine.1, refl, right),
+      (refl, refl, mine.0.0 ∙ h.6.0, mine.2, refl, right),
     )

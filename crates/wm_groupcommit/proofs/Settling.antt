@@ -1,5 +1,5 @@
 -- What a submit answers is right for the list that the seat then knows.
-use Rattle.std.proofs.Common.{◌≡◌, inr, ⊎_elim, ℕ, Option, Some, None, List, [], ◌∷◌, ◌++◌, refl, subst}
+use Rattle.std.proofs.Common.{◌≡◌, ⊎_elim, ℕ, Option, Some, None, List, [], ◌∷◌, ◌++◌, refl, subst}
 use Rattle.wm_disk.specs.declared.refusal.Refusal.{Refusal}
 use Rattle.wm_registry.specs.Roots.{State}
 use Rattle.wm_registry.specs.declared.reply.Reply.{Reply}
@@ -25,7 +25,7 @@ known None l xs a r = absurd (no_end xs a r)
 known (Some base) l xs a r = (base, refl, last_right base l xs a r)
 
 pub took_one : (old new : ReplyView) (x : Delivery) → Took old x new → (base : State) × TookOne old new x.answer base
-took_one old new x h = let k = known new.base new.list old.got x.answer (subst (RightFor new.base new.list) h.2 h.3) in (k.0, (k.1, h.2, k.2))
+took_one old new x h = let k = known new.base new.list old.got x.answer (subst (RightFor new.base new.list) h.4 h.5) in (k.0, (k.1, h.4, k.2, h.2))
 
 -- an answer that was taken is right for the list that the seat then knows
 pub taken_right : (old new : ReplyView) (x : Delivery) → Took old x new → (base : State) × Right base new.list x.answer
@@ -39,4 +39,4 @@ pub submitted : (old new : ReplyView) (x : Delivery) (seen now : ℕ) (call : Ca
 submitted old new x seen now call reply receipt t s = let k = took_one old new x t in (x.answer, k.0, k.1, settled_right k.0 new.list x.answer s.answered k.1.2, s)
 
 pub turned : (old new : ReplyView) (x : Delivery) (seen : ℕ) (call : Call) (e : Refusal) → Took old x new → Declined seen call x.answer e → Turned old new seen call e
-turned old new x seen call e t d = let k = took_one old new x t in inr (x.answer, k.0, k.1, d)
+turned old new x seen call e t d = let k = took_one old new x t in (x.answer, k.0, k.1, d)

@@ -1,5 +1,5 @@
 -- What a contract sees of the locked book with the flusher's ends.
-use Rattle.std.specs.Prelude.{ℕ, Bool, List, [], ◌∷◌, Option}
+use Rattle.std.specs.Prelude.{◌≡◌, ℕ, suc, Bool, List, [], ◌∷◌, Option, Some}
 use Rattle.wm_registry.specs.Roots.{State}
 use Rattle.wm_groupcommit.specs.declared.queued.Call.{Call}
 use Rattle.wm_groupcommit.specs.declared.locked.deliveries.ReplyView.{ReplyView}
@@ -13,6 +13,11 @@ pub record LockedState (D : Type 0) : Type 0 where
   pub counts : List ℕ
   pub has_flusher : Bool
 
+-- what a flush did: the calls that it took, and how many of them it answered
+pub record FlushedState : Type 0 where
+  pub calls : List Call
+  pub count : ℕ
+
 -- the most seats of a desk
 abbrev pub seats : ℕ
 seats = 64
@@ -21,3 +26,8 @@ seats = 64
 abbrev pub AllLater : List ReplyView → Option State → List Call → Type 0
 AllLater [] base list = Unit {0}
 AllLater (v ∷ vs) base list = IsLater v base list × AllLater vs base list
+
+-- the first of these ends is the one to seat n, and each other one is the one to the next seat
+abbrev pub AreNumbered : ℕ → List ReplyView → Type 0
+AreNumbered n [] = Unit {0}
+AreNumbered n (v ∷ vs) = (v.seat ≡ Some n) × AreNumbered (suc n) vs

@@ -9,11 +9,19 @@ use Rattle.wm_groupcommit.specs.declared.locked.deliveries.Delivery.{Delivery}
 use Rattle.wm_groupcommit.specs.declared.locked.deliveries.ReplyView.{ReplyView}
 use Rattle.wm_groupcommit.specs.Books.{AllRight}
 
-abbrev pub reply_view : Bool → Option State → List Call → List Answer → ReplyView
-reply_view writes base list got = record { writes = writes; base = base; list = list; got = got }
+abbrev pub reply_view : Bool → Option ℕ → Option State → List Call → List Answer → ReplyView
+reply_view writes seat base list got = record { writes = writes; seat = seat; base = base; list = list; got = got }
 
-abbrev pub newcomer : ReplyView
-newcomer = reply_view false None [] []
+-- the end of a queue that is of no seat yet
+abbrev pub unnamed : ReplyView
+unnamed = reply_view true None None [] []
+
+-- the flusher's end to a new seat, and the seat's own
+abbrev pub end_to : ℕ → ReplyView
+end_to seat = reply_view true (Some seat) None [] []
+
+abbrev pub newcomer : ℕ → ReplyView
+newcomer seat = reply_view false (Some seat) None [] []
 
 abbrev pub StartsWith : List Call → List Call → Type 0
 StartsWith list seen = (rest : List Call) × (list ≡ seen ++ rest)
@@ -41,20 +49,32 @@ base_of x = Some x.seen.value.base
 abbrev pub list_of : Delivery → List Call
 list_of x = x.seen.value.list
 
-abbrev pub FitsEnd : ℕ → Option State → List Call → ℕ → ReplyView → Type 0
-FitsEnd writer base list port v = (v.writes ≡ true → (port ≡ writer) × (v.base ≡ base) × (v.list ≡ list)) × IsLater v base list × RightFor v.base v.list v.got
+-- the answers are to calls of this seat
+abbrev pub AreTo : Option ℕ → List Answer → Type 0
+AreTo seat [] = Unit {0}
+AreTo seat (a ∷ as') = (seat ≡ Some a.call.seat) × AreTo seat as'
 
--- There is one list, which the flusher's end knows: the book when it last handed an answer over. What is queued is right for it. What the seat has seen is a prefix of it, and what the seat has got is right for that
+-- an end is of the queue's seat; the flusher's is the only one while there is none
+abbrev pub FitsSeat : Option ℕ → ℕ → ℕ → ReplyView → Type 0
+FitsSeat seat writer port v = (v.seat ≡ seat) × (seat ≡ None → port ≡ writer)
+
+abbrev pub FitsEnd : Option ℕ → ℕ → Option State → List Call → ℕ → ReplyView → Type 0
+FitsEnd seat writer base list port v =
+    FitsSeat seat writer port v × (v.writes ≡ true → (port ≡ writer) × (v.base ≡ base) × (v.list ≡ list)) × IsLater v base list × RightFor v.base v.list v.got
+
+-- Both ends are of one seat, and what is queued answers its calls. There is one list, which the flusher's end knows: the book when it last handed an answer over. What is queued is right for it. What the seat has seen is a prefix of it, and what the seat has got is right for that
 abbrev pub Replying : List Delivery → List ReplyView → Type 0
 Replying items views =
-    (writer : ℕ) × (base : Option State) × (list : List Call)
-    × ((port : ℕ) (v : ReplyView) → get_elem? views port ≡ some v → FitsEnd writer base list port v)
-    × RightFor base list (answers_in items)
+    (seat : Option ℕ) × (writer : ℕ) × (base : Option State) × (list : List Call)
+    × ((port : ℕ) (v : ReplyView) → get_elem? views port ≡ some v → FitsEnd seat writer base list port v)
+    × RightFor base list (answers_in items) × AreTo seat (answers_in items)
 
 -- the flusher's end has handed an answer over
 abbrev pub Gave : ReplyView → Delivery → ReplyView → Type 0
-Gave v x w = w ≡ reply_view v.writes (base_of x) (list_of x) v.got
+Gave v x w = w ≡ reply_view v.writes v.seat (base_of x) (list_of x) v.got
 
--- the seat has one answer more, which is right with all others for a list that begins with what it had seen
+-- the seat has one answer more, which is to a call of its own, and right with all others for a list that begins with what it had seen
 abbrev pub Took : ReplyView → Delivery → ReplyView → Type 0
-Took v x w = (w.writes ≡ v.writes) × IsLater v w.base w.list × (w.got ≡ v.got ++ x.answer ∷ []) × RightFor w.base w.list w.got
+Took v x w =
+    (w.writes ≡ v.writes) × (w.seat ≡ v.seat) × (v.seat ≡ Some x.answer.call.seat)
+    × IsLater v w.base w.list × (w.got ≡ v.got ++ x.answer ∷ []) × RightFor w.base w.list w.got

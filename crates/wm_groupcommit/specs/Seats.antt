@@ -2,7 +2,7 @@
 use Rattle.std.specs.Prelude.{◌≡◌, ◌≤◌, ◌+◌, ◌⊎◌, ℕ, true, Some, List, [], ◌∷◌, ◌++◌, length, max, slice_get}
 use Rattle.crossbeam_queue.specs.SegTies.{IsSegPassOf}
 use Rattle.wm_disk.specs.declared.refusal.Refusal.{Refusal}
-use Rattle.wm_disk.specs.declared.refusal.Refusal.TheVariants.{NotWatched, OldVersion, BadTrigger, Full, TooMany}
+use Rattle.wm_disk.specs.declared.refusal.Refusal.TheVariants.{NoMemory, NotWatched, OldVersion, BadTrigger, Full, TooMany}
 use Rattle.wm_registry.specs.declared.command.Command.{Command}
 use Rattle.wm_registry.specs.declared.reply.Reply.{Reply}
 use Rattle.wm_registry.specs.declared.reply.Reply.TheVariants.{Refused}
@@ -10,13 +10,14 @@ use Rattle.wm_registry.specs.Registry.{is_change, reply_to}
 use Rattle.wm_registry.specs.Roots.{State}
 use Rattle.wm_groupcommit.specs.declared.desk.Desk.{Desk}
 use Rattle.wm_groupcommit.specs.declared.desk.Flusher.{Flusher}
+use Rattle.wm_groupcommit.specs.declared.queued.Answer.{Answer}
 use Rattle.wm_groupcommit.specs.declared.queued.Call.{Call}
 use Rattle.wm_groupcommit.specs.declared.seat.Seat.{Seat}
 use Rattle.wm_groupcommit.specs.Books.{answer, state_at}
 use Rattle.wm_groupcommit.specs.CallQueues.{call_view}
 use Rattle.wm_groupcommit.specs.ReplyQueues.{newcomer, IsLater}
 use Rattle.wm_groupcommit.specs.Receipts.{ReceiptState, shown, standing_for, mark_of}
-use Rattle.wm_groupcommit.specs.Submits.{Turned}
+use Rattle.wm_groupcommit.specs.Submits.{Declined, TookOne}
 
 module _ {D : Type 0} where
   -- the seat is one of this desk
@@ -40,7 +41,7 @@ known_list seat = seat.replies.list
 
 -- nothing was submitted from the seat yet
 abbrev pub IsNewSeat : Seat → Type 0
-IsNewSeat seat = (seat.pass.me.view.client ≡ call_view [] []) × (seat.replies ≡ newcomer) × (seat.calls ≡ 0) × (seat.seen ≡ 0)
+IsNewSeat seat = (seat.pass.me.view.client ≡ call_view [] []) × (seat.replies ≡ newcomer seat.number) × (seat.calls ≡ 0) × (seat.seen ≡ 0)
 
 -- the call that a submit from the seat makes
 abbrev pub call_from : Seat → Command → Call
@@ -78,10 +79,26 @@ pub record IsAnswered (old new : Seat) (command : Command) (reply : Reply) (rece
   pub calls : new.calls ≡ old.calls + 1
   pub taken : new.replies.got ≡ old.replies.got ++ answer (call_from old command) at reply ∷ []
 
--- Nothing is told of; and no answer was taken, when out of memory, or one that is this refusal or doesn't fit.
+-- The seat has put nothing into the queue and has taken no answer.
+pub record IsUnused (old new : Seat) : Type 0 where
+  pub calls : new.calls ≡ old.calls
+  pub queue : new.pass.me.view.client ≡ old.pass.me.view.client
+  pub replies : new.replies ≡ old.replies
+
+-- The seat has put this call into the queue, and no other, and has taken one answer to a call of its own, which is this refusal or doesn't fit.
+pub record IsDeclined (old new : Seat) (call : Call) (e : Refusal) : Type 0 where
+  pub answer : Answer
+  pub base : State
+  pub pushed : HasPushed old new call
+  pub calls : new.calls ≡ old.calls + 1
+  pub taken : TookOne old.replies new.replies answer base
+  pub own : answer.call.seat ≡ old.number
+  pub declined : Declined old.seen call answer e
+
+-- The seat has seen no more. Memory ran out before the call was made, or the call was made and declined.
 pub record IsTurned (old new : Seat) (command : Command) (e : Refusal) : Type 0 where
   pub seen : new.seen ≡ old.seen
-  pub why : Turned old.replies new.replies old.seen (call_from old command) e
+  pub why : ((e ≡ NoMemory) × IsUnused old new) ⊎ IsDeclined old new (call_from old command) e
 
 -- a refusal that the registry alone gives
 abbrev pub IsOfRegistry : Refusal → Type 0

@@ -1,7 +1,7 @@
 -- What a submit answers.
 use Rattle.std.specs.Prelude.{◌≡◌, ◌≢◌, ◌≤◌, ◌<◌, ◌⊎◌, ℕ, Some, List, [], ◌∷◌, ◌++◌}
 use Rattle.wm_disk.specs.declared.refusal.Refusal.{Refusal}
-use Rattle.wm_disk.specs.declared.refusal.Refusal.TheVariants.{StoreFailed, NoMemory}
+use Rattle.wm_disk.specs.declared.refusal.Refusal.TheVariants.{StoreFailed}
 use Rattle.wm_registry.specs.declared.reply.Reply.{Reply}
 use Rattle.wm_registry.specs.declared.reply.Reply.TheVariants.{Refused}
 use Rattle.wm_registry.specs.Roots.{State}
@@ -33,13 +33,13 @@ Misfits seen call a = (a.call ≢ call) ⊎ (a.at < seen) ⊎ (a.at ≡ 18446744
 abbrev pub Declined : ℕ → Call → Answer → Refusal → Type 0
 Declined seen call a e = ((e ≡ StoreFailed) × Misfits seen call a) ⊎ ((a.call ≡ call) × (seen ≤ a.at) × (a.reply ≡ Refused e))
 
--- the seat took one answer, and it is right for the list that the flusher had
+-- the seat took one answer, which is to a call of its own, and right for the list that the flusher had
 abbrev pub TookOne : ReplyView → ReplyView → Answer → State → Type 0
-TookOne old new a base = (new.base ≡ Some base) × (new.got ≡ old.got ++ a ∷ []) × Right base new.list a
+TookOne old new a base = (new.base ≡ Some base) × (new.got ≡ old.got ++ a ∷ []) × Right base new.list a × (old.seat ≡ Some a.call.seat)
 
 abbrev pub Submitted : ReplyView → ReplyView → ℕ → ℕ → Call → Reply → ReceiptState → Type 0
 Submitted old new seen now call reply receipt =
     (a : Answer) × (base : State) × TookOne old new a base × RightReply base new.list a × Settled seen now new.list call a reply receipt
 
 abbrev pub Turned : ReplyView → ReplyView → ℕ → Call → Refusal → Type 0
-Turned old new seen call e = ((e ≡ NoMemory) × (new ≡ old)) ⊎ ((a : Answer) × (base : State) × TookOne old new a base × Declined seen call a e)
+Turned old new seen call e = (a : Answer) × (base : State) × TookOne old new a base × Declined seen call a e

@@ -95,6 +95,7 @@ impl<D: Disk + Drop> Book<D> {
         ensures list { (self.new.base ≡ self.old.base) × (self.new.list ≡ self.old.list) }
         ensures closed { OnOk result (self.new.store.closed ≡ true) }
         ensures calls { CallsStore D.Disk self.old.store self.new.store result }
+        ensures kinds { IfErr result (λ e. (e ≡ device_failed) ⊎ (e ≡ store_failed)) }
     {
         self.store.close()
     }

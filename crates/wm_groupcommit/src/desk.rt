@@ -1,16 +1,17 @@
 //! The desk: a queue of calls, and the store with its list of accepted commands under a lock.
 //! Definitions: specs/Seats.antt, specs/Submits.antt. Tests: file_tests/src/desk.
-ghost use Rattle.std.specs.Prelude.{◌≡◌, ◌≤◌, ◌⊎◌, List, ◌++◌, length, true, IfOk, IfErr, OnOk};
-ghost use Rattle.wm_disk.specs.declared.refusal.Refusal.TheVariants.{NoMemory as no_memory, NoPlace as no_place, BadArguments as bad_arguments};
+ghost use Rattle.std.specs.Prelude.{◌≡◌, ◌⊎◌, ◌++◌, true, IfOk, IfErr, IfSome, OnOk};
+ghost use Rattle.wm_disk.specs.declared.refusal.Refusal.TheVariants.{BadArguments as bad_arguments, DeviceFailed as device_failed, NoMemory as no_memory, NoPlace as no_place, StoreFailed as store_failed};
 ghost use Rattle.wm_store.specs.Batches.{is_begin};
-ghost use Rattle.wm_groupcommit.specs.declared.queued.Call.{Call as Calls};
+ghost use Rattle.wm_groupcommit.specs.Receipts.{StandsInBook, accepted_command};
 ghost use Rattle.wm_groupcommit.specs.ReplyQueues.{IsLater, Took};
 ghost use Rattle.wm_groupcommit.specs.Seats.{IsSameSeat, HasPushed, IsAnswered, IsFlusherOf, IsNewSeat, IsOfRegistry, IsRefusedAfter, IsSeatOf, IsTurned, call_from, popped_calls};
 ghost use Rattle.wm_groupcommit.specs.Submits.{Submitted, Turned};
 
 use crate::book::Book;
 use crate::locked::{
-    CallPass, CallQueue, Delivery, LockedDesk, ReplyReceiver, Room, is_empty, new_pass, pop, push,
+    CallPass, CallQueue, Closed, Delivery, Flushed, LockedDesk, ReplyReceiver, Room, is_empty,
+    new_pass, pop, push,
 };
 use crate::queued::Call;
 use crate::receipt::Receipt;
@@ -77,8 +78,10 @@ impl<D: Disk + Drop> Desk<D> {
     /// Closes the store, and wakes the flusher's thread. What was submitted and isn't committed by then is
     /// answered `12 StoreFailed` at the next flush, or `16 NoMemory` where there is no room. It is refused as
     /// [`Store::close`] is.
-    pub fn close<R: Wait>(&self, rt: &R) -> Result<(), Refusal> {
-        let closed = self.locked.lock(rt).close();
+    pub fn close<R: Wait>(&self, rt: &R) -> Result<Closed<D>, Refusal>
+        ensures { IfErr result (λ e. (e ≡ device_failed) ⊎ (e ≡ store_failed)) }
+    {
+        let closed = close(&mut *self.locked.lock(rt));
         self.sleeper.unpark();
         closed
     }
@@ -159,12 +162,12 @@ impl<D: Disk + Drop> Desk<D> {
         receive(rt, &mut seat.replies, &mut seat.seen, mine, is_alone)
     }
 
-    /// Takes up to 64 calls from the queue, in one step, commits their commands, and tells how many it has
-    /// answered. `16 NoMemory` where there is no room for that many, and then nothing was taken.
-    pub fn flush_once<R: Wait>(&self, rt: &R, flusher: &mut Flusher) -> Result<usize, Refusal>
+    /// Takes up to 64 calls from the queue, in one step, commits their commands, and answers them. `16 NoMemory`
+    /// if there is no memory for that many, and then nothing was taken.
+    pub fn flush_once<R: Wait>(&self, rt: &R, flusher: &mut Flusher) -> Result<Flushed, Refusal>
         requires { IsFlusherOf self.now flusher.old }
         ensures flusher { IsFlusherOf self.now flusher.new }
-        ensures popped { IfOk result (λ n. (xs : List Calls) × (n ≤ length xs) × (popped_calls flusher.new ≡ popped_calls flusher.old ++ xs)) }
+        ensures popped { IfOk result (λ f. popped_calls flusher.new ≡ popped_calls flusher.old ++ f.calls) }
         ensures err { IfErr result (λ e. (e ≡ no_memory) × (popped_calls flusher.new ≡ popped_calls flusher.old)) }
     {
         let Ok(room) = Room::new(self.alloc) else {
@@ -201,9 +204,20 @@ impl<D: Disk + Drop> Desk<D> {
     /// The receipt's command, which stands at its number in the list; none for one that changed nothing. The receipt
     /// is one of this desk: of another one it tells where the command stands there. `NoMemory` if the allocation of
     /// the copy failed; the desk stays as it is, and may be asked again.
-    pub fn stands<R: Wait>(&self, rt: &R, receipt: &Receipt) -> Result<Option<Command>, NoMemory> {
+    pub fn stands<R: Wait>(&self, rt: &R, receipt: &Receipt) -> Result<Option<Command>, NoMemory>
+        ensures command { IfOk result (λ r. r ≡ accepted_command receipt.now.standing) }
+        ensures stands { IfOk result (λ r. IfSome r (λ c. StandsInBook receipt.now receipt.now.list c)) }
+    {
         self.locked.lock(rt).find(self.alloc, receipt)
     }
+}
+
+/// Closes the store of the locked desk.
+fn close<D: Disk + Drop>(desk: &mut LockedDesk<D>) -> Result<Closed<D>, Refusal>
+    ensures { IfErr result (λ e. (e ≡ device_failed) ⊎ (e ≡ store_failed)) }
+{
+    desk.close()?;
+    Ok(Closed::of(desk))
 }
 
 /// Whether a call comes while it looks.
@@ -225,6 +239,7 @@ fn receive<R: Wait>(
     call: Call,
     is_alone: bool,
 ) -> Result<(Reply, Receipt), Refusal>
+    ensures seat { replies.new.seat ≡ replies.old.seat }
     ensures later { IsLater replies.old replies.new.base replies.new.list }
     ensures ok { IfOk result (λ r. Submitted replies.old replies.new seen.old seen.new call r.0 r.1) }
     ensures err { IfErr result (λ e. (seen.new ≡ seen.old) × Turned replies.old replies.new seen.old call e) }

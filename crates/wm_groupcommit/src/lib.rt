@@ -15,5 +15,6 @@ mod same_commands;
 mod seat;
 
 pub use desk::{Desk, Flusher};
+pub use locked::{Closed, Flushed};
 pub use receipt::{Receipt, Standing};
 pub use seat::Seat;

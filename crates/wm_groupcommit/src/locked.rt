@@ -1,30 +1,35 @@
 //! What lies under the lock: the book, and the flusher's ends of the reply queues.
 //! Definitions: specs/LockedState.antt. Tests: file_tests/src/desk/rows.rt.
 ghost use Rattle.std.specs.Prelude.{◌≡◌, ◌≤◌, ◌<◌, ◌⊎◌, ◌+◌, ◌++◌, ◌∷◌, true, false, Some, None, List, [], length, vec_capacity, vec_len, IfOk, IfErr, IfSome, OnOk};
-ghost use Rattle.wm_disk.specs.declared.refusal.Refusal.TheVariants.{NoMemory as no_memory, NoPlace as no_place};
+ghost use Rattle.wm_disk.specs.declared.refusal.Refusal.TheVariants.{DeviceFailed as device_failed, NoMemory as no_memory, NoPlace as no_place, StoreFailed as store_failed};
 ghost use Rattle.wm_store.specs.Calls.{CallsStore};
 ghost use Rattle.wm_groupcommit.specs.Books.{Right, AllRight};
 ghost use Rattle.wm_groupcommit.specs.Commits.{IsCommit};
 ghost use Rattle.wm_groupcommit.specs.Counting.{newer_of, kept_newer, counts_after, counts_with};
 ghost use Rattle.wm_groupcommit.specs.Receipts.{StandsInBook, accepted_command};
-ghost use Rattle.wm_groupcommit.specs.ReplyQueues.{reply_view, newcomer, StartsWith};
+ghost use Rattle.wm_groupcommit.specs.ReplyQueues.{end_to, newcomer, StartsWith};
 ghost use Rattle.wm_registry.specs.Limits.{max_batch};
-ghost use Rattle.wm_groupcommit.specs.LockedState.{AllLater, seats};
+ghost use Rattle.wm_groupcommit.specs.LockedState.{AllLater, AreNumbered, seats};
 
 mod call_queue;
 mod call_rule;
+mod closed;
 mod deliveries;
+mod flushed;
 mod reply_ends;
 
 use crate::book::Book;
 use crate::queued::{Answer, Call};
 use crate::receipt::Receipt;
 pub use call_queue::{CallPass, CallQueue, PoppedCalls, is_empty, new_pass, pop, push};
+pub use closed::Closed;
 pub use deliveries::Delivery;
+pub use flushed::Flushed;
 pub use reply_ends::ReplyReceiver;
 use reply_ends::{ReplySender, reply_queue};
 use std::alloc::Global;
 use std::marker::Model;
+use std::snapshot::Snapshot;
 use std::sync::Wait;
 use wm_disk::{Disk, NoMemory, Refusal};
 use wm_registry::{Command, MAX_BATCH, Registry};
@@ -45,14 +50,14 @@ pub struct LockedDesk<D: Disk + Drop> {
 
 impl<D: Disk + Drop> Model for LockedDesk<D> {
     ghost use Rattle.std.specs.Prelude.{Some};
-    ghost use Rattle.wm_groupcommit.specs.LockedState.{LockedState, AllLater};
+    ghost use Rattle.wm_groupcommit.specs.LockedState.{LockedState, AllLater, AreNumbered};
     ghost use Rattle.wm_groupcommit.specs.Counting.{IsCounted};
 
     ghost Value = { LockedState D };
 
     ghost view = { λ s. record { book = s.book; ends = s.ends.items; counts = s.counts.items; has_flusher = s.has_flusher } };
 
-    ghost invariant = { λ s. AllLater s.ends.items (Some s.book.base) s.book.list × IsCounted s.counts.items s.book.list };
+    ghost invariant = { λ s. AllLater s.ends.items (Some s.book.base) s.book.list × IsCounted s.counts.items s.book.list × AreNumbered 0 s.ends.items };
 }
 
 impl<D: Disk + Drop> LockedDesk<D> {
@@ -71,7 +76,7 @@ impl<D: Disk + Drop> LockedDesk<D> {
 
     /// A new seat's number and its end of its reply queue. `NoPlace` where 64 were given, and `NoMemory`.
     pub fn seat(&mut self, alloc: Global) -> Result<(u64, ReplyReceiver), Refusal>
-        ensures ok { IfOk result (λ r. (r.0 ≡ length self.old.ends) × (r.1 ≡ newcomer) × (self.new.ends ≡ self.old.ends ++ reply_view true None [] [] ∷ [])) }
+        ensures ok { IfOk result (λ r. (r.0 ≡ length self.old.ends) × (r.1 ≡ newcomer r.0) × (self.new.ends ≡ self.old.ends ++ end_to r.0 ∷ [])) }
         ensures free { IfOk result (λ _. length self.old.ends < seats) }
         ensures err { IfErr result (λ e. (self.new.ends ≡ self.old.ends) × (((e ≡ no_place) × (seats ≤ length self.old.ends)) ⊎ (e ≡ no_memory))) }
         ensures book { (self.new.book ≡ self.old.book) × (self.new.has_flusher ≡ self.old.has_flusher) }
@@ -85,10 +90,10 @@ impl<D: Disk + Drop> LockedDesk<D> {
         if self.counts.reserve(1).is_err() {
             return Err(Refusal::NoMemory);
         }
-        let Ok((end, replies)) = reply_queue(alloc) else {
+        let number = self.ends.len() as u64;
+        let Ok((end, replies)) = reply_queue(alloc, number) else {
             return Err(Refusal::NoMemory);
         };
-        let number = self.ends.len() as u64;
         self.ends.push_reserved(end);
         self.counts.push_reserved(0);
         Ok((number, replies))
@@ -138,6 +143,7 @@ impl<D: Disk + Drop> LockedDesk<D> {
         ensures list { (self.new.book.base ≡ self.old.book.base) × (self.new.book.list ≡ self.old.book.list) × (self.new.ends ≡ self.old.ends) }
         ensures closed { OnOk result (self.new.book.store.closed ≡ true) }
         ensures calls { CallsStore D.Disk self.old.book.store self.new.book.store result }
+        ensures kinds { IfErr result (λ e. (e ≡ device_failed) ⊎ (e ≡ store_failed)) }
     {
         self.book.close()
     }
@@ -156,27 +162,30 @@ impl<D: Disk + Drop> LockedDesk<D> {
     }
 
     /// Commits the popped calls, and hands each answer to its seat. A call that isn't newer than its seat's
-    /// last, of which no run makes one, is left out. Tells how many it has answered.
+    /// last, of which no run makes one, is left out.
     pub fn answer<R: Wait>(
         &mut self,
         rt: &R,
         alloc: Global,
         popped: PoppedCalls,
         room: Room,
-    ) -> usize
+    ) -> Flushed
         requires few { length popped.calls.items ≤ max_batch }
-        ensures commits { (answers : List Answer) × IsCommit D.Disk self.old.book self.new.book (newer_of self.old.counts popped.calls.items) answers × AllRight self.new.book.base self.new.book.list answers × (result ≡ length answers) }
+        ensures commits { (answers : List Answer) × IsCommit D.Disk self.old.book self.new.book (newer_of self.old.counts popped.calls.items) answers × AllRight self.new.book.base self.new.book.list answers × (result.count ≡ length answers) }
+        ensures taken { result.calls ≡ popped.calls.items }
         ensures counts { self.new.counts ≡ counts_after self.old.counts popped.calls.items }
     {
         let Room {
             mut calls,
             mut answers,
         } = room;
-        keep_newer(&mut self.counts, popped.calls(), &mut calls);
+        let all = popped.calls();
+        let taken = Snapshot::of(&all);
+        keep_newer(&mut self.counts, all, &mut calls);
         self.book.commit(alloc, calls, &mut answers);
         let count = answers.len();
         deliver_all(rt, &self.book, &mut self.ends, answers);
-        count
+        Flushed { count, taken }
     }
 }
 
@@ -231,7 +240,9 @@ fn deliver_all<R: Wait, D: Disk + Drop>(
 )
     requires later { AllLater ends.old.items (Some book.now.base) book.now.list }
     requires right { AllRight book.now.base book.now.list answers.items }
-    ensures { AllLater ends.new.items (Some book.now.base) book.now.list }
+    requires numbered { AreNumbered 0 ends.old.items }
+    ensures later { AllLater ends.new.items (Some book.now.base) book.now.list }
+    ensures numbered { AreNumbered 0 ends.new.items }
 {
     for answer in answers {
         deliver(rt, book, ends, answer);
@@ -246,7 +257,9 @@ fn deliver<R: Wait, D: Disk + Drop>(
 )
     requires later { AllLater ends.old.items (Some book.now.base) book.now.list }
     requires right { Right book.now.base book.now.list answer }
-    ensures { AllLater ends.new.items (Some book.now.base) book.now.list }
+    requires numbered { AreNumbered 0 ends.old.items }
+    ensures later { AllLater ends.new.items (Some book.now.base) book.now.list }
+    ensures numbered { AreNumbered 0 ends.new.items }
 {
     let at = answer.call.seat as usize;
     if at < ends.len() {

@@ -1,7 +1,6 @@
 //! A seat, from which one thread submits, and what it makes of an answer.
 //! Definitions: specs/Seats.antt, specs/Submits.antt. Tests: file_tests/src/desk.
-ghost use Rattle.std.specs.Prelude.{◌≡◌, ◌<◌, IfOk, IfErr};
-ghost use Rattle.wm_groupcommit.specs.Seats.{HasLearnt};
+ghost use Rattle.std.specs.Prelude.{◌≡◌, ◌<◌, Some, IfOk, IfErr};
 ghost use Rattle.wm_groupcommit.specs.Books.{Right};
 ghost use Rattle.wm_groupcommit.specs.Receipts.{mark_of, shown};
 ghost use Rattle.wm_groupcommit.specs.Submits.{Settled, Declined};
@@ -24,6 +23,8 @@ pub struct Seat {
     pub(crate) seen: u64,
     pub(crate) pass: CallPass,
     pub(crate) replies: ReplyReceiver,
+    // its answers come to it alone
+    ghost own: { replies.seat ≡ Some number },
 }
 
 /// How many accepted commands the standing tells of.
@@ -61,6 +62,8 @@ pub(crate) fn settle(
 }
 
 impl Seat {
+    ghost use Rattle.wm_groupcommit.specs.Seats.{HasLearnt};
+
     /// From now on this seat is told of no fewer commands than the receipt, which is of the same desk, tells of.
     pub fn learn(&mut self, receipt: &Receipt)
         ensures { HasLearnt self.old self.new (mark_of (shown receipt.now)) }

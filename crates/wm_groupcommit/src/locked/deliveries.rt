@@ -6,6 +6,7 @@ use crate::queued::{Answer, Call};
 use crossbeam_queue::protocol::{Lesson, Outcome, Protocol, Split};
 use crossbeam_queue::{Pass, RuledArrayQueue};
 use std::collections::LinkedList;
+use std::marker::{Brand, PhantomData};
 use std::snapshot::Snapshot;
 use wm_registry::Registry;
 
@@ -28,36 +29,50 @@ impl Delivery {
     }
 }
 
-/// What an end of a reply queue knows: whether it is the flusher's, the registry that the desk found, the
-/// list of accepted commands, and the answers that it has. No value of it is made.
+/// What an end of a reply queue knows: whether it is the flusher's, the number of the seat, the registry that the
+/// desk found, the list of accepted commands, and the answers that it has. No value of it is made.
 pub struct ReplyView {
     pub writes: bool,
+    pub seat: Option<u64>,
     pub base: Option<Registry>,
     pub list: LinkedList<Call>,
     pub got: LinkedList<Answer>,
 }
 
-/// The flusher's end knows one list; the seat's has seen a beginning of it, and has answers that are right for that.
+/// Both ends are of one seat, and what is queued answers its calls. The flusher's end knows one list; the seat's has
+/// seen a beginning of it, and has answers that are right for that.
 pub struct Replies;
 
 impl Protocol<Delivery, ReplyView> for Replies {
-    ghost use Rattle.std.specs.Prelude.{true, None, []};
-    ghost use Rattle.wm_groupcommit.specs.ReplyQueues.{reply_view, Replying};
+    ghost use Rattle.wm_groupcommit.specs.ReplyQueues.{unnamed, Replying};
 
     ghost holds = { Replying };
 
-    ghost first = { reply_view true None [] [] };
+    ghost first = { unnamed };
 }
 
-/// The flusher's end stays, and the seat's knows nothing yet.
-pub struct Roles;
+/// The number of a seat. The call that makes the two ends picks it.
+pub trait Numbered {
+    ghost use Rattle.std.specs.Prelude.{ℕ};
 
-impl Split<ReplyView> for Roles {
-    ghost use Rattle.wm_groupcommit.specs.ReplyQueues.{newcomer};
+    ghost number: { ℕ };
+}
 
-    ghost left = { λ v. v };
+impl Numbered for Brand {
+    ghost number = { 0 };
+}
 
-    ghost right = { λ v. newcomer };
+/// The flusher's end to the seat with this number, and the seat's own; neither knows anything yet.
+pub struct Roles<N: Numbered> {
+    of: PhantomData<N>,
+}
+
+impl<N: Numbered> Split<ReplyView> for Roles<N> {
+    ghost use Rattle.wm_groupcommit.specs.ReplyQueues.{end_to, newcomer};
+
+    ghost left = { λ v. end_to N.number };
+
+    ghost right = { λ v. newcomer N.number };
 }
 
 /// The flusher's end hands an answer over.

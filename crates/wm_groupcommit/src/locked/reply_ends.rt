@@ -1,14 +1,14 @@
 //! The flusher's end of a reply queue, and the seat's, which sleeps while it waits.
 //! Definitions: specs/ReplyQueues.antt. Tests: file_tests/src/desk.
-ghost use Rattle.std.specs.Prelude.{◌≡◌, ◌⊎◌, true, None, [], IfOk, IfSome, IfNone};
+ghost use Rattle.std.specs.Prelude.{◌≡◌, ◌⊎◌, true, Some, IfOk, IfSome, IfNone};
 ghost use Rattle.std.specs.Arc.{arc_value};
 ghost use Rattle.crossbeam_queue.specs.Passes.{view, IsPassOf};
 ghost use Rattle.wm_groupcommit.specs.Books.{Right};
-ghost use Rattle.wm_groupcommit.specs.ReplyQueues.{reply_view, newcomer, IsLater, base_of, list_of, Took};
+ghost use Rattle.wm_groupcommit.specs.ReplyQueues.{reply_view, end_to, newcomer, IsLater, base_of, list_of, Took};
 
-use super::deliveries::{Delivery, Gets, Gives, ReplyPass, ReplyQueue, ReplyView, Roles};
+use super::deliveries::{Delivery, Gets, Gives, Numbered, ReplyPass, ReplyQueue, ReplyView, Roles};
 use std::alloc::{AllocError, Global};
-use std::marker::Model;
+use std::marker::{Brand, Model};
 use std::sync::{Arc, Wait};
 use std::thread::Parker;
 
@@ -54,12 +54,25 @@ impl Model for ReplyReceiver {
     ghost invariant = { λ e. IsPassOf (arc_value e.queue) e.pass };
 }
 
-/// The two ends of a new reply queue.
-pub(super) fn reply_queue(alloc: Global) -> Result<(ReplySender, ReplyReceiver), AllocError>
-    ensures { IfOk result (λ r. (r.0 ≡ reply_view true None [] []) × (r.1 ≡ newcomer)) }
+/// The two ends of a new reply queue, for the seat with this number.
+pub(super) fn reply_queue(
+    alloc: Global,
+    number: u64,
+) -> Result<(ReplySender, ReplyReceiver), AllocError>
+    ensures { IfOk result (λ r. (r.0 ≡ end_to number) × (r.1 ≡ newcomer number)) }
+{
+    ends_of::<Brand>(alloc, number)
+}
+
+fn ends_of<N: Numbered>(
+    alloc: Global,
+    _number: u64,
+) -> Result<(ReplySender, ReplyReceiver), AllocError>
+    requires { _number ≡ N.number }
+    ensures { IfOk result (λ r. (r.0 ≡ end_to N.number) × (r.1 ≡ newcomer N.number)) }
 {
     let (queue, mut pass) = ReplyQueue::ruled(alloc, 1)?;
-    let mine = queue.another::<Roles>(&mut pass);
+    let mine = queue.another::<Roles<N>>(&mut pass);
     let queue = Arc::new(alloc, queue)?;
     let theirs = Arc::try_clone(&queue)?;
     let sleeper = Arc::new(alloc, Parker::new())?;
@@ -79,11 +92,12 @@ pub(super) fn reply_queue(alloc: Global) -> Result<(ReplySender, ReplyReceiver),
 }
 
 impl ReplySender {
-    /// Hands an answer over, and wakes the seat's thread. Where the queue is full the answer is lost.
+    /// Hands an answer to a call of the seat over, and wakes the seat's thread. If the queue is full the answer is lost.
     pub(super) fn hand<R: Wait>(&mut self, rt: &R, delivery: Delivery)
         requires later { IsLater self.old (base_of delivery) (list_of delivery) }
         requires right { Right delivery.seen.value.base (list_of delivery) delivery.answer }
-        ensures { (self.new ≡ self.old) ⊎ (self.new ≡ reply_view true (base_of delivery) (list_of delivery) self.old.got) }
+        requires own { self.old.seat ≡ Some delivery.answer.call.seat }
+        ensures { (self.new ≡ self.old) ⊎ (self.new ≡ reply_view true self.old.seat (base_of delivery) (list_of delivery) self.old.got) }
     {
         let queue: &ReplyQueue = &self.queue;
         let _ = queue.push_as::<Gives, R>(rt, &mut self.pass, delivery);

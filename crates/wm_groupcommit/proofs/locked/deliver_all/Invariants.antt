@@ -1,6 +1,9 @@
 use Rattle.std.proofs.Common.{Some}
-use Rattle.wm_groupcommit.specs.LockedState.{AllLater}
+use Rattle.wm_groupcommit.specs.LockedState.{AllLater, AreNumbered}
 use Rattle.wm_groupcommit.proofs.locked.deliver_all.Given as goal
 
 abbrev pub invariant-loop-answer : goal.invariant-loop-answer
-invariant-loop-answer g l = AllLater l.ends.items (Some l.book.base) l.book.list
+invariant-loop-answer g l = record {
+  later : AllLater l.ends.items (Some l.book.base) l.book.list;
+  numbered : AreNumbered 0 l.ends.items;
+}

@@ -1,16 +1,16 @@
-use Rattle.std.proofs.Common.{Some, length, sym, ap, subst, arith}
+use Rattle.std.proofs.Common.{◌≡◌, Some, length, sym, ap, subst, arith}
 use Rattle.wm_groupcommit.specs.Commits.{IsCommit}
-use Rattle.wm_groupcommit.specs.Counting.{IsCounted}
+use Rattle.wm_groupcommit.specs.Counting.{IsCounted, newer_of}
 use Rattle.wm_groupcommit.specs.LockedState.{AllLater}
-use Rattle.wm_groupcommit.proofs.Locking.{AllLater-longer, IsCommit-longer, IsCommit-counted}
+use Rattle.wm_groupcommit.proofs.Locking.{AllLater-longer, IsCommit-longer, IsCommit-length, IsCommit-counted}
 use Rattle.wm_groupcommit.proofs.Counted.{length-newer}
 use Rattle.wm_groupcommit.proofs.locked.LockedDesk.answer.Goals as goal
 
 pub commit-requires-clause-few : goal.commit-requires-clause-few
-commit-requires-clause-few g c = omega (arith, ap length c.keep_newer.ensures.kept, length-newer c.self.inside.counts.items c.calls.result.items, ap length c.calls.ensures, c.requires.few)
+commit-requires-clause-few g c = omega (arith, ap length c.keep_newer.ensures.kept, length-newer c.self.inside.counts.items c.calls-all.result.items, ap length c.calls-all.ensures, c.requires.few)
 
 pub commit-requires-clause-room : goal.commit-requires-clause-room
-commit-requires-clause-room g c = (c.args.room.empty.1, omega (arith, ap length c.keep_newer.ensures.kept, length-newer c.self.inside.counts.items c.calls.result.items, ap length c.calls.ensures, c.requires.few, c.args.room.size.1))
+commit-requires-clause-room g c = (c.args.room.empty.1, omega (arith, ap length c.keep_newer.ensures.kept, length-newer c.self.inside.counts.items c.calls-all.result.items, ap length c.calls-all.ensures, c.requires.few, c.args.room.size.1))
 
 pub deliver_all-requires-clause-later : goal.deliver_all-requires-clause-later
 deliver_all-requires-clause-later g c =
@@ -24,7 +24,16 @@ invariant_of-self g c =
     let old = c.self.inside.book in
     let new = c.commit.new.self in
     let counts = c.self.inside.counts.items in
-    let cs = c.calls.result.items in
+    let cs = c.calls-all.result.items in
     let xs = c.commit.new.answers.items in
     let h = subst (λ l. IsCommit g.D.Disk old new l xs) c.keep_newer.ensures.kept c.commit.ensures.commits in
-    (c.deliver_all.ensures, subst (λ ks. IsCounted ks new.list) (sym c.keep_newer.ensures.counts) (IsCommit-counted g.D.Disk old new counts cs xs h c.self.invariant.1))
+    (c.deliver_all.ensures.later, subst (λ ks. IsCounted ks new.list) (sym c.keep_newer.ensures.counts) (IsCommit-counted g.D.Disk old new counts cs xs h c.self.invariant.1), c.deliver_all.ensures.numbered)
+
+pub invariant_of-result : goal.invariant_of-result
+invariant_of-result g c =
+    let counts = c.self.inside.counts.items in
+    let xs = c.commit.new.answers.items in
+    let h = subst (λ l. IsCommit g.D.Disk c.self.inside.book c.commit.new.self l xs) c.keep_newer.ensures.kept c.commit.ensures.commits in
+    let all : length xs ≡ length (newer_of counts c.calls-all.result.items) = IsCommit-length g.D.Disk c.self.inside.book c.commit.new.self (newer_of counts c.calls-all.result.items) xs h in
+    let taken = ap (λ v. length (newer_of counts v.items)) c.of-taken.ensures in
+    (counts, omega (arith, c.len-count.ensures, c.commit.new.answers.ok, all, taken))

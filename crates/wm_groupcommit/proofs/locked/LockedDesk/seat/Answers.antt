@@ -1,8 +1,9 @@
-use Rattle.std.proofs.Common.{Some, [], ◌∷◌, ◌++◌, refl, sym, ap, ◌∙◌, subst}
+use Rattle.std.proofs.Common.{◌≡◌, Some, [], ◌∷◌, ◌++◌, length, refl, sym, ap, ◌∙◌, subst, arith}
 use Rattle.wm_groupcommit.specs.Counting.{IsCounted}
 use Rattle.wm_groupcommit.specs.ReplyQueues.{IsLater}
-use Rattle.wm_groupcommit.specs.LockedState.{AllLater}
-use Rattle.wm_groupcommit.proofs.Locking.{AllLater-push}
+use Rattle.wm_groupcommit.specs.LockedState.{AllLater, AreNumbered}
+use Rattle.wm_groupcommit.specs.declared.locked.deliveries.ReplyView.{ReplyView}
+use Rattle.wm_groupcommit.proofs.Locking.{AllLater-push, AreNumbered-push}
 use Rattle.wm_groupcommit.proofs.Counted.{counted_seat}
 use Rattle.wm_groupcommit.proofs.locked.LockedDesk.seat.Goals as goal
 
@@ -19,7 +20,9 @@ invariant_of-self-2 g c =
     let end = c.in-Ok.end in
     let vs = c.push_reserved.ensures.items ∙ ap (λ l. l ++ end ∷ []) c.reserve.ensures.items in
     let ks = c.push_reserved-2.ensures.items ∙ ap (λ l. l ++ 0 ∷ []) c.reserve-2.ensures.items in
-    let is = subst (λ v. IsLater v (Some base) list) (sym c.in-Ok.ensures.0) (tt, (list, refl)) in (
+    let is = subst (λ v. IsLater v (Some base) list) (sym c.in-Ok.ensures.0) (tt, (list, refl)) in
+    let own : end.seat ≡ Some (length c.self.inside.ends.items) = ap (λ (v : ReplyView). v.seat) c.in-Ok.ensures.0 ∙ ap Some (omega (arith, c.len-number.ensures, c.reserve.new.self.ok, ap length c.reserve.ensures.items)) in (
       subst (λ l. AllLater l (Some base) list) (sym vs) (AllLater-push c.self.inside.ends.items end (Some base) list is c.self.invariant.0),
       subst (λ l. IsCounted l list) (sym ks) (counted_seat c.self.inside.counts.items list c.self.invariant.1),
+      subst (λ l. AreNumbered 0 l) (sym vs) (AreNumbered-push c.self.inside.ends.items end own c.self.invariant.2),
     )
