@@ -78,10 +78,13 @@ pub(crate) fn flush_for<R: Wait + Abort>(rt: &R, desk: &Kept, wanted: usize) -> 
         if total >= wanted {
             break;
         }
-        match desk.flush_once(rt, &mut flusher) {
-            Ok(0) => desk.wait_for_calls(rt, &mut flusher),
-            Ok(count) => total = total.saturating_add(count),
-            Err(_) => {}
+        if let Ok(flushed) = desk.flush_once(rt, &mut flusher) {
+            let count = flushed.count();
+            drop(flushed);
+            if count == 0 {
+                desk.wait_for_calls(rt, &mut flusher);
+            }
+            total = total.saturating_add(count);
         }
     }
     drop(flusher);

@@ -80,7 +80,7 @@ fn ask_late<R: Wait + Abort>(rt: &R, alloc: Global, desk: &Kept, seat: &mut Seat
 {
     let begin = desk.submit(rt, seat, Command::Begin).err();
     check!(rt; begin == Some(Refusal::BadArguments));
-    desk.close(rt).expect(rt, "a closed desk");
+    drop(desk.close(rt).expect(rt, "a closed desk"));
     let c = watch(rt, alloc, "/c");
     let late = desk.submit(rt, seat, c).err();
     check!(rt; late == Some(Refusal::StoreFailed));

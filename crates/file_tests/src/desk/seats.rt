@@ -1,13 +1,16 @@
-//! That seats and a flusher can be had, and that it is the flusher who commits.
+//! That seats and a flusher can be had, that it is the flusher who commits, and that each seat has its own answer.
 use crate::checks::check;
-use crate::desk::desks::{Kept, desk, is_watch, roots_of, submit_one, watch};
+use crate::desk::desks::{
+    Kept, desk, flush_for, is_watch, refusal_of, roots_of, submit_one, unwatch, watch,
+};
 use std::alloc::Global;
 use std::process::Abort;
 use std::sync::Wait;
 use std::thread;
-use std::thread::join;
+use std::thread::{Threads, join};
 use wm_disk::Refusal;
 use wm_groupcommit::Receipt;
+use wm_registry::Reply;
 
 #[test]
 fn always_no_place(rt: HostRuntime) {
@@ -53,13 +56,14 @@ fn watch_stands<R: Wait + Abort>(rt: &R, alloc: Global, desk: &Kept) -> bool {
 fn flush_some<R: Wait + Abort>(rt: &R, desk: &Kept) -> usize {
     let mut flusher = desk.flusher(rt).expect(rt, "a flusher");
     for _ in rt.forever() {
-        match desk.flush_once(rt, &mut flusher).expect(rt, "a flush") {
-            0 => thread::yield_now(),
-            count => {
-                drop(flusher);
-                return count;
-            }
+        let flushed = desk.flush_once(rt, &mut flusher).expect(rt, "a flush");
+        let count = flushed.count();
+        drop(flushed);
+        if count > 0 {
+            drop(flusher);
+            return count;
         }
+        thread::yield_now();
     }
     unreachable!()
 }
@@ -78,4 +82,42 @@ fn submit_commits_by_itself(rt: HostRuntime) {
     check!(rt; count == 1, count);
     check!(rt; answered == 1, answered);
     check!(rt; stands);
+}
+
+/// The reply to the watch of `/a` from a new seat, unless it is refused.
+fn reply_of<R: Wait + Abort>(rt: &R, alloc: Global, desk: &Kept) -> Option<Reply> {
+    let (reply, receipt) = submit_one(rt, desk, watch(rt, alloc, "/a")).ok()?;
+    drop(receipt);
+    Some(reply)
+}
+
+/// What two new seats are answered that submit at once: the one watches `/a`, and the other ends the watch of `/b`, which
+/// isn't watched.
+fn ask_at_once<R: Threads + Wait + Abort + Sync>(
+    rt: &R,
+    alloc: Global,
+    desk: &Kept,
+) -> (Option<Reply>, Option<Refusal>) {
+    join(
+        rt,
+        || reply_of(rt, alloc, desk),
+        || refusal_of(rt, desk, unwatch(rt, alloc, "/b")),
+    )
+}
+
+#[test]
+fn each_seat_has_its_own_answer(rt: HostRuntime) {
+    let alloc = rt.alloc();
+    let desk = desk(&rt, alloc);
+    let shared = &desk;
+    let (total, (watched, refused)) = join(
+        &rt,
+        || flush_for(&rt, shared, 2),
+        || ask_at_once(&rt, alloc, shared),
+    );
+    let count = roots_of(desk);
+    check!(rt; total == 2, total);
+    check!(rt; count == 1, count);
+    check!(rt; watched == Some(Reply::Changed));
+    check!(rt; refused == Some(Refusal::NotWatched));
 }
