@@ -1,0 +1,2 @@
+pub mod Crawls
+pub mod HandedIn

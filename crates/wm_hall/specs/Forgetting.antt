@@ -20,6 +20,15 @@ due_age_out (Some last) forgetting moment = cond (nat_le (min (last + forgetting
 abbrev pub HasForgotten : List Op → List Op → List Op → Type 0
 HasForgotten due before after = (due ≢ []) × IsPrefix (before ++ due) after
 
--- what may have been handed in by an operation that was refused: nothing, the age-out that was due, the operation, or both
+-- the operation, behind the age-out that is due before it
+abbrev pub with_age_out : Option ℕ → Forgetting → Op → List Op
+with_age_out last forgetting op = due_age_out last forgetting (moment_of op) ++ op ∷ []
+
+-- The age-out that is due, and the operation, were handed in behind what was before; or the operation alone, and then the age-out stays due.
+abbrev pub IsHandedIn : Option ℕ → Option ℕ → Forgetting → Op → List Op → List Op → Type 0
+IsHandedIn last_before last_after forgetting op before after =
+    (after ≡ before ++ with_age_out last_before forgetting op) ⊎ ((after ≡ before ++ op ∷ []) × (last_after ≡ last_before))
+
+-- what may have been handed in by an operation that was refused: nothing, the age-out that was due, the operation, or both of them
 abbrev pub MayWait : List Op → Op → List Op → List Op → Type 0
 MayWait due op before after = (after ≡ before) ⊎ (after ≡ before ++ due) ⊎ (after ≡ before ++ op ∷ []) ⊎ (after ≡ before ++ (due ++ op ∷ []))

@@ -1,4 +1,7 @@
+pub mod AskedCrawls
 pub mod Changes
 pub mod Forgetting
+pub mod Inquired
+pub mod Performed
 pub mod Readings
 pub mod Starts

@@ -1,17 +1,29 @@
 -- Readings of a root, what is observed meanwhile, and what was published since they began.
-use Rattle.std.specs.Prelude.{◌≡◌, ◌⊎◌, ◌++◌, ◌∷◌, [], ℕ, Bool, false, List, Option, Some, None, nat_lt}
+use Rattle.std.specs.Prelude.{◌≡◌, ℕ, Bool, false, List, Option, Some, None, nat_lt}
 use Rattle.wm_names.specs.Paths.{Path}
 use Rattle.wm_names.specs.declared.entry.Meta.{Meta}
 use Rattle.wm_clock.specs.declared.clock_id.ClockId.{ClockId}
 use Rattle.wm_view.specs.HistoryLaws.{last_told}
+use Rattle.wm_view.specs.Listings.{Found}
 use Rattle.wm_view.specs.declared.op.Op.{Op}
 use Rattle.wm_view.specs.declared.op.Op.TheVariants.{Observe, Recrawl}
 use Rattle.wm_reading.specs.Overlays.{Noted, overlaid_state}
+use Rattle.wm_share.specs.PublishedLists.{PublishedList, clock_shown, history}
 
 -- the tick of a clock; 0 where there is none, before the first whole listing
 abbrev pub tick_shown : Option ClockId → ℕ
 tick_shown None = 0
 tick_shown (Some clock) = clock.tick
+
+-- the clock of what was published last
+abbrev pub clock_last : Option PublishedList → Option ClockId
+clock_last None = None
+clock_last (Some list) = clock_shown (history list)
+
+-- what a reading found, and the tick at which the root stood when it began
+pub record Read : Type 0 where
+  pub begun_at : ℕ
+  pub listing : Found
 
 -- whether the operation is a reading that began before the tick
 abbrev pub is_begun_before : ℕ → Op → Bool
@@ -32,7 +44,3 @@ Notes (Some pairs) old new = new.incomplete ≡ false → (old.incomplete ≡ fa
 abbrev pub NotesIf : Option (List (Path × Option Meta)) → Option Noted → Option Noted → Type 0
 NotesIf pairs None new = new ≡ None
 NotesIf pairs (Some old) new = (noted : Noted) × (new ≡ Some noted) × Notes pairs old noted
-
--- All that was handed in before, the age-out that was due, and the operation; without the age-out only if that was refused, and then it stays due.
-abbrev pub IsHandedIn : List Op → List Op → Option ℕ → Option ℕ → Op → List Op → Type 0
-IsHandedIn before due aged_before aged_after op after = (after ≡ before ++ (due ++ op ∷ [])) ⊎ ((after ≡ before ++ op ∷ []) × ((last : ℕ) → aged_before ≡ Some last → aged_after ≡ Some last))

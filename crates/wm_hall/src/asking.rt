@@ -50,7 +50,7 @@ pub fn tell_by<J: Naming>(
 ) -> Result<(), Refusal>
     ensures seen { Begins viewer.old.list viewer.new.list }
     ensures told { IfOk result (λ _. out.new.items ≡ out.old.items ++ line_text (query_reply fields.now (answer_to (holds query.test) (history viewer.new.list) (record { since = from_clock (cursor_at name cursors.old); empty_on_fresh = query.empty_on_fresh })))) }
-    ensures ready { IfOk result (λ _. is_ready (history viewer.new.list) ≡ true) }
+    ensures ready { IfOk result (λ _. (is_ready (history viewer.new.list) ≡ true) × (has_room name cursors.old ≡ true)) }
     ensures moved { IfOk result (λ _. cursors.new ≡ moved_to name (clock_of_history (history viewer.new.list)) cursors.old) }
     ensures refused { IfErr result (λ e. (e ≡ Refusal.NoMemory) ⊎ ((e ≡ Refusal.NoPlace) × (viewer.new ≡ disconnected viewer.old)) ⊎ ((e ≡ Refusal.NotReady) × (is_ready (history viewer.new.list) ≡ false)) ⊎ ((e ≡ Refusal.TooMany) × (is_ready (history viewer.new.list) ≡ true) × (has_room name cursors.old ≡ false))) }
     ensures err { OnErr result ((out.new.items ≡ out.old.items) × (cursors.new ≡ cursors.old)) }
@@ -110,4 +110,23 @@ pub fn clock<J: Naming>(
     };
     let answer = viewer.answer(alloc, &query)?;
     Ok(answer.clock)
+}
+
+/// Appends the answer to a question that no cursor begins. It is refused as `tell` is.
+pub(crate) fn inquire_of<J: Naming>(
+    alloc: Global,
+    viewer: &mut Viewer<J>,
+    query: Query<Expression>,
+    fields: &Fields,
+    out: &mut Vec<u8>,
+) -> Result<(), Refusal>
+    ensures seen { Begins viewer.old.list viewer.new.list }
+    ensures ready { IfOk result (λ _. is_ready (history viewer.new.list) ≡ true) }
+    ensures told { IfOk result (λ _. out.new.items ≡ out.old.items ++ line_text (query_reply fields.now (answer_to (holds query.test) (history viewer.new.list) (question query)))) }
+    ensures refused { IfErr result (λ e. (e ≡ Refusal.NoMemory) ⊎ ((e ≡ Refusal.NoPlace) × (viewer.new ≡ disconnected viewer.old)) ⊎ ((e ≡ Refusal.NotReady) × (is_ready (history viewer.new.list) ≡ false))) }
+    ensures err { OnErr result (out.new.items ≡ out.old.items) }
+    ensures room { vec_capacity out.old ≤ vec_capacity out.new }
+{
+    tell(alloc, viewer, &query, fields, out)?;
+    Ok(())
 }

@@ -1,23 +1,30 @@
 //! One watched root, shared by sessions and workers: its keeper, its viewers, its cursors and its triggers, each under a lock of
 //! its own. Tests: serve_tests/src/halls.rt and sessions.rt; without memory tools/growths.py.
-ghost use Rattle.std.specs.Prelude.{◌≡◌, IfErr};
+ghost use Rattle.std.specs.Prelude.{◌≡◌, ◌⊎◌, ◌≤◌, true, false, IfOk, IfErr, vec_capacity};
+ghost use Rattle.wm_view.specs.Histories.{is_ready};
+ghost use Rattle.wm_since.specs.Answers.{clock_of as clock_of_history};
+ghost use Rattle.wm_since.specs.Cursors.{CursorList};
+ghost use Rattle.wm_share.specs.PublishedLists.{Begins, disconnected, history};
+ghost use Rattle.wm_hall.specs.Inquired.{IsInquired};
+ghost use Rattle.wm_hall.specs.Performed.{IsChangeReported, IsReadingReported};
 
-use crate::asking::{clock, tell, tell_by};
+use crate::asking::{clock, inquire_of, tell_by};
 use crate::change::{Change, Seconds};
-use crate::keeping::{Forgetting, Left, pay, progress_of, tick_of};
-use crate::reading::{Begun, Reading, operate_noted, take_in};
+use crate::keeping::{Forgetting, Left, clock_told, learn_from, tick_of};
+use crate::performing::{Performed, perform, perform_reading};
+use crate::reading::{Begun, Reading, begin};
 use crate::starts::start_of;
 use crate::work::Work;
 use std::alloc::Global;
 use std::sync::{Condvar, Mutex, Wait};
 use wm_clock::{ClockId, ClockSpec, CursorName};
 use wm_disk::{NoMemory, Refusal};
-use wm_lines::{Expression, Inquiry, Progress};
+use wm_lines::{Inquiry, Progress};
 use wm_names::RootPath;
 use wm_reading::Observed;
 use wm_registry::Trigger;
 use wm_share::{Naming, Pool, RootKeeper, Shown, Told, Viewer};
-use wm_since::{Cursors, Fields, Query};
+use wm_since::{Cursors, Query};
 use wm_triggers::{DefinedTrigger, DefinedTriggers, TriggerTable};
 
 /// One watched root.
@@ -129,10 +136,9 @@ impl<J: Naming, K: Wait + Drop> RootHall<J, K> {
     /// up. One reading is under way at a time; an earlier one that wasn't handed in is given up.
     pub fn begin_reading<R: Wait>(&self, rt: &R, alloc: Global) -> Begun {
         let keeper = self.keeper.lock(rt);
-        *self.reading.lock(rt) = Some(Observed::new(alloc));
-        let tick = self.tick(rt);
+        let begun = begin(alloc, &self.told.lock(rt), &mut self.reading.lock(rt));
         drop(keeper);
-        Begun { tick }
+        begun
     }
 
     /// Gives up the reading that is under way.
@@ -142,7 +148,7 @@ impl<J: Naming, K: Wait + Drop> RootHall<J, K> {
         drop(keeper);
     }
 
-    /// Hands in what a reading found, publishes it, and tells where the view stands then. Of each path that was observed since the
+    /// Hands in what a reading found, publishes it, and reports where the view stands then. Of each path that was observed since the
     /// reading began, the view gets what was observed last. `BadClock` if the reading has to be done again; and as [`Self::operate`].
     pub fn take_in<R: Wait, S: Seconds>(
         &self,
@@ -151,33 +157,28 @@ impl<J: Naming, K: Wait + Drop> RootHall<J, K> {
         forgetting: Forgetting,
         seconds: &S,
         found: Reading,
-    ) -> Result<Progress, Refusal> {
+    ) -> Result<Progress, Refusal>
+        ensures { IfOk result (IsReadingReported found.begun_at) }
+    {
         let mut keeper = self.keeper.lock(rt);
         let moment = seconds.second();
         let mut left = self.left.lock(rt);
         let mut reading = self.reading.lock(rt);
-        let paid = self.pay(rt, &mut keeper, &mut left);
-        let told = match paid {
-            Ok(()) => take_in(
-                alloc,
-                &mut keeper,
-                &mut left,
-                &mut reading,
-                forgetting,
-                moment,
-                found,
-            ),
-            Err(refusal) => {
-                drop(found);
-                Err(refusal)
-            }
-        };
-        let met = self.keep_progress(rt, told);
+        let performed = perform_reading(
+            alloc,
+            &mut keeper,
+            &mut left,
+            &mut reading,
+            forgetting,
+            moment,
+            found,
+        );
+        let ended = self.keep(rt, performed);
         drop(reading);
         drop(left);
         drop(keeper);
         self.work.stir(rt);
-        met
+        ended
     }
 
     /// Performs a change at its moment, which is read once the keeper is held, publishes it, and reports where the view stands
@@ -190,56 +191,33 @@ impl<J: Naming, K: Wait + Drop> RootHall<J, K> {
         forgetting: Forgetting,
         seconds: &S,
         change: Change,
-    ) -> Result<Progress, Refusal> {
+    ) -> Result<Progress, Refusal>
+        ensures { IfOk result (IsChangeReported change) }
+    {
         let mut keeper = self.keeper.lock(rt);
         let op = change.at(seconds.second());
         let mut left = self.left.lock(rt);
         let mut reading = self.reading.lock(rt);
-        let paid = self.pay(rt, &mut keeper, &mut left);
-        let told = match paid {
-            Ok(()) => operate_noted(alloc, &mut keeper, &mut left, &mut reading, forgetting, op),
-            Err(refusal) => {
-                drop(op);
-                Err(refusal)
-            }
-        };
-        let met = self.keep_progress(rt, told);
+        let performed = perform(alloc, &mut keeper, &mut left, &mut reading, forgetting, op);
+        let ended = self.keep(rt, performed);
         drop(reading);
         drop(left);
         drop(keeper);
         // also of what was owed, where the operation is refused
         self.work.stir(rt);
-        met
+        ended
     }
 
-    /// Publishes what is owed, under the keeper's lock.
-    fn pay<R: Wait>(
-        &self,
-        rt: &R,
-        keeper: &mut RootKeeper<J, Shown<J>, K>,
-        left: &mut Left,
-    ) -> Result<(), Refusal> {
-        if let Some(told) = pay(keeper, left)? {
-            self.keep_told(rt, told);
-        }
-        Ok(())
-    }
-
-    /// Keeps what was published, and tells where the view stands then.
-    fn keep_progress<R: Wait>(
-        &self,
-        rt: &R,
-        told: Result<Told<J>, Refusal>,
-    ) -> Result<Progress, Refusal> {
-        let told = told?;
-        let met = progress_of(&told);
-        self.keep_told(rt, told);
-        met
-    }
-
-    /// Keeps what was published last.
-    fn keep_told<R: Wait>(&self, rt: &R, told: Told<J>) {
-        *self.told.lock(rt) = Some(told);
+    /// Keeps what was published last, and gives how the operation ended.
+    fn keep<R: Wait>(&self, rt: &R, performed: Performed<J>) -> Result<Progress, Refusal>
+        ensures { result ≡ performed.ended }
+    {
+        let Performed { last, ended } = performed;
+        let mut told = self.told.lock(rt);
+        let before = told.take();
+        *told = last.or(before);
+        drop(told);
+        ended
     }
 
     /// A viewer, which has learnt what was published last. `NoPlace` where the pool is empty.
@@ -257,18 +235,16 @@ impl<J: Naming, K: Wait + Drop> RootHall<J, K> {
     }
 
     /// A viewer learns what was published last.
-    pub fn teach<R: Wait>(&self, rt: &R, viewer: &mut Viewer<J>) {
-        if let Some(told) = &*self.told.lock(rt) {
-            viewer.learn(told);
-        }
+    pub fn teach<R: Wait>(&self, rt: &R, viewer: &mut Viewer<J>)
+        ensures seen { Begins viewer.old.list viewer.new.list }
+        ensures connection { viewer.new.is_disconnected ≡ viewer.old.is_disconnected }
+    {
+        learn_from(&self.told.lock(rt), viewer);
     }
 
     /// The clock that was published last; none before the first whole listing.
     fn last_clock<R: Wait>(&self, rt: &R) -> Option<ClockId> {
-        match &*self.told.lock(rt) {
-            Some(told) => told.clock(),
-            None => None,
-        }
+        clock_told(&self.told.lock(rt))
     }
 
     /// The tick that was published last; 0 before the first whole listing.
@@ -282,7 +258,11 @@ impl<J: Naming, K: Wait + Drop> RootHall<J, K> {
         rt: &R,
         alloc: Global,
         viewer: &mut Viewer<J>,
-    ) -> Result<ClockId, Refusal> {
+    ) -> Result<ClockId, Refusal>
+        ensures seen { Begins viewer.old.list viewer.new.list }
+        ensures clock { IfOk result (λ clock. (is_ready (history viewer.new.list) ≡ true) × (clock ≡ clock_of_history (history viewer.new.list))) }
+        ensures refused { IfErr result (λ e. (e ≡ Refusal.NoMemory) ⊎ ((e ≡ Refusal.NoPlace) × (viewer.new ≡ disconnected viewer.old)) ⊎ ((e ≡ Refusal.NotReady) × (is_ready (history viewer.new.list) ≡ false))) }
+    {
         clock(alloc, viewer, self.last_clock(rt))
     }
 
@@ -300,7 +280,11 @@ impl<J: Naming, K: Wait + Drop> RootHall<J, K> {
         viewer: &mut Viewer<J>,
         inquiry: Inquiry,
         out: &mut Vec<u8>,
-    ) -> Result<(), Refusal> {
+    ) -> Result<(), Refusal>
+        ensures seen { Begins viewer.old.list viewer.new.list }
+        ensures met { (cursors : CursorList) × IsInquired inquiry cursors viewer.old out.old.items result viewer.new out.new.items }
+        ensures room { vec_capacity out.old ≤ vec_capacity out.new }
+    {
         let Inquiry {
             since,
             expression,
@@ -314,7 +298,8 @@ impl<J: Naming, K: Wait + Drop> RootHall<J, K> {
         };
         match since {
             Some(ClockSpec::Cursor(name)) => {
-                self.inquire_by(rt, alloc, viewer, name, query, &fields, out)
+                let mut cursors = self.cursors.lock(rt);
+                tell_by(alloc, viewer, &mut cursors, name, query, &fields, out)
             }
             Some(ClockSpec::Clock(_))
             | Some(ClockSpec::Seconds(_))
@@ -322,33 +307,6 @@ impl<J: Naming, K: Wait + Drop> RootHall<J, K> {
             | None => { inquire_of(alloc, viewer, query, &fields, out) }
         }
     }
-
-    /// Appends the answer to a question by a cursor of the root.
-    fn inquire_by<R: Wait>(
-        &self,
-        rt: &R,
-        alloc: Global,
-        viewer: &mut Viewer<J>,
-        name: CursorName,
-        query: Query<Expression>,
-        fields: &Fields,
-        out: &mut Vec<u8>,
-    ) -> Result<(), Refusal> {
-        let mut cursors = self.cursors.lock(rt);
-        tell_by(alloc, viewer, &mut cursors, name, query, fields, out)
-    }
-}
-
-/// Appends the answer to a question without a cursor.
-fn inquire_of<J: Naming>(
-    alloc: Global,
-    viewer: &mut Viewer<J>,
-    query: Query<Expression>,
-    fields: &Fields,
-    out: &mut Vec<u8>,
-) -> Result<(), Refusal> {
-    tell(alloc, viewer, &query, fields, out)?;
-    Ok(())
 }
 
 /// What a new hall has beside its keeper and its viewers: its path, the crawl that is asked for, no cursor and no trigger.

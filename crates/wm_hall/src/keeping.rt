@@ -1,16 +1,16 @@
 //! The operations on a root's view: each is published at once, and old deletions are forgotten before one.
 //! Definitions: specs/Readings.antt, specs/Forgetting.antt; `with_operations` and `outcome` of wm_share. Tests: serve_tests/src/halls.rt and sessions.rt; without memory tools/growths.py.
 ghost use Rattle.std.specs.Prelude.{◌≡◌, ◌≢◌, ℕ, ◌⊎◌, ◌++◌, ◌∷◌, [], true, false, cond, is_some, Some, None, IfOk, IfErr, IsErrOf, MatchResult};
-ghost use Rattle.wm_hall.specs.Forgetting.{HasForgotten, MayWait, due_age_out, moment_of as moment_of_lem};
-ghost use Rattle.wm_hall.specs.Readings.{IsHandedIn, is_begun_before, tick_shown};
+ghost use Rattle.wm_hall.specs.Forgetting.{HasForgotten, IsHandedIn, MayWait, due_age_out, moment_of as moment_of_lem};
+ghost use Rattle.wm_hall.specs.Readings.{clock_last, is_begun_before, tick_shown};
 ghost use Rattle.wm_share.specs.Operations.{MayRefuse, handed_in};
-ghost use Rattle.wm_share.specs.PublishedLists.{PublishedList, clock_shown, history, outcome, with_operations};
+ghost use Rattle.wm_share.specs.PublishedLists.{Begins, PublishedList, clock_shown, history, outcome, with_operations};
 
 use std::sync::Wait;
 use wm_clock::ClockId;
 use wm_disk::Refusal;
 use wm_lines::Progress;
-use wm_share::{Listed, Naming, RootKeeper, Told};
+use wm_share::{Listed, Naming, RootKeeper, Told, Viewer};
 use wm_view::Op;
 
 /// When a root's deleted paths are forgotten.
@@ -102,6 +102,28 @@ pub(crate) fn tick_of(clock: Option<ClockId>) -> u64
     }
 }
 
+/// The clock of what was published last; none before the first whole listing.
+pub(crate) fn clock_told<J: Naming>(last: &Option<Told<J>>) -> Option<ClockId>
+    ensures { result ≡ clock_last last.now }
+{
+    match last {
+        Some(told) => told.clock(),
+        None => None,
+    }
+}
+
+/// A viewer learns what was published last.
+pub(crate) fn learn_from<J: Naming>(last: &Option<Told<J>>, viewer: &mut Viewer<J>)
+    ensures seen { Begins viewer.old.list viewer.new.list }
+    ensures learnt { (told : PublishedList) → last.now ≡ Some told → told.share ≡ viewer.old.list.share → Begins told viewer.new.list }
+    ensures one { (viewer.new ≡ viewer.old) ⊎ (last.now ≡ Some viewer.new.list) }
+    ensures connection { viewer.new.is_disconnected ≡ viewer.old.is_disconnected }
+{
+    if let Some(told) = last {
+        viewer.learn(told);
+    }
+}
+
 /// Publishes what is owed, if anything is, and tells what then is published. `NoMemory` leaves it owed.
 pub(crate) fn pay<J: Naming, T: Listed<J> + Drop, R: Wait + Drop>(
     keeper: &mut RootKeeper<J, T, R>,
@@ -109,7 +131,8 @@ pub(crate) fn pay<J: Naming, T: Listed<J> + Drop, R: Wait + Drop>(
 ) -> Result<Option<Told<J>>, Refusal>
     ensures paid { IfOk result (λ paid. (told : PublishedList) → paid ≡ Some told → (told ≡ with_operations keeper.old.published keeper.old.pending) × (keeper.new.published ≡ told) × (keeper.new.pending ≡ [])) }
     ensures behind { IfOk result (λ paid. (told : PublishedList) → paid ≡ Some told → (left.new.owes ≡ false) × (left.new.paid_at ≡ tick_shown (clock_shown (history told)))) }
-    ensures aged { left.new.aged_at ≡ left.old.aged_at }
+    ensures kept { (handed_in keeper.new ≡ handed_in keeper.old) × (left.new.aged_at ≡ left.old.aged_at) }
+    ensures owed { left.old.owes ≡ true → IfOk result (λ _. left.new.paid_at ≡ tick_shown (clock_shown (history (with_operations keeper.old.published keeper.old.pending)))) }
     ensures only { IfOk result (λ paid. left.old.owes ≡ false → paid ≡ None) }
     ensures nothing { IfOk result (λ paid. paid ≡ None → (left.old.owes ≡ false) × (left.new ≡ left.old) × (keeper.new ≡ keeper.old)) }
     ensures refused { IfErr result (λ e. (e ≡ Refusal.NoMemory) × (left.new ≡ left.old) × (keeper.new ≡ keeper.old)) }
@@ -142,32 +165,34 @@ fn perform<J: Naming, T: Listed<J> + Drop, R: Wait + Drop>(
     done
 }
 
-/// Forgets what is old enough, where the interval has passed since the last time. One that is refused is tried again before the next
-/// operation.
+/// Forgets what is old enough, if the interval has passed since the last time. What the view refuses is tried again before the next
+/// operation. `NoMemory` and `Exhausted` as `publish`; it is due again then, though it may wait already.
 fn age_out<J: Naming, T: Listed<J> + Drop, R: Wait + Drop>(
     keeper: &mut RootKeeper<J, T, R>,
     left: &mut Left,
     moment: u64,
     forgetting: Forgetting,
-)
-    ensures forgotten { (handed_in keeper.new ≡ handed_in keeper.old ++ due_age_out left.old.aged_at forgetting moment) ⊎ ((handed_in keeper.new ≡ handed_in keeper.old) × (left.new.aged_at ≡ left.old.aged_at)) }
+) -> Result<(), Refusal>
+    ensures forgotten { IfOk result (λ _. handed_in keeper.new ≡ handed_in keeper.old ++ due_age_out left.old.aged_at forgetting moment) }
+    ensures waits { IfErr result (λ _. (handed_in keeper.new ≡ handed_in keeper.old) ⊎ (handed_in keeper.new ≡ handed_in keeper.old ++ due_age_out left.old.aged_at forgetting moment)) }
     ensures share { keeper.new.published.share ≡ keeper.old.published.share }
-    ensures paid { left.new.paid_at ≡ left.old.paid_at }
+    ensures left { (left.new.paid_at ≡ left.old.paid_at) × IfErr result (λ _. (left.new.owes ≡ true) × (left.new.aged_at ≡ left.old.aged_at)) }
     ensures aged { (left.new.aged_at ≡ left.old.aged_at) ⊎ ((left.new.aged_at ≡ Some moment) × HasForgotten (due_age_out left.old.aged_at forgetting moment) (handed_in keeper.old) (handed_in keeper.new)) }
     ensures kept { due_age_out left.old.aged_at forgetting moment ≡ [] → (left.new ≡ left.old) × (keeper.new ≡ keeper.old) }
-    ensures noted { due_age_out left.old.aged_at forgetting moment ≢ [] → left.new.owes ≡ false → outcome keeper.new.published ≡ None → left.new.aged_at ≡ Some moment }
+    ensures noted { due_age_out left.old.aged_at forgetting moment ≢ [] → IfOk result (λ _. outcome keeper.new.published ≡ None → left.new.aged_at ≡ Some moment) }
+    ensures refused { IfErr result (λ e. (due_age_out left.old.aged_at forgetting moment ≢ []) × MayRefuse keeper.new e) }
 {
     let Some(last) = left.aged_at else {
-        return;
+        return Ok(());
     };
     if moment < last.saturating_add(forgetting.interval) {
-        return;
+        return Ok(());
     }
-    if let Ok(told) = perform(keeper, left, Op::AgeOut(moment, forgetting.age))
-        && told.refusal().is_none()
-    {
+    let told = perform(keeper, left, Op::AgeOut(moment, forgetting.age))?;
+    if told.refusal().is_none() {
         left.aged_at = Some(moment);
     }
+    Ok(())
 }
 
 /// The moment of an operation, in seconds.
@@ -181,8 +206,9 @@ fn moment_of(op: &Op) -> u64
     }
 }
 
-/// Publishes an operation with what still waited, and before it what is to be forgotten. A view that became ready counts its interval
-/// from then. `BadClock` for a reading that began before what was owed was published: it has to be done again.
+/// Publishes an operation with what still waited, and before it what is to be forgotten: `NoMemory` and `Exhausted` as `publish`. If
+/// what is to be forgotten is refused so, it stays due, and the operation is performed all the same. A view that became ready counts
+/// its interval from then. `BadClock` for a reading that began before what was owed was published: it has to be done again.
 pub(crate) fn operate<J: Naming, T: Listed<J> + Drop, R: Wait + Drop>(
     keeper: &mut RootKeeper<J, T, R>,
     left: &mut Left,
@@ -191,7 +217,7 @@ pub(crate) fn operate<J: Naming, T: Listed<J> + Drop, R: Wait + Drop>(
 ) -> Result<Told<J>, Refusal>
     ensures overtaken { is_begun_before left.old.paid_at op ≡ true → IsErrOf result Refusal.BadClock × (left.new ≡ left.old) × (keeper.new ≡ keeper.old) }
     ensures shown { IfOk result (λ told. (keeper.new.published ≡ told) × (keeper.new.pending ≡ [])) }
-    ensures whole { IfOk result (λ told. IsHandedIn (handed_in keeper.old) (due_age_out left.old.aged_at forgetting (moment_of_lem op)) left.old.aged_at left.new.aged_at op told.operations) }
+    ensures whole { IfOk result (λ told. IsHandedIn left.old.aged_at left.new.aged_at forgetting op (handed_in keeper.old) told.operations) }
     ensures begins { IfOk result (λ told. left.old.aged_at ≡ None → left.new.aged_at ≡ cond (is_some (clock_shown (history told))) (Some (moment_of_lem op)) None) }
     ensures aged { (last : ℕ) → left.old.aged_at ≡ Some last → (left.new.aged_at ≡ Some last)
         ⊎ ((left.new.aged_at ≡ Some (moment_of_lem op)) × HasForgotten (due_age_out left.old.aged_at forgetting (moment_of_lem op)) (handed_in keeper.old) (handed_in keeper.new)) }
@@ -208,7 +234,7 @@ pub(crate) fn operate<J: Naming, T: Listed<J> + Drop, R: Wait + Drop>(
         return Err(Refusal::BadClock);
     }
     let moment = moment_of(&op);
-    age_out(keeper, left, moment, forgetting);
+    let _ = age_out(keeper, left, moment, forgetting);
     let told = perform(keeper, left, op)?;
     if left.aged_at.is_none() && told.clock().is_some() {
         left.aged_at = Some(moment);

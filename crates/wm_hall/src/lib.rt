@@ -6,10 +6,12 @@
 //! that this session saw or asked for (asking.rt). [`Work`] has what the root's crawler and its triggers are to do.
 #![tactic(auto)]
 
+mod asked;
 mod asking;
 mod change;
 mod hall;
 mod keeping;
+mod performing;
 mod reading;
 mod starts;
 mod viewers;

@@ -1,35 +1,95 @@
 //! A reading of the root by its crawler: what is observed meanwhile, and what is handed in at its end.
 //! Definitions: specs/Readings.antt; `IsOverlaid` of wm_reading. Tests: serve_tests/src/crawls.rt, serve_tests/src/readings.rt.
-ghost use Rattle.std.specs.Prelude.{◌≡◌, ◌⊎◌, None, Some, IsSome, IfOk, IfErr, MatchResult, OnErr, true};
+ghost use Rattle.std.specs.Prelude.{◌≡◌, ◌≢◌, ◌⊎◌, ◌++◌, [], None, Some, IsSome, IfOk, IfErr, MatchResult, OnErr, true, false};
 ghost use Rattle.wm_view.specs.Listings.{Found};
 ghost use Rattle.wm_view.specs.declared.op.Op.TheVariants.{Recrawl};
-ghost use Rattle.wm_reading.specs.Overlays.{IsOverlaid, Noted};
-ghost use Rattle.wm_hall.specs.Forgetting.{due_age_out, moment_of as moment_of_lem};
-ghost use Rattle.wm_hall.specs.Readings.{IsHandedIn, Notes, NotesIf, is_begun_before, pairs_in};
+ghost use Rattle.wm_crawler.specs.Crawls.{FailsIn, IsCrawl, IsReadable};
+ghost use Rattle.wm_reading.specs.Overlays.{IsOverlaid, Noted, noted as noted_all};
+ghost use Rattle.wm_hall.specs.Forgetting.{IsHandedIn};
+ghost use Rattle.wm_hall.specs.Readings.{Notes, NotesIf, is_begun_before, clock_last, pairs_in, tick_shown};
 ghost use Rattle.wm_share.specs.Operations.{MayRefuse, handed_in};
 ghost use Rattle.wm_share.specs.PublishedLists.{outcome};
 
-use crate::keeping::{Forgetting, Left, operate};
+use crate::keeping::{Forgetting, Left, clock_told, operate, tick_of};
 use std::alloc::Global;
+use std::marker::Model;
 use std::sync::Wait;
+use std::thread::Threads;
+use wm_crawler::{Folders, Turnstile, crawl_root};
 use wm_disk::{NoMemory, Refusal};
-use wm_names::{Meta, RelPath};
+use wm_names::{Meta, RelPath, RootPath, Subtree};
 use wm_reading::Observed;
 use wm_share::{Listed, Naming, RootKeeper, Told};
 use wm_view::{Listing, Op, Pairs};
 
-/// A reading that has begun: the tick at which the root stood then. What is observed from then on is noted until the reading's
-/// listing is handed in, or the reading is given up.
+/// A reading that has begun. What is observed from then on is noted until the reading's listing is handed in, or the reading is
+/// given up. Contracts see the tick at which the root stood when it began.
 #[derive(Drop)]
 pub struct Begun {
-    pub(crate) tick: u64,
+    tick: u64,
 }
 
-/// What a reading found, and when it began.
+impl Model for Begun {
+    ghost use Rattle.std.specs.Prelude.{ℕ};
+
+    ghost Value = { ℕ };
+
+    ghost view = { λ b. b.tick };
+}
+
+/// What a reading found, all of it since the reading began: it is made of a [`Begun`] by a crawl alone.
 #[derive(Drop)]
 pub struct Reading {
-    pub begun: Begun,
-    pub listing: Listing,
+    begun: Begun,
+    listing: Listing,
+}
+
+impl Model for Reading {
+    ghost use Rattle.wm_hall.specs.Readings.{Read};
+
+    ghost Value = { Read };
+
+    ghost view = { λ r. record { begun_at = r.begun; listing = r.listing } };
+}
+
+/// Begins a reading, once what is published is as it was told last: from now on what is observed is noted.
+pub(crate) fn begin<J: Naming>(
+    alloc: Global,
+    last: &Option<Told<J>>,
+    reading: &mut Option<Observed>,
+) -> Begun
+    ensures tick { result ≡ tick_shown (clock_last last.now) }
+    ensures noted { reading.new ≡ Some (noted_all []) }
+{
+    *reading = Some(Observed::new(alloc));
+    let tick = tick_of(clock_told(last));
+    Begun { tick }
+}
+
+impl Begun {
+    /// Crawls a root, or a part of it, as `crawl_root` does, which begins after this reading did.
+    pub fn crawl<R: Threads + Sync, F: Folders + Sync, G: Turnstile + Sync>(
+        self,
+        rt: &R,
+        alloc: Global,
+        folders: &F,
+        root: &RootPath,
+        subtree: &Subtree,
+        workers: usize,
+        gate: &G,
+    ) -> Result<Reading, Refusal>
+        ensures begun { IfOk result (λ found. found.begun_at ≡ self) }
+        ensures part { IfOk result (λ found. found.listing.subtree ≡ subtree.now) }
+        ensures files { IfOk result (λ found. F.stays folders.now → IsCrawl (F.content folders.now root.now) subtree.now found.listing.files) }
+        ensures whole { IfOk result (λ _. F.stays folders.now → IsReadable (F.content folders.now root.now) subtree.now) }
+        ensures refused { IfErr result (λ e. e ≢ Refusal.NoMemory → (e ≡ Refusal.DeviceFailed) × FailsIn (F.may_fail folders.now root.now) subtree.now) }
+    {
+        let listing = crawl_root(rt, alloc, folders, root, subtree, workers, gate)?;
+        Ok(Reading {
+            begun: self,
+            listing,
+        })
+    }
 }
 
 /// The same pair again, whose path shares its text.
@@ -101,7 +161,10 @@ pub(crate) fn operate_noted<J: Naming, T: Listed<J> + Drop, R: Wait + Drop>(
     op: Op,
 ) -> Result<Told<J>, Refusal>
     ensures noted { MatchResult result (λ told. outcome told ≡ None → NotesIf (pairs_in op) reading.old reading.new) (λ _. reading.new ≡ reading.old) }
-    ensures whole { IfOk result (λ told. IsHandedIn (handed_in keeper.old) (due_age_out left.old.aged_at forgetting (moment_of_lem op)) left.old.aged_at left.new.aged_at op told.operations) }
+    ensures whole { IfOk result (λ told. IsHandedIn left.old.aged_at left.new.aged_at forgetting op (handed_in keeper.old) told.operations) }
+    ensures shown { IfOk result (λ told. (keeper.new.published ≡ told) × (keeper.new.pending ≡ [])) }
+    ensures owes { IfOk result (λ _. left.new.owes ≡ false) }
+    ensures paid { left.new.paid_at ≡ left.old.paid_at }
     ensures overtaken { IfErr result (λ e. MayRefuse keeper.new e ⊎ ((e ≡ Refusal.BadClock) × (is_begun_before left.old.paid_at op ≡ true))) }
 {
     let Some(observed) = reading else {
@@ -123,7 +186,7 @@ fn recrawl_by(
     moment: u64,
     found: Reading,
 ) -> Result<Op, Refusal>
-    ensures op { IfOk result (λ op. (noted : Noted) × (listing : Found) × (observed ≡ Some noted) × IsOverlaid noted found.listing listing × (op ≡ Recrawl moment found.begun.tick listing)) }
+    ensures op { IfOk result (λ op. (noted : Noted) × (listing : Found) × (observed ≡ Some noted) × IsOverlaid noted found.listing listing × (op ≡ Recrawl moment found.begun_at listing)) }
     ensures refused { IfErr result (λ e. (e ≡ Refusal.NoMemory) ⊎ (e ≡ Refusal.BadClock)) }
 {
     let Reading { begun, listing } = found;
@@ -140,17 +203,17 @@ pub(crate) fn take_in<J: Naming, T: Listed<J> + Drop, R: Wait + Drop>(
     alloc: Global,
     keeper: &mut RootKeeper<J, T, R>,
     left: &mut Left,
-    reading: &mut Option<Observed>,
+    observed: Option<Observed>,
     forgetting: Forgetting,
     moment: u64,
     found: Reading,
 ) -> Result<Told<J>, Refusal>
-    ensures used { reading.new ≡ None }
-    ensures whole { IfOk result (λ told. (noted : Noted) × (listing : Found) × (reading.old ≡ Some noted) × IsOverlaid noted found.listing listing
-        × IsHandedIn (handed_in keeper.old) (due_age_out left.old.aged_at forgetting moment) left.old.aged_at left.new.aged_at (Recrawl moment found.begun.tick listing) told.operations) }
+    ensures whole { IfOk result (λ told. (noted : Noted) × (listing : Found) × (observed ≡ Some noted) × IsOverlaid noted found.listing listing
+        × IsHandedIn left.old.aged_at left.new.aged_at forgetting (Recrawl moment found.begun_at listing) (handed_in keeper.old) told.operations) }
+    ensures shown { IfOk result (λ told. (keeper.new.published ≡ told) × (keeper.new.pending ≡ [])) }
+    ensures owes { IfOk result (λ _. left.new.owes ≡ false) }
     ensures refused { IfErr result (λ e. MayRefuse keeper.new e ⊎ (e ≡ Refusal.BadClock)) }
 {
-    let observed = reading.take();
     let op = recrawl_by(alloc, observed, moment, found)?;
     operate(keeper, left, forgetting, op)
 }

@@ -1,0 +1,101 @@
+-- The crawls of a root that were asked for: each has a ticket, by which those who wait for it ask how it ended.
+use Rattle.std.specs.Prelude.{ℕ, ◌+◌, ◌-◌, ◌^◌, ◌<◌, ◌≤◌, ◌==◌, Bool, true, false, ◌&&◌, min, List, [], ◌∷◌, ◌++◌, Option, None, Some, Result, Ok, Err, if◌then◌else◌}
+use Rattle.wm_disk.specs.declared.refusal.Refusal.{Refusal}
+use Rattle.wm_disk.specs.declared.refusal.Refusal.TheVariants.{NotWatched}
+use Rattle.wm_names.specs.Paths.{same_path}
+use Rattle.wm_names.specs.declared.subtree.Subtree.{Subtree}
+use Rattle.wm_names.specs.declared.subtree.Subtree.TheVariants.{Whole, Below}
+use Rattle.wm_lines.specs.declared.progress.Progress.{Progress}
+use Rattle.wm_hall.specs.declared.asked.Stage.{Stage}
+use Rattle.wm_hall.specs.declared.asked.Stage.TheVariants.{Waiting, Running, Done, Refused}
+use Rattle.wm_hall.specs.declared.asked.AskedCrawl.{AskedCrawl}
+
+pub record AskedState : Type 0 where
+  pub crawls : List AskedCrawl  -- in the order in which they were asked for
+  pub last_ticket : ℕ  -- that was given
+  pub changes : ℕ  -- how often the view or the triggers may have changed
+  pub has_ended : Bool  -- the root isn't watched any longer, or the server closes
+
+-- each ticket is above the ones before it, and none is above the last
+abbrev pub TicketsRise : ℕ → List AskedCrawl → ℕ → Type 0
+TicketsRise before [] last = before ≤ last
+TicketsRise before (crawl ∷ crawls) last = (before < crawl.ticket) × TicketsRise crawl.ticket crawls last
+
+-- ---- which crawl
+
+-- it is asked for, and hasn't begun
+abbrev pub is_at_rest : Stage → Bool
+is_at_rest Waiting = true
+is_at_rest Running = false
+is_at_rest (Done progress) = false
+is_at_rest (Refused e) = false
+
+-- it hasn't ended
+abbrev pub is_open : Stage → Bool
+is_open Waiting = true
+is_open Running = true
+is_open (Done progress) = false
+is_open (Refused e) = false
+
+abbrev pub is_waiting : AskedCrawl → Bool
+is_waiting crawl = is_at_rest crawl.stage
+
+abbrev pub has_ticket : ℕ → AskedCrawl → Bool
+has_ticket ticket crawl = crawl.ticket == ticket
+
+abbrev pub is_pending : ℕ → AskedCrawl → Bool
+is_pending ticket crawl = has_ticket ticket crawl && is_open crawl.stage
+
+abbrev pub is_same_part : Subtree → Subtree → Bool
+is_same_part Whole Whole = true
+is_same_part Whole (Below other) = false
+is_same_part (Below top) Whole = false
+is_same_part (Below top) (Below other) = same_path top other
+
+-- who asks for the part now may wait for this one: it is of the part, and hasn't begun
+abbrev pub serves : Subtree → AskedCrawl → Bool
+serves part crawl = is_waiting crawl && is_same_part crawl.subtree part
+
+-- ---- what happens to one crawl
+
+-- a new one, for which so many wait
+abbrev pub new_crawl : ℕ → Subtree → ℕ → AskedCrawl
+new_crawl ticket part waiters = record { ticket = ticket; subtree = part; stage = Waiting; waiters = waiters }
+
+-- so many more wait for it
+abbrev pub more_waiters : ℕ → AskedCrawl → List AskedCrawl
+more_waiters waiters crawl = record crawl { waiters = min (crawl.waiters + waiters) (2 ^ 64 - 1) } ∷ []
+
+abbrev pub running : AskedCrawl → List AskedCrawl
+running crawl = record crawl { stage = Running } ∷ []
+
+-- how a crawl has ended
+abbrev pub end_stage : Result Progress Refusal → Stage
+end_stage (Ok progress) = Done progress
+end_stage (Err e) = Refused e
+
+-- it has ended so, and is gone if nobody waits for it
+abbrev pub ended_crawl : Result Progress Refusal → AskedCrawl → List AskedCrawl
+ended_crawl ended crawl = if crawl.waiters == 0 then [] else record crawl { stage = end_stage ended } ∷ []
+
+-- one of those who wait knows how it ended, and it is gone with the last of them
+abbrev pub collected : AskedCrawl → List AskedCrawl
+collected crawl = if crawl.waiters - 1 == 0 then [] else record crawl { waiters = crawl.waiters - 1 } ∷ []
+
+-- what who waited is told: nothing ended if the root isn't watched any longer
+abbrev pub stage_told : Stage → Result Progress Refusal
+stage_told Waiting = Err NotWatched
+stage_told Running = Err NotWatched
+stage_told (Done progress) = Ok progress
+stage_told (Refused e) = Err e
+
+abbrev pub crawl_told : Option AskedCrawl → Result Progress Refusal
+crawl_told None = Err NotWatched
+crawl_told (Some crawl) = stage_told crawl.stage
+
+-- ---- what happens to the crawls
+
+-- the first that passes the test is changed, and no other
+abbrev pub with_first : (AskedCrawl → Bool) → (AskedCrawl → List AskedCrawl) → List AskedCrawl → List AskedCrawl
+with_first test change [] = []
+with_first test change (crawl ∷ crawls) = if test crawl then change crawl ++ crawls else crawl ∷ with_first test change crawls
