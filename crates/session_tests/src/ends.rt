@@ -6,7 +6,7 @@ use std::io::BufRead;
 use std::process::Abort;
 use wm_disk::{MemDisk, OneFault};
 use wm_server::lines::lines_on;
-use wm_server::{Input, Output};
+use wm_session::{Input, Output};
 
 /// A line and its reply. What a function's proof costs goes by the square of the bytes of the tables that
 /// it names: a long table has a function of its own.

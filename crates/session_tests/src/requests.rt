@@ -12,7 +12,7 @@ use crate::checks::check;
 use crate::ends::Row;
 use std::alloc::Global;
 use std::process::Abort;
-use wm_server::Request;
+use wm_lines::Request;
 
 const ARGUMENTS: &str = "3 BadArguments";
 

@@ -12,8 +12,9 @@ use std::time::Clock;
 use wm_crawler::{Folders, Open};
 use wm_disk::{NoMemory, Refusal};
 use wm_serve::serve;
+use wm_server::program;
 use wm_server::system::Host;
-use wm_server::{Input, Output, program};
+use wm_session::{Input, Output};
 use wm_triggers::Programs;
 
 /// `watchmand` with these words, of which its own name is none: gives the status to end with. What is printed

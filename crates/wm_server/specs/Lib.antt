@@ -1,3 +1,1 @@
-pub mod local
 pub mod program
-pub mod session

@@ -7,8 +7,8 @@ ghost use Rattle.wm_checkpoint.specs.Meanings.{Means};
 ghost use Rattle.wm_checkpoint.specs.declared.layout.Slot.TheVariants.{A};
 ghost use Rattle.wm_registry.specs.MachineLaws.{watches};
 ghost use Rattle.wm_registry.specs.Registry.{empty_registry};
-ghost use Rattle.wm_server.specs.session.Streams.{streams, writer_failed, writer_of};
-ghost use Rattle.wm_server.specs.program.Systems.{FormatFails, IsUndone, Runs, RunsFormat, RunsLines};
+ghost use Rattle.wm_session.specs.session.Streams.{streams, writer_failed, writer_of};
+ghost use Rattle.wm_server.specs.program.Systems.{FormatFails, IsUndone, Runs, RunsFormat, RunsLinesOver};
 ghost use Rattle.wm_server.specs.program.Words.{asked, shown as shown_lem};
 ghost use Rattle.wm_registry.specs.declared.version.Version.TheVariants.{Two};
 
@@ -21,10 +21,10 @@ use crate::program::lines::{lines_on, refuse};
 use crate::program::migration::migrate;
 use crate::program::system::System;
 use crate::program::words::Words;
-use crate::session::{Input, Output};
 use std::alloc::Global;
 use std::io::{BufRead, Write};
 use wm_disk::{Disk, NoMemory, Refusal};
+use wm_session::{Input, Output};
 
 /// `watchmand` with these words, of which its own name is none: gives the status to end with. Replies
 /// and help go to `writer`, and what goes wrong is told on `faults`.
@@ -113,7 +113,7 @@ fn answer_lines<S: System, R: BufRead, W: Write, E: Write>(
     writer: &mut Output<W>,
     faults: &mut Output<E>,
 ) -> u8
-    ensures runs { RunsLines S.File.Disk S.System R.remaining W.contents E.contents path.now system.old system.new (streams reader.old writer.old faults.old) (streams reader.new writer.new faults.new) result }
+    ensures runs { RunsLinesOver S.File.Disk S.System R.remaining W.contents E.contents path.now system.old system.new (streams reader.old writer.old faults.old) (streams reader.new writer.new faults.new) result }
     ensures quiet { result ≡ 0 → faults.new ≡ faults.old }
 {
     match system.open(path) {

@@ -8,7 +8,7 @@ use std::io::{BufReader, ErrorKind, Read, Write};
 use std::process::Abort;
 use wm_disk::{Crashed, MemDisk, OneFault};
 use wm_server::lines::lines_on;
-use wm_server::{Input, Output};
+use wm_session::{Input, Output};
 
 /// Starts over a file, which must be refused and left as it was.
 fn assert_refused(rt: &impl Abort, alloc: Global, content: &[u8], refusal: &str) {

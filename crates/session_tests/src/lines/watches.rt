@@ -7,8 +7,8 @@ use std::alloc::Global;
 use std::io::{BufRead, BufReader};
 use std::process::Abort;
 use wm_disk::MemDisk;
-use wm_server::run::{LineNumbers, run};
-use wm_server::{Input, LocalFront, Output, Session};
+use wm_session::run::{LineNumbers, run};
+use wm_session::{Input, LocalFront, Output, Session};
 
 /// The lines of earlier sessions, those of a session over the same file, their replies, and how the journal
 /// begins then: a gate and a command for each start and each accepted line, and a closed gate.

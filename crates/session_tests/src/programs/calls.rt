@@ -8,7 +8,7 @@ use std::fs::{File, Files};
 use std::process::Abort;
 use wm_server::program::watchmand;
 use wm_server::system::Host;
-use wm_server::{Input, Output};
+use wm_session::{Input, Output};
 
 pub(super) const DEVICE_FAILED: &str = "watchmand: 13 DeviceFailed\n";
 

@@ -8,7 +8,7 @@ use std::fs;
 use std::fs::{File, Files};
 use std::process::Abort;
 use wm_disk::{DeviceFailed, Disk};
-use wm_server::file::{FileDisk, Unknown};
+use wm_file::{FileDisk, Unknown};
 
 /// Writes and syncs, and then reads the bytes back, through the trait. It gives the new length. Where it
 /// succeeds, no failure was counted.

@@ -5,7 +5,7 @@ use crate::disks::content_of_version_1;
 use std::fs;
 use std::fs::{File, Files};
 use std::process::Abort;
-use wm_server::file::{FileDisk, Unknown};
+use wm_file::{FileDisk, Unknown};
 
 const DAMAGED: &str = "watchmand: 14 Damaged\n";
 

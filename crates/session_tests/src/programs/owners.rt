@@ -4,10 +4,10 @@ use std::alloc::Global;
 use std::fs;
 use std::fs::{File, Files};
 use std::process::Abort;
-use wm_server::file::{FileDisk, Unknown};
+use wm_file::{FileDisk, Unknown};
 use wm_server::program::watchmand;
 use wm_server::system::Host;
-use wm_server::{Input, Output};
+use wm_session::{Input, Output};
 
 fn opens(files: &impl Files<File = File>, path: &str) -> bool {
     let opened = FileDisk::<Unknown>::open(files, path);

@@ -4,7 +4,7 @@ use std::fs;
 use std::fs::{File, Files};
 use std::process::Abort;
 use wm_disk::Disk;
-use wm_server::file::{FileDisk, Unknown};
+use wm_file::{FileDisk, Unknown};
 
 /// Whether another descriptor of the file reads just this text.
 fn holds<R: Files<File = File> + AllocGlobal + Abort>(rt: &R, path: &str, text: &str) -> bool {

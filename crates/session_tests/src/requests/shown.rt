@@ -1,9 +1,9 @@
 //! What was read of a line, as a text that a table can hold.
 use std::process::Abort;
 use wm_clock::{ClockId, ClockSpec};
+use wm_lines::{Inquiry, Request};
 use wm_names::{Meta, RootPath, Subtree};
 use wm_registry::{Stdin, Trigger};
-use wm_server::{Inquiry, Request};
 use wm_view::{Listing, Pairs};
 
 fn show_pairs(rt: &impl Abort, pairs: &Pairs, text: &mut String) {

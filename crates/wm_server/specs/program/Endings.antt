@@ -9,13 +9,13 @@ use Rattle.wm_disk.specs.declared.disk.Disk.{Ghosts}
 use Rattle.wm_disk.specs.declared.refusal.Refusal.{Refusal}
 use Rattle.wm_disk.specs.declared.refusal.Refusal.TheVariants as refusals
 use Rattle.wm_disk.specs.Parts.{IsPartOf}
-use Rattle.wm_server.specs.session.Asked.{AreAskedOf}
+use Rattle.wm_session.specs.session.Asked.{AreAskedOf}
 use Rattle.wm_store.specs.Openings.{WritesNothing}
-use Rattle.wm_server.specs.local.Stores.{StartCut, StartRefused}
+use Rattle.wm_session.specs.local.Stores.{StartCut, StartRefused}
 use Rattle.wm_server.specs.program.Programs.{CutShort, IsTold, KeepsAccepted, LinesBroken, LinesCut}
-use Rattle.wm_server.specs.session.Streams.{IsCutOff, StandAsBefore, writer_closed}
-use Rattle.wm_server.specs.declared.session.input.Input.{Input}
-use Rattle.wm_server.specs.declared.session.output.Output.{Output}
+use Rattle.wm_session.specs.session.Streams.{IsCutOff, StandAsBefore, writer_closed}
+use Rattle.wm_session.specs.declared.session.input.Input.{Input}
+use Rattle.wm_session.specs.declared.session.output.Output.{Output}
 use Rattle.wm_server.specs.declared.program.lines.Ending.{Ending}
 use Rattle.wm_server.specs.declared.program.lines.Ending.TheVariants.{Served, Refused, Broken, Unread}
 use Rattle.wm_store.specs.Meant.{MeansAfter, MeansRegistry}

@@ -14,8 +14,8 @@ use Rattle.wm_store.specs.Meant.{MeansRegistry}
 use Rattle.wm_store.specs.Migrations.{HaveNoRegistry, IsMigrated, MigratesOnly, WritesNeither}
 use Rattle.wm_store.specs.Openings.{WritesNothing}
 use Rattle.wm_server.specs.program.Programs.{IsTold}
-use Rattle.wm_server.specs.session.Streams.{writer_failed, writer_of}
-use Rattle.wm_server.specs.declared.session.output.Output.{Output}
+use Rattle.wm_session.specs.session.Streams.{writer_failed, writer_of}
+use Rattle.wm_session.specs.declared.session.output.Output.{Output}
 use Rattle.wm_server.specs.declared.program.system.System as systems
 
 -- What the old file was found to be: it is retired, or it means a registry of version 1.

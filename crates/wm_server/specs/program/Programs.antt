@@ -11,16 +11,16 @@ use Rattle.wm_registry.specs.Registry.{reply_to, after_command}
 use Rattle.wm_registry.specs.Roots as registry
 use Rattle.wm_disk.specs.declared.disk.Disk.{Ghosts}
 use Rattle.wm_disk.specs.Parts.{IsPartOf}
-use Rattle.wm_server.specs.local.Stores.{IsKeptOn}
-use Rattle.wm_server.specs.session.Asked.{asked_in}
-use Rattle.wm_server.specs.session.Inputs.{lines_of}
-use Rattle.wm_server.specs.session.Sessions.{SessionState, WithSubscriptions}
-use Rattle.wm_server.specs.session.Faults.{FrontState, Meeting, Way, Defined, Device, Memory, Spent}
-use Rattle.wm_server.specs.session.Runs.{RunsLines}
-use Rattle.wm_server.specs.session.Stands.{without_subscriptions}
-use Rattle.wm_server.specs.session.Streams.{writer_failed, writer_of}
-use Rattle.wm_server.specs.declared.session.output.Output.{Output}
-use Rattle.wm_server.specs.session.Watched.{first_views}
+use Rattle.wm_session.specs.local.Stores.{IsKeptOn}
+use Rattle.wm_session.specs.session.Asked.{asked_in}
+use Rattle.wm_session.specs.session.Inputs.{lines_of}
+use Rattle.wm_session.specs.session.Sessions.{SessionState, WithSubscriptions}
+use Rattle.wm_session.specs.session.Faults.{FrontState, Meeting, Way, Defined, Device, Memory, Spent}
+use Rattle.wm_session.specs.session.Runs.{RunsLines}
+use Rattle.wm_session.specs.session.Stands.{without_subscriptions}
+use Rattle.wm_session.specs.session.Streams.{writer_failed, writer_of}
+use Rattle.wm_session.specs.declared.session.output.Output.{Output}
+use Rattle.wm_session.specs.session.Watched.{first_views}
 use Rattle.wm_store.specs.Meant.{MeansAfter, MeansRegistry}
 use Rattle.wm_checkpoint.specs.Machines.{replayed}
 

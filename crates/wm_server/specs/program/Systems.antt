@@ -11,12 +11,12 @@ use Rattle.wm_registry.specs.MachineLaws.{watches}
 use Rattle.wm_registry.specs.Registry.{empty_registry}
 use Rattle.wm_server.specs.program.Endings.{Ends, EndsBy, LeavesAnytime, Tells, status_of}
 use Rattle.wm_server.specs.program.Programs.{IsTold, LinesAnswered, LinesServed}
-use Rattle.wm_server.specs.local.Stores.{Later}
-use Rattle.wm_server.specs.session.Streams.{Streams, reader_of, writer_failed, writer_of}
+use Rattle.wm_session.specs.local.Stores.{Later}
+use Rattle.wm_session.specs.session.Streams.{Streams, reader_of, writer_failed, writer_of}
 use Rattle.wm_server.specs.program.Migrating.{RunsMigrate}
 use Rattle.wm_server.specs.program.Words.{Asked, format, lines, migrate, shown}
 use Rattle.wm_server.specs.declared.program.lines.Ending.{Ending}
-use Rattle.wm_server.specs.declared.session.output.Output.{Output}
+use Rattle.wm_session.specs.declared.session.output.Output.{Output}
 use Rattle.wm_server.specs.declared.program.system.System as systems
 use Rattle.wm_registry.specs.declared.version.Version.TheVariants.{Two}
 
@@ -76,8 +76,8 @@ module _ {S D : Type 0} (disk : disks.Ghosts D) (system : systems.Ghosts S D) wh
       pub later : Later disk before after
 
     -- `lines` with a path: the file couldn't be opened, which is told, or lines were answered over it
-    abbrev pub RunsLines : List ℕ → S → S → Streams R W E → Streams R W E → ℕ → Type 0
-    RunsLines path old new first last status = ((status ≡ 1) × system.opens old path None new × IsTold tells refusals.DeviceFailed first.faults last.faults)
+    abbrev pub RunsLinesOver : List ℕ → S → S → Streams R W E → Streams R W E → ℕ → Type 0
+    RunsLinesOver path old new first last status = ((status ≡ 1) × system.opens old path None new × IsTold tells refusals.DeviceFailed first.faults last.faults)
         ⊎ LinesOver path old new first last status
 
     -- A text was shown: help or the version on the writer, a fault of the words where refusals are told.
@@ -88,7 +88,7 @@ module _ {S D : Type 0} (disk : disks.Ghosts D) (system : systems.Ghosts S D) wh
     -- By what is asked for: from old to new the program made these calls of the system, and ends with this status. A text that is asked for
     -- was shown, unless that failed.
     abbrev pub Runs : Asked → S → S → Streams R W E → Streams R W E → ℕ → Type 0
-    Runs (lines path) old new first last status = RunsLines path old new first last status
+    Runs (lines path) old new first last status = RunsLinesOver path old new first last status
     Runs (format path) old new first last status = RunsFormat holds tells path old new first.writer last.writer first.faults last.faults status
     Runs (migrate old_path new_path) old new first last status = RunsMigrate disk system holds tells old_path new_path old new first.writer last.writer first.faults last.faults status
     Runs (shown asked) old new first last status = (new ≡ old) × (((status ≡ asked) × Shows asked first last)

@@ -143,9 +143,9 @@ abbrev pub migrate_by : List Row → Option Asked
 migrate_by rows = option_and_then (λ old. option_map (migrate old) (first_of (codes "NEW") rows)) (first_of (codes "OLD") rows)
 
 -- what is asked by the subcommand that was met, with the entries of its matches
-abbrev pub asked_by : Option (Text × List Row) → Option Asked
-asked_by None = None
-asked_by (Some met) = if bytes_eq met.0 (codes "migrate") then migrate_by met.1
+abbrev pub asked_by_matches : Option (Text × List Row) → Option Asked
+asked_by_matches None = None
+asked_by_matches (Some met) = if bytes_eq met.0 (codes "migrate") then migrate_by met.1
     else option_map (λ file. if bytes_eq met.0 (codes "format") then format file else lines file) (first_of (codes "FILE") met.1)
 
 -- what an error of this kind shows; running out of memory is never shown

@@ -3,18 +3,17 @@
 //! Tests: session_tests/src/ends.rt, session_tests/src/lines/failures.rt.
 ghost use Rattle.std.specs.Prelude.{◌≡◌, ℕ, List, Some, true, OnOk, OnErr};
 ghost use Rattle.std.specs.Io.KnownBytes.{Appends};
-ghost use Rattle.wm_server.specs.local.Stores.{Later};
+ghost use Rattle.wm_session.specs.local.Stores.{Later};
 ghost use Rattle.wm_server.specs.program.Endings.{Ends, EndsBy, LeavesAnytime, Tells, status_of};
 ghost use Rattle.wm_server.specs.program.Programs.{IsTold, LinesAnswered, LinesServed, message_of};
-ghost use Rattle.wm_server.specs.session.Streams.{reader_of, writer_failed, writer_of};
+ghost use Rattle.wm_session.specs.session.Streams.{reader_of, writer_failed, writer_of};
 
-use crate::local::LocalFront;
-use crate::session::run::{LineNumbers, run};
-use crate::session::{Input, Output, Session};
 use std::alloc::Global;
 use std::io;
 use std::io::{BufRead, Write};
 use wm_disk::{Disk, Refusal};
+use wm_session::run::{LineNumbers, run};
+use wm_session::{Input, LocalFront, Output, Session};
 
 /// How a session over a file ended.
 #[derive(Clone, Copy, Debug, PartialEq, Eq)]

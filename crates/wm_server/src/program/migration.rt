@@ -5,10 +5,10 @@ ghost use Rattle.wm_server.specs.program.Migrating.{AreSafe, IsShown, MoveFails,
 
 use crate::program::lines::refuse;
 use crate::program::system::System;
-use crate::session::Output;
 use std::alloc::Global;
 use std::io::Write;
 use wm_disk::{DeviceFailed, Disk, Refusal};
+use wm_session::Output;
 
 /// `watchmand migrate OLD NEW`: moves the registry of a state file of version 1 into one of version 2. A new file that
 /// was made or written over stays also if this is refused, since it may hold the registry already.

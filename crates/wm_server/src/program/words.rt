@@ -4,7 +4,7 @@ ghost use Rattle.std.specs.Prelude.{◌≡◌, IfOk, Some, false, is_some, map, 
 ghost use Rattle.clap.specs.Values.{kind_of};
 ghost use Rattle.clap.specs.declared.builder.Command.TheViews.{out-Command};
 ghost use Rattle.clap.specs.Words.{app_of, found_of, rows_of, rule_of, subcommand_rows_of, with_subcommand};
-ghost use Rattle.wm_server.specs.program.Words.{asked, asked_by, asked_of, bare_app, file_app, migrate_app, migrate_by, path_rule, shown_for, watchmand_app};
+ghost use Rattle.wm_server.specs.program.Words.{asked, asked_by_matches, asked_of, bare_app, file_app, migrate_app, migrate_by, path_rule, shown_for, watchmand_app};
 
 use clap::error::ErrorKind;
 use clap::{Arg, ArgAction, ArgMatches, Command, Error};
@@ -155,8 +155,8 @@ fn path_argument<'a>(alloc: Global, name: &'a str, help: &'a str) -> Arg<'a>
 
 // What the matches of the program's command ask for: it met one of its commands, with the paths that this one takes.
 fn chosen(alloc: Global, matches: &ArgMatches<'_>) -> Result<Words, NoMemory>
-    requires { is_some (asked_by (subcommand_rows_of matches.now)) ≡ true }
-    ensures { IfOk result (λ r. asked_by (subcommand_rows_of matches.now) ≡ Some (asked_of r)) }
+    requires { is_some (asked_by_matches (subcommand_rows_of matches.now)) ≡ true }
+    ensures { IfOk result (λ r. asked_by_matches (subcommand_rows_of matches.now) ≡ Some (asked_of r)) }
 {
     let Some((name, inner)) = matches.subcommand() else {
         unreachable!()

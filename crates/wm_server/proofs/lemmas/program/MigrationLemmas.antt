@@ -12,7 +12,7 @@ use Rattle.wm_registry.specs.declared.version.Version.TheVariants.{One}
 use Rattle.wm_store.specs.Meant.{MeansRegistry}
 use Rattle.wm_store.specs.Migrations.{HaveNoRegistry, WritesNeither}
 use Rattle.wm_server.specs.program.Migrating.{IsFoundRetired, IsShown, MoveFails, IsUnshown, LookRefused, MoveRefused, Moves}
-use Rattle.wm_server.specs.declared.session.output.Output.{Output}
+use Rattle.wm_session.specs.declared.session.output.Output.{Output}
 use Rattle.wm_server.specs.declared.program.system.System as systems
 
 pub found_retired : (b : Bool) (content : List ℕ) → (b ≡ true → IsRetired sizes_1 content) → (b ≡ false → (s : State) × (s.version ≡ One) × MeansRegistry s content)

@@ -8,7 +8,7 @@ use Rattle.clap.specs.Faults.{entered_fault, fault_of, walk_fault, defaults_faul
 use Rattle.clap.specs.Kinds.{IsAmong, Kinds, or_else}
 use Rattle.clap.specs.Simple.{App, Shape, entered, is_simple, subcommand_of, with_filled_rules, with_help_flag, with_version_flag}
 use Rattle.clap.specs.Faults.{is_simple_and_free}
-use Rattle.clap.specs.Walk.{Names, Row, Text, Walk, arg_by_long, arg_by_short, first_of, idle, settled_rows, subcommand_met, value, walked}
+use Rattle.clap.specs.Walk.{Names, Row, Text, Walk, arg_by_long, arg_by_short, first_of, idle, settled_rows, subcommand_met, walked}
 use Rattle.clap.specs.Simple.{HasMatchesOf, subcommand_rows_of}
 use Rattle.clap.specs.Matches.{first_value, found_of, subcommand_name_of}
 use Rattle.clap.specs.Walk.{rows_of}
@@ -16,7 +16,7 @@ use Rattle.clap.specs.declared.error.ErrorKind.{ErrorKind}
 use Rattle.clap.specs.declared.error.ErrorKind.TheVariants.{OutOfMemory}
 use Rattle.clap.specs.declared.parser.ArgMatches.{ArgMatches}
 use Rattle.clap.proofs.WalkLemmas.{first_value-rows, walk_stopped}
-use Rattle.wm_server.specs.program.Words.{Asked, asked, asked_after_dashes, asked_after_migrate, asked_after_migrate_dashes, asked_by, asked_by_stray, asked_after_command, ends_flags, fault, file_app, format, is_flag, lines, migrate, migrate_app, migrate_by, shown, shown_for, watchmand_app}
+use Rattle.wm_server.specs.program.Words.{Asked, asked, asked_after_dashes, asked_after_migrate, asked_after_migrate_dashes, asked_by_matches, asked_by_stray, asked_after_command, ends_flags, fault, file_app, format, is_flag, lines, migrate, migrate_app, migrate_by, shown, shown_for, watchmand_app}
 use Rattle.wm_server.proofs.lemmas.program.OneWordLemmas.{AllShow, Shows, asks_nothing, at, by_status, flip, long_flag, or_else-Shows, short_flag, status_of, turn_flag, turn_plain}
 use Rattle.wm_server.proofs.lemmas.program.CommandLemmas.{Goes, above, after_dashes, built, command_goes, dashes, flagged, go_on, knows_flags, lacks, level_of, take_plain}
 
@@ -42,7 +42,7 @@ Gives (migrate old new) ks met = (ks ≡ []) × (met ≡ Some (migrate old new))
 abbrev Whole : Asked → Kinds → Walk → Type 0
 Whole a faults end = Gives a
     (level_of top faults end (is_some (entered whole end.stopped)) (entered_fault whole end.stopped))
-    (asked_by (entered whole end.stopped))
+    (asked_by_matches (entered whole end.stopped))
 
 abbrev Reads : Asked → Walk → List Text → Type 0
 Reads a w words = Whole a (walk_fault top names w words) (fold (walked top.rules names) w words)
@@ -254,7 +254,7 @@ pub is_free_app : is_simple_and_free watchmand_app ≡ true
 is_free_app = refl
 
 -- clap's parse of the words gives what they ask for
-pub watchmand_reads : (words : List Text) → Gives (asked words) (fault_of watchmand_app words) (asked_by (subcommand_of watchmand_app words))
+pub watchmand_reads : (words : List Text) → Gives (asked words) (fault_of watchmand_app words) (asked_by_matches (subcommand_of watchmand_app words))
 watchmand_reads words = words_read words
 
 pub some_same : {X : Type 0} (x y : X) → Some x ≡ Some y → x ≡ y
@@ -288,12 +288,12 @@ gives_shown (shown status) ks met k gives among = among_show status k ks gives a
 
 -- what a parse of the words that ended well met
 pub met_asked : (app : App) (words : List Text) (m : ArgMatches) → app ≡ watchmand_app → (is_simple_and_free app ≡ true → fault_of app words ≡ [])
-    → HasMatchesOf app words m → asked_by (subcommand_rows_of m) ≡ Some (asked words)
+    → HasMatchesOf app words m → asked_by_matches (subcommand_rows_of m) ≡ Some (asked words)
 met_asked app words m same none matches =
     let clean : fault_of watchmand_app words ≡ [] = subst (λ (a : App). fault_of a words ≡ []) same (none (ap is_simple_and_free same ∙ is_free_app)) in
     let met : subcommand_rows_of m ≡ subcommand_of watchmand_app words =
     (matches (ap is_simple same ∙ is_simple_app)).1 ∙ ap (λ (a : App). subcommand_of a words) same in
-    ap asked_by met ∙ gives_met (asked words) (fault_of watchmand_app words) _ (watchmand_reads words) clean
+    ap asked_by_matches met ∙ gives_met (asked words) (fault_of watchmand_app words) _ (watchmand_reads words) clean
 
 -- what a parse of the words that failed shows, unless memory ran out
 pub kind_asked : (app : App) (words : List Text) (k : ErrorKind) → app ≡ watchmand_app
@@ -319,14 +319,14 @@ made_by name file = if bytes_eq name (codes "format") then format file else line
 -- the subcommand of the matches, with its rows
 pub rows_by_parts : (m : ArgMatches) (name : Text) (inner : ArgMatches) → Some name ≡ subcommand_name_of m
     → Some (rows_of (found_of inner)) ≡ option_map (λ (p : Text × List Row). p.1) (subcommand_rows_of m)
-    → asked_by (subcommand_rows_of m) ≡ asked_by (Some (name, rows_of (found_of inner)))
-rows_by_parts m name inner name_is rows_are = ap asked_by (pairs _ _ _ name (rows_of (found_of inner)) name_is rows_are)
+    → asked_by_matches (subcommand_rows_of m) ≡ asked_by_matches (Some (name, rows_of (found_of inner)))
+rows_by_parts m name inner name_is rows_are = ap asked_by_matches (pairs _ _ _ name (rows_of (found_of inner)) name_is rows_are)
 
 -- what the matches ask for, by the name of the subcommand, which isn't `migrate`, and the value of its FILE
 pub asked_by_parts : (m : ArgMatches) (name : Text) (inner : ArgMatches) (file : Option Text) → Some name ≡ subcommand_name_of m
     → Some (rows_of (found_of inner)) ≡ option_map (λ (p : Text × List Row). p.1) (subcommand_rows_of m) → file ≡ first_value (found_of inner) (codes "FILE")
     → bytes_eq name (codes "migrate") ≡ false
-    → asked_by (subcommand_rows_of m) ≡ option_map (made_by name) file
+    → asked_by_matches (subcommand_rows_of m) ≡ option_map (made_by name) file
 asked_by_parts m name inner file name_is rows_are file_is other =
     rows_by_parts m name inner name_is rows_are
     ∙ ap (λ t. if t then migrate_by (rows_of (found_of inner)) else option_map (made_by name) (first_of (codes "FILE") (rows_of (found_of inner)))) other
@@ -335,7 +335,7 @@ asked_by_parts m name inner file name_is rows_are file_is other =
 -- what the matches ask for, if the subcommand is `migrate`
 pub asked_by_migrate : (m : ArgMatches) (name : Text) (inner : ArgMatches) → Some name ≡ subcommand_name_of m
     → Some (rows_of (found_of inner)) ≡ option_map (λ (p : Text × List Row). p.1) (subcommand_rows_of m) → bytes_eq name (codes "migrate") ≡ true
-    → asked_by (subcommand_rows_of m) ≡ migrate_by (rows_of (found_of inner))
+    → asked_by_matches (subcommand_rows_of m) ≡ migrate_by (rows_of (found_of inner))
 asked_by_migrate m name inner name_is rows_are hit =
     rows_by_parts m name inner name_is rows_are
     ∙ ap (λ t. if t then migrate_by (rows_of (found_of inner)) else option_map (made_by name) (first_of (codes "FILE") (rows_of (found_of inner)))) hit

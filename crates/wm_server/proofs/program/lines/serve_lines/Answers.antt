@@ -1,6 +1,7 @@
 use Rattle.std.proofs.Common.{◌≡◌, [], ap}
-use Rattle.wm_server.specs.local.LocalLaws.{later_then}
-use Rattle.wm_server.specs.session.Streams.{reader_of}
+use Rattle.wm_session.specs.local.LocalLaws.{later_then}
+use Rattle.wm_session.specs.local.Locals.{front_state_of}
+use Rattle.wm_session.specs.session.Streams.{reader_of}
 use Rattle.wm_server.proofs.lemmas.program.ProgramLemmas.{Course, by_close, close_refused, cuts_lines, keeps, lines_broken, lines_served, session_anytime, start_anytime, start_refused, untouched}
 use Rattle.wm_server.proofs.program.lines.serve_lines.Goals as goal
 
@@ -16,7 +17,7 @@ returns-clause-served g c = λ served h input e.
     let left = c.run-ran.new.session.front in
     let new = c.close-closed.result.1 in
     let found = rw (← c.new-session.ensures.front) at c.in-Ok.ensures in
-    let none : c.new-session.result.subscriptions ≡ [] = ap (λ s. s.subscriptions) c.new-session.ensures.first in
+    let none : c.new-session.result.subscriptions ≡ [] = ap (λ s. s.subscriptions) (c.new-session.ensures.first (front_state_of g.D.Disk)) in
     let course : Course g.D.Disk c.args.disk begun.store left.store new = record {
       works = found.working.0;
       start = λ h. found.begun (c.run-ran.ensures.later.1.later.honest (c.close-closed.ensures.later.honest h));
@@ -30,7 +31,7 @@ returns-clause-served g c = λ served h input e.
 pub returns-clause-answered : goal.returns-clause-answered
 returns-clause-answered g c = λ served input e.
     let found = rw (← c.new-session.ensures.front) at c.in-Ok.ensures in
-    let none : c.new-session.result.subscriptions ≡ [] = ap (λ s. s.subscriptions) c.new-session.ensures.first in
+    let none : c.new-session.result.subscriptions ≡ [] = ap (λ s. s.subscriptions) (c.new-session.ensures.first (front_state_of g.D.Disk)) in
     let s = rw none at ((rw c.in-Ok-Ok.is-1 at c.run-ran.ensures.served) input e) in
     record { begun = _; works = found.working.0; views = found.views; meetings = s.meetings; bytes = s.bytes; left = _; run = s.run; appends = s.appends }
 
@@ -60,7 +61,7 @@ returns-in-Ok-Err-clause-refused g c =
     let left = c.run-ran.new.session.front in
     let new = c.close-closed.result.1 in
     let found = rw (← c.new-session.ensures.front) at c.in-Ok.ensures in
-    let none : c.new-session.result.subscriptions ≡ [] = ap (λ s. s.subscriptions) c.new-session.ensures.first in
+    let none : c.new-session.result.subscriptions ≡ [] = ap (λ s. s.subscriptions) (c.new-session.ensures.first (front_state_of g.D.Disk)) in
     let course : Course g.D.Disk c.args.disk begun.store left.store new = record {
       works = found.working.0;
       start = λ h. found.begun (c.run-ran.ensures.later.1.later.honest (c.close-closed.ensures.later.honest h));
@@ -81,7 +82,7 @@ returns-in-Err-default-clause-refused g c =
     let left = c.run-ran.new.session.front in
     let new = c.close-closed.result.1 in
     let found = rw (← c.new-session.ensures.front) at c.in-Ok.ensures in
-    let none : c.new-session.result.subscriptions ≡ [] = ap (λ s. s.subscriptions) c.new-session.ensures.first in
+    let none : c.new-session.result.subscriptions ≡ [] = ap (λ s. s.subscriptions) (c.new-session.ensures.first (front_state_of g.D.Disk)) in
     let course : Course g.D.Disk c.args.disk begun.store left.store new = record {
       works = found.working.0;
       start = λ h. found.begun (c.run-ran.ensures.later.1.later.honest (c.close-closed.ensures.later.honest h));
@@ -99,7 +100,7 @@ returns-clause-any_moment g c =
     let left = c.run-ran.new.session.front in
     let new = c.close-closed.result.1 in
     let found = rw (← c.new-session.ensures.front) at c.in-Ok.ensures in
-    let none : c.new-session.result.subscriptions ≡ [] = ap (λ s. s.subscriptions) c.new-session.ensures.first in
+    let none : c.new-session.result.subscriptions ≡ [] = ap (λ s. s.subscriptions) (c.new-session.ensures.first (front_state_of g.D.Disk)) in
     let course : Course g.D.Disk c.args.disk begun.store left.store new = record {
       works = found.working.0;
       start = λ h. found.begun (c.run-ran.ensures.later.1.later.honest (c.close-closed.ensures.later.honest h));
@@ -115,7 +116,7 @@ returns-in-Ok-Err-clause-any_moment g c =
     let left = c.run-ran.new.session.front in
     let new = c.close-closed.result.1 in
     let found = rw (← c.new-session.ensures.front) at c.in-Ok.ensures in
-    let none : c.new-session.result.subscriptions ≡ [] = ap (λ s. s.subscriptions) c.new-session.ensures.first in
+    let none : c.new-session.result.subscriptions ≡ [] = ap (λ s. s.subscriptions) (c.new-session.ensures.first (front_state_of g.D.Disk)) in
     let course : Course g.D.Disk c.args.disk begun.store left.store new = record {
       works = found.working.0;
       start = λ h. found.begun (c.run-ran.ensures.later.1.later.honest (c.close-closed.ensures.later.honest h));
@@ -131,7 +132,7 @@ returns-in-Err-default-clause-any_moment g c =
     let left = c.run-ran.new.session.front in
     let new = c.close-closed.result.1 in
     let found = rw (← c.new-session.ensures.front) at c.in-Ok.ensures in
-    let none : c.new-session.result.subscriptions ≡ [] = ap (λ s. s.subscriptions) c.new-session.ensures.first in
+    let none : c.new-session.result.subscriptions ≡ [] = ap (λ s. s.subscriptions) (c.new-session.ensures.first (front_state_of g.D.Disk)) in
     let course : Course g.D.Disk c.args.disk begun.store left.store new = record {
       works = found.working.0;
       start = λ h. found.begun (c.run-ran.ensures.later.1.later.honest (c.close-closed.ensures.later.honest h));
@@ -162,7 +163,7 @@ returns-in-Ok-Err-2-clause-refused g c =
     let left = c.run-ran.new.session.front in
     let new = c.close-closed.result.1 in
     let found = rw (← c.new-session.ensures.front) at c.in-Ok.ensures in
-    let none : c.new-session.result.subscriptions ≡ [] = ap (λ s. s.subscriptions) c.new-session.ensures.first in
+    let none : c.new-session.result.subscriptions ≡ [] = ap (λ s. s.subscriptions) (c.new-session.ensures.first (front_state_of g.D.Disk)) in
     let course : Course g.D.Disk c.args.disk begun.store left.store new = record {
       works = found.working.0;
       start = λ h. found.begun (c.run-ran.ensures.later.1.later.honest (c.close-closed.ensures.later.honest h));
@@ -183,7 +184,7 @@ returns-in-Ok-Err-2-clause-any_moment g c =
     let left = c.run-ran.new.session.front in
     let new = c.close-closed.result.1 in
     let found = rw (← c.new-session.ensures.front) at c.in-Ok.ensures in
-    let none : c.new-session.result.subscriptions ≡ [] = ap (λ s. s.subscriptions) c.new-session.ensures.first in
+    let none : c.new-session.result.subscriptions ≡ [] = ap (λ s. s.subscriptions) (c.new-session.ensures.first (front_state_of g.D.Disk)) in
     let course : Course g.D.Disk c.args.disk begun.store left.store new = record {
       works = found.working.0;
       start = λ h. found.begun (c.run-ran.ensures.later.1.later.honest (c.close-closed.ensures.later.honest h));

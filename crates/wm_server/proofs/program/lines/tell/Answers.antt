@@ -1,6 +1,6 @@
 use Rattle.std.proofs.Common.{◌++◌, codes}
 use Rattle.wm_disk.specs.Refusals.{refusal_text}
-use Rattle.wm_server.proofs.lemmas.session.RunLemmas.{appends-then}
+use Rattle.wm_session.specs.session.RunLaws.{appends-then}
 use Rattle.wm_server.proofs.program.lines.tell.Goals as goal
 
 pub returns-clause-told : goal.returns-clause-told

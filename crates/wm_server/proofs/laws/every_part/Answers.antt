@@ -1,5 +1,0 @@
-use Rattle.wm_server.proofs.lemmas.session.PartLemmas.{met_on_part}
-use Rattle.wm_server.proofs.laws.every_part.Goals as goal
-
-pub returns : goal.returns
-returns c = met_on_part

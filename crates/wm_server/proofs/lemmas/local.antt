@@ -1,5 +1,0 @@
-pub mod LocalLemmas
-pub mod OperationLemmas
-pub mod RegistryLemmas
-pub mod StartLemmas
-pub mod WatchedLemmas

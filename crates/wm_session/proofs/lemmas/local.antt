@@ -1,0 +1,5 @@
+pub mod LocalLemmas
+pub mod MetLemmas
+pub mod OperationLemmas
+pub mod StartLemmas
+pub mod WatchedLemmas

@@ -1,0 +1,11 @@
+pub mod AnswerLemmas
+pub mod DueLemmas
+pub mod HistoryLemmas
+pub mod InputLemmas
+pub mod LongLines
+pub mod PartLemmas
+pub mod PlainLemmas
+pub mod PlainReadings
+pub mod RunLemmas
+pub mod SessionLemmas
+pub mod TellingLemmas

@@ -1,0 +1,5 @@
+pub mod LocalLaws
+pub mod Locals
+pub mod Questions
+pub mod Stores
+pub mod ViewChanges

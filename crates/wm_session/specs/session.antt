@@ -1,0 +1,16 @@
+pub mod Asked
+pub mod Dues
+pub mod Faults
+pub mod Fronts
+pub mod Inputs
+pub mod Inquiries
+pub mod PartLaws
+pub mod Reading
+pub mod RunLaws
+pub mod Runs
+pub mod Sessions
+pub mod Stands
+pub mod Streams
+pub mod Telling
+pub mod Tellings
+pub mod Watched
