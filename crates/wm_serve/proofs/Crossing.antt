@@ -27,7 +27,9 @@ use Rattle.logbook.proofs.tokens.Seen.TheSendSync as SeenSent
 use Rattle.logbook.specs.Kept.{pens_own}
 use Rattle.logbook.specs.contracts.tokens.Pens
 use Rattle.wm_expr.proofs.expr.Expr.TheLaws.TheKnot as Expressions
+use Rattle.wm_hall.proofs.hall.RootHall.TheSendSync as HallSent
 use Rattle.wm_hall.proofs.viewers.Viewers.TheSendSync as ViewersSent
+use Rattle.wm_hall.specs.contracts.hall.RootHall
 use Rattle.wm_hall.specs.contracts.viewers.Viewers
 use Rattle.wm_share.specs.contracts.shares.Shares
 use Rattle.wm_share.specs.contracts.shares.Shares.TheInside as SharesInside
@@ -65,8 +67,14 @@ shares_sync J g = MutexSent.the_sync (Shares.the_row J g) (shares_send J g)
 
 -- ---- the roots
 
-roots_sync : (J K : RattleType) (g : Naming.Ghosts J.Denot) → IsSend K → IsSync (Mutex.the_row (RootTable.the_row J K g))
-roots_sync J K g k = MutexSent.the_sync (RootTable.the_row J K g) (TableSent.the_send J K g k)
+hall_send : (J K : RattleType) (g : Naming.Ghosts J.Denot) → IsSend K → IsSend (Arc.the_row (RootHall.the_row J K g) Global.the_row GlobalImpl.ghosts)
+hall_send J K g k =
+    ArcSent.the_send (RootHall.the_row J K g) Global.the_row GlobalImpl.ghosts (HallSent.the_send J K g k) GlobalSent.the_send (HallSent.the_sync J K g k) GlobalSent.the_sync FreesSent.the_frees
+
+roots_sync : (J K : RattleType) (g : Naming.Ghosts J.Denot) → IsSend K → IsSync (Mutex.the_row (RootTable.the_row (Arc.the_row (RootHall.the_row J K g) Global.the_row GlobalImpl.ghosts)))
+roots_sync J K g k =
+    let hall = Arc.the_row (RootHall.the_row J K g) Global.the_row GlobalImpl.ghosts in
+    MutexSent.the_sync (RootTable.the_row hall) (TableSent.the_send hall (hall_send J K g k))
 
 missing_sync : IsSync (Mutex.the_row Missing.the_row)
 missing_sync = search (crosses, Expressions.crosses, sendable) depth 60 fits 20000

@@ -1,1 +1,3 @@
 pub mod Crossing
+mod Parting
+mod Rising

@@ -12,7 +12,7 @@ use std::thread::Threads;
 use std::time::{Clock, Duration};
 use wm_crawler::{Folders, Turnstile};
 use wm_disk::Refusal;
-use wm_server::run::NO_MEMORY;
+use wm_session::run::NO_MEMORY;
 use wm_triggers::Programs;
 
 const TOO_MANY: &str = "{\"error\":\"17 TooMany\",\"version\":\"w1\"}\n";

@@ -17,9 +17,9 @@ use wm_disk::{NoMemory, Refusal};
 use wm_lines::reply::{PROGRESS_ROOM, REFUSAL_ROOM, put_clock, put_refusal};
 use wm_lines::{Progress, Request, ServerRequest};
 use wm_names::{RootPath, Subtree};
-use wm_server::Input;
-use wm_server::input::{LineRead, read_line};
-use wm_server::run::NO_MEMORY;
+use wm_session::Input;
+use wm_session::input::{LineRead, read_line};
+use wm_session::run::NO_MEMORY;
 use wm_share::{Naming, Viewer};
 
 /// How long a client may leave a reply unread before its session ends.

@@ -5,9 +5,8 @@ use std::alloc::Global;
 use std::sync::Wait;
 use std::thread::Threads;
 use std::time::Clock;
-use wm_crawler::{Folders, Turnstile, crawl_root};
+use wm_crawler::{Folders, Turnstile};
 use wm_disk::Refusal;
-use wm_hall::Reading;
 use wm_lines::Progress;
 
 /// Crawls once, and hands in what was found. What is observed while the crawl reads is noted from before it begins.
@@ -24,7 +23,7 @@ fn crawl_once<R: Threads + Wait + Clock + Sync, H: House, F: Folders + Sync, G: 
     let Some(begun) = house.begin_reading(rt, alloc, root) else {
         return Err(Refusal::NotWatched);
     };
-    let found = crawl_root(
+    let found = begun.crawl(
         rt,
         alloc,
         folders,
@@ -34,9 +33,8 @@ fn crawl_once<R: Threads + Wait + Clock + Sync, H: House, F: Folders + Sync, G: 
         gate,
     );
     match found {
-        Ok(listing) => house.take_in(rt, alloc, root, Reading { begun, listing }),
+        Ok(found) => house.take_in(rt, alloc, root, found),
         Err(refusal) => {
-            drop(begun);
             house.give_up_reading(rt, root);
             Err(refusal)
         }

@@ -16,8 +16,11 @@ fn is_ended<R: Wait, T: Registrar, J: Naming, K: Wait + Copy + Drop>(
     place: usize,
 ) -> Option<bool> {
     let (path, number) = subscribed.root_at(place)?;
-    let now = shared.roots.lock(rt).number_of(path);
-    Some(now != Some(number))
+    let roots = shared.roots.lock(rt);
+    Some(match roots.find(path) {
+        Some(root) => root.number != number,
+        None => true,
+    })
 }
 
 /// The place behind a place.
@@ -52,7 +55,7 @@ pub fn drop_ended_viewers<R: Wait, T: Registrar, J: Naming, K: Wait + Copy + Dro
         let Some(root) = viewers.root_at(place) else {
             return;
         };
-        if shared.roots.lock(rt).has(root) {
+        if shared.roots.lock(rt).numbered(root).is_some() {
             place = next(place);
         } else {
             viewers.forget(root);

@@ -8,8 +8,7 @@
 ghost use Rattle.std.specs.Prelude.{◌≡◌, ◌<◌, ◌+◌, max, nat_lt};
 
 use crate::registrar::Registrar;
-use crate::root_table::Found;
-use crate::shared::Shared;
+use crate::shared::{Found, Shared, look_up};
 use std::alloc::Global;
 use std::sync::{Arc, Wait};
 use wm_disk::Refusal;
@@ -139,7 +138,7 @@ impl<T: Registrar, J: Naming, K: Wait + Copy + Drop> Shared<T, J, K> {
 
     /// The hall of a root, if there is one.
     fn known_hall<R: Wait>(&self, rt: &R, path: &RootPath) -> Option<Arc<RootHall<J, K>>> {
-        let found = self.roots.lock(rt).find(path);
+        let found = look_up(&self.roots.lock(rt), path);
         match found {
             Ok(Found::Hall(hall)) => Some(hall),
             Ok(Found::Missing(_)) | Ok(Found::NotWatched) | Err(_) => None,
@@ -160,7 +159,7 @@ impl<T: Registrar, J: Naming, K: Wait + Copy + Drop> Shared<T, J, K> {
     /// Takes a root out. Its workers end, and each session drops what it has of it.
     fn unwatch<R: Wait>(&self, rt: &R, path: &RootPath) -> Option<Arc<RootHall<J, K>>> {
         let taken = self.roots.lock(rt).take(path);
-        let hall = taken?;
+        let hall = taken?.hall?;
         hall.end(rt);
         self.ring_all(rt);
         Some(hall)
@@ -196,7 +195,7 @@ impl<T: Registrar, J: Naming, K: Wait + Copy + Drop> Shared<T, J, K> {
         number: u64,
     ) -> Result<Arc<RootHall<J, K>>, Refusal> {
         let following = self.following.lock(rt);
-        let found = self.roots.lock(rt).find(path);
+        let found = look_up(&self.roots.lock(rt), path);
         let made = match found? {
             Found::Hall(hall) => Ok(hall),
             Found::Missing(_) => self.make(rt, alloc, &following, path, number),
@@ -228,7 +227,7 @@ impl<T: Registrar, J: Naming, K: Wait + Copy + Drop> Shared<T, J, K> {
         let Ok(other) = Arc::try_clone(&hall) else {
             return Err(Refusal::NoMemory);
         };
-        self.fill(rt, path, number, other)?;
+        self.fill(rt, number, other)?;
         Ok(hall)
     }
 }

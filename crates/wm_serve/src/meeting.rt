@@ -1,5 +1,11 @@
 //! Where a request is met: on the registry, by the keeper of its root or the session's viewer of it, at the desk, or on the chair of its session.
 //! Tests: serve_tests/src/sessions.rt.
+ghost use Rattle.std.specs.Prelude.{◌≡◌, ◌⊎◌, ◌++◌, Some, None, IfErr, OnErr, OnOk};
+ghost use Rattle.wm_disk.specs.declared.refusal.Refusal.TheVariants.{NoMemory as no_memory, NotWatched as not_watched};
+ghost use Rattle.wm_lines.specs.Replies.{line_text, triggers_reply};
+ghost use Rattle.wm_registry.specs.Roots.{root_at};
+ghost use Rattle.wm_registry.specs.declared.root.Root.{Root};
+
 use crate::chair::Chair;
 use crate::commanding::command;
 use crate::place::Place;
@@ -13,30 +19,13 @@ use std::sync::Wait;
 use std::time::Clock;
 use wm_disk::{NoMemory, Refusal};
 use wm_hall::Change;
-use wm_lines::reply::{PROGRESS_ROOM, put_clock, put_floor};
+use wm_lines::reply::{
+    PROGRESS_ROOM, put_clock, put_floor, put_triggers, put_version, put_watch_list,
+};
 use wm_lines::{Progress, Request};
 use wm_names::RootPath;
-use wm_registry::{Command, Registry, Version};
-use wm_server::{RegistryFront, Session};
+use wm_registry::{Command, Registry};
 use wm_share::Naming;
-
-/// Meets a request on a registry.
-fn meet_registry(
-    alloc: Global,
-    registry: Registry,
-    request: Request,
-    out: &mut Vec<u8>,
-) -> Result<(), Refusal> {
-    let mut session = Session::new(alloc, RegistryFront::new(registry));
-    session.request(alloc, 0, request, out)?;
-    Ok(())
-}
-
-/// Appends the reply to `version`, which is one for all registries.
-fn tell_version(alloc: Global, out: &mut Vec<u8>) -> Result<(), Refusal> {
-    let none = Registry::new(alloc, Version::Two);
-    meet_registry(alloc, none, Request::Version, out)
-}
 
 /// The desk's registry as it is now. The watched roots have followed it, so that no later question contradicts it.
 fn registry_of<R: Wait, T: Registrar, J: Naming, K: Wait + Copy + Drop>(
@@ -48,7 +37,7 @@ fn registry_of<R: Wait, T: Registrar, J: Naming, K: Wait + Copy + Drop>(
     Ok(registry)
 }
 
-/// Lists the roots of the desk's registry as it is now.
+/// Appends the list of the roots of the desk's registry as it is now.
 fn list<R: Wait, T: Registrar, J: Naming, K: Wait + Copy + Drop>(
     rt: &R,
     alloc: Global,
@@ -56,19 +45,41 @@ fn list<R: Wait, T: Registrar, J: Naming, K: Wait + Copy + Drop>(
     out: &mut Vec<u8>,
 ) -> Result<(), Refusal> {
     let registry = registry_of(rt, shared)?;
-    meet_registry(alloc, registry, Request::WatchList, out)
+    let listed = put_watch_list(alloc, registry.roots(), out);
+    drop(registry);
+    Ok(listed?)
 }
 
-/// Lists a root's triggers of the desk's registry as it is now.
+/// Appends the list of a root's triggers.
+fn put_triggers_of(
+    alloc: Global,
+    registry: &Registry,
+    path: &RootPath,
+    out: &mut Vec<u8>,
+) -> Result<(), Refusal>
+    ensures ok { OnOk result ((root : Root) × (root_at path.now registry.now ≡ Some root) × (out.new.items ≡ out.old.items ++ line_text (triggers_reply root.triggers))) }
+    ensures refused { IfErr result (λ e. (e ≡ no_memory) ⊎ ((e ≡ not_watched) × (root_at path.now registry.now ≡ None))) }
+    ensures err { OnErr result (out.new.items ≡ out.old.items) }
+{
+    let Some(root) = registry.roots().get(path) else {
+        return Err(Refusal::NotWatched);
+    };
+    put_triggers(alloc, root.triggers.as_slice(), out)?;
+    Ok(())
+}
+
+/// Appends the list of a root's triggers of the desk's registry as it is now.
 fn list_triggers<R: Wait, T: Registrar, J: Naming, K: Wait + Copy + Drop>(
     rt: &R,
     alloc: Global,
     shared: &Shared<T, J, K>,
-    path: RootPath,
+    path: &RootPath,
     out: &mut Vec<u8>,
 ) -> Result<(), Refusal> {
     let registry = registry_of(rt, shared)?;
-    meet_registry(alloc, registry, Request::TriggerList(path), out)
+    let listed = put_triggers_of(alloc, &registry, path, out);
+    drop(registry);
+    listed
 }
 
 /// Performs a change of a root. The session's viewer learns of it before that is reported.
@@ -135,9 +146,9 @@ pub fn meet<R: Wait + Clock, T: Registrar, J: Naming, K: Wait + Copy + Drop>(
     out: &mut Vec<u8>,
 ) -> Result<(), Refusal> {
     match request {
-        Request::Version => tell_version(alloc, out),
+        Request::Version => Ok(put_version(alloc, out)?),
         Request::WatchList => list(rt, alloc, shared, out),
-        Request::TriggerList(path) => list_triggers(rt, alloc, shared, path, out),
+        Request::TriggerList(path) => list_triggers(rt, alloc, shared, &path, out),
         Request::Watch(path) => command(rt, alloc, shared, place, Command::Watch(path), out),
         Request::WatchDel(path) => command(rt, alloc, shared, place, Command::WatchDel(path), out),
         Request::Trigger(path, trigger) => {

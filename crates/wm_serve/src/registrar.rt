@@ -60,13 +60,14 @@ fn flush_once<R: Wait + Clock, D: Disk + Drop>(
     ensures { IsFlusherOf desk.now flusher.new }
 {
     match desk.flush_once(rt, flusher) {
-        Ok(0) => {
-            if is_closing {
-                return true;
+        Ok(flushed) => {
+            if flushed.count() == 0 {
+                if is_closing {
+                    return true;
+                }
+                desk.wait_for_calls(rt, flusher);
             }
-            desk.wait_for_calls(rt, flusher);
         }
-        Ok(_) => {}
         // Memory ran out: others may give some back.
         Err(_) => thread::sleep(rt, Duration::from_millis(20)),
     }
@@ -115,6 +116,8 @@ impl<D: Disk + Drop> Registrar for Desk<D> {
     }
 
     fn close<R: Wait>(&self, rt: &R) -> Result<(), Refusal> {
-        Desk::close(self, rt)
+        let closed = Desk::close(self, rt)?;
+        drop(closed);
+        Ok(())
     }
 }

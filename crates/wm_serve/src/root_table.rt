@@ -1,128 +1,143 @@
-//! The table of the watched roots: each with its number, in the order of watching.
-//! Tests: serve_tests/src/sessions.rt.
+//! The table of the watched roots: each with its number, in the order of watching. A number is never put twice, so there is one
+//! hall, and one view, for each number that a clock may have.
+//! Definitions: specs/WatchedRoots.antt. Tests: serve_tests/src/sessions.rt.
+ghost use Rattle.std.specs.Prelude.{◌≡◌, ◌⊎◌, ◌≤◌, ◌<◌, ◌++◌, ◌∷◌, [], true, false, Some, None, get_or, take, length, IfOk, MatchBool, MatchOption};
+ghost use Rattle.std.specs.List.{list_any};
+ghost use Rattle.wm_registry.specs.Limits.{max_roots};
+ghost use Rattle.wm_serve.specs.WatchedRoots.{IsFirst, ReplacesFirst, has_path, has_number, lacks_hall};
+
 use std::alloc::Global;
-use std::sync::{Arc, Wait};
-use wm_disk::{NoMemory, Refusal};
-use wm_hall::RootHall;
+use std::marker::Model;
+use wm_disk::NoMemory;
 use wm_names::RootPath;
 use wm_registry::MAX_ROOTS;
-use wm_share::Naming;
 
 /// A watched root.
 #[derive(Drop)]
-struct Entry<J: Naming, K: Wait + Drop> {
-    path: RootPath,
-    number: u64,
-    /// `None` if memory ran out for it: the next request about the root asks for it again.
-    hall: Option<Arc<RootHall<J, K>>>,
+pub struct WatchedRoot<H> {
+    pub path: RootPath,
+    pub number: u64,
+    /// `None` if memory ran out for it: the next request about the root makes it.
+    pub hall: Option<H>,
 }
 
-/// What the table has at a path.
+/// The watched roots, in the order of watching. Contracts see the list, and the greatest number that was ever put.
 #[derive(Drop)]
-pub enum Found<J: Naming, K: Wait + Drop> {
-    Hall(Arc<RootHall<J, K>>),
-    /// The root of this number is watched, and memory ran out for its hall.
-    Missing(u64),
-    NotWatched,
+pub struct RootTable<H> {
+    roots: Vec<WatchedRoot<H>>,
+    last: u64,
 }
 
-/// The watched roots. Each number comes once, and greater numbers come later.
-#[derive(Drop)]
-pub struct RootTable<J: Naming, K: Wait + Drop> {
-    entries: Vec<Entry<J, K>>,
+impl<H> Model for RootTable<H> {
+    ghost use Rattle.std.specs.Prelude.{◌≤◌, vec_capacity};
+    ghost use Rattle.wm_registry.specs.Limits.{max_roots};
+    ghost use Rattle.wm_serve.specs.WatchedRoots.{RootNumbersRise, WatchedRoots};
+
+    ghost Value = { WatchedRoots H };
+
+    ghost view = { λ t. record { roots = t.roots.items; last = t.last } };
+
+    ghost invariant = { λ t. (max_roots ≤ vec_capacity t.roots) × RootNumbersRise (record { roots = t.roots.items; last = t.last }) };
 }
 
-impl<J: Naming, K: Wait + Drop> RootTable<J, K> {
+impl<H: Drop> RootTable<H> {
     /// A table of no root, with room for as many as may be watched. `NoMemory`.
-    pub fn new(alloc: Global) -> Result<RootTable<J, K>, NoMemory> {
-        let entries = Vec::with_capacity(alloc, MAX_ROOTS as usize)?;
-        Ok(RootTable { entries })
+    pub fn new(alloc: Global) -> Result<RootTable<H>, NoMemory>
+        ensures { IfOk result (λ table. table ≡ record { roots = []; last = 0 }) }
+    {
+        let mut roots = Vec::new(alloc);
+        roots.try_reserve(MAX_ROOTS as usize)?;
+        Ok(RootTable { roots, last: 0 })
     }
 
-    /// Appends a root. `NoMemory` only if it has as many as may be watched.
-    pub fn put(
-        &mut self,
-        path: RootPath,
-        number: u64,
-        hall: Option<Arc<RootHall<J, K>>>,
-    ) -> Result<(), NoMemory> {
-        self.entries.push(Entry { path, number, hall })?;
-        Ok(())
-    }
-
-    fn place(&self, path: &RootPath) -> Option<usize> {
-        self.entries.iter().position(|entry| entry.path == *path)
-    }
-
-    /// Takes a root out. Its hall comes back if there is one.
-    pub fn take(&mut self, path: &RootPath) -> Option<Arc<RootHall<J, K>>> {
-        match self.place(path) {
-            Some(place) if place < self.entries.len() => self.entries.remove(place).hall,
-            _ => None,
+    /// Appends a root whose number is above all that were put: whether it did. Else the root is dropped: its number had a root
+    /// before, or as many are watched as may be.
+    pub fn put(&mut self, root: WatchedRoot<H>) -> bool
+        ensures put { MatchBool result (self.new ≡ record { roots = self.old.roots ++ root ∷ []; last = root.number }) (self.new ≡ self.old) }
+        ensures new { MatchBool result (self.old.last < root.number) ((root.number ≤ self.old.last) ⊎ (max_roots ≤ length self.old.roots)) }
+    {
+        let number = root.number;
+        if number <= self.last || self.roots.push(root).is_err() {
+            return false;
         }
+        self.last = number;
+        true
     }
 
-    /// Gives the root of a path and a number its hall, unless it has one already or is gone: whether it did.
-    pub fn fill(&mut self, path: &RootPath, number: u64, hall: Arc<RootHall<J, K>>) -> bool {
-        for entry in self.entries.iter_mut() {
-            if entry.path == *path && entry.number == number && entry.hall.is_none() {
-                entry.hall = Some(hall);
-                return true;
-            }
-        }
-        drop(hall);
-        false
-    }
-
-    /// The root of a path. `NoMemory` if its hall has too many owners.
-    pub fn find(&self, path: &RootPath) -> Result<Found<J, K>, Refusal> {
-        for entry in &self.entries {
-            if entry.path == *path {
-                return match &entry.hall {
-                    Some(hall) => match Arc::try_clone(hall) {
-                        Ok(hall) => Ok(Found::Hall(hall)),
-                        Err(_) => Err(Refusal::NoMemory),
-                    },
-                    None => Ok(Found::Missing(entry.number)),
-                };
-            }
-        }
-        Ok(Found::NotWatched)
-    }
-
-    /// The number of the root of a path, if it is watched.
-    pub fn number_of(&self, path: &RootPath) -> Option<u64> {
-        for entry in &self.entries {
-            if entry.path == *path {
-                return Some(entry.number);
+    /// The root of a path, if it is watched.
+    pub fn find(&self, path: &RootPath) -> Option<&WatchedRoot<H>>
+        ensures { MatchOption result (list_any (has_path path.now) self.now.roots ≡ false) (λ root. IsFirst (has_path path.now) self.now.roots root.now) }
+    {
+        for root in &self.roots {
+            if root.path == *path {
+                return Some(root);
             }
         }
         None
     }
 
-    /// Whether the root of a number is watched.
-    pub fn has(&self, number: u64) -> bool {
-        self.entries.iter().any(|entry| entry.number == number)
-    }
-
-    /// The hall of the root of a number, if there is one.
-    pub fn numbered(&self, number: u64) -> Option<Arc<RootHall<J, K>>> {
-        for entry in &self.entries {
-            if entry.number == number
-                && let Some(hall) = &entry.hall
-            {
-                return Arc::try_clone(hall).ok();
+    /// The root of a number, if it is watched.
+    pub fn numbered(&self, number: u64) -> Option<&WatchedRoot<H>>
+        ensures { MatchOption result (list_any (has_number number) self.now.roots ≡ false) (λ root. IsFirst (has_number number) self.now.roots root.now) }
+    {
+        for root in &self.roots {
+            if root.number == number {
+                return Some(root);
             }
         }
         None
     }
 
-    /// Each trigger and each worker of the roots ends.
-    pub fn end_all<R: Wait>(&self, rt: &R) {
-        for entry in &self.entries {
-            if let Some(hall) = &entry.hall {
-                hall.end(rt);
+    /// The watched roots, in the order of watching.
+    pub fn all(&self) -> &[WatchedRoot<H>]
+        ensures { result.now ≡ self.now.roots }
+    {
+        &self.roots
+    }
+
+    /// The place of the root of a path, if it is watched.
+    fn place(&self, path: &RootPath) -> Option<usize>
+        ensures { MatchOption result (list_any (has_path path.now) self.now.roots ≡ false) (λ i. (i < length self.now.roots) × (list_any (has_path path.now) (take i self.now.roots) ≡ false) × ((d : WatchedRoot H) → has_path path.now (get_or self.now.roots i d) ≡ true)) }
+    {
+        for place in 0..self.roots.len() {
+            if self.roots[place].path == *path {
+                return Some(place);
             }
         }
+        None
+    }
+
+    /// Takes the root of a path out, if it is watched.
+    pub fn take(&mut self, path: &RootPath) -> Option<WatchedRoot<H>>
+        ensures { MatchOption result ((list_any (has_path path.now) self.old.roots ≡ false) × (self.new ≡ self.old))
+            (λ root. ReplacesFirst (has_path path.now) self.old.roots root [] self.new.roots × (self.new.last ≡ self.old.last)) }
+    {
+        let place = self.place(path)?;
+        Some(self.roots.remove(place))
+    }
+
+    /// The place of the root of a number that has no hall.
+    fn lacking(&self, number: u64) -> Option<usize>
+        ensures { MatchOption result (list_any (lacks_hall number) self.now.roots ≡ false) (λ i. (i < length self.now.roots) × (list_any (lacks_hall number) (take i self.now.roots) ≡ false) × ((d : WatchedRoot H) → lacks_hall number (get_or self.now.roots i d) ≡ true)) }
+    {
+        for place in 0..self.roots.len() {
+            if self.roots[place].number == number && self.roots[place].hall.is_none() {
+                return Some(place);
+            }
+        }
+        None
+    }
+
+    /// Gives the root of a number, which has no hall, this one. The hall comes back if there is no such root.
+    pub fn fill(&mut self, number: u64, hall: H) -> Option<H>
+        ensures { MatchOption result
+            ((old : WatchedRoot H) × ReplacesFirst (lacks_hall number) self.old.roots old (record old { hall = Some hall } ∷ []) self.new.roots × (self.new.last ≡ self.old.last))
+            (λ back. (back ≡ hall) × (list_any (lacks_hall number) self.old.roots ≡ false) × (self.new ≡ self.old)) }
+    {
+        let Some(place) = self.lacking(number) else {
+            return Some(hall);
+        };
+        self.roots[place].hall = Some(hall);
+        None
     }
 }

@@ -21,7 +21,7 @@ use wm_disk::{Disk, NoMemory, Refusal};
 use wm_file::{FileDisk, Unknown};
 use wm_groupcommit::Desk;
 use wm_hall::Forgetting;
-use wm_server::open_file;
+use wm_session::open_file;
 use wm_share::{Naming, Opened, Shares};
 use wm_store::Store;
 use wm_triggers::Programs;

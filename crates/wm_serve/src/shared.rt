@@ -5,7 +5,7 @@ use crate::door::{CHAIRS, Door};
 use crate::following::Following;
 use crate::house::Worker;
 use crate::registrar::Registrar;
-use crate::root_table::{Found, RootTable};
+use crate::root_table::{RootTable, WatchedRoot};
 use std::alloc::Global;
 use std::sync::atomic::{AtomicU64, Ordering};
 use std::sync::{Arc, Condvar, Mutex, Wait};
@@ -14,6 +14,32 @@ use wm_hall::{Forgetting, RootHall};
 use wm_names::RootPath;
 use wm_registry::Registry;
 use wm_share::{Naming, Shares};
+
+/// What the table of roots has at a path.
+#[derive(Drop)]
+pub enum Found<J: Naming, K: Wait + Drop> {
+    Hall(Arc<RootHall<J, K>>),
+    /// The root of this number is watched, and memory ran out for its hall.
+    Missing(u64),
+    NotWatched,
+}
+
+/// What the table has at a path. `NoMemory` if the hall has too many owners.
+pub fn look_up<J: Naming, K: Wait + Drop>(
+    roots: &RootTable<Arc<RootHall<J, K>>>,
+    path: &RootPath,
+) -> Result<Found<J, K>, Refusal> {
+    let Some(root) = roots.find(path) else {
+        return Ok(Found::NotWatched);
+    };
+    match &root.hall {
+        Some(hall) => match Arc::try_clone(hall) {
+            Ok(hall) => Ok(Found::Hall(hall)),
+            Err(_) => Err(Refusal::NoMemory),
+        },
+        None => Ok(Found::Missing(root.number)),
+    }
+}
 
 /// The workers that are still to be started.
 #[derive(Drop)]
@@ -29,7 +55,7 @@ pub struct Shared<T: Registrar, J: Naming, K: Wait + Copy + Drop> {
     keeping: K,
     /// What makes the keeper and the viewers of a root.
     shares: Mutex<Shares<J>>,
-    pub roots: Mutex<RootTable<J, K>>,
+    pub roots: Mutex<RootTable<Arc<RootHall<J, K>>>>,
     /// Held while the roots follow a command.
     pub following: Mutex<Following>,
     /// The roots have followed one more command.
@@ -101,7 +127,7 @@ impl<T: Registrar, J: Naming, K: Wait + Copy + Drop> Shared<T, J, K> {
         alloc: Global,
         path: &RootPath,
     ) -> Result<Arc<RootHall<J, K>>, Refusal> {
-        let found = self.roots.lock(rt).find(path);
+        let found = look_up(&self.roots.lock(rt), path);
         match found? {
             Found::Hall(hall) => Ok(hall),
             Found::Missing(number) => self.make_up(rt, alloc, path, number),
@@ -111,7 +137,11 @@ impl<T: Registrar, J: Naming, K: Wait + Copy + Drop> Shared<T, J, K> {
 
     /// The hall of a root by its number.
     pub fn numbered<R: Wait>(&self, rt: &R, number: u64) -> Option<Arc<RootHall<J, K>>> {
-        self.roots.lock(rt).numbered(number)
+        let roots = self.roots.lock(rt);
+        match &roots.numbered(number)?.hall {
+            Some(hall) => Arc::try_clone(hall).ok(),
+            None => None,
+        }
     }
 
     /// Has the roots of the registry at the start. `NoMemory`, and then some may have no hall.
@@ -169,8 +199,8 @@ impl<T: Registrar, J: Naming, K: Wait + Copy + Drop> Shared<T, J, K> {
             hall = None;
         }
         let has_hall = hall.is_some();
-        let _put = self.roots.lock(rt).put(path, number, hall);
-        if has_hall {
+        let root = WatchedRoot { path, number, hall };
+        if self.roots.lock(rt).put(root) && has_hall {
             let _started = start(&mut missing.workers, number);
         }
         drop(missing);
@@ -181,7 +211,6 @@ impl<T: Registrar, J: Naming, K: Wait + Copy + Drop> Shared<T, J, K> {
     pub fn fill<R: Wait>(
         &self,
         rt: &R,
-        path: &RootPath,
         number: u64,
         hall: Arc<RootHall<J, K>>,
     ) -> Result<(), NoMemory> {
@@ -190,8 +219,9 @@ impl<T: Registrar, J: Naming, K: Wait + Copy + Drop> Shared<T, J, K> {
             drop(hall);
             return Err(NoMemory);
         }
-        if self.roots.lock(rt).fill(path, number, hall) {
-            start(&mut missing.workers, number)?;
+        match self.roots.lock(rt).fill(number, hall) {
+            None => start(&mut missing.workers, number)?,
+            Some(hall) => drop(hall),
         }
         drop(missing);
         self.came.notify_all();
@@ -219,7 +249,11 @@ impl<T: Registrar, J: Naming, K: Wait + Copy + Drop> Shared<T, J, K> {
     pub fn end_workers<R: Wait>(&self, rt: &R) {
         self.missing.lock(rt).is_closing = true;
         self.came.notify_all();
-        self.roots.lock(rt).end_all(rt);
+        for root in self.roots.lock(rt).all() {
+            if let Some(hall) = &root.hall {
+                hall.end(rt);
+            }
+        }
         for chair in self.chairs.iter() {
             chair.bell.close(rt);
         }
@@ -237,7 +271,7 @@ fn start(workers: &mut Vec<Worker>, number: u64) -> Result<(), NoMemory> {
 /// The chairs, and the table of roots.
 fn fittings<J: Naming, K: Wait + Drop>(
     alloc: Global,
-) -> Result<(Vec<Chair<J>>, RootTable<J, K>), NoMemory> {
+) -> Result<(Vec<Chair<J>>, RootTable<Arc<RootHall<J, K>>>), NoMemory> {
     let chairs = chairs(alloc)?;
     let roots = RootTable::new(alloc)?;
     Ok((chairs, roots))
