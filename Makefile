@@ -22,7 +22,7 @@ SOURCES := crates.txt $(shell find crates -name out -prune -o -type f \( -name '
 help:
 	@echo "make test          the whole gate: each proof from nothing, edits that must be refused, tests, programs, and each growth of"
 	@echo "                   memory refused in three sessions, and quick-use (rt, python3, cc; some two hours on two processors)"
-	@echo "make edits         the edits that must be refused and that the gate leaves out for its time (tools/edits; rt, over an hour)"
+	@echo "make edits         the edits that must be refused and that the gate leaves out for its time (tools/edits; rt, some three hours)"
 	@echo "make lint          what the gate doesn't see: no definition's name in the specs of two crates, and no use of another crate's proofs/ (sh, awk; at once)"
 	@echo "make build         builds watchmand (rt; some 45 minutes the first time, since it proves it)"
 	@echo "make run           serves SOCKET=$(SOCKET) over STATE=$(STATE), which it makes where it isn't there, and tells what to try next"
@@ -114,7 +114,7 @@ feed-use: $(PROGRAM) $(CLIENT) $(FEED)
 
 install: $(PROGRAM) $(CLIENT) $(FEED)
 	install -d $(DESTDIR)$(PREFIX)/bin $(DESTDIR)$(PREFIX)/share/man/man1 $(DESTDIR)$(PREFIX)/share/bash-completion/completions
-	install -d $(DESTDIR)$(PREFIX)/lib/systemd/user $(addprefix $(DESTDIR)$(PREFIX)/share/doc/watchmand/,docs examples bench)
+	install -d $(DESTDIR)$(PREFIX)/share/systemd/user $(addprefix $(DESTDIR)$(PREFIX)/share/doc/watchmand/,docs examples bench)
 	install -m 755 $(PROGRAM) $(DESTDIR)$(PREFIX)/bin/watchmand
 	install -m 755 $(CLIENT) $(DESTDIR)$(PREFIX)/bin/wmctl
 	install -m 755 $(FEED) $(DESTDIR)$(PREFIX)/bin/wmfeed
@@ -122,18 +122,20 @@ install: $(PROGRAM) $(CLIENT) $(FEED)
 	install -m 644 completion/watchmand.bash $(DESTDIR)$(PREFIX)/share/bash-completion/completions/watchmand
 	ln -sf watchmand $(DESTDIR)$(PREFIX)/share/bash-completion/completions/wmctl
 	ln -sf watchmand $(DESTDIR)$(PREFIX)/share/bash-completion/completions/wmfeed
-	sed 's|@PREFIX@|$(UNIT_PREFIX)|' systemd/watchmand.service > $(DESTDIR)$(PREFIX)/lib/systemd/user/watchmand.service
-	sed 's|@PREFIX@|$(UNIT_PREFIX)|' systemd/wmfeed.service > $(DESTDIR)$(PREFIX)/lib/systemd/user/wmfeed.service
-	chmod 644 $(addprefix $(DESTDIR)$(PREFIX)/lib/systemd/user/,watchmand.service wmfeed.service)
+	sed 's|@PREFIX@|$(UNIT_PREFIX)|' systemd/watchmand.service > $(DESTDIR)$(PREFIX)/share/systemd/user/watchmand.service
+	sed 's|@PREFIX@|$(UNIT_PREFIX)|' systemd/wmfeed.service > $(DESTDIR)$(PREFIX)/share/systemd/user/wmfeed.service
+	chmod 644 $(addprefix $(DESTDIR)$(PREFIX)/share/systemd/user/,watchmand.service wmfeed.service)
 	install -m 644 LICENSE README.md CHANGELOG.md $(DESTDIR)$(PREFIX)/share/doc/watchmand
 	install -m 644 $(addprefix docs/,$(PAGES)) $(DESTDIR)$(PREFIX)/share/doc/watchmand/docs
 	install -m 755 $(addprefix examples/,$(EXAMPLES)) $(DESTDIR)$(PREFIX)/share/doc/watchmand/examples
 	install -m 644 bench/README.md $(wildcard bench/*.svg) $(DESTDIR)$(PREFIX)/share/doc/watchmand/bench
 
+# Earlier versions put the units below lib, where systemd doesn't look.
 uninstall:
 	rm -f $(addprefix $(DESTDIR)$(PREFIX)/bin/,watchmand wmctl wmfeed)
 	rm -f $(addprefix $(DESTDIR)$(PREFIX)/share/man/man1/,watchmand.1 wmctl.1 wmfeed.1)
 	rm -f $(addprefix $(DESTDIR)$(PREFIX)/share/bash-completion/completions/,watchmand wmctl wmfeed)
+	rm -f $(addprefix $(DESTDIR)$(PREFIX)/share/systemd/user/,watchmand.service wmfeed.service)
 	rm -f $(addprefix $(DESTDIR)$(PREFIX)/lib/systemd/user/,watchmand.service wmfeed.service wmfeed@.service)
 	rm -rf $(DESTDIR)$(PREFIX)/share/doc/watchmand
 
