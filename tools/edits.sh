@@ -10,6 +10,7 @@ room=$(mktemp -d)
 trap 'rm -rf "$room"' EXIT
 git clone -q . "$room/repository"
 for crate in "$@"; do
+  mkdir -p "$room/repository/crates/$crate/must-fail"
   rm -f "$room/repository/crates/$crate"/must-fail/*.edit
   cp "tools/edits/$crate"/*.edit "$room/repository/crates/$crate/must-fail/"
 done
