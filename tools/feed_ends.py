@@ -75,6 +75,8 @@ def inotifywait_killed():
 
 def nothing_survives():
     """inotifywait ends with a feed, however that ends."""
+    # a shell that starts this in its background has it ignore SIGINT, and so its children would
+    signal.signal(signal.SIGINT, signal.default_int_handler)
     for how in (signal.SIGKILL, signal.SIGTERM, signal.SIGINT, signal.SIGHUP):
         with site() as made:
             watchers = made.watchers()
