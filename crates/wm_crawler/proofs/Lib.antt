@@ -1,8 +1,11 @@
+mod Batches
 mod Elements
+mod FolderLists
 mod Fronts
 mod Levels
 mod Readable
 mod Results
+mod Sorting
 mod Steps
 mod Tops
 mod Unfit

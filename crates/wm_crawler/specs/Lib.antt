@@ -1,5 +1,9 @@
 pub mod Crawls
+pub mod FileSystems
+pub mod FolderNames
 pub mod Levels
 pub mod MemTrees
 pub mod NameTexts
+pub mod Stats
+pub mod SystemRoots
 pub mod Trees

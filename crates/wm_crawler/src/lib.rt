@@ -6,6 +6,8 @@
 
 mod crawling;
 mod dir;
+mod file_system;
+mod folder_names;
 mod folder_tree;
 mod gate;
 mod listed;
@@ -13,14 +15,17 @@ mod memory;
 mod name;
 mod reading;
 mod roots;
+mod stat;
 mod telling;
 mod top;
 mod tree;
 
 pub use crawling::{Crawled, MAX_WORKERS, crawl};
 pub use dir::Dir;
+pub use file_system::{FileSystem, NameReader, SystemNames};
 pub use folder_tree::FolderTree;
 pub use gate::{Open, Turnstile};
 pub use memory::MemTree;
 pub use roots::{Folders, SystemFolders, crawl_root};
+pub use stat::Stat;
 pub use tree::Tree;

@@ -6,15 +6,17 @@ ghost use Rattle.wm_names.specs.declared.subtree.Subtree.{Subtree as Place};
 ghost use Rattle.wm_names.specs.declared.subtree.Subtree.TheVariants.{Below};
 ghost use Rattle.wm_names.specs.Paths.{Path};
 ghost use Rattle.wm_crawler.specs.Crawls.{FailsIn, IsCrawl, IsReadable};
+ghost use Rattle.wm_crawler.specs.FileSystems.{content_below, place_path};
+ghost use Rattle.wm_crawler.specs.SystemRoots.{files_behind};
 ghost use Rattle.wm_crawler.specs.Trees.{AreMetas, Content, SomeFails};
 
 use crate::crawling::{MAX_WORKERS, crawl};
 use crate::dir::Dir;
-use crate::folder_tree::FolderTree;
+use crate::file_system::FileSystem;
+use crate::folder_tree::{meta_below, metas_below, read_folder};
 use crate::gate::Turnstile;
 use crate::tree::Tree;
 use std::alloc::Global;
-use std::fs::Files;
 use std::thread::Threads;
 use wm_disk::Refusal;
 use wm_names::{Meta, RelPath, RootPath, Subtree};
@@ -58,28 +60,27 @@ pub trait Folders {
         ensures refused { IfErr result (λ e. e ≢ no_memory → (e ≡ DeviceFailed) × SomeFails (may_fail self.now root.now) (map Below paths.now)) };
 }
 
-/// The folders of the file system.
+/// The folders of a system of files.
 #[derive(Drop)]
-pub struct SystemFolders<R> {
-    files: R,
+pub struct SystemFolders<F> {
+    files: F,
 }
 
-impl<R: Files + Drop> SystemFolders<R> {
+impl<F: FileSystem> SystemFolders<F> {
     /// The folders by these files of the system.
-    pub fn new(files: R) -> SystemFolders<R> {
+    pub fn new(files: F) -> SystemFolders<F>
+        ensures { files_behind result ≡ files }
+    {
         SystemFolders { files }
     }
 }
 
-impl<R: Files + Drop> Folders for SystemFolders<R> {
-    ghost use Rattle.std.specs.Prelude.{⊤};
-    ghost use Rattle.wm_crawler.specs.Trees.{nothing_known};
+impl<F: FileSystem> Folders for SystemFolders<F> {
+    ghost content = { λ s root. content_below (F.names_at (files_behind s)) (F.stat_at (files_behind s)) root };
 
-    ghost content = { λ _ _. nothing_known };
+    ghost stays = { λ s. F.stays (files_behind s) };
 
-    ghost stays = { λ _. ⊥ };
-
-    ghost may_fail = { λ _ _ _. ⊤ };
+    ghost may_fail = { λ s root place. F.may_fail (files_behind s) (place_path root place) };
 
     fn read_dir(
         &self,
@@ -87,9 +88,7 @@ impl<R: Files + Drop> Folders for SystemFolders<R> {
         root: &RootPath,
         folder: &Subtree,
     ) -> Result<Option<Dir>, Refusal> {
-        let tree = FolderTree::new(&self.files, root.copy(alloc)?);
-        let read = tree.read_dir(alloc, folder);
-        read
+        read_folder(&self.files, alloc, root, folder)
     }
 
     fn meta(
@@ -98,9 +97,7 @@ impl<R: Files + Drop> Folders for SystemFolders<R> {
         root: &RootPath,
         path: &RelPath,
     ) -> Result<Option<Meta>, Refusal> {
-        let tree = FolderTree::new(&self.files, root.copy(alloc)?);
-        let read = tree.meta(alloc, path);
-        read
+        meta_below(&self.files, alloc, root, path)
     }
 
     fn metas(
@@ -109,9 +106,7 @@ impl<R: Files + Drop> Folders for SystemFolders<R> {
         root: &RootPath,
         paths: &[RelPath],
     ) -> Result<Vec<Option<Meta>>, Refusal> {
-        let tree = FolderTree::new(&self.files, root.copy(alloc)?);
-        let read = tree.metas(alloc, paths);
-        read
+        metas_below(&self.files, alloc, root, paths)
     }
 }
 
