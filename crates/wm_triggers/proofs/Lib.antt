@@ -1,4 +1,5 @@
 pub mod Applied
 pub mod Gone
+mod Launches
 pub mod Naming
 pub mod Placing

@@ -1,7 +1,7 @@
 -- How the program of a run is started, and how its starts are counted.
-use Rattle.std.specs.Prelude.{◌≡◌, ◌≢◌, ◌≤◌, ℕ, List, [], ◌∷◌, ◌++◌, map, drop, take, Option, Some, None, Result, IfErr, OnOk, IsErrOf, if◌then◌else◌}
+use Rattle.std.specs.Prelude.{◌≡◌, ◌≢◌, ◌≤◌, ℕ, List, [], ◌∷◌, ◌++◌, Bool, false, map, drop, take, Option, Some, None, Result, IfErr, OnOk, IsErrOf, if◌then◌else◌}
 use Rattle.std.specs.List.{flat_map}
-use Rattle.std.specs.Process.{command_args, command_dir, command_program}
+use Rattle.std.specs.Process.{clears_env, command_args, command_dir, command_program, command_var}
 use Rattle.std.specs.declared.process.command.Command.{Command}
 use Rattle.wm_disk.specs.Contents.{Rose}
 use Rattle.wm_disk.specs.declared.refusal.Refusal.{Refusal}
@@ -46,20 +46,37 @@ input_of NamePerLine files = Some (path_lines (file_paths files))
 abbrev pub input_for : Definition → Answer → Option (List ℕ)
 input_for t run = input_of t.stdin (first_files t.max_files_stdin run.files)
 
--- a program as it is started: its name, its words, its working folder, and what it reads
+-- A program as it is started: its name, its words, its working folder, and what it reads; whether it gets nothing of this process's environment, and
+-- what is said of each variable: a value, or that it has none, or nothing.
 pub record Launch : Type 0 where
   pub program : List ℕ
   pub words : List (List ℕ)
   pub folder : Option (List ℕ)
   pub input : Option (List ℕ)
+  pub clears : Bool
+  pub variables : List ℕ → Option (Option (List ℕ))
 
--- that of a run of the trigger of a root
+-- that of a run of the trigger of a root, in the environment of this process
 abbrev pub launch_for : Path → Definition → Answer → Launch
-launch_for root t run = record { program = program_in t.command; words = words_for t run; folder = Some root; input = input_for t run }
+launch_for root t run = record {
+  program = program_in t.command;
+  words = words_for t run;
+  folder = Some root;
+  input = input_for t run;
+  clears = false;
+  variables = λ name. None;
+}
 
 -- that of a command, where its program reads this
 abbrev pub launch_by : {A : Type 0} → Command A → Option (List ℕ) → Launch
-launch_by command input = record { program = command_program command; words = command_args command; folder = command_dir command; input = input }
+launch_by command input = record {
+  program = command_program command;
+  words = command_args command;
+  folder = command_dir command;
+  input = input;
+  clears = clears_env command;
+  variables = command_var command;
+}
 
 -- ---- how starts are counted
 

@@ -1,6 +1,7 @@
 //! What starts the program of a command, and waits for its end.
-//! Definitions: specs/Starting.antt. Tests: registry_tests/src/trigger_runs/programs.rt.
-ghost use Rattle.std.specs.Prelude.{OnErr, OnOk, option_map};
+//! Definitions: specs/Starting.antt, specs/Starters.antt. Tests: registry_tests/src/trigger_runs/programs.rt.
+ghost use Rattle.std.specs.Prelude.{◌≡◌, OnErr, OnOk, option_map};
+ghost use Rattle.wm_triggers.specs.Starters.{system_of};
 ghost use Rattle.wm_triggers.specs.Starting.{Launch, launch_by};
 
 use crate::permit::{Permit, Unasked};
@@ -8,8 +9,7 @@ use std::io;
 use std::io::{ErrorKind, Write};
 use std::process::{Child, Command, OpenProcess, Processes, Stdio};
 
-/// Starts programs. No contract can say what a program of the system does, so the system's launcher tells
-/// nothing of it: code over any `Launcher` is proved of all.
+/// Starts programs, one after another.
 pub trait Launcher {
     /// A program that was started so, and has ended, led from one state to the other.
     ghost has_ended: { Self → Launch → Self → Type 0 };
@@ -24,29 +24,62 @@ pub trait Launcher {
         ensures failed { OnErr result (has_failed self.old (launch_by command (option_map (λ i. i.items) input)) self.new) };
 }
 
-/// Starts programs by the system, each as its permit says. Their standard output and error are those of this process, and
-/// they have none of its other open files.
+/// A system that many threads start programs of.
+pub trait ProgramSystem {
+    /// A program that was started so has ended.
+    ghost has_ended: { Self → Launch → Type 0 };
+
+    /// A program could not be started so, or its permit refused the start.
+    ghost has_failed: { Self → Launch → Type 0 };
+
+    /// As `Launcher::launch`, but the permit is asked right before the start and told right after. Where it refuses the
+    /// start, the `Err` is that of a program that can't be started.
+    fn start_and_wait<P: Permit>(
+        &self,
+        command: Command,
+        input: Option<Vec<u8>>,
+        permit: &P,
+    ) -> io::Result<()>
+        ensures ended { OnOk result (has_ended self.now (launch_by command (option_map (λ i. i.items) input))) }
+        ensures failed { OnErr result (has_failed self.now (launch_by command (option_map (λ i. i.items) input))) };
+}
+
+/// Starts programs by a system, each as its permit says.
 #[derive(Drop)]
-pub struct SystemLauncher<R, P> {
-    processes: R,
+pub struct SystemLauncher<'a, S, P> {
+    system: &'a S,
     permit: P,
 }
 
-impl<R: Processes> SystemLauncher<R, Unasked> {
-    /// A launcher by these processes of the system, whose starts nobody takes back.
-    pub fn new(processes: R) -> SystemLauncher<R, Unasked> {
+impl<'a, S: ProgramSystem> SystemLauncher<'a, S, Unasked> {
+    /// A launcher by this system, whose starts nobody takes back.
+    pub fn new(system: &'a S) -> SystemLauncher<'a, S, Unasked>
+        ensures { system_of result ≡ system.now }
+    {
         SystemLauncher {
-            processes,
+            system,
             permit: Unasked,
         }
     }
 }
 
-impl<R: Processes, P: Permit> SystemLauncher<R, P> {
-    /// A launcher by these processes of the system, which asks the permit right before each start and tells it right after.
+impl<'a, S: ProgramSystem, P: Permit> SystemLauncher<'a, S, P> {
+    /// A launcher by this system, which asks the permit right before each start and tells it right after.
     /// A start that it refuses is an `Err` as that of a program that can't be started.
-    pub fn permitted(processes: R, permit: P) -> SystemLauncher<R, P> {
-        SystemLauncher { processes, permit }
+    pub fn permitted(system: &'a S, permit: P) -> SystemLauncher<'a, S, P>
+        ensures { system_of result ≡ system.now }
+    {
+        SystemLauncher { system, permit }
+    }
+}
+
+impl<S: ProgramSystem, P: Permit> Launcher for SystemLauncher<'_, S, P> {
+    ghost has_ended = { λ old launch new. (system_of new ≡ system_of old) × S.has_ended (system_of old) launch };
+
+    ghost has_failed = { λ old launch new. (system_of new ≡ system_of old) × S.has_failed (system_of old) launch };
+
+    fn launch(&mut self, command: Command, input: Option<Vec<u8>>) -> io::Result<()> {
+        self.system.start_and_wait(command, input, &self.permit)
     }
 }
 
@@ -59,23 +92,30 @@ fn finish<P: OpenProcess + Drop>(mut child: Child<P>, input: Option<Vec<u8>>) {
     let _ended = child.wait();
 }
 
-impl<R: Processes, P: Permit> Launcher for SystemLauncher<R, P> {
-    ghost has_ended = { λ old launch new. Unit {0} };
+/// The programs of the operating system. Their standard output and error are those of this process, and they have none of
+/// its other open files. No contract can say what they do.
+impl<R: Processes> ProgramSystem for R {
+    ghost has_ended = { λ system launch. Unit {0} };
 
-    ghost has_failed = { λ old launch new. Unit {0} };
+    ghost has_failed = { λ system launch. Unit {0} };
 
-    fn launch(&mut self, mut command: Command, input: Option<Vec<u8>>) -> io::Result<()> {
+    fn start_and_wait<P: Permit>(
+        &self,
+        mut command: Command,
+        input: Option<Vec<u8>>,
+        permit: &P,
+    ) -> io::Result<()> {
         let stdin = if input.is_some() {
             Stdio::piped()
         } else {
             Stdio::null()
         };
         command.stdin(stdin);
-        if !self.permit.begin() {
+        if !permit.begin() {
             return Err(io::Error::from(ErrorKind::PermissionDenied));
         }
-        let spawned = command.spawn(&self.processes);
-        self.permit.end();
+        let spawned = command.spawn(self);
+        permit.end();
         finish(spawned?, input);
         Ok(())
     }

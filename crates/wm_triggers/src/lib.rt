@@ -32,7 +32,7 @@ mod trigger_table;
 pub use defined_trigger::DefinedTrigger;
 pub use defined_triggers::DefinedTriggers;
 pub use definition_runs::DefinitionRuns;
-pub use launcher::{Launcher, SystemLauncher};
+pub use launcher::{Launcher, ProgramSystem, SystemLauncher};
 pub use laws::every_table;
 pub use mem_starter::{MemStarter, StartedRun};
 pub use permit::{Permit, Unasked};

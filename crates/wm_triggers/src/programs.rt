@@ -1,21 +1,32 @@
 //! The programs that many threads may start, in place of the runtime's `Processes`.
-//! Tests: serve_tests/src/sessions.rt.
-ghost use Rattle.std.specs.Prelude.{◌≡◌, ◌≢◌, IfErr};
+//! Definitions: specs/Starting.antt, specs/Starters.antt. Tests: serve_tests/src/sessions.rt.
+ghost use Rattle.std.specs.Prelude.{◌≡◌, ◌≢◌, IfErr, IsErrOf, OnOk};
 ghost use Rattle.wm_disk.specs.declared.refusal.Refusal.TheVariants.{DeviceFailed as device_failed, NoMemory as no_memory};
+ghost use Rattle.wm_names.specs.Paths.{Path};
+ghost use Rattle.wm_registry.specs.Triggers.{Definition};
+ghost use Rattle.wm_since.specs.declared.query.Answer.{Answer};
+ghost use Rattle.wm_triggers.specs.Starters.{system_behind};
+ghost use Rattle.wm_triggers.specs.Starting.{launch_for};
 
-use crate::launcher::SystemLauncher;
+use crate::launcher::{ProgramSystem, SystemLauncher};
 use crate::permit::Permit;
 use crate::program_starter::ProgramStarter;
 use crate::run::Run;
 use crate::starter::Starter;
 use std::alloc::Global;
-use std::process::Processes;
 use wm_disk::Refusal;
 use wm_names::RootPath;
 use wm_registry::Trigger;
 
 /// The programs of triggers.
 pub trait Programs {
+    /// The program of such a run of the trigger of a root was started, with just the words, the working folder and the
+    /// input of the run and the environment of this process, and has ended.
+    ghost has_run: { Self → Path → Definition → Answer → Type 0 };
+
+    /// The program of such a run could not be started, or its permit refused the start.
+    ghost has_failed: { Self → Path → Definition → Answer → Type 0 };
+
     /// As `Starter::run`, but a start that fails isn't counted, and the permit is asked right before the start and told right
     /// after. `DeviceFailed` where it refuses the start: no program ran then.
     fn run<P: Permit + Drop>(
@@ -26,23 +37,31 @@ pub trait Programs {
         run: &Run,
         permit: P,
     ) -> Result<(), Refusal>
-        ensures { IfErr result (λ e. e ≢ device_failed → e ≡ no_memory) };
+        ensures ran { OnOk result (has_run self.now root.now trigger.now run.now) }
+        ensures failed { IsErrOf result device_failed → has_failed self.now root.now trigger.now run.now }
+        ensures refused { IfErr result (λ e. e ≢ device_failed → e ≡ no_memory) };
 }
 
-/// The programs of the system.
+/// The programs of a system.
 #[derive(Drop)]
-pub struct SystemPrograms<R> {
-    processes: R,
+pub struct SystemPrograms<S> {
+    system: S,
 }
 
-impl<R: Processes + Drop> SystemPrograms<R> {
-    /// The programs by these processes of the system.
-    pub fn new(processes: R) -> SystemPrograms<R> {
-        SystemPrograms { processes }
+impl<S: ProgramSystem> SystemPrograms<S> {
+    /// The programs by this system.
+    pub fn new(system: S) -> SystemPrograms<S>
+        ensures { system_behind result ≡ system }
+    {
+        SystemPrograms { system }
     }
 }
 
-impl<R: Processes + Drop> Programs for SystemPrograms<R> {
+impl<S: ProgramSystem> Programs for SystemPrograms<S> {
+    ghost has_run = { λ programs root trigger run. S.has_ended (system_behind programs) (launch_for root trigger run) };
+
+    ghost has_failed = { λ programs root trigger run. S.has_failed (system_behind programs) (launch_for root trigger run) };
+
     fn run<P: Permit + Drop>(
         &self,
         alloc: Global,
@@ -51,7 +70,7 @@ impl<R: Processes + Drop> Programs for SystemPrograms<R> {
         run: &Run,
         permit: P,
     ) -> Result<(), Refusal> {
-        let launcher = SystemLauncher::permitted(&self.processes, permit);
+        let launcher = SystemLauncher::permitted(&self.system, permit);
         let mut starter = ProgramStarter::new(launcher);
         let met = starter.run(alloc, root, trigger, run);
         met
