@@ -8,7 +8,7 @@ ghost use Rattle.wm_session.specs.session.Sessions.{commanded, triggers_met, que
 ghost use Rattle.wm_lines.specs.Replies.{clock_reply, floor_reply, line_text, refusal_reply, roots_reply};
 ghost use Rattle.wm_session.specs.session.Watched.{clock_answer};
 ghost use Rattle.wm_session.specs.session.Faults.{FrontState, Meeting, RepliesTo, faults_at, is_fault as is_fault_lem};
-ghost use Rattle.wm_session.specs.session.Fronts.{Answers, IsOwn, Met, MetLeaving, part_of, reports_floor as reports_floor_lem};
+ghost use Rattle.wm_session.specs.session.Fronts.{Answers, IsOwn, Met, MetLeaving, at_moment, moment_given, part_of, reports_floor as reports_floor_lem};
 ghost use Rattle.wm_session.specs.session.Fronts.{Changes, Commands, Lists, Looks};
 ghost use Rattle.wm_session.specs.session.Stands.{without_subscriptions, standing};
 ghost use Rattle.wm_session.specs.session.Tellings.{AnswersLine};
@@ -141,7 +141,7 @@ impl<F: Front> Session<F> {
         op: Op,
         out: &mut Vec<u8>,
     ) -> Result<(), Refusal>
-        ensures met { Met F.met self.old.front (Changes root.now) (λ s. operation_outcome s root.now op) out.old.items result self.new.front out.new.items }
+        ensures met { (moment : ℕ) × (moment_given op ≤ moment) × Met F.met self.old.front (Changes root.now (moment_given op) moment) (λ s. operation_outcome s root.now (at_moment moment op)) out.old.items result self.new.front out.new.items }
         ensures room { vec_capacity out.old ≤ vec_capacity out.new }
         ensures later { F.leads_to self.old.front [] self.new.front }
         ensures kept { self.new.subscriptions ≡ self.old.subscriptions }
@@ -182,7 +182,7 @@ impl<F: Front> Session<F> {
         request: Request,
         out: &mut Vec<u8>,
     ) -> Result<(), Refusal>
-        ensures met { MetLeaving F.met self.old.front (part_of request) (λ s. handled s self.old.subscriptions moment request) (λ s. subscriptions_by s self.old.subscriptions request) out.old.items result self.new.front out.new.items self.new.subscriptions }
+        ensures met { (at : ℕ) × (moment ≤ at) × MetLeaving F.met self.old.front (part_of moment at request) (λ s. handled s self.old.subscriptions at request) (λ s. subscriptions_by s self.old.subscriptions request) out.old.items result self.new.front out.new.items self.new.subscriptions }
         ensures room { vec_capacity out.old ≤ vec_capacity out.new }
         ensures later { F.leads_to self.old.front (asked_by (Ok request)) self.new.front }
         ensures err { OnErr result (self.new.subscriptions ≡ self.old.subscriptions) }

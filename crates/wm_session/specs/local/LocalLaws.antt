@@ -16,7 +16,7 @@ use Rattle.wm_registry.specs.declared.command.Command.{Command}
 use Rattle.wm_store.specs.Stored.{Stored}
 use Rattle.wm_session.specs.local.Stores.{Later, Commits, LeadsTo}
 use Rattle.wm_session.specs.session.Faults.{FrontState, Defined, Memory, Lasts}
-use Rattle.wm_session.specs.session.Fronts.{Part, Nowhere, MetAt, is_look}
+use Rattle.wm_session.specs.session.Fronts.{Part, Nowhere, IsMetWhenGiven, MetAt, is_look}
 use Rattle.wm_session.specs.session.Sessions.{SessionState}
 use Rattle.wm_disk.specs.laws.Runs.{weaker}
 use Rattle.wm_store.specs.Meant.{MeansAfter, MeansRegistry}
@@ -153,11 +153,11 @@ module _ {D : Type 0} (disk : Ghosts D) where
 lasts_same : (s : FrontState) → Lasts s s
 lasts_same s = record { failures = omega arith; number = omega arith }
 
-pub stands_at : (a : FrontState) (part : Part) → (s : SessionState) × ((accepts : Bool) → MetAt part a Memory accepts s s a)
-stands_at a part = (a.state, λ accepts. (refl, refl, (lasts_same a, refl), λ look. refl))
+pub stands_at : (a : FrontState) (part : Part) → IsMetWhenGiven part → (s : SessionState) × ((accepts : Bool) → MetAt part a Memory accepts s s a)
+stands_at a part when = (a.state, λ accepts. (refl, refl, (lasts_same a, refl), (λ look. refl), when))
 
 pub idles_at : (a : FrontState) → (s : SessionState) × MetAt Nowhere a Defined false s s a
-idles_at a = (a.state, (refl, refl, lasts_same a, λ look. refl))
+idles_at a = (a.state, (refl, refl, lasts_same a, (λ look. refl), tt))
 
 pub runs_out_at : (a b : FrontState) (part : Part) (s : SessionState) → is_look part ≡ true → MetAt part a Defined false s s b → (accepts : Bool) → MetAt part a Memory accepts s s b
-runs_out_at a b part s look (found, left, lasts, same) accepts = (found, left, (lasts, ap (λ (x : FrontState). x.failures) (same look)), same)
+runs_out_at a b part s look (found, left, lasts, same, when) accepts = (found, left, (lasts, ap (λ (x : FrontState). x.failures) (same look)), same, when)

@@ -1,5 +1,5 @@
 -- What a front says of a call, and what a session makes of it.
-use Rattle.std.specs.Prelude.{◌≡◌, ℕ, List, ◌++◌, Bool, true, false, Option, Result, Ok, Err, OnOk, is_ok}
+use Rattle.std.specs.Prelude.{◌≡◌, ◌≤◌, ℕ, List, ◌++◌, Bool, true, false, Option, Result, Ok, Err, OnOk, is_ok}
 use Rattle.serde_json.specs.Data.{Data}
 use Rattle.wm_disk.specs.declared.refusal.Refusal.{Refusal}
 use Rattle.wm_names.specs.Paths.{Path}
@@ -23,12 +23,13 @@ use Rattle.wm_session.specs.session.Sessions.{SessionState, SubscriptionList, Ou
 use Rattle.wm_session.specs.session.Watched.{clock_answer, progress_after, view_after}
 
 -- The part of a front that a call is about: none; the registry, which a command may change or which is only looked at; or a root's view, which
--- an operation may change, of which is asked, and whose cursor may move by that, or which is only looked at.
+-- an operation may change, of which is asked, and whose cursor may move by that, or which is only looked at. An operation was given a moment, and was met at
+-- this one or a later one.
 pub data Part : Type 0 where
   Nowhere : Part
   Commands : Part
   Lists : Part
-  Changes : Path → Part
+  Changes : Path → (given moment : ℕ) → Part
   Asks : Path → Part
   Looks : Path → Part
 
@@ -38,27 +39,44 @@ is_look Lists = true
 is_look (Looks path) = true
 is_look _ = false
 
--- the part that a request is about
-abbrev pub part_of : Request → Part
-part_of requests.Version = Nowhere
-part_of (requests.Watch path) = Commands
-part_of (requests.WatchDel path) = Commands
-part_of requests.WatchList = Lists
-part_of (requests.Observe root pairs) = Changes root
-part_of (requests.Listing root begun_at found) = Changes root
-part_of (requests.AgeOut root age) = Changes root
-part_of (requests.Clock root) = Looks root
-part_of (requests.Trigger path trigger) = Commands
-part_of (requests.TriggerList path) = Lists
-part_of (requests.TriggerDel path name) = Commands
-part_of (requests.Query root q) = Asks root
-part_of (requests.Subscribe root name q) = Looks root
-part_of (requests.Unsubscribe root name) = Lists
+-- an operation was met at the moment that it was given
+abbrev pub IsMetWhenGiven : Part → Type 0
+IsMetWhenGiven (Changes path given moment) = moment ≡ given
+IsMetWhenGiven _ = Unit {0}
+
+-- the part that a request is about, which was given one moment and met at another
+abbrev pub part_of : (given moment : ℕ) → Request → Part
+part_of given moment requests.Version = Nowhere
+part_of given moment (requests.Watch path) = Commands
+part_of given moment (requests.WatchDel path) = Commands
+part_of given moment requests.WatchList = Lists
+part_of given moment (requests.Observe root pairs) = Changes root given moment
+part_of given moment (requests.Listing root begun_at found) = Changes root given moment
+part_of given moment (requests.AgeOut root age) = Changes root given moment
+part_of given moment (requests.Clock root) = Looks root
+part_of given moment (requests.Trigger path trigger) = Commands
+part_of given moment (requests.TriggerList path) = Lists
+part_of given moment (requests.TriggerDel path name) = Commands
+part_of given moment (requests.Query root q) = Asks root
+part_of given moment (requests.Subscribe root name q) = Looks root
+part_of given moment (requests.Unsubscribe root name) = Lists
 
 -- a line that is no request is about none
-abbrev pub part_read : Result Request Refusal → Part
-part_read (Ok r) = part_of r
-part_read (Err r) = Nowhere
+abbrev pub part_read : (given moment : ℕ) → Result Request Refusal → Part
+part_read given moment (Ok r) = part_of given moment r
+part_read given moment (Err r) = Nowhere
+
+-- the moment that an operation was given
+abbrev pub moment_given : Op → ℕ
+moment_given (Observe given pairs) = given
+moment_given (Recrawl given begun_at found) = given
+moment_given (AgeOut given age) = given
+
+-- the operation at another moment
+abbrev pub at_moment : ℕ → Op → Op
+at_moment moment (Observe given pairs) = Observe moment pairs
+at_moment moment (Recrawl given begun_at found) = Recrawl moment begun_at found
+at_moment moment (AgeOut given age) = AgeOut moment age
 
 -- the reply to an operation is the floor, and not the clock
 abbrev pub reports_floor : Op → Bool
@@ -90,12 +108,14 @@ module _ {F : Type 0} (met : F → Part → Way → Bool → SessionState → Se
     pub at : met old Commands way (is_change (reply_to_command found command)) found (state_or way (state_after_command found command) found) new
     pub reply_is : result ≡ reply_or way (reply_to_command found command)
 
-  -- an operation on a root's view was met at a state
+  -- an operation on a root's view was met at a state, and at the moment that it was given or a later one
   pub record OperatedAt (old : F) (root : Path) (o : Op) (result : Result Progress Refusal) (new : F) : Type 0 where
     pub way : Way
     pub found : SessionState
-    pub at : met old (Changes root) way false found (state_or way (operation_outcome found root o).state found) new
-    pub reply_is : result ≡ refusal_or way (progress_after (view_after (view_of found root) o))
+    pub moment : ℕ
+    pub later : moment_given o ≤ moment
+    pub at : met old (Changes root (moment_given o) moment) way false found (state_or way (operation_outcome found root (at_moment moment o)).state found) new
+    pub reply_is : result ≡ refusal_or way (progress_after (view_after (view_of found root) (at_moment moment o)))
 
   -- a part was looked at, and nothing was changed
   pub record Looked {A : Type 0} (old : F) (part : Part) (defined : SessionState → Result A Refusal) (result : Result A Refusal) (new : F) : Type 0 where
@@ -123,20 +143,24 @@ module _ {F : Type 0} (met : F → Part → Way → Bool → SessionState → Se
   abbrev pub MetLeaving : F → Part → (SessionState → Outcome) → (SessionState → SubscriptionList) → List ℕ → Result (Unit {0}) Refusal → F → List ℕ → SubscriptionList → Type 0
   MetLeaving old part defined left before result new after subscriptions' = (m : Met old part defined before result new after) × OnOk result (subscriptions' ≡ left m.found)
 
-  -- a request that was read was answered at a state, by a reply or by a refusal, with so many faults
-  pub record Answers (old : F) (subscriptions : SubscriptionList) (moment : ℕ) (request : Result Request Refusal) (n : ℕ) (before after : List ℕ) (new : F) (subscriptions' : SubscriptionList) : Type 0 where
+  -- A request that was read was answered at a state, by a reply or by a refusal, with so many faults. It was met at the moment that it was given or a later one.
+  pub record Answers (old : F) (subscriptions : SubscriptionList) (given : ℕ) (request : Result Request Refusal) (n : ℕ) (before after : List ℕ) (new : F) (subscriptions' : SubscriptionList) : Type 0 where
     pub way : Way
     pub found : SessionState
-    pub at : met old (part_read request) way (met_or_refused found subscriptions moment request).accepts found (state_or way (met_or_refused found subscriptions moment request).state found) new
+    pub moment : ℕ
+    pub later : given ≤ moment
+    pub at : met old (part_read given moment request) way (met_or_refused found subscriptions moment request).accepts found (state_or way (met_or_refused found subscriptions moment request).state found) new
     pub faults : n ≡ faults_of way
     pub bytes_are : after ≡ before ++ reply_bytes (refusal_or way (met_or_refused found subscriptions moment request).reply)
     pub subscriptions_are : subscriptions' ≡ subscriptions_after (refusal_or way (met_or_refused found subscriptions moment request).reply) (record { front = found; subscriptions = subscriptions }) request
 
-  -- Nobody else changes the front: what is found is what it shows before the call, what is left is what it shows after it, each way has its cause, and a look changes nothing.
+  -- Nobody else changes the front: what is found is what it shows before the call, what is left is what it shows after it, each way has its cause, a look
+  -- changes nothing, and an operation is met at the moment that it was given.
   abbrev pub IsOwn : (F → FrontState) → Type 0
   IsOwn state = (a b : F) (part : Part) (way : Way) (accepts : Bool) (s t : SessionState) → met a part way accepts s t b
-      → ((state a).state ≡ s) × ((state b).state ≡ t) × HasCause way accepts (state a) (state b) × (is_look part ≡ true → state b ≡ state a)
+      → ((state a).state ≡ s) × ((state b).state ≡ t) × HasCause way accepts (state a) (state b) × (is_look part ≡ true → state b ≡ state a) × IsMetWhenGiven part
 
--- What is met on a front that nobody shares: what is found is what the front shows, what is left is what it shows then, and the way has its cause; a look changes nothing.
+-- What is met on a front that nobody shares: what is found is what the front shows, what is left is what it shows then, and the way has its cause; a look changes nothing, and
+-- an operation is met at the moment that it was given.
 abbrev pub MetAt : Part → FrontState → Way → Bool → SessionState → SessionState → FrontState → Type 0
-MetAt part old way accepts s t new = (old.state ≡ s) × (new.state ≡ t) × HasCause way accepts old new × (is_look part ≡ true → new ≡ old)
+MetAt part old way accepts s t new = (old.state ≡ s) × (new.state ≡ t) × HasCause way accepts old new × (is_look part ≡ true → new ≡ old) × IsMetWhenGiven part

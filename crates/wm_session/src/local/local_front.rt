@@ -198,7 +198,7 @@ impl<D: Disk + Drop> Front for LocalFront<D> {
         self.store.registry()
     }
 
-    ghost stands = { λ a part. stands_at _ part };
+    ghost stands = { λ a part when. stands_at _ part when };
 
     ghost runs_out = { λ a b part s. runs_out_at _ _ part s };
 

@@ -6,7 +6,7 @@ ghost use Rattle.wm_registry.specs.declared.command.Command as commands;
 ghost use Rattle.wm_registry.specs.Roots.{State};
 ghost use Rattle.wm_session.specs.session.Dues.{due_of};
 ghost use Rattle.wm_session.specs.session.Faults.{FrontState, Way, Memory, Defined};
-ghost use Rattle.wm_session.specs.session.Fronts.{IsOwn, Listed, Looked, Met, OperatedAt, Part, SubmittedAt, is_look, start_answer};
+ghost use Rattle.wm_session.specs.session.Fronts.{IsMetWhenGiven, IsOwn, Listed, Looked, Met, OperatedAt, Part, SubmittedAt, is_look, start_answer};
 ghost use Rattle.wm_session.specs.session.Fronts.{Asks, Looks, Nowhere};
 ghost use Rattle.wm_session.specs.session.Inquiries.{inquired};
 ghost use Rattle.wm_session.specs.session.Sessions.{SessionState, inquiry_met, view_of};
@@ -44,7 +44,8 @@ pub trait Front {
         ensures met { SubmittedAt met self.old command result self.new }
         ensures later { leads_to self.old (command ∷ []) self.new };
 
-    /// Performs an operation on the view of a watched root, and returns where that stands after it.
+    /// Performs an operation on the view of a watched root, and returns where that stands after it. The front decides at which
+    /// moment: at the operation's own or a later one, as at the second in which a view that sessions share is changed.
     /// `NotWatched`, what the view refuses, and `NoMemory`; a refusal changes nothing.
     fn operate(&mut self, alloc: Global, root: &RootPath, op: Op) -> Result<Progress, Refusal>
         ensures met { OperatedAt met self.old root.now op result self.new }
@@ -99,8 +100,8 @@ pub trait Front {
     fn registry(&self) -> &Registry
         ensures { result.now ≡ shown self.now };
 
-    /// If memory runs out before a call it is as if the call had been made: there is a state, which stays.
-    ghost stands: { (a : Self) (part : Part) → (s : SessionState) × ((accepts : Bool) → met a part Memory accepts s s a) };
+    /// If memory runs out before a call it is as if the call had been made, when it was given: there is a state, which stays.
+    ghost stands: { (a : Self) (part : Part) → IsMetWhenGiven part → (s : SessionState) × ((accepts : Bool) → met a part Memory accepts s s a) };
 
     /// If memory runs out for what is made of a look, it is as if it had run out in the look.
     ghost runs_out: { (a b : Self) (part : Part) (s : SessionState) → is_look part ≡ true → met a part Defined false s s b → (accepts : Bool) → met a part Memory accepts s s b };

@@ -15,4 +15,4 @@ module _ {F : Type 0} (state : F → FrontState) where
 
   -- a command was met
   pub submitted : (a b : F) (command : Command) (r : Reply) → Submits (state a) command r (state b) → SubmittedAt met_at a command r b
-  submitted a b command r s = record { way = s.way; found = (state a).state; at = (refl, s.state_is, s.cause, λ look. no_look look); reply_is = s.reply_is }
+  submitted a b command r s = record { way = s.way; found = (state a).state; at = (refl, s.state_is, s.cause, (λ look. no_look look), tt); reply_is = s.reply_is }

@@ -1,5 +1,5 @@
 -- From what a front did to what a session writes.
-use Rattle.std.proofs.Common.{◌≡◌, ◌∙◌, ℕ, List, ◌++◌, Bool, true, false, cond, Option, Some, None, Result, Ok, Err, refl, sym, ap, subst}
+use Rattle.std.proofs.Common.{◌≡◌, ◌≤◌, ◌∙◌, ℕ, List, ◌++◌, Bool, true, false, cond, Option, Some, None, Result, Ok, Err, refl, sym, ap, subst}
 use Rattle.std.specs.Prelude.{is_ok}
 use Rattle.serde_json.specs.Data.{Data}
 use Rattle.wm_disk.specs.declared.refusal.Refusal.{Refusal}
@@ -19,7 +19,7 @@ use Rattle.wm_registry.specs.Roots.{State}
 use Rattle.wm_lines.specs.Replies.{clock_reply, floor_reply, line_text, operation_reply, reply_bytes, subscribe_reply}
 use Rattle.wm_subs.specs.SessionLists.{may_subscribe, with_subscription}
 use Rattle.wm_session.specs.session.Faults.{Way, Defined, Device, Memory, Spent, refusal_or, state_or}
-use Rattle.wm_session.specs.session.Fronts.{Listed, Looked, Met, MetLeaving, OperatedAt, Part, Changes, Lists, Looks, Writes, reports_floor, start_answer, start_with}
+use Rattle.wm_session.specs.session.Fronts.{Listed, Looked, Met, MetLeaving, OperatedAt, Part, Changes, Lists, Looks, Writes, at_moment, moment_given, reports_floor, start_answer, start_with}
 use Rattle.wm_session.specs.session.Inquiries.{since_point}
 use Rattle.wm_session.specs.session.Sessions.{SessionState, SubscriptionList, Outcome, by_reply, cursors_of, operation_met, operation_outcome, question_met, refused, replied, subscribe_met, subscribed_by, triggers_met, unsubscribe_met, view_of}
 use Rattle.wm_session.specs.session.Watched.{clock_answer, progress_after, view_after}
@@ -93,6 +93,12 @@ told_so (Observe moment pairs) p = refl
 told_so (Recrawl moment begun_at found) p = refl
 told_so (AgeOut time age) p = refl
 
+-- and at any moment the same
+same_reply : (moment : ℕ) (o : Op) (p : Progress) → operation_reply (at_moment moment o) p ≡ operation_reply o p
+same_reply moment (Observe given pairs) p = refl
+same_reply moment (Recrawl given begun_at found) p = refl
+same_reply moment (AgeOut given age) p = refl
+
 takes_no_command : (s : SessionState) (root : Path) (o : Op) (r : Result RootView Refusal) → false ≡ (operation_met s root o r).accepts
 takes_no_command s root o (Ok view) = refl
 takes_no_command s root o (Err e) = refl
@@ -152,28 +158,43 @@ module _ {F : Type 0} (met : F → Part → Way → Bool → SessionState → Se
   defined_met old new part way s is m = subst (λ w. met old part w false s (state_or w s s) new) is m
 
   -- ---- operations
-  pub operation_refused : (old new : F) (root : Path) (o : Op) (e : Refusal) (before after : List ℕ) → OperatedAt met old root o (Err e) new → after ≡ before
-      → Met met old (Changes root) (λ s. operation_outcome s root o) before (Err e) new after
-  operation_refused old new root o e before after m same =
-      let r = view_after (view_of m.found root) o in
-      record {
-        way = m.way;
-        found = m.found;
-        at = subst (λ b. met old (Changes root) m.way b m.found (state_or m.way (operation_outcome m.found root o).state m.found) new) (takes_no_command m.found root o r) m.at;
-        written = (operation_refusal m.way m.found root o r e m.reply_is, same);
-      }
+  -- an operation was met, at the moment that it was given or a later one
+  abbrev pub MetLater : F → Path → Op → List ℕ → Result (Unit {0}) Refusal → F → List ℕ → Type 0
+  MetLater old root o before result new after =
+      (moment : ℕ) × (moment_given o ≤ moment) × Met met old (Changes root (moment_given o) moment) (λ s. operation_outcome s root (at_moment moment o)) before result new after
 
-  pub operation_done : (old new : F) (root : Path) (o : Op) (p : Progress) (before after : List ℕ) → OperatedAt met old root o (Ok p) new → after ≡ before ++ line_text (operation_reply o p)
-      → Met met old (Changes root) (λ s. operation_outcome s root o) before (Ok tt) new after
+  takes_none : (old new : F) (root : Path) (o : Op) (given moment : ℕ) (way : Way) (found : SessionState) → met old (Changes root given moment) way false found (state_or way (operation_outcome found root o).state found) new
+      → met old (Changes root given moment) way (operation_outcome found root o).accepts found (state_or way (operation_outcome found root o).state found) new
+  takes_none old new root o given moment way found at =
+      subst (λ b. met old (Changes root given moment) way b found (state_or way (operation_outcome found root o).state found) new) (takes_no_command found root o (view_after (view_of found root) o)) at
+
+  pub operation_refused : (old new : F) (root : Path) (o : Op) (e : Refusal) (before after : List ℕ) → OperatedAt met old root o (Err e) new → after ≡ before → MetLater old root o before (Err e) new after
+  operation_refused old new root o e before after m same =
+      let here = at_moment m.moment o in (
+        m.moment,
+        m.later,
+        record {
+          way = m.way;
+          found = m.found;
+          at = takes_none old new root here (moment_given o) m.moment m.way m.found m.at;
+          written = (operation_refusal m.way m.found root here (view_after (view_of m.found root) here) e m.reply_is, same);
+        },
+      )
+
+  pub operation_done : (old new : F) (root : Path) (o : Op) (p : Progress) (before after : List ℕ) → OperatedAt met old root o (Ok p) new → after ≡ before ++ line_text (operation_reply o p) → MetLater old root o before (Ok tt) new after
   operation_done old new root o p before after m put =
-      let r = view_after (view_of m.found root) o in
-      let is = granted m.way p (progress_after r) m.reply_is in
-      record {
-        way = m.way;
-        found = m.found;
-        at = subst (λ b. met old (Changes root) m.way b m.found (state_or m.way (operation_outcome m.found root o).state m.found) new) (takes_no_command m.found root o r) m.at;
-        written = writes m.way (operation_outcome m.found root o).reply (operation_reply o p) before after is.0 (done_is m.found root o r p is.1) put;
-      }
+      let here = at_moment m.moment o in
+      let r = view_after (view_of m.found root) here in
+      let is = granted m.way p (progress_after r) m.reply_is in (
+        m.moment,
+        m.later,
+        record {
+          way = m.way;
+          found = m.found;
+          at = takes_none old new root here (moment_given o) m.moment m.way m.found m.at;
+          written = writes m.way (operation_outcome m.found root here).reply (operation_reply o p) before after is.0 (done_is m.found root here r p is.1 ∙ ap (λ d. Ok d) (same_reply m.moment o p)) put;
+        },
+      )
 
   -- ---- questions
   pub asked_done : {A : Type 0} (old new : F) (part : Part) (answer : SessionState → Result A Refusal) (to_reply : A → Data) (a : A) (before after : List ℕ) → Looked met old part answer (Ok a) new → after ≡ before ++ line_text (to_reply a)

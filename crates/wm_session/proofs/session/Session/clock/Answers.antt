@@ -8,7 +8,7 @@ use Rattle.wm_session.proofs.session.Session.clock.Goals as goal
 
 pub returns-in_err-try_reserve-clause-met : goal.returns-in_err-try_reserve-clause-met
 returns-in_err-try_reserve-clause-met g c =
-    let s = g.met.F.Front.stands c.args.self.now.front (Looks c.args.root.now) in
+    let s = g.met.F.Front.stands c.args.self.now.front (Looks c.args.root.now) tt in
     let at = s.1 (question_met s.0 (clock_answer (view_of s.0 c.args.root.now)) clock_reply).accepts in search rules
 
 pub returns-in-Ok-clause-met : goal.returns-in-Ok-clause-met

@@ -1,14 +1,20 @@
-use Rattle.std.proofs.Common.{ap, ◌∙◌, ◌++◌, cond, rules}
+use Rattle.std.proofs.Common.{ap, ◌∙◌, ◌++◌, arith, cond, refl, rules}
 use Rattle.wm_lines.specs.Replies.{clock_reply, floor_reply, line_text}
-use Rattle.wm_session.specs.session.Fronts.{Changes}
+use Rattle.wm_session.specs.session.Faults.{Memory}
+use Rattle.wm_session.specs.session.Fronts.{Changes, at_moment, moment_given}
 use Rattle.wm_session.specs.session.Sessions.{operation_outcome}
 use Rattle.wm_session.proofs.lemmas.session.SessionLemmas.{operation_done, operation_refused, told_so}
 use Rattle.wm_session.proofs.session.Session.operate.Goals as goal
 
 pub returns-in_err-try_reserve-clause-met : goal.returns-in_err-try_reserve-clause-met
 returns-in_err-try_reserve-clause-met g c =
-    let s = g.met.F.Front.stands c.args.self.now.front (Changes c.args.root.now) in
-    let at = s.1 (operation_outcome s.0 c.args.root.now c.args.op).accepts in search rules
+    let given = moment_given c.args.op in
+    let s = g.met.F.Front.stands c.args.self.now.front (Changes c.args.root.now given given) refl in
+    let outcome = operation_outcome s.0 c.args.root.now (at_moment given c.args.op) in (
+      given,
+      omega arith,
+      record { way = Memory; found = s.0; at = s.1 outcome.accepts; written = search rules },
+    )
 
 pub returns-in-Ok-clause-met : goal.returns-in-Ok-clause-met
 returns-in-Ok-clause-met g c =
