@@ -39,12 +39,12 @@ is_look Lists = true
 is_look (Looks path) = true
 is_look _ = false
 
--- an operation was met at the moment that it was given
+-- if the call is an operation, it was met at the moment that it was given
 abbrev pub IsMetWhenGiven : Part → Type 0
 IsMetWhenGiven (Changes path given moment) = moment ≡ given
 IsMetWhenGiven _ = Unit {0}
 
--- the part that a request is about, which was given one moment and met at another
+-- the part that a request is about, by the moment that it was given and that at which it was met
 abbrev pub part_of : (given moment : ℕ) → Request → Part
 part_of given moment requests.Version = Nowhere
 part_of given moment (requests.Watch path) = Commands
@@ -72,7 +72,7 @@ moment_given (Observe given pairs) = given
 moment_given (Recrawl given begun_at found) = given
 moment_given (AgeOut given age) = given
 
--- the operation at another moment
+-- the same operation at another moment
 abbrev pub at_moment : ℕ → Op → Op
 at_moment moment (Observe given pairs) = Observe moment pairs
 at_moment moment (Recrawl given begun_at found) = Recrawl moment begun_at found

@@ -100,7 +100,7 @@ pub trait Front {
     fn registry(&self) -> &Registry
         ensures { result.now ≡ shown self.now };
 
-    /// If memory runs out before a call it is as if the call had been made, when it was given: there is a state, which stays.
+    /// If memory runs out before a call it is as if the call had been made, an operation at its own moment: there is a state, which stays.
     ghost stands: { (a : Self) (part : Part) → IsMetWhenGiven part → (s : SessionState) × ((accepts : Bool) → met a part Memory accepts s s a) };
 
     /// If memory runs out for what is made of a look, it is as if it had run out in the look.
