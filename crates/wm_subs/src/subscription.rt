@@ -4,7 +4,7 @@
 ghost use Rattle.std.specs.Prelude.{◌≡◌, IfOk, IfErr, OnErr};
 ghost use Rattle.wm_view.specs.Histories.{History, IsMade};
 ghost use Rattle.wm_view.specs.Summaries.{summary};
-ghost use Rattle.wm_subs.specs.Subscribers.{after_due, due_answer, due_answer_by, new_subscriber, told_up_to};
+ghost use Rattle.wm_subs.specs.Subscribers.{after_due, due_answer, due_answer_by, is_of_another as is_of_another_lem, is_told_of_another, new_subscriber, told_up_to};
 ghost use Rattle.wm_subs.specs.Folds.{FoldsOn};
 
 use crate::subscription_name::SubscriptionName;
@@ -34,6 +34,16 @@ impl<T> Model for Subscription<T> {
     ghost view = { λ s. record { name = s.name; query = s.query; is_told = s.is_told } };
 }
 
+/// Whether it is a clock of another root than the one of the number.
+fn is_of_another(number: u64, since: &Option<Since>) -> bool
+    ensures { result ≡ is_of_another_lem number since.now }
+{
+    match since {
+        Some(Since::Clock(clock)) => clock.root != number,
+        Some(Since::Moment(_)) | None => false,
+    }
+}
+
 impl<T: Test> Subscription<T> {
     /// A subscription that was told nothing yet. Its first answer is since the query's clock or moment;
     /// each later one is since the clock of the one before.
@@ -52,6 +62,13 @@ impl<T: Test> Subscription<T> {
         ensures { result.now ≡ self.now.name }
     {
         &self.name
+    }
+
+    /// Whether its last answer was of another root than the one of this number: the root was deleted, and its path watched anew.
+    pub fn is_told_of_another(&self, number: u64) -> bool
+        ensures { result ≡ is_told_of_another number self.now }
+    {
+        self.is_told && is_of_another(number, &self.query.since)
     }
 
     /// What is to be told of the view: `None` where the view isn't ready, and where the answer

@@ -2,7 +2,7 @@
 //! Definitions: specs/SessionLists.antt. Tests: view_tests/src/shared/subscriptions/sessions.rt.
 ghost use Rattle.std.specs.Prelude.{◌≡◌, ◌≤◌, ◌<◌, [], true, not, length, vec_len, vec_capacity, OnOk, OnErr, option_map};
 ghost use Rattle.std.specs.List.{filter};
-ghost use Rattle.wm_subs.specs.SessionLists.{IsSession, are_apart, is_meant, is_subscribed, is_subscription, may_subscribe, told_at, with_subscription, without_subscribed, without_subscription};
+ghost use Rattle.wm_subs.specs.SessionLists.{IsSession, are_apart, is_meant, is_on_earlier as is_on_earlier_lem, is_subscribed, is_subscription, may_subscribe, told_at, with_subscription, without_earlier, without_subscribed, without_subscription};
 
 use crate::subscribed::Subscribed;
 use crate::subscription_name::SubscriptionName;
@@ -59,6 +59,13 @@ fn is_meant<T: Test>(
         Some(name) => is_subscription(subscribed, root, name),
         None => *root == subscribed.root,
     }
+}
+
+/// Whether it is on the path, and was told of another root there than the one of the number.
+fn is_on_earlier<T: Test>(subscribed: &Subscribed<T>, root: &RootPath, number: u64) -> bool
+    ensures { result ≡ is_on_earlier_lem root.now number subscribed.now }
+{
+    *root == subscribed.root && subscribed.subscription.is_told_of_another(number)
 }
 
 /// Takes out those on the root or, where a name is given, the one of them that has it.
@@ -143,6 +150,14 @@ impl<T: Test> Subscriptions<T> {
         ensures { self.new ≡ without_subscribed root.now self.old }
     {
         take_out(&mut self.all, root, None);
+    }
+
+    /// Takes away those that were told of another root of the path than the one of this number.
+    pub fn remove_earlier(&mut self, root: &RootPath, number: u64)
+        ensures { self.new ≡ without_earlier root.now number self.old }
+    {
+        self.all
+            .retain(|subscribed| !is_on_earlier(subscribed, root, number));
     }
 
     /// Takes note that the one at the place was told the answer with this clock.

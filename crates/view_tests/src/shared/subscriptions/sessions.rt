@@ -4,6 +4,7 @@ use super::{clock, happen, subscription, told};
 use crate::checks::check;
 use std::alloc::Global;
 use std::process::Abort;
+use wm_clock::ClockId;
 use wm_names::RootPath;
 use wm_since::{Every, Fields};
 use wm_subs::{MAX_SUBSCRIPTIONS, Subscribed, SubscriptionName, Subscriptions};
@@ -117,6 +118,54 @@ fn assert_order_of_the_rest(rt: &impl Abort, alloc: Global, all: &mut Subscripti
     check!(rt; stand_so(rt, alloc, all, "/qsname /quname /rssize "));
     remove_root(rt, alloc, all, "/q");
     check!(rt; stand_so(rt, alloc, all, "/rssize "));
+}
+
+/// A clock of the root of a number.
+fn clock_of(root: u64) -> ClockId {
+    ClockId {
+        incarnation: 1,
+        root,
+        tick: 1,
+    }
+}
+
+/// The subscription at a place was told of the root of a number.
+fn tell_of(all: &mut Subscriptions<Every>, place: usize, root: u64) {
+    if place < all.as_slice().len() {
+        all.told(place, clock_of(root));
+    }
+}
+
+fn remove_earlier(
+    rt: &impl Abort,
+    alloc: Global,
+    all: &mut Subscriptions<Every>,
+    root: &str,
+    number: u64,
+) {
+    let root = RootPath::read(alloc, root).expect(rt, "a root path");
+    all.remove_earlier(&root, number);
+    drop(root);
+}
+
+#[test]
+fn end_if_their_path_is_watched_anew(rt: HostRuntime) {
+    let mut all = Subscriptions::new(rt.alloc());
+    for (root, name) in PUT {
+        check!(&rt; puts(&rt, rt.alloc(), &mut all, root, name, "name"));
+    }
+    // the first three were told of the first root of their path, and the last of nothing
+    for place in 0..3 {
+        tell_of(&mut all, place, 1);
+    }
+    remove_earlier(&rt, rt.alloc(), &mut all, "/r", 1);
+    check!(&rt; stand_so(&rt, rt.alloc(), &all, "/rsname /qsname /rtname /quname "));
+    tell_of(&mut all, 0, 2);
+    remove_earlier(&rt, rt.alloc(), &mut all, "/r", 2);
+    check!(&rt; stand_so(&rt, rt.alloc(), &all, "/rsname /qsname /quname "));
+    remove_earlier(&rt, rt.alloc(), &mut all, "/q", 3);
+    check!(&rt; stand_so(&rt, rt.alloc(), &all, "/rsname /quname "));
+    drop(all);
 }
 
 #[test]
