@@ -12,6 +12,7 @@ ghost use Rattle.wm_session.specs.session.Fronts.{Answers, IsOwn, Met, MetLeavin
 ghost use Rattle.wm_session.specs.session.Fronts.{Changes, Commands, Lists, Looks};
 ghost use Rattle.wm_session.specs.session.Stands.{without_subscriptions, standing};
 ghost use Rattle.wm_session.specs.session.Tellings.{AnswersLine};
+ghost use Rattle.wm_subs.specs.SessionLists.{without_earlier, without_subscribed};
 
 mod front;
 pub mod input;
@@ -28,7 +29,7 @@ use wm_lines::reply::{PROGRESS_ROOM, REFUSAL_ROOM, put_clock, put_floor};
 use wm_lines::{Expression, Progress, Request, reply};
 use wm_names::RootPath;
 use wm_registry::{Command, Reply};
-use wm_subs::Subscriptions;
+use wm_subs::{Subscribed, Subscriptions};
 use wm_view::Op;
 
 /// One client's session on a front, with its subscriptions.
@@ -85,6 +86,38 @@ impl<F: Front> Session<F> {
             front,
             subscriptions: Subscriptions::new(alloc),
         }
+    }
+
+    /// The front, once the session has ended.
+    pub fn into_front(self) -> F
+        ensures { result ≡ self.front }
+    {
+        let Session {
+            front,
+            subscriptions: _,
+        } = self;
+        front
+    }
+
+    /// The subscriptions, in the order of subscribing.
+    pub fn subscriptions(&self) -> &[Subscribed<Expression>]
+        ensures { result.now ≡ self.now.subscriptions }
+    {
+        self.subscriptions.as_slice()
+    }
+
+    /// Ends the subscriptions on a root.
+    pub fn end_root(&mut self, root: &RootPath)
+        ensures { self.new ≡ record self.old { subscriptions = without_subscribed root.now self.old.subscriptions } }
+    {
+        self.subscriptions.remove_root(root);
+    }
+
+    /// Ends the subscriptions on a root that were told of another root of its path than the one of this number: it was watched anew.
+    pub fn end_earlier(&mut self, root: &RootPath, number: u64)
+        ensures { self.new ≡ record self.old { subscriptions = without_earlier root.now number self.old.subscriptions } }
+    {
+        self.subscriptions.remove_earlier(root, number);
     }
 
     /// Submits a command. Each reply that it may have is made first, with its room, so that an accepted
