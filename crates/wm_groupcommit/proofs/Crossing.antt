@@ -25,6 +25,7 @@ use Rattle.std.specs.contracts.impls.GlobalAllocator.TheImpl as GlobalImpl
 use Rattle.std.specs.contracts.option.Option
 use Rattle.std.specs.contracts.snapshot.Snapshot
 use Rattle.wm_store.proofs.store.Store.TheSendSync as StoreSent
+use Rattle.wm_registry.proofs.registry.Registry.TheSendSync as RegistrySent
 use Rattle.wm_registry.specs.contracts.registry.Registry
 use Rattle.wm_groupcommit.proofs.queued.Answer.TheSendSync as AnswerSent
 use Rattle.wm_groupcommit.proofs.queued.Call.TheSendSync as CallSent
@@ -73,7 +74,7 @@ receipt_send =
     (struct_send (Declared.shape ReceiptInside.the_type) (StandingSent.the_field_send, (plain_send _ _ _ _ _, (plain_send _ _ _ _ _, (snapshot_send ReplyReceiver.the_row, tt))))))
 
 pub delivery_send : IsSend Delivery.the_row
-delivery_send = recorded_send (Delivery.the_field).row _ _ (Delivery.the_type).to_one (struct_send (Declared.shape Delivery.the_type) (AnswerSent.the_field_send, (snapshot_send History.the_row, tt)))
+delivery_send = recorded_send (Delivery.the_field).row _ _ (Delivery.the_type).to_one (struct_send (Declared.shape Delivery.the_type) (AnswerSent.the_field_send, (snapshot_send History.the_row, (OptionSent.the_field_send Registry.the_row RegistrySent.the_send, tt))))
 
 pub sender_send : IsSend ReplySender.the_row
 sender_send =

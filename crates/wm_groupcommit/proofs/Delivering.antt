@@ -1,5 +1,6 @@
 -- Each step keeps the rule of the reply queue.
-use Rattle.std.proofs.Common.{◌≡◌, ◌≢◌, ℕ, zero, suc, true, false, true≢false, Option, Some, None, List, [], ◌∷◌, ◌++◌, set, ⊎_elim, refl, sym, ap, ◌∙◌, subst, append_assoc, append-nil}
+use Rattle.std.proofs.lemmas.List.{take-append-le, length-append}
+use Rattle.std.proofs.Common.{◌≡◌, ◌≢◌, ◌≤◌, length, arith, ℕ, zero, suc, true, false, true≢false, Option, Some, None, List, [], ◌∷◌, ◌++◌, set, ⊎_elim, refl, sym, ap, ◌∙◌, subst, append_assoc, append-nil}
 use mathlib.Core.Option.{some, some-ne-none, some-injective}
 use lib.ListN.{get_elem?}
 use Rattle.crossbeam_queue.specs.Fifo.{Pushes, Pops, Forks}
@@ -9,8 +10,10 @@ use Rattle.wm_groupcommit.specs.declared.queued.Call.{Call}
 use Rattle.wm_groupcommit.specs.declared.queued.Answer.{Answer}
 use Rattle.wm_groupcommit.specs.declared.locked.deliveries.Delivery.{Delivery}
 use Rattle.wm_groupcommit.specs.declared.locked.deliveries.ReplyView.{ReplyView}
-use Rattle.wm_groupcommit.specs.Books.{Right, AllRight}
-use Rattle.wm_groupcommit.specs.ReplyQueues.{reply_view, unnamed, end_to, newcomer, StartsWith, KeepsBase, RightFor, IsLater, answers_in, base_of, list_of, AreTo, FitsEnd, Replying, Gave, Took}
+use Rattle.wm_checkpoint.specs.Machines.{replayed}
+use Rattle.wm_registry.specs.Registry.{after_command}
+use Rattle.wm_groupcommit.specs.Books.{Right, AllRight, IsShownAt, commands_of, state_at}
+use Rattle.wm_groupcommit.specs.ReplyQueues.{reply_view, unnamed, end_to, newcomer, StartsWith, KeepsBase, RightFor, IsLater, answers_in, base_of, list_of, AreTo, AreShownFor, IsShownFor, FitsEnd, Replying, Gave, Took}
 use Rattle.wm_groupcommit.proofs.Answering.{AllRight-front}
 
 pub StartsWith-all : (l : List Call) → StartsWith l l
@@ -65,6 +68,38 @@ nothing_to : (n : ℕ) (xs : List Answer) → AreTo None xs → AreTo (Some n) x
 nothing_to n [] h = tt
 nothing_to n (a ∷ xs) h = absurd (some_seat a.call.seat h.0)
 
+-- ---- a registry that is shown
+
+some_same : (r s : State) → Some s ≡ Some r → r ≡ s
+some_same r s e = cc
+
+base_kept : (b c : Option State) (base : State) → KeepsBase b c → b ≡ Some base → c ≡ Some base
+base_kept None c base k e = absurd (cc)
+base_kept (Some x) c base k e = k ∙ e
+
+shown-later : (b c : Option State) (l m : List Call) (x : Delivery) → KeepsBase b c → StartsWith m l → IsShownFor b l x → IsShownFor c m x
+shown-later b c l m x k s shown = λ r e.
+    let here = shown r e in
+    let n = x.answer.at in
+    let same : state_at here.0 m n ≡ state_at here.0 l n = ap (λ (list : List Call). state_at here.0 list n) s.1 ∙ ap (λ (list : List Call). replayed after_command here.0 (commands_of list)) (take-append-le n l s.0 here.2) in (
+      here.0,
+      base_kept b c here.0 k here.1,
+      subst (λ (list : List Call). n ≤ length list) (sym s.1) (omega (arith, here.2, length-append l s.0)),
+      here.3 ∙ sym same,
+    )
+
+shown-longer : (b c : Option State) (l m : List Call) (items : List Delivery) → KeepsBase b c → StartsWith m l → AreShownFor b l items → AreShownFor c m items
+shown-longer b c l m [] k s h = tt
+shown-longer b c l m (x ∷ items) k s h = (shown-later b c l m x k s h.0, shown-longer b c l m items k s h.1)
+
+shown-push : (b : Option State) (l : List Call) (items : List Delivery) (x : Delivery) → AreShownFor b l items → IsShownFor b l x → AreShownFor b l (items ++ x ∷ [])
+shown-push b l [] x h e = (e, tt)
+shown-push b l (y ∷ items) x h e = (h.0, shown-push b l items x h.1 e)
+
+shown_now : (x : Delivery) (registry : Option State) → x.registry ≡ registry → IsShownAt x.seen.value.base (list_of x) x.answer.at registry → IsShownFor (base_of x) (list_of x) x
+shown_now x None is h = λ r e. let bad : None ≡ Some r = sym is ∙ e in absurd (cc)
+shown_now x (Some s) is h = λ r e. let same : Some s ≡ Some r = sym is ∙ e in (x.seen.value.base, refl, h.0, some_same r s same ∙ h.1)
+
 abbrev Ends : Option ℕ → ℕ → Option State → List Call → List ReplyView → Type 0
 Ends seat writer base list views = (port : ℕ) (v : ReplyView) → get_elem? views port ≡ some v → FitsEnd seat writer base list port v
 
@@ -77,7 +112,7 @@ off : false ≡ true → ⊥
 off e = true≢false (sym e)
 
 pub begins : Replying [] (unnamed ∷ [])
-begins = (None, 0, None, [], one, refl, tt)
+begins = (None, 0, None, [], one, refl, tt, tt)
   where
     one : (port : ℕ) (v : ReplyView) → get_elem? (unnamed ∷ []) port ≡ some v → FitsEnd None 0 None [] port v
     one zero v e = subst (FitsEnd None 0 None [] 0) (some-injective _ _ e) ((refl, λ _. refl), (λ _. (refl, refl, refl)), (tt, StartsWith-all []), refl)
@@ -98,11 +133,12 @@ forks n port items views h at =
           (λ (same : newcomer n ≡ u). subst (FitsEnd (Some n) h.1 h.2 h.3 j) same ((refl, λ e'. absurd (some_seat n (sym e'))), (λ x. absurd (off x)), (tt, (h.3, refl)), refl)) (at_snoc (set views port (end_to n)) (newcomer n) u j e),
       h.5,
       nothing_to n (answers_in items) (subst (λ s. AreTo s (answers_in items)) (sym mine.0.0) h.6),
+      h.7,
     )
 
 pub gives : (n port : ℕ) (v : ReplyView) (x : Delivery) → v.writes ≡ true → IsLater v (base_of x) (list_of x) → Right x.seen.value.base (list_of x) x.answer → v.seat ≡ Some x.answer.call.seat
-    → Pushes Replying n port v x (λ w. Gave v x w)
-gives n port v x may later right own items views _ h at =
+    → IsShownAt x.seen.value.base (list_of x) x.answer.at x.registry → Pushes Replying n port v x (λ w. Gave v x w)
+gives n port v x may later right own shown items views _ h at =
     let mine = h.4 port v at in
     let known = mine.1 may in
     let w = reply_view v.writes v.seat (base_of x) (list_of x) v.got in
@@ -126,6 +162,7 @@ gives n port v x may later right own items views _ h at =
             )),
         subst (λ l. RightFor (base_of x) (list_of x) l) (sym (answers_in-push items x)) (RightFor-append (base_of x) (list_of x) (answers_in items) (x.answer ∷ []) queued (right, tt)),
         subst (AreTo h.0) (sym (answers_in-push items x)) (AreTo-push h.0 (answers_in items) x.answer h.6 (sym mine.0.0 ∙ own)),
+        shown-push (base_of x) (list_of x) items x (shown-longer h.2 (base_of x) h.3 (list_of x) items keeps longer h.7) (shown_now x x.registry refl shown),
       ),
       refl,
     )
@@ -145,6 +182,7 @@ gets port v x items views h at =
         ends_set h.0 h.1 h.2 h.3 views port w (mine.0, (λ k. ((mine.1 k).0, refl, refl)), (KeepsBase-all h.2, StartsWith-all h.3), right) (λ j u _ e. h.4 j u e),
         RightFor-rest h.2 h.3 x.answer (answers_in items) h.5,
         h.6.1,
+        h.7.1,
       ),
-      (refl, refl, mine.0.0 ∙ h.6.0, mine.2, refl, right),
+      (refl, refl, mine.0.0 ∙ h.6.0, mine.2, refl, right, h.7.0),
     )

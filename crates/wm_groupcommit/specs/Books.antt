@@ -1,5 +1,5 @@
 -- The accepted commands in their order, and the answers to calls.
-use Rattle.std.specs.Prelude.{◌≡◌, ◌≤◌, ◌+◌, ℕ, true, cond, List, [], ◌∷◌, length, map, take, Some, slice_get, ◌⊎◌}
+use Rattle.std.specs.Prelude.{◌≡◌, ◌≤◌, ◌+◌, ℕ, true, cond, List, [], ◌∷◌, length, map, take, Option, Some, None, slice_get, ◌⊎◌}
 use Rattle.wm_disk.specs.declared.refusal.Refusal.{Refusal}
 use Rattle.wm_disk.specs.declared.refusal.Refusal.TheVariants.{StoreFailed, DeviceFailed, Exhausted, NoMemory}
 use Rattle.wm_checkpoint.specs.Machines.{replayed}
@@ -34,6 +34,11 @@ RightReply base list a =
 
 abbrev pub Right : State → List Call → Answer → Type 0
 Right base list a = IsFailed a.reply ⊎ RightReply base list a
+
+-- a registry that is shown, if one is, is that after so many of the list
+abbrev pub IsShownAt : State → List Call → ℕ → Option State → Type 0
+IsShownAt base list n None = Unit {0}
+IsShownAt base list n (Some r) = (n ≤ length list) × (r ≡ state_at base list n)
 
 abbrev pub AllRight : State → List Call → List Answer → Type 0
 AllRight base list [] = Unit {0}

@@ -1,5 +1,5 @@
 -- The rule of a reply queue.
-use Rattle.std.specs.Prelude.{◌≡◌, ℕ, Bool, true, false, Option, Some, None, List, [], ◌∷◌, ◌++◌, map}
+use Rattle.std.specs.Prelude.{◌≡◌, ◌≤◌, ℕ, length, Bool, true, false, Option, Some, None, List, [], ◌∷◌, ◌++◌, map}
 use mathlib.Core.Option.{some}
 use lib.ListN.{get_elem?}
 use Rattle.wm_registry.specs.Roots.{State}
@@ -7,7 +7,7 @@ use Rattle.wm_groupcommit.specs.declared.queued.Call.{Call}
 use Rattle.wm_groupcommit.specs.declared.queued.Answer.{Answer}
 use Rattle.wm_groupcommit.specs.declared.locked.deliveries.Delivery.{Delivery}
 use Rattle.wm_groupcommit.specs.declared.locked.deliveries.ReplyView.{ReplyView}
-use Rattle.wm_groupcommit.specs.Books.{AllRight}
+use Rattle.wm_groupcommit.specs.Books.{AllRight, state_at}
 
 abbrev pub reply_view : Bool → Option ℕ → Option State → List Call → List Answer → ReplyView
 reply_view writes seat base list got = record { writes = writes; seat = seat; base = base; list = list; got = got }
@@ -49,6 +49,14 @@ base_of x = Some x.seen.value.base
 abbrev pub list_of : Delivery → List Call
 list_of x = x.seen.value.list
 
+-- a registry that is shown is that after so many commands of this list
+abbrev pub IsShownFor : Option State → List Call → Delivery → Type 0
+IsShownFor base list x = (r : State) → x.registry ≡ Some r → (b : State) × (base ≡ Some b) × (x.answer.at ≤ length list) × (r ≡ state_at b list x.answer.at)
+
+abbrev pub AreShownFor : Option State → List Call → List Delivery → Type 0
+AreShownFor base list [] = Unit {0}
+AreShownFor base list (x ∷ xs) = IsShownFor base list x × AreShownFor base list xs
+
 -- the answers are to calls of this seat
 abbrev pub AreTo : Option ℕ → List Answer → Type 0
 AreTo seat [] = Unit {0}
@@ -62,19 +70,19 @@ abbrev pub FitsEnd : Option ℕ → ℕ → Option State → List Call → ℕ �
 FitsEnd seat writer base list port v =
     FitsSeat seat writer port v × (v.writes ≡ true → (port ≡ writer) × (v.base ≡ base) × (v.list ≡ list)) × IsLater v base list × RightFor v.base v.list v.got
 
--- Both ends are of one seat, and what is queued answers its calls. There is one list, which the flusher's end knows: the book when it last handed an answer over. What is queued is right for it. What the seat has seen is a prefix of it, and what the seat has got is right for that
+-- Both ends are of one seat, and what is queued answers its calls. There is one list, which the flusher's end knows: the book when it last handed an answer over. What is queued is right for it, and so is a registry that is shown. What the seat has seen is a prefix of it, and what the seat has got is right for that
 abbrev pub Replying : List Delivery → List ReplyView → Type 0
 Replying items views =
     (seat : Option ℕ) × (writer : ℕ) × (base : Option State) × (list : List Call)
     × ((port : ℕ) (v : ReplyView) → get_elem? views port ≡ some v → FitsEnd seat writer base list port v)
-    × RightFor base list (answers_in items) × AreTo seat (answers_in items)
+    × RightFor base list (answers_in items) × AreTo seat (answers_in items) × AreShownFor base list items
 
 -- the flusher's end has handed an answer over
 abbrev pub Gave : ReplyView → Delivery → ReplyView → Type 0
 Gave v x w = w ≡ reply_view v.writes v.seat (base_of x) (list_of x) v.got
 
--- the seat has one answer more, which is to a call of its own, and right with all others for a list that begins with what it had seen
+-- the seat has one answer more, which is to a call of its own, and right with all others for a list that begins with what it had seen; so is what is shown with it
 abbrev pub Took : ReplyView → Delivery → ReplyView → Type 0
 Took v x w =
     (w.writes ≡ v.writes) × (w.seat ≡ v.seat) × (v.seat ≡ Some x.answer.call.seat)
-    × IsLater v w.base w.list × (w.got ≡ v.got ++ x.answer ∷ []) × RightFor w.base w.list w.got
+    × IsLater v w.base w.list × (w.got ≡ v.got ++ x.answer ∷ []) × RightFor w.base w.list w.got × IsShownFor w.base w.list x

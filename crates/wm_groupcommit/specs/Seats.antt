@@ -100,6 +100,15 @@ pub record IsTurned (old new : Seat) (command : Command) (e : Refusal) : Type 0 
   pub seen : new.seen ≡ old.seen
   pub why : ((e ≡ NoMemory) × IsUnused old new) ⊎ IsDeclined old new (call_from old command) e
 
+-- The registry is that after so many commands of the list that the seat then knows, no fewer than it had seen; it has then seen these.
+pub record HasLooked (old new : Seat) (registry : State) (count : ℕ) : Type 0 where
+  pub base : State
+  pub found : new.replies.base ≡ Some base
+  pub later : (old.seen ≤ count) × (count ≤ length (known_list new))
+  pub registry_is : registry ≡ state_at base (known_list new) count
+  pub seen : new.seen ≡ count
+  pub calls : new.calls ≡ old.calls
+
 -- a refusal that the registry alone gives
 abbrev pub IsOfRegistry : Refusal → Type 0
 IsOfRegistry e = (e ≡ NotWatched) ⊎ (e ≡ BadTrigger) ⊎ (e ≡ Full) ⊎ (e ≡ TooMany) ⊎ (e ≡ OldVersion)

@@ -1,12 +1,12 @@
 //! The book: the store, how many commands it accepted, and the list of these, which stands in proofs alone.
 //! Definitions: specs/BookState.antt, specs/Books.antt. Tests: file_tests/src/desk/rows.rt.
-ghost use Rattle.std.specs.Prelude.{◌≡◌, ◌⊎◌, ◌≤◌, ◌<◌, ◌+◌, [], ◌++◌, length, vec_capacity, IfOk, IfErr, IfSome, OnErr, OnOk, true};
+ghost use Rattle.std.specs.Prelude.{◌≡◌, ◌⊎◌, ◌≤◌, ◌<◌, ◌+◌, [], ◌++◌, length, vec_capacity, IfOk, IfErr, IfSome, OnErr, OnOk, Some, true};
 ghost use Rattle.wm_disk.specs.declared.refusal.Refusal.TheVariants.{DeviceFailed as device_failed, NoMemory as no_memory, StoreFailed as store_failed};
 ghost use Rattle.wm_registry.specs.Limits.{max_batch};
 ghost use Rattle.wm_store.specs.Batches.{IsCommitted};
 ghost use Rattle.wm_store.specs.Calls.{CallsStore};
 ghost use Rattle.wm_groupcommit.specs.Receipts.{StandsInBook, accepted_command};
-ghost use Rattle.wm_groupcommit.specs.Books.{commands_of, AllRight, accepted_calls, kept_if, answers_from, all_refused, at_next};
+ghost use Rattle.wm_groupcommit.specs.Books.{commands_of, AllRight, IsShownAt, accepted_calls, kept_if, answers_from, all_refused, at_next};
 ghost use Rattle.wm_groupcommit.specs.Commits.{IsCommit};
 ghost use Rattle.wm_groupcommit.specs.ReplyQueues.{StartsWith};
 
@@ -73,7 +73,8 @@ impl<D: Disk + Drop> Book<D> {
 
     /// The registry after all of the list, and how many commands the list has. `NoMemory`.
     pub fn registry(&self, alloc: Global) -> Result<(Registry, u64), NoMemory>
-        ensures { IfOk result (λ r. (r.0 ≡ self.now.store.registry) × (r.1 ≡ length self.now.list)) }
+        ensures registry { IfOk result (λ r. (r.0 ≡ self.now.store.registry) × (r.1 ≡ length self.now.list)) }
+        ensures shown { IfOk result (λ r. IsShownAt self.now.base self.now.list r.1 (Some r.0)) }
     {
         let registry = self.store.registry().copy(alloc)?;
         Ok((registry, self.accepted))

@@ -1,11 +1,13 @@
 //! The desk: a queue of calls, and the store with its list of accepted commands under a lock.
 //! Definitions: specs/Seats.antt, specs/Submits.antt. Tests: file_tests/src/desk.
-ghost use Rattle.std.specs.Prelude.{◌≡◌, ◌⊎◌, ◌++◌, true, IfOk, IfErr, IfSome, OnOk};
+ghost use Rattle.std.specs.Prelude.{◌≡◌, ◌≤◌, ◌⊎◌, ◌++◌, true, Some, length, IfOk, IfErr, IfSome, OnErr, OnOk};
+ghost use Rattle.wm_registry.specs.Roots.{State};
+ghost use Rattle.wm_groupcommit.specs.Books.{state_at};
 ghost use Rattle.wm_disk.specs.declared.refusal.Refusal.TheVariants.{BadArguments as bad_arguments, DeviceFailed as device_failed, NoMemory as no_memory, NoPlace as no_place, StoreFailed as store_failed};
 ghost use Rattle.wm_store.specs.Batches.{is_begin};
 ghost use Rattle.wm_groupcommit.specs.Receipts.{StandsInBook, accepted_command};
 ghost use Rattle.wm_groupcommit.specs.ReplyQueues.{IsLater, Took};
-ghost use Rattle.wm_groupcommit.specs.Seats.{IsSameSeat, HasPushed, IsAnswered, IsFlusherOf, IsNewSeat, IsOfRegistry, IsRefusedAfter, IsSeatOf, IsTurned, call_from, popped_calls};
+ghost use Rattle.wm_groupcommit.specs.Seats.{IsSameSeat, HasLooked, HasPushed, IsAnswered, IsFlusherOf, IsNewSeat, IsOfRegistry, IsRefusedAfter, IsSeatOf, IsTurned, call_from, popped_calls};
 ghost use Rattle.wm_groupcommit.specs.Submits.{Submitted, Turned};
 
 use crate::book::Book;
@@ -196,6 +198,19 @@ impl<D: Disk + Drop> Desk<D> {
         self.locked.lock(rt).registry(self.alloc)
     }
 
+    /// A copy of the registry, as the last flush left it, and how many commands had been accepted by then, which the seat has then seen. It
+    /// waits for a flush that runs. `NoMemory` changes nothing.
+    pub fn look<R: Wait>(&self, rt: &R, seat: &mut Seat) -> Result<(Registry, u64), NoMemory>
+        requires { IsSeatOf self.now seat.old }
+        ensures seat { IsSeatOf self.now seat.new }
+        ensures continues { IsSameSeat seat.old seat.new }
+        ensures looked { IfOk result (λ r. HasLooked seat.old seat.new r.0 r.1) }
+        ensures err { OnErr result (seat.new.seen ≡ seat.old.seen) }
+    {
+        self.locked.lock(rt).show(rt, self.alloc, seat.number)?;
+        receive_shown(rt, &mut seat.replies, &mut seat.seen)
+    }
+
     /// How many commands were accepted, as the last flush left it. It waits for a flush that runs.
     pub fn accepted<R: Wait>(&self, rt: &R) -> u64 {
         self.locked.lock(rt).accepted()
@@ -246,6 +261,27 @@ fn receive<R: Wait>(
 {
     let delivery = wait_for(rt, replies, is_alone);
     settle(seen, replies, call, delivery.answer())
+}
+
+/// Takes the registry that was handed to a seat, which has then seen what that shows.
+fn receive_shown<R: Wait>(
+    rt: &R,
+    replies: &mut ReplyReceiver,
+    seen: &mut u64,
+) -> Result<(Registry, u64), NoMemory>
+    ensures seat { replies.new.seat ≡ replies.old.seat }
+    ensures later { IsLater replies.old replies.new.base replies.new.list }
+    ensures ok { IfOk result (λ r. (base : State) × (replies.new.base ≡ Some base) × (seen.old ≤ r.1) × (r.1 ≤ length replies.new.list) × (r.0 ≡ state_at base replies.new.list r.1) × (seen.new ≡ r.1)) }
+    ensures err { OnErr result (seen.new ≡ seen.old) }
+{
+    let delivery = sleep_for(rt, replies);
+    match delivery.into_shown() {
+        (Some(registry), at) if at >= *seen => {
+            *seen = at;
+            Ok((registry, at))
+        }
+        _ => Err(NoMemory),
+    }
 }
 
 /// Waits for an answer.

@@ -3,7 +3,7 @@
 ghost use Rattle.std.specs.Prelude.{◌≡◌, ◌≤◌, ◌<◌, ◌⊎◌, ◌+◌, ◌++◌, ◌∷◌, true, false, Some, None, List, [], length, vec_capacity, vec_len, IfOk, IfErr, IfSome, OnOk};
 ghost use Rattle.wm_disk.specs.declared.refusal.Refusal.TheVariants.{DeviceFailed as device_failed, NoMemory as no_memory, NoPlace as no_place, StoreFailed as store_failed};
 ghost use Rattle.wm_store.specs.Calls.{CallsStore};
-ghost use Rattle.wm_groupcommit.specs.Books.{Right, AllRight};
+ghost use Rattle.wm_groupcommit.specs.Books.{IsShownAt, Right, AllRight};
 ghost use Rattle.wm_groupcommit.specs.Commits.{IsCommit};
 ghost use Rattle.wm_groupcommit.specs.Counting.{newer_of, kept_newer, counts_after, counts_with};
 ghost use Rattle.wm_groupcommit.specs.Receipts.{StandsInBook, accepted_command};
@@ -32,7 +32,7 @@ use std::marker::Model;
 use std::snapshot::Snapshot;
 use std::sync::Wait;
 use wm_disk::{Disk, NoMemory, Refusal};
-use wm_registry::{Command, MAX_BATCH, Registry};
+use wm_registry::{Command, MAX_BATCH, Registry, Reply};
 use wm_store::Store;
 
 /// The most seats of a desk.
@@ -124,6 +124,25 @@ impl<D: Disk + Drop> LockedDesk<D> {
         ensures { IfOk result (λ r. (r.0 ≡ self.now.book.store.registry) × (r.1 ≡ length self.now.book.list)) }
     {
         self.book.registry(alloc)
+    }
+
+    /// Hands a seat a copy of the registry, with how many commands the list has. `NoMemory` hands nothing over.
+    pub fn show<R: Wait>(&mut self, rt: &R, alloc: Global, seat: u64) -> Result<(), NoMemory>
+        ensures book { (self.new.book ≡ self.old.book) × (self.new.counts ≡ self.old.counts) × (self.new.has_flusher ≡ self.old.has_flusher) }
+    {
+        let (registry, at) = self.book.registry(alloc)?;
+        // the reply to a `Begin`, which is the same at each time
+        let answer = Answer {
+            call: Call {
+                seat,
+                count: 0,
+                command: Command::Begin,
+            },
+            at,
+            reply: Reply::Refused(Refusal::BadArguments),
+        };
+        deliver(rt, &self.book, &mut self.ends, answer, Some(registry));
+        Ok(())
     }
 
     /// The receipt's command, which stands at its number in the list that the receipt is right for: the book's, as far
@@ -245,7 +264,7 @@ fn deliver_all<R: Wait, D: Disk + Drop>(
     ensures numbered { AreNumbered 0 ends.new.items }
 {
     for answer in answers {
-        deliver(rt, book, ends, answer);
+        deliver(rt, book, ends, answer, None);
     }
 }
 
@@ -254,17 +273,23 @@ fn deliver<R: Wait, D: Disk + Drop>(
     book: &Book<D>,
     ends: &mut Vec<ReplySender>,
     answer: Answer,
+    registry: Option<Registry>,
 )
     requires later { AllLater ends.old.items (Some book.now.base) book.now.list }
     requires right { Right book.now.base book.now.list answer }
     requires numbered { AreNumbered 0 ends.old.items }
+    requires shown { IsShownAt book.now.base book.now.list answer.at registry }
     ensures later { AllLater ends.new.items (Some book.now.base) book.now.list }
     ensures numbered { AreNumbered 0 ends.new.items }
 {
     let at = answer.call.seat as usize;
     if at < ends.len() {
         let seen = book.seen();
-        let told = Delivery { answer, seen };
+        let told = Delivery {
+            answer,
+            seen,
+            registry,
+        };
         let end = &mut ends[at];
         end.hand(rt, told);
     }

@@ -10,11 +10,13 @@ use std::marker::{Brand, PhantomData};
 use std::snapshot::Snapshot;
 use wm_registry::Registry;
 
-/// An answer, and the book as it was when it was handed over. The counter alone makes it.
+/// An answer, and the book as it was when it was handed over; for a seat that looks at the registry also a copy of that. The counter alone
+/// makes it.
 #[derive(Drop)]
 pub struct Delivery {
     pub(super) answer: Answer,
     pub(super) seen: Snapshot<History>,
+    pub(super) registry: Option<Registry>,
 }
 
 impl Delivery {
@@ -24,8 +26,24 @@ impl Delivery {
     pub fn answer(self) -> Answer
         ensures { result ≡ self.answer }
     {
-        let Delivery { answer, seen: _ } = self;
+        let Delivery {
+            answer,
+            seen: _,
+            registry: _,
+        } = self;
         answer
+    }
+
+    /// The registry that is shown, if one is, and after how many commands it stood so.
+    pub fn into_shown(self) -> (Option<Registry>, u64)
+        ensures { (result.0 ≡ self.registry) × (result.1 ≡ self.answer.at) }
+    {
+        let Delivery {
+            answer,
+            seen: _,
+            registry,
+        } = self;
+        (registry, answer.at)
     }
 }
 

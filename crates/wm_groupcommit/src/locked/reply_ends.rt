@@ -3,7 +3,7 @@
 ghost use Rattle.std.specs.Prelude.{◌≡◌, ◌⊎◌, true, Some, IfOk, IfSome, IfNone};
 ghost use Rattle.std.specs.Arc.{arc_value};
 ghost use Rattle.crossbeam_queue.specs.Passes.{view, IsPassOf};
-ghost use Rattle.wm_groupcommit.specs.Books.{Right};
+ghost use Rattle.wm_groupcommit.specs.Books.{IsShownAt, Right};
 ghost use Rattle.wm_groupcommit.specs.ReplyQueues.{reply_view, end_to, newcomer, IsLater, base_of, list_of, Took};
 
 use super::deliveries::{Delivery, Gets, Gives, Numbered, ReplyPass, ReplyQueue, ReplyView, Roles};
@@ -97,6 +97,7 @@ impl ReplySender {
         requires later { IsLater self.old (base_of delivery) (list_of delivery) }
         requires right { Right delivery.seen.value.base (list_of delivery) delivery.answer }
         requires own { self.old.seat ≡ Some delivery.answer.call.seat }
+        requires shown { IsShownAt delivery.seen.value.base (list_of delivery) delivery.answer.at delivery.registry }
         ensures { (self.new ≡ self.old) ⊎ (self.new ≡ reply_view true self.old.seat (base_of delivery) (list_of delivery) self.old.got) }
     {
         let queue: &ReplyQueue = &self.queue;

@@ -16,6 +16,9 @@ hand-requires-clause-own g c =
     let e = AreNumbered-get c.args.ends.now.items c.args.answer.call.seat v (omega (arith, c.if-at-len.true, c.len.ensures, c.args.ends.now.ok)) c.requires.numbered in
     ap (λ (u : ReplyView). u.seat) c.index_mut-end.ensures.value ∙ e
 
+pub hand-requires-clause-shown : goal.hand-requires-clause-shown
+hand-requires-clause-shown g c = rw (c.seen-seen.ensures.0, c.seen-seen.ensures.1) c.requires.shown
+
 pub returns-then-at-len-clause-later : goal.returns-then-at-len-clause-later
 returns-then-at-len-clause-later g c =
     let v = c.index_mut-end.result.now in
