@@ -1,4 +1,5 @@
 pub mod AskedCrawls
+pub mod ChangeSeen
 pub mod Changes
 pub mod Forgetting
 pub mod Inquired

@@ -1,5 +1,5 @@
 -- What an operation on a root leaves, and what is reported of it.
-use Rattle.std.specs.Prelude.{◌≡◌, ◌⊎◌, [], Option, Some, None, ℕ, ◌++◌}
+use Rattle.std.specs.Prelude.{◌≡◌, ◌≤◌, ◌⊎◌, [], Option, Some, None, ℕ}
 use Rattle.wm_disk.specs.declared.refusal.Refusal.{Refusal}
 use Rattle.wm_disk.specs.declared.refusal.Refusal.TheVariants.{NotReady}
 use Rattle.wm_view.specs.declared.op.Op.{Op}
@@ -8,9 +8,7 @@ use Rattle.wm_share.specs.Operations.{Operations, handed_in}
 use Rattle.wm_view.specs.Listings.{Found}
 use Rattle.wm_view.specs.declared.op.Op.TheVariants.{Recrawl}
 use Rattle.wm_share.specs.PublishedLists.{PublishedList, EndsWith, clock_shown, history, outcome}
-use Rattle.wm_hall.specs.Changes.{op_at}
 use Rattle.wm_hall.specs.Forgetting.{IsHandedIn}
-use Rattle.wm_hall.specs.declared.change.Change.{Change}
 use Rattle.wm_hall.specs.declared.keeping.Forgetting.{Forgetting}
 
 -- All that was handed in before, the age-out that was due, and the operation are published, in this order, and nothing waits; or all but the age-out, and then it stays due.
@@ -25,10 +23,6 @@ IsProgress list p = (outcome list ≡ None) × (clock_shown (history list) ≡ S
 abbrev pub IsOutcome : PublishedList → Refusal → Type 0
 IsOutcome list e = (outcome list ≡ Some e) ⊎ ((e ≡ NotReady) × (clock_shown (history list) ≡ None))
 
--- a list was published that ends with the change at some moment, and the view stands so
-abbrev pub IsChangeReported : Change → Progress → Type 0
-IsChangeReported change p = (list : PublishedList) × (moment : ℕ) × EndsWith list.operations (op_at moment change) × IsProgress list p
-
--- a list was published that ends with a listing of a reading that began at the tick, and the view stands so
-abbrev pub IsReadingReported : ℕ → Progress → Type 0
-IsReadingReported begun_at p = (list : PublishedList) × (moment : ℕ) × (listing : Found) × EndsWith list.operations (Recrawl moment begun_at listing) × IsProgress list p
+-- a list was published that ends with a listing of a reading that began at the tick, at a moment no earlier than this one, and the view stands so
+abbrev pub IsReadingReported : (earliest begun_at : ℕ) → Progress → Type 0
+IsReadingReported earliest begun_at p = (list : PublishedList) × (moment : ℕ) × (listing : Found) × (earliest ≤ moment) × EndsWith list.operations (Recrawl moment begun_at listing) × IsProgress list p

@@ -1,14 +1,18 @@
 //! What is handed in of a root, before it has its moment. Definitions: specs/Changes.antt.
 //! Tests: serve_tests/src/halls.rt, serve_tests/src/moments.rt.
-ghost use Rattle.std.specs.Prelude.{◌≡◌};
+ghost use Rattle.std.specs.Prelude.{◌≡◌, ◌≤◌, ℕ};
 ghost use Rattle.wm_hall.specs.Changes.{op_at};
 
 use wm_view::{Listing, Op, Pairs};
 
 /// What reads the moment of an operation.
 pub trait Seconds {
+    /// The earliest second that it may read.
+    ghost earliest: { Self → ℕ };
+
     /// The second that it is now, since 1970.
-    fn second(&self) -> u64;
+    fn second(&self) -> u64
+        ensures { earliest self.now ≤ result };
 }
 
 /// An operation without its moment. The root reads the moment once it is the operation's turn, so that the moments of a
@@ -23,6 +27,17 @@ pub enum Change {
 }
 
 impl Change {
+    /// The moment of an operation, and the operation without it.
+    pub fn of(op: Op) -> (u64, Change)
+        ensures { op ≡ op_at result.0 result.1 }
+    {
+        match op {
+            Op::Observe(moment, pairs) => (moment, Change::Observe(pairs)),
+            Op::Recrawl(moment, begun_at, listing) => (moment, Change::Recrawl(begun_at, listing)),
+            Op::AgeOut(moment, age) => (moment, Change::AgeOut(age)),
+        }
+    }
+
     /// The operation at a moment.
     pub(crate) fn at(self, moment: u64) -> Op
         ensures { result ≡ op_at moment self }

@@ -5,13 +5,14 @@ ghost use Rattle.wm_view.specs.Histories.{is_ready};
 ghost use Rattle.wm_since.specs.Answers.{clock_of as clock_of_history};
 ghost use Rattle.wm_since.specs.Cursors.{CursorList};
 ghost use Rattle.wm_share.specs.PublishedLists.{Begins, disconnected, history};
+ghost use Rattle.wm_hall.specs.ChangeSeen.{IsChangeSeen};
 ghost use Rattle.wm_hall.specs.Inquired.{IsInquired};
-ghost use Rattle.wm_hall.specs.Performed.{IsChangeReported, IsReadingReported};
+ghost use Rattle.wm_hall.specs.Performed.{IsReadingReported};
 
 use crate::asking::{clock, inquire_of, tell_by};
 use crate::change::{Change, Seconds};
 use crate::keeping::{Forgetting, Left, clock_told, learn_from, tick_of};
-use crate::performing::{Performed, perform, perform_reading};
+use crate::performing::{Performed, learn_own, perform, perform_reading};
 use crate::reading::{Begun, Reading, begin};
 use crate::starts::start_of;
 use crate::work::Work;
@@ -26,6 +27,7 @@ use wm_registry::Trigger;
 use wm_share::{Naming, Pool, RootKeeper, Shown, Told, Viewer};
 use wm_since::{Cursors, Query};
 use wm_triggers::{DefinedTrigger, DefinedTriggers, TriggerTable};
+use wm_view::Op;
 
 /// One watched root.
 #[derive(Drop)]
@@ -36,8 +38,6 @@ pub struct RootHall<J: Naming, K: Wait + Drop> {
     triggers: Mutex<TriggerTable>,
     /// The start of a trigger is over.
     started: Condvar,
-    /// The sessions that have a subscription on the root, a bit for each connection slot.
-    subscribers: Mutex<u64>,
     keeper: Mutex<RootKeeper<J, Shown<J>, K>>,
     /// It is taken under the keeper's lock alone.
     left: Mutex<Left>,
@@ -66,7 +66,6 @@ impl<J: Naming, K: Wait + Drop> RootHall<J, K> {
             work,
             triggers: Mutex::new(triggers),
             started: Condvar::new(),
-            subscribers: Mutex::new(0),
             keeper: Mutex::new(keeper),
             left: Mutex::new(Left::new()),
             reading: Mutex::new(None),
@@ -121,17 +120,6 @@ impl<J: Naming, K: Wait + Drop> RootHall<J, K> {
         self.started.notify_all();
     }
 
-    /// The session of a connection slot has a subscription on the root, or none any longer. Slots are numbered below 64.
-    pub fn subscribe<R: Wait>(&self, rt: &R, slot: u64, has_any: bool) {
-        let mut subscribers = self.subscribers.lock(rt);
-        *subscribers = with_slot(*subscribers, slot, has_any);
-    }
-
-    /// The slots whose sessions have a subscription on the root, a bit for each.
-    pub fn subscribers<R: Wait>(&self, rt: &R) -> u64 {
-        *self.subscribers.lock(rt)
-    }
-
     /// Begins a reading of the root, or of a part of it: what is observed from now on is noted until the reading is handed in or given
     /// up. One reading is under way at a time; an earlier one that wasn't handed in is given up.
     pub fn begin_reading<R: Wait>(&self, rt: &R, alloc: Global) -> Begun {
@@ -149,7 +137,7 @@ impl<J: Naming, K: Wait + Drop> RootHall<J, K> {
     }
 
     /// Hands in what a reading found, publishes it, and reports where the view stands then. Of each path that was observed since the
-    /// reading began, the view gets what was observed last. `BadClock` if the reading has to be done again; and as [`Self::operate`].
+    /// reading began, the view gets what was observed last. `BadClock` if the reading has to be done again; and as [`Self::change`].
     pub fn take_in<R: Wait, S: Seconds>(
         &self,
         rt: &R,
@@ -158,7 +146,7 @@ impl<J: Naming, K: Wait + Drop> RootHall<J, K> {
         seconds: &S,
         found: Reading,
     ) -> Result<Progress, Refusal>
-        ensures { IfOk result (IsReadingReported found.begun_at) }
+        ensures { IfOk result (IsReadingReported (S.earliest seconds.now) found.begun_at) }
     {
         let mut keeper = self.keeper.lock(rt);
         let moment = seconds.second();
@@ -181,31 +169,37 @@ impl<J: Naming, K: Wait + Drop> RootHall<J, K> {
         ended
     }
 
-    /// Performs a change at its moment, which is read once the keeper is held, publishes it, and reports where the view stands
-    /// then. What the view refuses, `Exhausted`, and `NoMemory`, after which it may still be published before the next one; a
-    /// reading that began before that is refused `BadClock`, since what was observed before it would overtake it.
-    pub fn operate<R: Wait, S: Seconds>(
+    /// Performs a change of a session at its moment, which is read once the keeper is held, publishes it, and reports where the view
+    /// stands then. The session's viewer has learnt of it before that. What the view refuses, `Exhausted`, and `NoMemory`, after which it
+    /// may still be published before the next one.
+    pub fn change<R: Wait, S: Seconds>(
         &self,
         rt: &R,
         alloc: Global,
         forgetting: Forgetting,
         seconds: &S,
+        viewer: &mut Viewer<J>,
         change: Change,
     ) -> Result<Progress, Refusal>
-        ensures { IfOk result (IsChangeReported change) }
+        ensures { IsChangeSeen viewer.old (S.earliest seconds.now) change result viewer.new }
     {
         let mut keeper = self.keeper.lock(rt);
         let op = change.at(seconds.second());
         let mut left = self.left.lock(rt);
         let mut reading = self.reading.lock(rt);
         let performed = perform(alloc, &mut keeper, &mut left, &mut reading, forgetting, op);
+        let has_learnt = learn_own(&performed.last, viewer);
         let ended = self.keep(rt, performed);
         drop(reading);
         drop(left);
         drop(keeper);
-        // also of what was owed, where the operation is refused
         self.work.stir(rt);
-        ended
+        // each viewer of a root is of its share
+        if has_learnt {
+            ended
+        } else {
+            Err(Refusal::NoMemory)
+        }
     }
 
     /// Keeps what was published last, and gives how the operation ended.
@@ -319,13 +313,4 @@ fn fittings(
     let cursors = Cursors::new(alloc)?;
     let triggers = TriggerTable::new(alloc)?;
     Ok((path, work, cursors, triggers))
-}
-
-/// The bits with that of a slot set or cleared; a slot past the last bit has none.
-fn with_slot(bits: u64, slot: u64, is_set: bool) -> u64 {
-    if slot >= 64 {
-        return bits;
-    }
-    let bit = 1u64 << slot;
-    if is_set { bits | bit } else { bits & !bit }
 }

@@ -47,7 +47,7 @@ impl Left {
 
     /// Whether a reading began before what was owed was published. It may have seen a path later than what was observed of it and
     /// published behind the reading's tick, so it can't be taken in.
-    fn overtakes(&self, op: &Op) -> bool
+    pub(crate) fn overtakes(&self, op: &Op) -> bool
         ensures { result ≡ is_begun_before self.now.paid_at op.now }
     {
         match op {

@@ -14,7 +14,6 @@ mod keeping;
 mod performing;
 mod reading;
 mod starts;
-mod viewers;
 mod work;
 
 pub use asking::{clock, tell, tell_by};
@@ -23,5 +22,4 @@ pub use hall::RootHall;
 pub use keeping::Forgetting;
 pub use reading::{Begun, Reading};
 pub use starts::start_of;
-pub use viewers::Viewers;
 pub use work::Work;

@@ -1,0 +1,30 @@
+-- What an operation of a session leaves: what is reported of it, and the list that the session's viewer has then learnt.
+use Rattle.std.specs.Prelude.{◌≡◌, ◌≤◌, ◌⊎◌, ℕ, Option, Some, Result, Ok, Err}
+use Rattle.wm_disk.specs.declared.refusal.Refusal.{Refusal}
+use Rattle.wm_disk.specs.declared.refusal.Refusal.TheVariants.{NoMemory, Exhausted}
+use Rattle.wm_view.specs.declared.op.Op.{Op}
+use Rattle.wm_lines.specs.declared.progress.Progress.{Progress}
+use Rattle.wm_share.specs.PublishedLists.{PublishedList, ViewerState, Begins, EndsWith}
+use Rattle.wm_hall.specs.Changes.{op_at}
+use Rattle.wm_hall.specs.declared.change.Change.{Change}
+use Rattle.wm_hall.specs.Performed.{IsOutcome, IsProgress}
+
+-- the list ends with the operation: it was accepted, and the view stands so; or it was refused so
+abbrev pub IsEndOf : Op → PublishedList → Result Progress Refusal → Type 0
+IsEndOf op list (Ok p) = EndsWith list.operations op × IsProgress list p
+IsEndOf op list (Err e) = EndsWith list.operations op × IsOutcome list e
+
+-- Memory ran out, or as many operations as a counter counts were handed in. What is reported is then not of a published list.
+abbrev pub IsUnpublished : Result Progress Refusal → Type 0
+IsUnpublished result = (result ≡ Err NoMemory) ⊎ (result ≡ Err Exhausted)
+
+-- what is reported is of the list that was published last, or of none
+abbrev pub IsEnded : Op → Option PublishedList → Result Progress Refusal → Type 0
+IsEnded op last result = ((list : PublishedList) × (last ≡ Some list) × IsEndOf op list result) ⊎ IsUnpublished result
+
+-- What is reported is of a published list that ends with the change, at a moment no earlier than this one, and the viewer has then learnt it; or of none. The
+-- viewer has forgotten nothing.
+abbrev pub IsChangeSeen : ViewerState → (earliest : ℕ) → Change → Result Progress Refusal → ViewerState → Type 0
+IsChangeSeen old earliest change result new =
+    Begins old.list new.list
+    × (((list : PublishedList) × (moment : ℕ) × (earliest ≤ moment) × Begins list new.list × IsEndOf (op_at moment change) list result) ⊎ IsUnpublished result)
