@@ -1,0 +1,11 @@
+mod Changing
+mod Desks
+mod Ending
+mod Inquiring
+mod Looking
+mod OneRoot
+mod Placing
+mod RootCalls
+mod Submitting
+mod Sitting
+mod Telling

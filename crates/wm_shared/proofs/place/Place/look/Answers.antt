@@ -1,0 +1,30 @@
+use Rattle.std.proofs.Common.{◌≡◌, ◌∙◌, refl, sym, ap, subst}
+use Rattle.std.specs.Prelude.{Option, Some, None}
+use Rattle.std.specs.Option.{option_map}
+use Rattle.wm_groupcommit.specs.declared.seat.Seat.{Seat}
+use Rattle.wm_shared.specs.Commands.{KeepsSeat}
+use Rattle.wm_shared.specs.declared.place.Given.{Given}
+use Rattle.wm_shared.proofs.Looking.{sat_keeps}
+use Rattle.wm_shared.proofs.Sitting.{keeps_none, sat_on, still_none}
+use Rattle.std.proofs.lemmas.Result.{IfOk-weaker}
+use Rattle.wm_shared.proofs.place.Place.look.Goals as goal
+
+pub returns-in_default-clause-keeps : goal.returns-in_default-clause-keeps
+returns-in_default-clause-keeps g c =
+    let none : c.sit.new.self ≡ None = sym c.self.view_is ∙ ap (λ (o : Option (Given g.row.T.Denot g.T.Registrar)). option_map (λ (x : Given g.row.T.Denot g.T.Registrar). x.seat) o) c.in_default.is in
+    let same = still_none c.args.self.now c.sit.new.self c.sit.ensures none in
+    subst (λ (o : Option Seat). KeepsSeat c.args.self.now o) (sym c.self.view_is) (keeps_none c.args.self.now c.sit.new.self same none)
+
+pub returns-clause-keeps : goal.returns-clause-keeps
+returns-clause-keeps g c =
+    let seat = c.in-Some.given.seat in
+    let there : c.sit.new.self ≡ Some seat = sym c.self.view_is ∙ ap (λ (o : Option (Given g.row.T.Denot g.T.Registrar)). option_map (λ (x : Given g.row.T.Denot g.T.Registrar). x.seat) o) c.in-Some.is in
+    let sat = sat_on c.args.self.now c.sit.new.self seat c.sit.ensures there in
+    sat_keeps c.args.self.now (Some c.look.new.self.seat) seat c.look.new.self.seat sat refl c.look.ensures.continues
+
+pub returns-clause-looked : goal.returns-clause-looked
+returns-clause-looked g c =
+    let seat = c.in-Some.given.seat in
+    let there : c.sit.new.self ≡ Some seat = sym c.self.view_is ∙ ap (λ (o : Option (Given g.row.T.Denot g.T.Registrar)). option_map (λ (x : Given g.row.T.Denot g.T.Registrar). x.seat) o) c.in-Some.is in
+    let sat = sat_on c.args.self.now c.sit.new.self seat c.sit.ensures there in
+    IfOk-weaker c.look.result _ _ (λ r looked. (seat, c.look.new.self.seat, sat, refl, c.look.ensures.continues, looked)) c.look.ensures.looked

@@ -1,0 +1,29 @@
+use Rattle.std.proofs.Common.{refl, ap}
+use Rattle.std.proofs.Common.{false}
+use Rattle.wm_session.specs.session.Faults.{Defined, Memory}
+use Rattle.wm_shared.specs.MetShared.{no_root}
+use Rattle.std.specs.Prelude.{Err}
+use Rattle.wm_shared.proofs.Looking.{shown_to}
+use Rattle.wm_shared.proofs.OneRoot.{with_registry}
+use Rattle.wm_shared.proofs.shared_front.SharedFrontFront.look.Goals as goal
+
+pub returns-in-Err-clause-met : goal.returns-in-Err-clause-met
+returns-in-Err-clause-met g c =
+    record { way = Memory; found = no_root; at = (refl, refl, c.look.ensures.keeps, tt); is = ap (λ x. Err x) c.in-Err.ensures.refused; shows = λ e. absurd (cc) }
+
+pub returns-in-Err-clause-later : goal.returns-in-Err-clause-later
+returns-in-Err-clause-later g c = c.look.ensures.keeps
+
+pub returns-clause-met : goal.returns-clause-met
+returns-clause-met g c =
+    let s = with_registry c.in-Ok.looked.0 false in
+    record {
+      way = Defined;
+      found = s;
+      at = (refl, refl, c.look.ensures.keeps, shown_to c.args.self.now.place c.look.new.self c.in-Ok.looked.0 c.in-Ok.looked.1 c.in-Ok.ensures.looked);
+      is = refl;
+      shows = λ e. refl;
+    }
+
+pub returns-clause-later : goal.returns-clause-later
+returns-clause-later g c = c.look.ensures.keeps

@@ -1,0 +1,28 @@
+use Rattle.std.proofs.Common.{refl}
+use Rattle.wm_shared.specs.MetShared.{SharedKnown}
+use Rattle.wm_shared.proofs.Changing.{changed_found, changed_refused}
+use Rattle.wm_shared.proofs.shared_front.SharedFrontFront.operate.Goals as goal
+
+pub returns-in-Err-clause-met : goal.returns-in-Err-clause-met
+returns-in-Err-clause-met g c =
+    let a : SharedKnown = record { seat = c.args.self.now.place; viewers = c.args.self.now.viewers } in
+    let b : SharedKnown = record { seat = c.find_root.new.place; viewers = c.args.self.now.viewers } in
+    let has = g.H.Roots.has c.args.self.now.roots.now in
+    let w = changed_refused has c.args.root.now c.args.op a b c.in-Err.refusal c.find_root.ensures.keeps refl c.in-Err.ensures.refused in
+    record { way = w.way; found = w.found; moment = w.moment; later = w.later; at = (w.later, w.by); reply_is = w.reply_is }
+
+pub returns-in-Err-clause-later : goal.returns-in-Err-clause-later
+returns-in-Err-clause-later g c = c.find_root.ensures.keeps
+
+pub returns-clause-met : goal.returns-clause-met
+returns-clause-met g c =
+    let a : SharedKnown = record { seat = c.args.self.now.place; viewers = c.args.self.now.viewers } in
+    let b : SharedKnown = record { seat = c.find_root.new.place; viewers = c.change-met.new.self } in
+    let has = g.H.Roots.has c.args.self.now.roots.now in
+    let number = c.deref.result.now.number in
+    let root : has c.args.root.now number = rw c.deref.ensures c.in-Ok.ensures.has in
+    let w = changed_found has c.args.root.now c.args.op c.of-given.result.0 c.of-given.result.1 c.of-given.ensures number a b c.change-met.result c.every_line.ensures.operated root c.find_root.ensures.keeps c.change-met.ensures in
+    record { way = w.way; found = w.found; moment = w.moment; later = w.later; at = (w.later, w.by); reply_is = w.reply_is }
+
+pub returns-clause-later : goal.returns-clause-later
+returns-clause-later g c = c.find_root.ensures.keeps

@@ -1,0 +1,35 @@
+use Rattle.std.proofs.Common.{inl, inr, refl, sym, subst}
+use Rattle.wm_shared.specs.MetShared.{SharedKnown}
+use Rattle.wm_shared.specs.SharedLaws.{keeps_same}
+use Rattle.wm_session.specs.session.Faults.{state_or}
+use Rattle.wm_session.specs.session.Sessions.{state_after_command}
+use Rattle.wm_shared.specs.Commands.{KeepsSeat}
+use Rattle.wm_shared.proofs.Looking.{sat_keeps}
+use Rattle.wm_shared.proofs.Submitting.{begin_met, is_plain, submitted}
+use Rattle.wm_shared.proofs.shared_front.SharedFrontFront.submit.Goals as goal
+
+pub returns-in-Begin-clause-met : goal.returns-in-Begin-clause-met
+returns-in-Begin-clause-met g c =
+    let a : SharedKnown = record { seat = c.args.self.now.place; viewers = c.args.self.now.viewers } in
+    let b : SharedKnown = record { seat = c.look-looked.new.self; viewers = c.args.self.now.viewers } in
+    let has = g.H.Roots.has c.args.self.now.roots.now in
+    let w = begin_met has a b c.args.command c.look-looked.result c.begin_refused.result c.in-Begin.is refl c.look-looked.ensures.keeps c.look-looked.ensures.looked c.look-looked.ensures.refused c.begin_refused.ensures in
+    record { way = w.way; found = w.found; at = w.by (state_or w.way (state_after_command w.found c.args.command) w.found); reply_is = w.reply_is }
+
+pub returns-in-Begin-clause-later : goal.returns-in-Begin-clause-later
+returns-in-Begin-clause-later g c = c.look-looked.ensures.keeps
+
+pub returns-clause-met : goal.returns-clause-met
+returns-clause-met g c =
+    let a : SharedKnown = record { seat = c.args.self.now.place; viewers = c.args.self.now.viewers } in
+    let b : SharedKnown = record { seat = c.submit-reply.new.self; viewers = c.args.self.now.viewers } in
+    let has = g.H.Roots.has c.args.self.now.roots.now in
+    let w = submitted has a b c.args.command c.submit-reply.result.0 c.submit-reply.result.1 (is_plain c.args.command c.in_default.not-Begin) refl c.submit-reply.ensures in
+    record { way = w.way; found = w.found; at = w.by (state_or w.way (state_after_command w.found c.args.command) w.found); reply_is = w.reply_is }
+
+pub returns-clause-later : goal.returns-clause-later
+returns-clause-later g c =
+    elim c.submit-reply.ensures [
+      | inl x ↦ subst (λ o. KeepsSeat c.args.self.now.place o) (sym x.0) (keeps_same c.args.self.now.place)
+      | inr x ↦ sat_keeps c.args.self.now.place c.submit-reply.new.self x.0 x.1 x.2 x.3 x.4
+    ]

@@ -1,0 +1,8 @@
+use Rattle.std.proofs.Common.{inr, refl, rules}
+use Rattle.wm_shared.proofs.Looking.{shown_to}
+use Rattle.wm_shared.proofs.shared_front.confirm.Goals as goal
+
+pub returns-then-is_none-clause-refused : goal.returns-then-is_none-clause-refused
+returns-then-is_none-clause-refused g c =
+    let looked = c.in_ok-registry.ensures.looked in
+    inr (refl, (c.in_ok-registry.registry, shown_to c.args.place.now c.look.new.self c.in_ok-registry.registry c.in_ok-registry.count looked, search rules))

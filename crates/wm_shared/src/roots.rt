@@ -1,0 +1,55 @@
+//! What a session's front asks of the watched roots of its server.
+//! Tests: shared_tests/src/fronts.rt.
+ghost use Rattle.std.specs.Prelude.{◌≡◌, ◌⊎◌, ℕ, IfOk, IfErr, MatchBool, MatchOption};
+ghost use Rattle.std.specs.Arc.{arc_value};
+ghost use Rattle.wm_names.specs.Paths.{Path};
+
+use std::alloc::Global;
+use std::sync::{Arc, Wait};
+use wm_disk::Refusal;
+use wm_hall::{Forgetting, RootHall, Seconds};
+use wm_names::RootPath;
+use wm_registry::Command;
+use wm_share::Naming;
+
+/// The watched roots of a server, which follow the accepted commands. They read the moments of operations.
+pub trait Roots<J: Naming, K: Wait + Drop>: Seconds {
+    /// Whether the watched root of the path had the number.
+    ghost has: { Self → Path → ℕ → Type 0 };
+
+    /// Whether no root of the path was watched.
+    ghost lacks: { Self → Path → Type 0 };
+
+    /// Whether no watched root had the number.
+    ghost ended: { Self → ℕ → Type 0 };
+
+    /// The root of a path. `NotWatched` if there is none, after the commands that were followed; and `NoMemory`.
+    fn find<R: Wait>(
+        &self,
+        rt: &R,
+        alloc: Global,
+        path: &RootPath,
+    ) -> Result<Arc<RootHall<J, K>>, Refusal>
+        ensures has { IfOk result (λ hall. has self.now path.now (arc_value hall).number) }
+        ensures refused { IfErr result (λ e. (e ≡ Refusal.NotWatched) ⊎ (e ≡ Refusal.NoMemory)) };
+
+    /// Has the roots follow the accepted command of this number, once they have followed all earlier ones.
+    fn follow<R: Wait>(&self, rt: &R, alloc: Global, number: u64, command: Command);
+
+    /// Waits until the roots have followed so many commands.
+    fn await_followed<R: Wait>(&self, rt: &R, count: u64);
+
+    /// The view of a root may have changed: the subscriptions on it may be due.
+    fn ring<R: Wait>(&self, rt: &R, hall: &RootHall<J, K>);
+
+    /// Whether the root of a number is watched.
+    fn is_watched<R: Wait>(&self, rt: &R, number: u64) -> bool
+        ensures { MatchBool result ((path : Path) × has self.now path number) (ended self.now number) };
+
+    /// The number of the watched root of a path, after the commands that were followed; none if there is none.
+    fn number_of<R: Wait>(&self, rt: &R, path: &RootPath) -> Option<u64>
+        ensures { MatchOption result (lacks self.now path.now) (has self.now path.now) };
+
+    /// When deleted paths are forgotten.
+    fn forgetting(&self) -> Forgetting;
+}

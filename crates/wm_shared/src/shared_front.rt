@@ -1,0 +1,367 @@
+//! The front of a session that shares a desk and roots with others: what is known of a call is what the session's own seat and viewers
+//! tell. Definitions: specs/MetShared.antt. Tests: shared_tests/src/fronts.rt.
+ghost use Rattle.std.specs.Prelude.{◌≡◌, ◌⊎◌, Some, IfOk, IfErr, MatchResult};
+ghost use Rattle.std.specs.Arc.{arc_value};
+ghost use Rattle.wm_since.specs.Cursors.{CursorList};
+ghost use Rattle.wm_disk.specs.declared.refusal.Refusal.TheVariants.{BadArguments as bad_arguments};
+ghost use Rattle.wm_registry.specs.declared.reply.Reply.TheVariants.{Refused as refused};
+ghost use Rattle.wm_session.specs.session.Fronts.{start_with};
+ghost use Rattle.wm_session.specs.session.Inquiries.{since_point};
+ghost use Rattle.wm_names.specs.Paths.{Path};
+ghost use Rattle.wm_shared.specs.Ended.{AreWatched};
+ghost use Rattle.wm_shared.specs.RootsSeen.{IsSeenMore, unless_unwatched};
+ghost use Rattle.wm_shared.specs.Commands.{KeepsSeat};
+ghost use Rattle.wm_shared.specs.Looks.{IsUnwatchedAfter};
+
+use crate::place::Place;
+use crate::registrar::Registrar;
+use crate::roots::Roots;
+use crate::seconds::SinceGiven;
+use crate::viewers::Viewers;
+use std::alloc::Global;
+use std::sync::{Arc, Wait};
+use wm_clock::{ClockId, ClockSpec};
+use wm_disk::Refusal;
+use wm_groupcommit::Standing;
+use wm_hall::{Change, RootHall};
+use wm_lines::{Expression, Inquiry, Progress};
+use wm_names::RootPath;
+use wm_registry::{Command, Registry, Reply, Version};
+use wm_session::{Front, every_line};
+use wm_share::Naming;
+use wm_since::{Answer, Since};
+use wm_subs::Subscription;
+use wm_view::Op;
+
+/// A session's side of a desk and of watched roots that it shares with others: its seat and its viewers.
+#[derive(Drop)]
+pub struct SharedFront<'a, T: Registrar, H: Roots<J, K>, J: Naming, K: Wait + Copy + Drop> {
+    rt: K,
+    place: Place<'a, T>,
+    roots: &'a H,
+    viewers: Viewers<J>,
+    // the registry that was looked at last
+    registry: Registry,
+}
+
+impl<'a, T: Registrar, H: Roots<J, K>, J: Naming, K: Wait + Copy + Drop> SharedFront<
+    'a,
+    T,
+    H,
+    J,
+    K,
+> {
+    /// The front of a session that has seen nothing of the roots yet. It takes no memory.
+    pub fn new(
+        rt: K,
+        alloc: Global,
+        place: Place<'a, T>,
+        roots: &'a H,
+    ) -> SharedFront<'a, T, H, J, K> {
+        SharedFront {
+            rt,
+            place,
+            roots,
+            viewers: Viewers::new(alloc),
+            registry: Registry::new(alloc, Version::Two),
+        }
+    }
+
+    /// The place at the desk, for another session, and the viewers, to be given back.
+    pub fn into_parts(self) -> (Place<'a, T>, Viewers<J>) {
+        let SharedFront {
+            rt: _,
+            place,
+            roots: _,
+            viewers,
+            registry: _,
+        } = self;
+        (place, viewers)
+    }
+
+    /// The session's viewer of a root, if there is one, learns what was published last.
+    pub fn learn(&mut self, hall: &RootHall<J, K>)
+        ensures learnt { (self.new.viewers ≡ self.old.viewers) ⊎ IsSeenMore hall.now.number self.old.viewers self.new.viewers }
+        ensures kept { self.new ≡ record self.old { viewers = self.new.viewers } }
+    {
+        self.viewers.learn(&self.rt, hall);
+    }
+
+    /// Drops the session's viewers of roots that aren't watched any longer.
+    pub fn drop_ended(&mut self)
+        ensures left { AreWatched (λ number. (path : Path) × H.has self.old.roots.now path number) (H.ended self.old.roots.now) self.old.viewers self.new.viewers }
+        ensures kept { self.new ≡ record self.old { viewers = self.new.viewers } }
+    {
+        self.viewers.drop_ended(&self.rt, self.roots);
+    }
+}
+
+/// Whether a refusal is the registry's, so that it shows which roots are watched.
+fn is_of_registry(reply: Reply) -> bool {
+    match reply {
+        Reply::Refused(refusal) => !matches!(
+            refusal,
+            Refusal::NoMemory | Refusal::DeviceFailed | Refusal::StoreFailed
+        ),
+        Reply::Changed | Reply::Replaced | Reply::Unchanged => false,
+    }
+}
+
+/// Has the roots follow a command that was accepted, or waits until they have followed all that its reply shows.
+fn follow<T: Registrar, H: Roots<J, K>, J: Naming, K: Wait + Copy + Drop>(
+    rt: &K,
+    alloc: Global,
+    roots: &H,
+    place: &Place<'_, T>,
+    reply: Reply,
+    standing: Option<Standing>,
+) {
+    match standing {
+        Some(Standing::Stands { number, command }) => roots.follow(rt, alloc, number, command),
+        Some(Standing::Unchanged { after }) => roots.await_followed(rt, after),
+        None => {
+            if is_of_registry(reply) {
+                roots.await_followed(rt, place.accepted(rt));
+            }
+        }
+    }
+}
+
+/// Asks the desk whether a root that the server hasn't found is watched. `NotWatched` if it isn't; and `NoMemory`. Else the roots have
+/// followed the desk.
+fn confirm<T: Registrar, H: Roots<J, K>, J: Naming, K: Wait + Copy + Drop>(
+    rt: &K,
+    roots: &H,
+    place: &mut Place<'_, T>,
+    path: &RootPath,
+) -> Result<(), Refusal>
+    ensures keeps { KeepsSeat place.old place.new }
+    ensures refused { IfErr result (λ e. (e ≡ Refusal.NoMemory) ⊎ ((e ≡ Refusal.NotWatched) × IsUnwatchedAfter path.now place.old place.new)) }
+{
+    let (registry, count) = place.look(rt)?;
+    if registry.roots().get(path).is_none() {
+        return Err(Refusal::NotWatched);
+    }
+    roots.await_followed(rt, count);
+    Ok(())
+}
+
+/// How often a root is looked for that the desk has and its server hasn't: each time it was deleted and watched anew meanwhile.
+const FINDS: u32 = 64;
+
+/// The watched root of a path. `NotWatched` if there is none, after all that the session has seen; and `NoMemory`.
+fn find_root<T: Registrar, H: Roots<J, K>, J: Naming, K: Wait + Copy + Drop>(
+    rt: &K,
+    alloc: Global,
+    roots: &H,
+    place: &mut Place<'_, T>,
+    path: &RootPath,
+) -> Result<Arc<RootHall<J, K>>, Refusal>
+    ensures keeps { KeepsSeat place.old place.new }
+    ensures has { IfOk result (λ hall. H.has roots.now path.now (arc_value hall).number) }
+    ensures refused { IfErr result (λ e. (e ≡ Refusal.NoMemory) ⊎ ((e ≡ Refusal.NotWatched) × IsUnwatchedAfter path.now place.old place.new)) }
+{
+    'finds: for _ in 0..FINDS {
+        match roots.find(rt, alloc, path) {
+            Ok(hall) => return Ok(hall),
+            Err(Refusal::NotWatched) => confirm(rt, roots, place, path)?,
+            Err(_) => return Err(Refusal::NoMemory),
+        }
+    }
+    Err(Refusal::NoMemory)
+}
+
+/// Since when is asked of a root: by a cursor since its clock as it stands now, and from nowhere if it isn't there.
+fn since_named<J: Naming, K: Wait + Copy + Drop>(
+    rt: &K,
+    hall: &RootHall<J, K>,
+    since: &ClockSpec,
+) -> Option<Since>
+    ensures { (cursors : CursorList) × (result ≡ since_point (Some since.now) cursors) }
+{
+    match since {
+        ClockSpec::Cursor(name) => Since::from_clock(hall.cursor(rt, name)),
+        ClockSpec::Clock(clock) => Some(Since::Clock(*clock)),
+        ClockSpec::Seconds(seconds) => Some(Since::Moment(*seconds)),
+        ClockSpec::Another => None,
+    }
+}
+
+/// As [`since_named`], if anything is named.
+fn since_of<J: Naming, K: Wait + Copy + Drop>(
+    rt: &K,
+    hall: &RootHall<J, K>,
+    since: &Option<ClockSpec>,
+) -> Option<Since>
+    ensures { (cursors : CursorList) × (result ≡ since_point since.now cursors) }
+{
+    match since {
+        Some(since) => since_named(rt, hall, since),
+        None => None,
+    }
+}
+
+/// The clock of a root, with since when is asked there.
+fn starting(
+    clock: Result<ClockId, Refusal>,
+    since: Option<Since>,
+) -> Result<(ClockId, Option<Since>), Refusal>
+    ensures { result ≡ start_with clock since }
+{
+    match clock {
+        Ok(clock) => Ok((clock, since)),
+        Err(refusal) => Err(refusal),
+    }
+}
+
+/// What is due on a root that wasn't found: nothing, if it isn't watched.
+fn due_unless(refusal: Refusal) -> Result<Option<Answer>, Refusal>
+    ensures { result ≡ unless_unwatched refusal }
+{
+    match refusal {
+        Refusal::NotWatched => Ok(None),
+        _ => Err(Refusal::NoMemory),
+    }
+}
+
+/// The reply to a `Begin`, which a start alone submits.
+fn begin_refused(looked: Result<(Registry, u64), Refusal>) -> Reply
+    ensures { MatchResult looked (λ _. result ≡ refused bad_arguments) (λ e. result ≡ refused e) }
+{
+    match looked {
+        Ok(_) => Reply::Refused(Refusal::BadArguments),
+        Err(refusal) => Reply::Refused(refusal),
+    }
+}
+
+impl<'a, T: Registrar, H: Roots<J, K>, J: Naming, K: Wait + Copy + Drop> Front
+    for SharedFront<'a, T, H, J, K> {
+    ghost use Rattle.wm_shared.specs.MetShared.{MetShared};
+    ghost use Rattle.wm_shared.specs.SharedLaws.{idles_shared, keeps_same, keeps_then, runs_out_shared, stands_shared};
+    ghost use Rattle.wm_shared.specs.Commands.{KeepsSeat};
+
+    ghost met = { λ a part way accepts s t b. MetShared (H.has a.roots.now) (record { seat = a.place; viewers = a.viewers }) part way accepts s t (record { seat = b.place; viewers = b.viewers }) };
+
+    ghost leads_to = { λ a asked b. KeepsSeat a.place b.place };
+
+    ghost shown = { λ f. f.registry };
+
+    fn submit(&mut self, alloc: Global, command: Command) -> Reply {
+        if let Command::Begin = command {
+            let looked = self.place.look(&self.rt);
+            return begin_refused(looked);
+        }
+        let (reply, standing) = self.place.submit(&self.rt, command);
+        follow(&self.rt, alloc, self.roots, &self.place, reply, standing);
+        reply
+    }
+
+    fn operate(&mut self, alloc: Global, root: &RootPath, op: Op) -> Result<Progress, Refusal> {
+        every_line();
+        let hall = match find_root(&self.rt, alloc, self.roots, &mut self.place, root) {
+            Ok(hall) => hall,
+            Err(refusal) => {
+                drop(op);
+                return Err(refusal);
+            }
+        };
+        let forgetting = self.roots.forgetting();
+        let (given, change) = Change::of(op);
+        let seconds = SinceGiven {
+            seconds: self.roots,
+            given,
+        };
+        let met = self
+            .viewers
+            .change(&self.rt, alloc, &hall, forgetting, &seconds, change);
+        self.roots.ring(&self.rt, &hall);
+        drop(hall);
+        met
+    }
+
+    fn inquire(
+        &mut self,
+        alloc: Global,
+        root: &RootPath,
+        inquiry: Inquiry,
+        out: &mut Vec<u8>,
+    ) -> Result<(), Refusal> {
+        every_line();
+        let hall = match find_root(&self.rt, alloc, self.roots, &mut self.place, root) {
+            Ok(hall) => hall,
+            Err(refusal) => {
+                drop(inquiry);
+                return Err(refusal);
+            }
+        };
+        let met = self.viewers.inquire(&self.rt, alloc, &hall, inquiry, out);
+        drop(hall);
+        met
+    }
+
+    fn clock(&mut self, alloc: Global, root: &RootPath) -> Result<ClockId, Refusal> {
+        let hall = match find_root(&self.rt, alloc, self.roots, &mut self.place, root) {
+            Ok(hall) => hall,
+            Err(refusal) => return Err(refusal),
+        };
+        let met = self.viewers.clock(&self.rt, alloc, &hall);
+        drop(hall);
+        met
+    }
+
+    fn start(
+        &mut self,
+        alloc: Global,
+        root: &RootPath,
+        since: &Option<ClockSpec>,
+    ) -> Result<(ClockId, Option<Since>), Refusal> {
+        let hall = match find_root(&self.rt, alloc, self.roots, &mut self.place, root) {
+            Ok(hall) => hall,
+            Err(refusal) => return Err(refusal),
+        };
+        let met = self.viewers.clock(&self.rt, alloc, &hall);
+        let since = since_of(&self.rt, &hall, since);
+        drop(hall);
+        starting(met, since)
+    }
+
+    fn due(
+        &mut self,
+        alloc: Global,
+        root: &RootPath,
+        subscription: &Subscription<Expression>,
+    ) -> Result<Option<Answer>, Refusal> {
+        every_line();
+        let hall = match find_root(&self.rt, alloc, self.roots, &mut self.place, root) {
+            Ok(hall) => hall,
+            Err(refusal) => return due_unless(refusal),
+        };
+        let met = self.viewers.due(&self.rt, alloc, &hall, subscription);
+        drop(hall);
+        met
+    }
+
+    fn look(&mut self, _alloc: Global) -> Result<(), Refusal> {
+        let (registry, count) = match self.place.look(&self.rt) {
+            Ok(looked) => looked,
+            Err(refusal) => return Err(refusal),
+        };
+        self.roots.await_followed(&self.rt, count);
+        self.registry = registry;
+        Ok(())
+    }
+
+    fn registry(&self) -> &Registry {
+        &self.registry
+    }
+
+    ghost stands = { λ a part when. stands_shared (H.has a.roots.now) (record { seat = a.place; viewers = a.viewers }) part when };
+
+    ghost runs_out = { λ a b part s. runs_out_shared (H.has a.roots.now) (record { seat = a.place; viewers = a.viewers }) (record { seat = b.place; viewers = b.viewers }) part s };
+
+    ghost idles = { λ a. idles_shared (H.has a.roots.now) (record { seat = a.place; viewers = a.viewers }) };
+
+    ghost stays = { λ a asked. keeps_same a.place };
+
+    ghost goes_on = { λ a b c first second p q. keeps_then a.place b.place c.place p q };
+}
