@@ -1,0 +1,13 @@
+//! Tests of a session's front over what sessions share, beside the front of one thread: the same lines, the same replies.
+#![tactic(auto)]
+
+#[cfg(test)]
+mod checks;
+#[cfg(test)]
+mod desks;
+#[cfg(test)]
+mod ended;
+#[cfg(test)]
+mod fronts;
+#[cfg(test)]
+mod watched;
