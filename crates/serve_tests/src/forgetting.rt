@@ -7,8 +7,9 @@ use std::alloc::{Alloc, Global};
 use std::marker::Brand;
 use std::process::Abort;
 use std::sync::Wait;
-use wm_hall::{Forgetting, RootHall, Viewers};
+use wm_hall::{Forgetting, RootHall};
 use wm_share::{Naming, Opened, Shares};
+use wm_shared::Viewers;
 
 const LISTS_BOTH: &str =
     "[\"listing\",\"/r\",0,\"\",[[\"a\",{\"type\":\"f\",\"size\":1,\"mtime_ms\":0}],[\"b\",{\"type\":\"f\",\"size\":1,\"mtime_ms\":0}]]]\n";

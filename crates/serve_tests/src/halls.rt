@@ -7,10 +7,11 @@ use std::marker::Brand;
 use std::process::Abort;
 use std::sync::Wait;
 use wm_disk::Refusal;
-use wm_hall::{Change, Forgetting, RootHall, Seconds, Viewers};
+use wm_hall::{Change, Forgetting, RootHall, Seconds};
 use wm_lines::{Inquiry, Request, reply};
 use wm_names::RootPath;
 use wm_share::{MAX_VIEWERS, Naming, Opened, Shares, Viewer};
+use wm_shared::Viewers;
 use wm_since::MAX_CURSORS;
 
 /// Lines of two sessions, and what each is told. A root forgets nothing here by itself.
@@ -77,6 +78,8 @@ pub struct At {
 }
 
 impl Seconds for At {
+    ghost earliest = { λ at. 0 };
+
     fn second(&self) -> u64 {
         self.moment
     }
@@ -103,18 +106,19 @@ pub fn opened_hall<'a, J: Naming, R: Wait + Abort>(
     RootHall::new(alloc, &path, 5, keeper, pool).expect(rt, "a hall")
 }
 
-/// Performs an operation, and tells where the view stands then.
+/// Performs an operation of a session, and tells where the view stands then.
 fn operate<J: Naming, R: Wait + Abort, K: Wait + Drop>(
     rt: &R,
     alloc: Global,
     hall: &RootHall<J, K>,
+    viewers: &mut Viewers<J>,
     at: At,
     change: Change,
     out: &mut Vec<u8>,
 ) -> Result<(), Refusal> {
     out.try_reserve(reply::PROGRESS_ROOM).expect(rt, "memory");
     let tells_floor = matches!(change, Change::AgeOut(_));
-    let met = hall.operate(rt, alloc, at.forgetting, &at, change)?;
+    let met = viewers.change(rt, alloc, hall, at.forgetting, &at, change)?;
     if tells_floor {
         reply::put_floor(met.floor, out);
     } else {
@@ -132,23 +136,9 @@ fn tell_clock<J: Naming, R: Wait + Abort, K: Wait + Drop>(
     out: &mut Vec<u8>,
 ) -> Result<(), Refusal> {
     out.try_reserve(reply::PROGRESS_ROOM).expect(rt, "memory");
-    let viewer = viewers.of_root(rt, hall)?;
-    let clock = hall.clock(rt, alloc, viewer)?;
+    let clock = viewers.clock(rt, alloc, hall)?;
     reply::put_clock(clock, out);
     Ok(())
-}
-
-/// Tells the answer that a session sees.
-fn tell_answer<J: Naming, R: Wait, K: Wait + Drop>(
-    rt: &R,
-    alloc: Global,
-    hall: &RootHall<J, K>,
-    viewers: &mut Viewers<J>,
-    inquiry: Inquiry,
-    out: &mut Vec<u8>,
-) -> Result<(), Refusal> {
-    let viewer = viewers.of_root(rt, hall)?;
-    hall.inquire(rt, alloc, viewer, inquiry, out)
 }
 
 /// Meets a request of the session that has these viewers.
@@ -162,13 +152,16 @@ fn meet<J: Naming, R: Wait + Abort, K: Wait + Drop>(
     out: &mut Vec<u8>,
 ) -> Result<(), Refusal> {
     match request {
-        Request::Observe(_, pairs) => operate(rt, alloc, hall, at, Change::Observe(pairs), out),
-        Request::Listing(_, begun_at, found) => {
-            operate(rt, alloc, hall, at, Change::Recrawl(begun_at, found), out)
+        Request::Observe(_, pairs) => {
+            operate(rt, alloc, hall, viewers, at, Change::Observe(pairs), out)
         }
-        Request::AgeOut(_, age) => operate(rt, alloc, hall, at, Change::AgeOut(age), out),
+        Request::Listing(_, begun_at, found) => {
+            let change = Change::Recrawl(begun_at, found);
+            operate(rt, alloc, hall, viewers, at, change, out)
+        }
+        Request::AgeOut(_, age) => operate(rt, alloc, hall, viewers, at, Change::AgeOut(age), out),
         Request::Clock(_) => tell_clock(rt, alloc, hall, viewers, out),
-        Request::Query(_, inquiry) => tell_answer(rt, alloc, hall, viewers, inquiry, out),
+        Request::Query(_, inquiry) => viewers.inquire(rt, alloc, hall, inquiry, out),
         another => {
             drop(another);
             Err(Refusal::BadCommand)
@@ -298,7 +291,7 @@ fn lent<J: Naming, R: Wait + Abort, K: Wait + Drop>(
     lent
 }
 
-/// Where no viewer is left another session is refused, until the first one gives its viewer back.
+/// If no viewer is left another session is refused, until the first one gives its viewer back.
 fn keeps_viewer_limit<J: Naming, R: Wait + Abort, K: Wait + Drop>(
     rt: &R,
     alloc: Global,
@@ -308,7 +301,7 @@ fn keeps_viewer_limit<J: Naming, R: Wait + Abort, K: Wait + Drop>(
     out: &mut Vec<u8>,
 ) {
     let refused = tell_clock(rt, alloc, hall, other, out);
-    assert_eq!(rt; refused, Err(Refusal::NoPlace));
+    assert_eq!(rt; refused, Err(Refusal::NoMemory));
     for viewer in viewers.into_vec() {
         hall.take_back(rt, viewer);
     }

@@ -10,9 +10,10 @@ use std::sync::Wait;
 use std::sync::atomic::{AtomicU64, Ordering};
 use std::thread;
 use std::thread::Threads;
-use wm_hall::{Change, Forgetting, RootHall, Seconds, Viewers};
+use wm_hall::{Change, Forgetting, RootHall, Seconds};
 use wm_names::{Kind, Meta, RelPath};
 use wm_share::{Naming, Opened, Shares};
+use wm_shared::Viewers;
 use wm_view::Pairs;
 
 /// A clock that is a second later at each reading.
@@ -22,6 +23,8 @@ struct Rising {
 }
 
 impl Seconds for Rising {
+    ghost earliest = { λ rising. 0 };
+
     fn second(&self) -> u64 {
         self.next.fetch_add(1, Ordering::SeqCst)
     }
@@ -60,11 +63,13 @@ fn make_files<J: Naming, R: Wait + Abort, K: Wait + Drop>(
     rising: &Rising,
     letter: &str,
 ) {
+    let mut viewers = Viewers::new(alloc);
     for number in 0..FILES {
         let change = made(rt, alloc, letter, number);
-        let met = hall.operate(rt, alloc, NEVER, rising, change);
+        let met = viewers.change(rt, alloc, hall, NEVER, rising, change);
         check!(*rt; met.is_ok(), number);
     }
+    drop(viewers);
 }
 
 /// The names that an answer lists, as its line has them.

@@ -3,19 +3,21 @@
 use base.Shift.{Keyless}
 use denote.Builtin
 use denote.Param.Send.{IsSend, IsSync, recorded_send, sendable, struct_send, view_send}
-use denote.Param.SendFields.{declared_sync}
+use denote.Param.SendFields.{as_row_send, declared_send, declared_sync}
 use denote.RattleType.{RattleType}
+use denote.Ref.{NamedLft}
 use denote.Struct.Declared
+use denote.Struct.Field.{row_field}
 use types.Keyed
 use Rattle.std.below.std_heap.proofs.GlobalAllocator.TheSendSync as FreesSent
 use Rattle.std.proofs.Common.{ℕ, zero, suc}
 use Rattle.std.proofs.Crossing.{crosses}
 use Rattle.std.proofs.alloc.Global.TheSendSync as GlobalSent
+use Rattle.std.proofs.option.Option.TheSendSync as OptionSent
 use Rattle.std.proofs.sync.Arc.TheSendSync as ArcSent
 use Rattle.std.proofs.sync.Condvar.TheSendSync as CondvarSent
 use Rattle.std.proofs.sync.Mutex.TheSendSync as MutexSent
 use Rattle.std.proofs.sync.atomic.AtomicU64.TheSendSync as CountSent
-use Rattle.std.proofs.vec.Vec.TheSendSync as VecSent
 use Rattle.std.specs.contracts.alloc.Global
 use Rattle.std.specs.contracts.impls.GlobalAllocator.TheImpl as GlobalImpl
 use Rattle.std.specs.contracts.option.Option
@@ -28,19 +30,28 @@ use Rattle.logbook.specs.Kept.{pens_own}
 use Rattle.logbook.specs.contracts.tokens.Pens
 use Rattle.wm_expr.proofs.expr.Expr.TheLaws.TheKnot as Expressions
 use Rattle.wm_hall.proofs.hall.RootHall.TheSendSync as HallSent
-use Rattle.wm_hall.proofs.viewers.Viewers.TheSendSync as ViewersSent
 use Rattle.wm_hall.specs.contracts.hall.RootHall
-use Rattle.wm_hall.specs.contracts.viewers.Viewers
 use Rattle.wm_share.specs.contracts.shares.Shares
 use Rattle.wm_share.specs.contracts.shares.Shares.TheInside as SharesInside
 use Rattle.wm_share.specs.declared.book.Naming as Naming
-use Rattle.wm_serve.specs.contracts.chair.Chair
+use Rattle.wm_registry.proofs.registry.Registry.TheSendSync as RegistrySent
+use Rattle.wm_session.specs.contracts.session.Session
+use Rattle.wm_shared.proofs.viewers.Viewers.TheSendSync as ViewersSent
+use Rattle.wm_shared.specs.contracts.place.Given
+use Rattle.wm_shared.specs.contracts.place.Place
+use Rattle.wm_shared.specs.contracts.place.Place.TheInside as PlaceInside
+use Rattle.wm_shared.specs.contracts.shared_front.SharedFront
+use Rattle.wm_shared.specs.declared.registrar.Registrar as Registrar
+use Rattle.wm_serve.proofs.SeatSent.{seat_send}
+use Rattle.wm_serve.specs.contracts.connection.Connection
+use Rattle.wm_serve.specs.contracts.connection.Slot
 use Rattle.wm_serve.specs.contracts.following.Following
 use Rattle.wm_serve.specs.contracts.root_table.RootTable
 use Rattle.wm_serve.specs.contracts.shared.Missing
 use Rattle.wm_serve.specs.contracts.shared.Shared
-use Rattle.wm_serve.specs.contracts.subscribed_roots.SubscribedRoots
-use Rattle.wm_serve.proofs.bell.Bell.TheSendSync as BellSent
+use Rattle.wm_serve.specs.contracts.slots.Slots
+use Rattle.wm_serve.proofs.wake.WakeFlag.TheSendSync as WakeSent
+use Rattle.wm_serve.specs.contracts.wake.WakeFlag
 use Rattle.wm_serve.proofs.door.Door.TheSendSync as DoorSent
 use Rattle.wm_serve.proofs.following.Following.TheSendSync as FollowingSent
 use Rattle.wm_serve.proofs.root_table.RootTable.TheSendSync as TableSent
@@ -79,31 +90,12 @@ roots_sync J K g k =
 missing_sync : IsSync (Mutex.the_row Missing.the_row)
 missing_sync = search (crosses, Expressions.crosses, sendable) depth 60 fits 20000
 
--- ---- the sessions
+-- ---- the wake flags
 
-number_sync : IsSync Builtin.u64
-number_sync = search (crosses, sendable) depth 60 fits 20000
+wakes_sync : IsSync (Vec.the_row WakeFlag.the_row Global.the_row GlobalImpl.ghosts)
+wakes_sync = search (WakeSent.the_sync, crosses, sendable) depth 60 fits 20000
 
-page_sync : IsSync (Mutex.the_row (Vec.the_row Builtin.u8 Global.the_row GlobalImpl.ghosts))
-page_sync = search (crosses, sendable) depth 60 fits 20000
-
-subscriptions_sync : IsSync (Mutex.the_row SubscribedRoots.the_row)
-subscriptions_sync = search (crosses, Expressions.crosses, sendable) depth 60 fits 20000
-
-stream_sync : IsSync (Mutex.the_row (Option.the_row (Arc.the_row UnixStream.the_row Global.the_row GlobalImpl.ghosts)))
-stream_sync = search (crosses, sendable) depth 60 fits 20000
-
-chair_sync : (J : RattleType) (g : Naming.Ghosts J.Denot) → IsSync (Chair.the_row J g)
-chair_sync J g =
-    declared_sync (Chair.the_type J g) (
-      page_sync,
-      (subscriptions_sync, (MutexSent.the_sync (Viewers.the_row J g) (ViewersSent.the_send J g), (BellSent.the_sync, (number_sync, (stream_sync, tt))))),
-    )
-
-chairs_sync : (J : RattleType) (g : Naming.Ghosts J.Denot) → IsSync (Vec.the_row (Chair.the_row J g) Global.the_row GlobalImpl.ghosts)
-chairs_sync J g = search (chair_sync J g, crosses, sendable) depth 60 fits 20000
-
--- ---- all of it
+-- ---- what all threads share
 
 pub shared_sync : (T J K : RattleType) (g : Naming.Ghosts J.Denot) → IsSync T → IsSend K → IsSync K → IsSync (Shared.the_row T J K g)
 shared_sync T J K g desk k k' =
@@ -117,9 +109,57 @@ shared_sync T J K g desk k k' =
             roots_sync J K g k,
             (
               MutexSent.the_sync Following.the_row FollowingSent.the_send,
-              (CondvarSent.the_sync, (missing_sync, (CondvarSent.the_sync, (chairs_sync J g, (DoorSent.the_sync, (CountSent.the_sync, (ForgettingSent.the_sync, tt))))))),
+              (CondvarSent.the_sync, (missing_sync, (CondvarSent.the_sync, (wakes_sync, (DoorSent.the_sync, (CountSent.the_sync, (ForgettingSent.the_sync, tt))))))),
             ),
           ),
         ),
       ),
     )
+
+-- ---- the sessions
+
+stream_send : IsSend (Arc.the_row UnixStream.the_row Global.the_row GlobalImpl.ghosts)
+stream_send = search (crosses, sendable) depth 60 fits 20000
+
+page_send : IsSend (Vec.the_row Builtin.u8 Global.the_row GlobalImpl.ghosts)
+page_send = search (crosses, sendable) depth 60 fits 20000
+
+number_sync : IsSync Builtin.u64
+number_sync = search (crosses, sendable) depth 60 fits 20000
+
+module _ (κ : NamedLft) (T J K : RattleType) (h : Registrar.Ghosts T.Denot) (g : Naming.Ghosts J.Denot) (desk : IsSync T) (k : IsSend K) (k' : IsSync K) where
+  given_send : IsSend (Given.the_row κ T h)
+  given_send = declared_send (Given.the_type κ T h) (search (desk, sendable) depth 20 fits 5000, (seat_send, tt))
+
+  place_send : IsSend (Place.the_row κ T h)
+  place_send =
+      view_send (PlaceInside.the_row κ T h) _ _ _ _
+      (declared_send (PlaceInside.the_type κ T h) (search (desk, sendable) depth 20 fits 5000, (OptionSent.the_send (Given.the_row κ T h) given_send, tt)))
+
+  front_send : IsSend (SharedFront.the_row κ T (Shared.the_row T J K g) J K h g)
+  front_send =
+      let shared = shared_sync T J K g desk k k' in
+      declared_send (SharedFront.the_type κ T (Shared.the_row T J K g) J K h g) (
+        as_row_send (row_field K) k,
+        (place_send, (search (shared, sendable) depth 20 fits 5000, (ViewersSent.the_send J g, (RegistrySent.the_send, tt)))),
+      )
+
+  session_send : IsSend (Session.the_row (SharedFront.the_row κ T (Shared.the_row T J K g) J K h g))
+  session_send =
+      let front = SharedFront.the_row κ T (Shared.the_row T J K g) J K h g in
+      declared_send (Session.the_type front) (as_row_send (row_field front) front_send, (search (crosses, Expressions.crosses, sendable) depth 60 fits 20000, tt))
+
+  connection_send : IsSend (Connection.the_row κ T J K h g)
+  connection_send = declared_send (Connection.the_type κ T J K h g) (session_send, (stream_send, (page_send, tt)))
+
+  slot_sync : IsSync (Slot.the_row κ T J K h g)
+  slot_sync =
+      declared_sync (Slot.the_type κ T J K h g) (
+        number_sync,
+        (MutexSent.the_sync (Option.the_row (Connection.the_row κ T J K h g)) (OptionSent.the_send (Connection.the_row κ T J K h g) connection_send), tt),
+      )
+
+  pub slots_sync : IsSync (Slots.the_row κ T J K h g)
+  slots_sync =
+      let shared = shared_sync T J K g desk k k' in
+      declared_sync (Slots.the_type κ T J K h g) (search (shared, sendable) depth 20 fits 5000, (search (slot_sync, crosses, sendable) depth 60 fits 20000, tt))

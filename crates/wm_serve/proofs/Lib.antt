@@ -1,3 +1,7 @@
 pub mod Crossing
+mod DueRuns
+mod Names
 mod Parting
 mod Rising
+mod Rounds
+mod SeatSent

@@ -33,6 +33,35 @@ RiseFrom low (root ∷ roots) last = (low < root.number) × RiseFrom root.number
 abbrev pub RootNumbersRise : {H : Type 0} → WatchedRoots H → Type 0
 RootNumbersRise w = RiseFrom 0 w.roots w.last
 
+-- ---- what a server may have had
+
+-- what a table says of a root, besides its view
+pub record RootName : Type 0 where
+  pub path : Path
+  pub number : ℕ
+
+abbrev pub root_name : {H : Type 0} → WatchedRoot H → RootName
+root_name root = record { path = root.path; number = root.number }
+
+-- each number is greater than the one before it
+abbrev pub NamesRise : ℕ → List RootName → Type 0
+NamesRise low [] = Unit {0}
+NamesRise low (name ∷ names) = (low < name.number) × NamesRise name.number names
+
+-- in a table that a server may have had, in which no number stands twice, the root of the path has the number
+abbrev pub MayHaveHad : Path → ℕ → Type 0
+MayHaveHad path number = (names : List RootName) × NamesRise 0 names × (before : List RootName) × (after : List RootName) × (names ≡ before ++ record { path = path; number = number } ∷ after)
+
+-- in such a table no root has the path
+abbrev pub MayHaveLacked : Path → Type 0
+MayHaveLacked path = (names : List RootName) × NamesRise 0 names × (list_any (λ name. bytes_eq name.path path) names ≡ false)
+
+-- nor has any the number
+abbrev pub MayHaveLackedNumber : ℕ → Type 0
+MayHaveLackedNumber number = (names : List RootName) × NamesRise 0 names × (list_any (λ name. name.number == number) names ≡ false)
+
+-- ---- where a root stands
+
 -- it is the first that passes
 abbrev pub IsFirst : {X : Type 0} → (X → Bool) → List X → X → Type 0
 IsFirst {X} p all x = (before : List X) × (after : List X) × (all ≡ before ++ x ∷ after) × (list_any p before ≡ false) × (p x ≡ true)

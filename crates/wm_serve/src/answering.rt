@@ -1,161 +1,72 @@
 //! A session: its lines and its replies.
 //! Tests: serve_tests/src/sessions.rt.
-use crate::chair::Chair;
-use crate::ended_roots::leave_roots;
-use crate::meeting::meet;
-use crate::place::Place;
-use crate::registrar::Registrar;
+use crate::connection::{Connection, Slot};
+use crate::registrar::ServerDesk;
+use crate::requests::crawl_asked;
+use crate::sending::crawl_line;
 use crate::shared::Shared;
 use std::alloc::Global;
 use std::io;
-use std::io::{BufReader, Write};
+use std::io::BufReader;
 use std::net::Shutdown;
 use std::os::unix::net::UnixStream;
 use std::sync::{Arc, Wait};
 use std::time::{Clock, Duration};
 use wm_disk::{NoMemory, Refusal};
-use wm_lines::reply::{PROGRESS_ROOM, REFUSAL_ROOM, put_clock, put_refusal};
-use wm_lines::{Progress, Request, ServerRequest};
+use wm_lines::Progress;
 use wm_names::{RootPath, Subtree};
-use wm_session::Input;
 use wm_session::input::{LineRead, read_line};
-use wm_session::run::NO_MEMORY;
+use wm_session::{Input, Session};
 use wm_share::{Naming, Viewer};
+use wm_shared::{Place, SharedFront, Viewers};
 
 /// How long a client may leave a reply unread before its session ends.
 const WRITE_SECONDS: u64 = 10;
 
-/// Sends a line, or that memory ran out for it.
-fn send(stream: &UnixStream, line: Result<&[u8], NoMemory>) -> io::Result<()> {
-    match line {
-        Ok(bytes) => (&*stream).write_all(bytes),
-        Err(NoMemory) => (&*stream).write_all(NO_MEMORY.as_bytes()),
-    }
-}
-
-/// Sends a line while nothing else is told.
-fn send_alone<R: Wait, J: Naming>(
-    rt: &R,
-    chair: &Chair<J>,
-    stream: &UnixStream,
-    line: Result<&[u8], NoMemory>,
-) -> io::Result<()> {
-    let page = chair.page.lock(rt);
-    let sent = send(stream, line);
-    drop(page);
-    sent
-}
-
 /// Waits for the end of a crawl. The session's viewer learns of it.
-fn crawl<R: Wait, T: Registrar, J: Naming, K: Wait + Copy + Drop>(
+fn crawl<R: Wait, T: ServerDesk, J: Naming, K: Wait + Clock + Copy + Drop>(
     rt: &R,
     alloc: Global,
     shared: &Shared<T, J, K>,
-    chair: &Chair<J>,
+    slot: &Slot<'_, T, J, K>,
     root: &RootPath,
     subtree: Subtree,
 ) -> Result<Progress, Refusal> {
     let hall = shared.hall(rt, alloc, root)?;
     let ended = hall.work.crawl(rt, subtree);
-    chair.viewers.lock(rt).learn(rt, &hall);
+    slot.learn(rt, &hall);
     drop(hall);
     ended
 }
 
-/// Waits for the end of a crawl, and gives the reply.
-fn recrawl<R: Wait, T: Registrar, J: Naming, K: Wait + Copy + Drop>(
+/// Sends the reply to a request for a crawl.
+fn send_ended<R: Wait, T: ServerDesk, J: Naming, K: Wait + Clock + Copy + Drop>(
     rt: &R,
     alloc: Global,
-    shared: &Shared<T, J, K>,
-    chair: &Chair<J>,
-    root: &RootPath,
-    subtree: Subtree,
-) -> Result<Vec<u8>, NoMemory> {
-    let mut out = Vec::new(alloc);
-    out.try_reserve(PROGRESS_ROOM.max(REFUSAL_ROOM))?;
-    match crawl(rt, alloc, shared, chair, root, subtree) {
-        Ok(progress) => put_clock(progress.clock, &mut out),
-        Err(refusal) => put_refusal(refusal, &mut out),
-    }
-    Ok(out)
-}
-
-/// Writes a refusal's line on an empty page.
-fn refuse(refusal: Refusal, page: &mut Vec<u8>) -> Result<(), NoMemory> {
-    page.clear();
-    page.try_reserve(REFUSAL_ROOM)?;
-    put_refusal(refusal, page);
-    Ok(())
-}
-
-/// Sends what was written on the page, or that memory ran out for it.
-fn send_page(stream: &UnixStream, written: Result<(), NoMemory>, page: &[u8]) -> io::Result<()> {
-    match written {
-        Ok(()) => send(stream, Ok(page)),
-        Err(NoMemory) => send(stream, Err(NoMemory)),
+    slot: &Slot<'_, T, J, K>,
+    ended: Result<Progress, Refusal>,
+) -> io::Result<()> {
+    match crawl_line(alloc, ended) {
+        Ok(line) => slot.send(rt, Ok(&line)),
+        Err(NoMemory) => slot.send(rt, Err(NoMemory)),
     }
 }
 
-/// Answers a request on an empty page, which has room for a refusal.
-fn answer<R: Wait + Clock, T: Registrar, J: Naming, K: Wait + Copy + Drop>(
+/// Answers a line that was read. A crawl is awaited without the session, so that what is due is sent meanwhile.
+fn serve_line<R: Wait, T: ServerDesk, J: Naming, K: Wait + Clock + Copy + Drop>(
     rt: &R,
     alloc: Global,
     shared: &Shared<T, J, K>,
-    chair: &Chair<J>,
-    place: &mut Place<'_, T>,
-    stream: &UnixStream,
-    request: Request,
-) -> io::Result<()> {
-    let mut page = chair.page.lock(rt);
-    page.clear();
-    let written = match meet(rt, alloc, shared, chair, place, request, &mut page) {
-        Ok(()) => Ok(()),
-        Err(refusal) => refuse(refusal, &mut page),
-    };
-    let sent = send_page(stream, written, &page);
-    drop(page);
-    sent
-}
-
-/// Answers that a line is refused.
-fn answer_refused<R: Wait, J: Naming>(
-    rt: &R,
-    chair: &Chair<J>,
-    stream: &UnixStream,
-    refusal: Refusal,
-) -> io::Result<()> {
-    let mut page = chair.page.lock(rt);
-    let written = refuse(refusal, &mut page);
-    let sent = send_page(stream, written, &page);
-    drop(page);
-    sent
-}
-
-/// Answers a line that was read. The room of a refusal is made first. A crawl is awaited before the page is taken, so that
-/// subscriptions are told meanwhile.
-fn serve_line<R: Wait + Clock, T: Registrar, J: Naming, K: Wait + Copy + Drop>(
-    rt: &R,
-    alloc: Global,
-    shared: &Shared<T, J, K>,
-    chair: &Chair<J>,
-    place: &mut Place<'_, T>,
-    stream: &UnixStream,
+    slot: &Slot<'_, T, J, K>,
     line: &[u8],
 ) -> io::Result<()> {
-    if chair.make_room(rt).is_err() {
-        return send_alone(rt, chair, stream, Err(NoMemory));
-    }
-    match ServerRequest::read(alloc, line) {
-        Ok(ServerRequest::Recrawl(root, subtree)) => {
-            match recrawl(rt, alloc, shared, chair, &root, subtree) {
-                Ok(line) => send_alone(rt, chair, stream, Ok(&line)),
-                Err(NoMemory) => send_alone(rt, chair, stream, Err(NoMemory)),
-            }
+    match crawl_asked(alloc, line) {
+        Some(Ok((root, subtree))) => {
+            let ended = crawl(rt, alloc, shared, slot, &root, subtree);
+            send_ended(rt, alloc, slot, ended)
         }
-        Ok(ServerRequest::Common(request)) => {
-            answer(rt, alloc, shared, chair, place, stream, request)
-        }
-        Err(refusal) => answer_refused(rt, chair, stream, refusal),
+        Some(Err(refusal)) => send_ended(rt, alloc, slot, Err(refusal)),
+        None => slot.answer(rt, alloc, shared, line),
     }
 }
 
@@ -165,54 +76,42 @@ fn next_line(reader: &mut BufReader<&UnixStream>, line: &mut Vec<u8>) -> io::Res
 }
 
 /// Answers the lines of a reader until they end or its socket fails.
-fn serve_lines_of<R: Wait + Clock, T: Registrar, J: Naming, K: Wait + Copy + Drop>(
+fn serve_lines_of<R: Wait, T: ServerDesk, J: Naming, K: Wait + Clock + Copy + Drop>(
     rt: &R,
     alloc: Global,
     shared: &Shared<T, J, K>,
-    chair: &Chair<J>,
-    place: &mut Place<'_, T>,
-    stream: &UnixStream,
+    slot: &Slot<'_, T, J, K>,
     reader: &mut BufReader<&UnixStream>,
     line: &mut Vec<u8>,
 ) -> io::Result<()> {
     for _ in rt.forever() {
         match next_line(reader, line)? {
             LineRead::End => return Ok(()),
-            LineRead::Lost => send_alone(rt, chair, stream, Err(NoMemory))?,
-            LineRead::Kept => serve_line(rt, alloc, shared, chair, place, stream, line)?,
+            LineRead::Lost => slot.send(rt, Err(NoMemory))?,
+            LineRead::Kept => serve_line(rt, alloc, shared, slot, line)?,
         }
     }
     Ok(())
 }
 
 /// Answers a session's lines until it ends or its socket fails.
-fn serve_lines<R: Wait + Clock, T: Registrar, J: Naming, K: Wait + Copy + Drop>(
+fn serve_lines<R: Wait, T: ServerDesk, J: Naming, K: Wait + Clock + Copy + Drop>(
     rt: &R,
     alloc: Global,
     shared: &Shared<T, J, K>,
-    chair: &Chair<J>,
-    place: &mut Place<'_, T>,
+    slot: &Slot<'_, T, J, K>,
     stream: &UnixStream,
 ) -> io::Result<()> {
     let mut reader = BufReader::new(alloc, stream)?;
     let mut line = Vec::new(alloc);
-    let served = serve_lines_of(
-        rt,
-        alloc,
-        shared,
-        chair,
-        place,
-        stream,
-        &mut reader,
-        &mut line,
-    );
+    let served = serve_lines_of(rt, alloc, shared, slot, &mut reader, &mut line);
     drop(line);
     drop(reader);
     served
 }
 
-/// Gives a viewer back to its hall, if that is there still.
-fn give_back<R: Wait, T: Registrar, J: Naming, K: Wait + Copy + Drop>(
+/// Gives a viewer back to its root, if that is there still.
+fn give_back<R: Wait, T: ServerDesk, J: Naming, K: Wait + Clock + Copy + Drop>(
     rt: &R,
     shared: &Shared<T, J, K>,
     viewer: Viewer<J>,
@@ -226,40 +125,62 @@ fn give_back<R: Wait, T: Registrar, J: Naming, K: Wait + Copy + Drop>(
     }
 }
 
-/// One session on a chair.
-fn attend<R: Wait + Clock, T: Registrar, J: Naming, K: Wait + Copy + Drop>(
+/// Gives the viewers of a session back.
+fn give_all_back<R: Wait, T: ServerDesk, J: Naming, K: Wait + Clock + Copy + Drop>(
     rt: &R,
-    alloc: Global,
     shared: &Shared<T, J, K>,
-    chair: &Chair<J>,
-    place: &mut Place<'_, T>,
-    stream: UnixStream,
+    viewers: Viewers<J>,
 ) {
-    let _timed = stream.set_write_timeout(Some(Duration::from_secs(WRITE_SECONDS)));
-    let Ok(stream) = Arc::new(alloc, stream) else {
-        return;
-    };
-    let Ok(other) = Arc::try_clone(&stream) else {
-        drop(stream);
-        return;
-    };
-    chair.seat(rt, alloc, Some(other));
-    let _ended = serve_lines(rt, alloc, shared, chair, place, &stream);
-    let _ = stream.shutdown(Shutdown::Both);
-    drop(stream);
-    leave_roots(rt, shared, chair);
-    chair.seat(rt, alloc, None);
-    for viewer in chair.take_viewers(rt, alloc).into_vec() {
+    for viewer in viewers.into_vec() {
         give_back(rt, shared, viewer);
     }
 }
 
-/// Answers the lines of one session after the other, until no session comes any longer.
-pub fn sit_on<R: Wait + Clock, T: Registrar, J: Naming, K: Wait + Copy + Drop>(
+/// The socket for both threads of a session. `None` if memory runs out.
+fn both_ends(alloc: Global, stream: UnixStream) -> Option<(Arc<UnixStream>, Arc<UnixStream>)> {
+    let stream = Arc::new(alloc, stream).ok()?;
+    let other = Arc::try_clone(&stream).ok()?;
+    Some((stream, other))
+}
+
+/// One session in a slot. The place at the desk comes back.
+fn attend<'a, R: Wait, T: ServerDesk, J: Naming, K: Wait + Clock + Copy + Drop>(
     rt: &R,
     alloc: Global,
-    shared: &Shared<T, J, K>,
-    chair: &Chair<J>,
+    shared: &'a Shared<T, J, K>,
+    slot: &Slot<'a, T, J, K>,
+    place: Place<'a, T>,
+    stream: UnixStream,
+) -> Place<'a, T> {
+    let _timed = stream.set_write_timeout(Some(Duration::from_secs(WRITE_SECONDS)));
+    let Some((stream, other)) = both_ends(alloc, stream) else {
+        return place;
+    };
+    let front = SharedFront::new(shared.keeping, alloc, place, shared);
+    slot.open(
+        rt,
+        Connection::new(alloc, Session::new(alloc, front), other),
+    );
+    let _ended = serve_lines(rt, alloc, shared, slot, &stream);
+    let _ = stream.shutdown(Shutdown::Both);
+    drop(stream);
+    shared.note(rt, slot.number, 0);
+    match slot.close(rt) {
+        Some(connection) => {
+            let (place, viewers) = connection.into_session().into_front().into_parts();
+            give_all_back(rt, shared, viewers);
+            place
+        }
+        None => Place::new(&shared.desk),
+    }
+}
+
+/// Answers the lines of one session after the other, until no session comes any longer.
+pub fn sit_on<'a, R: Wait, T: ServerDesk, J: Naming, K: Wait + Clock + Copy + Drop>(
+    rt: &R,
+    alloc: Global,
+    shared: &'a Shared<T, J, K>,
+    slot: &Slot<'a, T, J, K>,
 ) {
     let mut place = Place::new(&shared.desk);
     for _ in rt.forever() {
@@ -267,7 +188,7 @@ pub fn sit_on<R: Wait + Clock, T: Registrar, J: Naming, K: Wait + Copy + Drop>(
             drop(place);
             return;
         };
-        attend(rt, alloc, shared, chair, &mut place, stream);
+        place = attend(rt, alloc, shared, slot, place, stream);
         shared.door.leave(rt);
     }
 }

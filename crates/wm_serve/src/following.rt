@@ -5,17 +5,21 @@
 //! of commands, and a session that has seen more commands than that waits until the table has followed them.
 //!
 //! Tests: serve_tests/src/sessions.rt.
-ghost use Rattle.std.specs.Prelude.{◌≡◌, ◌<◌, ◌+◌, max, nat_lt};
+ghost use Rattle.std.specs.Prelude.{◌≡◌, ◌⊎◌, ◌<◌, ◌+◌, max, nat_lt, IfErr};
 
-use crate::registrar::Registrar;
-use crate::shared::{Found, Shared, look_up};
+use crate::registrar::ServerDesk;
+use crate::second::SystemSeconds;
+use crate::shared::Shared;
+use crate::wake::bit_of;
 use std::alloc::Global;
 use std::sync::{Arc, Wait};
+use std::time::Clock;
 use wm_disk::Refusal;
-use wm_hall::RootHall;
+use wm_hall::{Forgetting, RootHall, Seconds};
 use wm_names::RootPath;
 use wm_registry::{Command, Trigger};
 use wm_share::Naming;
+use wm_shared::Roots;
 
 /// How far the roots have followed.
 #[derive(Drop)]
@@ -82,10 +86,10 @@ impl Following {
     }
 }
 
-impl<T: Registrar, J: Naming, K: Wait + Copy + Drop> Shared<T, J, K> {
+impl<T: ServerDesk, J: Naming, K: Wait + Clock + Copy + Drop> Shared<T, J, K> {
     /// Has the roots follow the accepted command of this number, once they have followed all earlier ones. No trigger that it
     /// deleted or replaced, or whose root it ended, is started after that.
-    pub fn follow<R: Wait>(&self, rt: &R, alloc: Global, number: u64, command: Command) {
+    fn follow_one<R: Wait>(&self, rt: &R, alloc: Global, number: u64, command: Command) {
         let mut following = self.followed.wait_while(
             rt,
             self.following.lock(rt),
@@ -102,7 +106,7 @@ impl<T: Registrar, J: Naming, K: Wait + Copy + Drop> Shared<T, J, K> {
     }
 
     /// Waits until the roots have followed so many commands.
-    pub fn await_followed<R: Wait>(&self, rt: &R, count: u64) {
+    fn await_all<R: Wait>(&self, rt: &R, count: u64) {
         let following = self.followed.wait_while(
             rt,
             self.following.lock(rt),
@@ -129,19 +133,10 @@ impl<T: Registrar, J: Naming, K: Wait + Copy + Drop> Shared<T, J, K> {
             Command::WatchDel(path) => self.unwatch(rt, &path),
             Command::Trigger(path, trigger) => self.define(rt, &path, number, trigger),
             Command::TriggerDel(path, name) => {
-                let hall = self.known_hall(rt, &path)?;
+                let hall = self.known_hall(rt, &path).ok()??;
                 hall.delete(rt, name.as_str());
                 Some(hall)
             }
-        }
-    }
-
-    /// The hall of a root, if there is one.
-    fn known_hall<R: Wait>(&self, rt: &R, path: &RootPath) -> Option<Arc<RootHall<J, K>>> {
-        let found = look_up(&self.roots.lock(rt), path);
-        match found {
-            Ok(Found::Hall(hall)) => Some(hall),
-            Ok(Found::Missing(_)) | Ok(Found::NotWatched) | Err(_) => None,
         }
     }
 
@@ -161,7 +156,7 @@ impl<T: Registrar, J: Naming, K: Wait + Copy + Drop> Shared<T, J, K> {
         let taken = self.roots.lock(rt).take(path);
         let hall = taken?.hall?;
         hall.end(rt);
-        self.ring_all(rt);
+        self.ring_for(rt, bit_of(hall.number));
         Some(hall)
     }
 
@@ -174,60 +169,109 @@ impl<T: Registrar, J: Naming, K: Wait + Copy + Drop> Shared<T, J, K> {
         trigger: Trigger,
     ) -> Option<Arc<RootHall<J, K>>> {
         match self.known_hall(rt, path) {
-            Some(hall) => {
+            Ok(Some(hall)) => {
                 let _defined = hall.define(rt, number, trigger);
                 Some(hall)
             }
-            None => {
+            Ok(None) | Err(_) => {
                 drop(trigger);
                 None
             }
         }
     }
 
-    /// Makes the hall of a root for which memory had run out. No command is followed meanwhile. `NotWatched` if the root isn't
-    /// watched any longer, and `NoMemory`.
-    pub fn make_up<R: Wait>(
-        &self,
-        rt: &R,
-        alloc: Global,
-        path: &RootPath,
-        number: u64,
-    ) -> Result<Arc<RootHall<J, K>>, Refusal> {
+    /// Makes the hall of a root for which memory had run out, unless that was done meanwhile. No command is followed meanwhile.
+    /// `NotWatched` if the root isn't watched any longer, and `NoMemory`.
+    pub fn make_up<R: Wait>(&self, rt: &R, alloc: Global, path: &RootPath) -> Result<(), Refusal>
+        ensures { IfErr result (λ e. (e ≡ Refusal.NotWatched) ⊎ (e ≡ Refusal.NoMemory)) }
+    {
         let following = self.following.lock(rt);
-        let found = look_up(&self.roots.lock(rt), path);
-        let made = match found? {
-            Found::Hall(hall) => Ok(hall),
-            Found::Missing(_) => self.make(rt, alloc, &following, path, number),
-            Found::NotWatched => Err(Refusal::NotWatched),
+        let made = match self.known_hall(rt, path) {
+            Ok(Some(hall)) => {
+                drop(hall);
+                Ok(())
+            }
+            Ok(None) => self.make(rt, alloc, &following, path),
+            Err(refusal) => Err(refusal),
         };
         drop(following);
         made
     }
 
+    /// Makes the hall of a root that has none, with the root's triggers as the registry has them. Refused as [`Self::make_up`].
     fn make<R: Wait>(
         &self,
         rt: &R,
         alloc: Global,
         following: &Following,
         path: &RootPath,
-        number: u64,
-    ) -> Result<Arc<RootHall<J, K>>, Refusal> {
+    ) -> Result<(), Refusal>
+        ensures { IfErr result (λ e. (e ≡ Refusal.NotWatched) ⊎ (e ≡ Refusal.NoMemory)) }
+    {
         let (registry, _) = self.desk.registry(rt)?;
+        let number = self.number_of(rt, path);
         let Some(root) = registry.roots().get(path) else {
             return Err(Refusal::NotWatched);
         };
-        if root.number != number {
+        if number != Some(root.number) {
             return Err(Refusal::NotWatched);
         }
-        let hall = self.new_hall(rt, alloc, path, following.incarnation, number)?;
+        let hall = self.new_hall(rt, alloc, path, following.incarnation, root.number)?;
         for trigger in root.triggers.as_slice() {
             hall.define(rt, following.count, trigger.copy()?)?;
         }
-        let Ok(other) = Arc::try_clone(&hall) else {
-            return Err(Refusal::NoMemory);
-        };
-        self.fill(rt, number, other)?;
-        Ok(hall)
+        self.fill(rt, root.number, hall)?;
+        Ok(())
+    }
+}
+
+impl<T: ServerDesk, J: Naming, K: Wait + Clock + Copy + Drop> Seconds for Shared<T, J, K> {
+    ghost earliest = { λ shared. 0 };
+
+    fn second(&self) -> u64 {
+        SystemSeconds { rt: &self.keeping }.second()
+    }
+}
+
+impl<T: ServerDesk, J: Naming, K: Wait + Clock + Copy + Drop> Roots<J, K> for Shared<T, J, K> {
+    ghost use Rattle.wm_serve.specs.WatchedRoots.{MayHaveHad, MayHaveLacked, MayHaveLackedNumber};
+
+    ghost has = { λ shared path number. MayHaveHad path number };
+
+    ghost lacks = { λ shared path. MayHaveLacked path };
+
+    ghost ended = { λ shared number. MayHaveLackedNumber number };
+
+    fn find<R: Wait>(
+        &self,
+        rt: &R,
+        alloc: Global,
+        path: &RootPath,
+    ) -> Result<Arc<RootHall<J, K>>, Refusal> {
+        self.hall(rt, alloc, path)
+    }
+
+    fn follow<R: Wait>(&self, rt: &R, alloc: Global, number: u64, command: Command) {
+        self.follow_one(rt, alloc, number, command);
+    }
+
+    fn await_followed<R: Wait>(&self, rt: &R, count: u64) {
+        self.await_all(rt, count);
+    }
+
+    fn ring<R: Wait>(&self, rt: &R, hall: &RootHall<J, K>) {
+        self.ring_for(rt, bit_of(hall.number));
+    }
+
+    fn is_watched<R: Wait>(&self, rt: &R, number: u64) -> bool {
+        self.is_numbered(rt, number)
+    }
+
+    fn number_of<R: Wait>(&self, rt: &R, path: &RootPath) -> Option<u64> {
+        Shared::number_of(self, rt, path)
+    }
+
+    fn forgetting(&self) -> Forgetting {
+        self.forgetting
     }
 }

@@ -36,7 +36,7 @@ pub trait House {
     fn enter<R: Wait>(&self, rt: &R, stream: UnixStream) -> Result<(), (Refusal, UnixStream)>;
 
     /// Answers the lines of one session after the other, until no session comes any longer.
-    fn sit<R: Wait + Clock>(&self, rt: &R, alloc: Global, chair: usize);
+    fn sit<R: Wait>(&self, rt: &R, alloc: Global, chair: usize);
 
     /// Tells the subscriptions of the sessions on a chair, until the server closes.
     fn tell<R: Wait>(&self, rt: &R, alloc: Global, chair: usize);

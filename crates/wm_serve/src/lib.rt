@@ -5,30 +5,27 @@
 //! root, and a question to the session's own viewer of the root (`wm_hall`), which waits for nobody.
 #![tactic(auto)]
 
+mod accept_queue;
 mod admitting;
 mod answering;
-mod bell;
-mod chair;
-mod commanding;
+mod connection;
 mod crawling;
 mod door;
-mod ended_roots;
 mod following;
 mod house;
 mod leading;
 mod listening;
-mod meeting;
-mod place;
 mod registrar;
+mod requests;
 mod root_table;
 mod second;
-mod seeing;
+mod sending;
 mod serving;
 mod shared;
-mod shared_house;
-mod subscribed_roots;
-mod subscribing;
+mod slots;
 mod telling;
 mod triggering;
+mod wake;
+mod waking;
 
 pub use serving::{Settings, serve};

@@ -3,8 +3,9 @@
 //! Definitions: specs/WatchedRoots.antt. Tests: serve_tests/src/sessions.rt.
 ghost use Rattle.std.specs.Prelude.{◌≡◌, ◌⊎◌, ◌≤◌, ◌<◌, ◌++◌, ◌∷◌, [], true, false, Some, None, get_or, take, length, IfOk, MatchBool, MatchOption};
 ghost use Rattle.std.specs.List.{list_any};
+ghost use Rattle.wm_names.specs.Paths.{Path};
 ghost use Rattle.wm_registry.specs.Limits.{max_roots};
-ghost use Rattle.wm_serve.specs.WatchedRoots.{IsFirst, ReplacesFirst, has_path, has_number, lacks_hall};
+ghost use Rattle.wm_serve.specs.WatchedRoots.{IsFirst, MayHaveHad, MayHaveLacked, MayHaveLackedNumber, ReplacesFirst, RootNumbersRise, has_path, has_number, lacks_hall};
 
 use std::alloc::Global;
 use std::marker::Model;
@@ -86,6 +87,35 @@ impl<H: Drop> RootTable<H> {
             }
         }
         None
+    }
+
+    /// No number stands twice in it.
+    pub fn numbers_rise(&self)
+        ensures { RootNumbersRise self.now }
+    {
+        let _last = self.last;
+    }
+
+    /// The number of the root of a path, if it is watched.
+    pub fn number_of(&self, path: &RootPath) -> Option<u64>
+        ensures { MatchOption result (MayHaveLacked path.now) (MayHaveHad path.now) }
+    {
+        self.numbers_rise();
+        match self.find(path) {
+            Some(root) => Some(root.number),
+            None => None,
+        }
+    }
+
+    /// Whether a root of the number is watched.
+    pub fn is_numbered(&self, number: u64) -> bool
+        ensures { MatchBool result ((path : Path) × MayHaveHad path number) (MayHaveLackedNumber number) }
+    {
+        self.numbers_rise();
+        match self.numbered(number) {
+            Some(_) => true,
+            None => false,
+        }
     }
 
     /// The watched roots, in the order of watching.

@@ -10,6 +10,8 @@ pub struct SystemSeconds<'a, R> {
 }
 
 impl<R: Clock> Seconds for SystemSeconds<'_, R> {
+    ghost earliest = { λ s. 0 };
+
     /// 0 if the clock gives none.
     fn second(&self) -> u64 {
         match SystemTime::now(self.rt) {

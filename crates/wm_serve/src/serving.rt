@@ -5,8 +5,9 @@ ghost use Rattle.wm_lines.specs.KeptExpressions.{have_expressions as have_expres
 
 use crate::admitting::serve_on;
 use crate::listening::{identity_of, listen, remove};
-use crate::registrar::Registrar;
+use crate::registrar::ServerDesk;
 use crate::shared::Shared;
+use crate::slots::Slots;
 use std::alloc::Global;
 use std::fs::{File, Files};
 use std::io::Write;
@@ -98,7 +99,7 @@ fn desk_over<D: Disk + Drop>(alloc: Global, store: Store<D>) -> Result<Desk<D>, 
 }
 
 /// What all threads share, over the desk, which is let go where that finds no room.
-fn shared_over<D: Disk + Drop, J: Naming, K: Wait + Copy + Drop>(
+fn shared_over<D: Disk + Drop, J: Naming, K: Wait + Clock + Copy + Drop>(
     alloc: Global,
     keeping: K,
     desk: Desk<D>,
@@ -154,9 +155,9 @@ fn serve_over<
 
 /// Makes a hall for each root, and serves the socket.
 fn serve_shared<
-    T: Registrar + Sync,
+    T: ServerDesk + Sync,
     J: Naming + Send + Sync,
-    K: Wait + Copy + Drop + Send + Sync,
+    K: Wait + Clock + Copy + Drop + Send + Sync,
     R: Threads + Wait + Clock + Net + Files<File = File> + Sync,
     F: Folders + Sync,
     G: Turnstile + Sync,
@@ -174,10 +175,11 @@ fn serve_shared<
     writer: &mut W,
 ) -> Result<(), Refusal> {
     shared.begin(rt, alloc)?;
+    let slots = Slots::new(alloc, shared)?;
     let served = serve_on(
         rt,
         alloc,
-        shared,
+        &slots,
         listener,
         folders,
         gate,
@@ -186,5 +188,6 @@ fn serve_shared<
         settings.sessions,
         writer,
     );
+    drop(slots);
     served
 }

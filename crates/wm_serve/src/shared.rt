@@ -1,43 +1,49 @@
-//! What all threads of a server share: the desk, the watched roots, the chairs and the door.
-//! Tests: serve_tests/src/sessions.rt.
-use crate::chair::Chair;
+//! What all threads of a server share: the desk, the watched roots, a wake flag for each connection slot, and the door.
+//! Definitions: specs/WatchedRoots.antt. Tests: serve_tests/src/sessions.rt.
+ghost use Rattle.std.specs.Prelude.{◌≡◌, ◌⊎◌, IfOk, IfErr, IfSome, MatchBool, MatchOption};
+ghost use Rattle.std.specs.Arc.{arc_value};
+ghost use Rattle.wm_names.specs.Paths.{Path};
+ghost use Rattle.wm_serve.specs.WatchedRoots.{MayHaveHad, MayHaveLacked, MayHaveLackedNumber};
+
 use crate::door::{CHAIRS, Door};
 use crate::following::Following;
 use crate::house::Worker;
-use crate::registrar::Registrar;
+use crate::registrar::ServerDesk;
 use crate::root_table::{RootTable, WatchedRoot};
+use crate::wake::WakeFlag;
 use std::alloc::Global;
 use std::sync::atomic::{AtomicU64, Ordering};
 use std::sync::{Arc, Condvar, Mutex, Wait};
+use std::time::Clock;
 use wm_disk::{NoMemory, Refusal};
 use wm_hall::{Forgetting, RootHall};
 use wm_names::RootPath;
 use wm_registry::Registry;
 use wm_share::{Naming, Shares};
 
-/// What the table of roots has at a path.
-#[derive(Drop)]
-pub enum Found<J: Naming, K: Wait + Drop> {
-    Hall(Arc<RootHall<J, K>>),
-    /// The root of this number is watched, and memory ran out for its hall.
-    Missing(u64),
-    NotWatched,
-}
-
-/// What the table has at a path. `NoMemory` if the hall has too many owners.
-pub fn look_up<J: Naming, K: Wait + Drop>(
+/// The hall of the root of a path, as the table has it; `None` if memory ran out for it. `NotWatched` if no root has the path, and
+/// `NoMemory` if the hall has too many owners.
+pub fn hall_at<J: Naming, K: Wait + Drop>(
     roots: &RootTable<Arc<RootHall<J, K>>>,
     path: &RootPath,
-) -> Result<Found<J, K>, Refusal> {
+) -> Result<Option<Arc<RootHall<J, K>>>, Refusal>
+    ensures had { IfOk result (λ found. IfSome found (λ hall. MayHaveHad path.now (arc_value hall).number)) }
+    ensures refused { IfErr result (λ e. (e ≡ Refusal.NotWatched) ⊎ (e ≡ Refusal.NoMemory)) }
+{
+    roots.numbers_rise();
     let Some(root) = roots.find(path) else {
-        return Ok(Found::NotWatched);
+        return Err(Refusal::NotWatched);
     };
-    match &root.hall {
-        Some(hall) => match Arc::try_clone(hall) {
-            Ok(hall) => Ok(Found::Hall(hall)),
-            Err(_) => Err(Refusal::NoMemory),
-        },
-        None => Ok(Found::Missing(root.number)),
+    let Some(hall) = &root.hall else {
+        return Ok(None);
+    };
+    // each hall has the number of its root
+    if hall.number != root.number {
+        return Err(Refusal::NoMemory);
+    }
+    match Arc::try_clone(hall) {
+        Ok(hall) => Ok(Some(hall)),
+        Err(_) => Err(Refusal::NoMemory),
     }
 }
 
@@ -49,10 +55,10 @@ pub struct Missing {
 }
 
 /// What all threads share.
-pub struct Shared<T: Registrar, J: Naming, K: Wait + Copy + Drop> {
+pub struct Shared<T: ServerDesk, J: Naming, K: Wait + Clock + Copy + Drop> {
     pub desk: T,
     /// What keepers wait with.
-    keeping: K,
+    pub keeping: K,
     /// What makes the keeper and the viewers of a root.
     shares: Mutex<Shares<J>>,
     pub roots: Mutex<RootTable<Arc<RootHall<J, K>>>>,
@@ -62,14 +68,15 @@ pub struct Shared<T: Registrar, J: Naming, K: Wait + Copy + Drop> {
     pub followed: Condvar,
     pub missing: Mutex<Missing>,
     pub came: Condvar,
-    pub chairs: Vec<Chair<J>>,
+    /// A flag for each connection slot.
+    wakes: Vec<WakeFlag>,
     pub door: Door,
     /// 1 where the server closes.
     pub closing: AtomicU64,
     pub forgetting: Forgetting,
 }
 
-impl<T: Registrar, J: Naming, K: Wait + Copy + Drop> Shared<T, J, K> {
+impl<T: ServerDesk, J: Naming, K: Wait + Clock + Copy + Drop> Shared<T, J, K> {
     /// What all threads share, with no root and no worker yet, and a door that lets nobody in. `NoMemory` hands the desk back.
     pub fn new(
         alloc: Global,
@@ -78,7 +85,7 @@ impl<T: Registrar, J: Naming, K: Wait + Copy + Drop> Shared<T, J, K> {
         shares: Shares<J>,
         forgetting: Forgetting,
     ) -> Result<Shared<T, J, K>, (NoMemory, T)> {
-        let Ok((chairs, roots)) = fittings(alloc) else {
+        let Ok((wakes, roots)) = fittings(alloc) else {
             return Err((NoMemory, desk));
         };
         Ok(Shared {
@@ -93,7 +100,7 @@ impl<T: Registrar, J: Naming, K: Wait + Copy + Drop> Shared<T, J, K> {
                 is_closing: false,
             }),
             came: Condvar::new(),
-            chairs,
+            wakes,
             door: Door::new(alloc),
             closing: AtomicU64::new(0),
             forgetting,
@@ -111,12 +118,24 @@ impl<T: Registrar, J: Naming, K: Wait + Copy + Drop> Shared<T, J, K> {
             followed: _,
             missing: _,
             came: _,
-            chairs: _,
+            wakes: _,
             door: _,
             closing: _,
             forgetting: _,
         } = self;
         desk
+    }
+
+    /// The hall of a root as the table has it now, as of [`hall_at`].
+    pub fn known_hall<R: Wait>(
+        &self,
+        rt: &R,
+        path: &RootPath,
+    ) -> Result<Option<Arc<RootHall<J, K>>>, Refusal>
+        ensures had { IfOk result (λ found. IfSome found (λ hall. MayHaveHad path.now (arc_value hall).number)) }
+        ensures refused { IfErr result (λ e. (e ≡ Refusal.NotWatched) ⊎ (e ≡ Refusal.NoMemory)) }
+    {
+        hall_at(&self.roots.lock(rt), path)
     }
 
     /// The hall of a watched root; it is made if memory ran out for it before. `NotWatched` if there is no such root, and
@@ -126,12 +145,17 @@ impl<T: Registrar, J: Naming, K: Wait + Copy + Drop> Shared<T, J, K> {
         rt: &R,
         alloc: Global,
         path: &RootPath,
-    ) -> Result<Arc<RootHall<J, K>>, Refusal> {
-        let found = look_up(&self.roots.lock(rt), path);
-        match found? {
-            Found::Hall(hall) => Ok(hall),
-            Found::Missing(number) => self.make_up(rt, alloc, path, number),
-            Found::NotWatched => Err(Refusal::NotWatched),
+    ) -> Result<Arc<RootHall<J, K>>, Refusal>
+        ensures had { IfOk result (λ hall. MayHaveHad path.now (arc_value hall).number) }
+        ensures refused { IfErr result (λ e. (e ≡ Refusal.NotWatched) ⊎ (e ≡ Refusal.NoMemory)) }
+    {
+        if let Some(hall) = self.known_hall(rt, path)? {
+            return Ok(hall);
+        }
+        self.make_up(rt, alloc, path)?;
+        match self.known_hall(rt, path)? {
+            Some(hall) => Ok(hall),
+            None => Err(Refusal::NoMemory),
         }
     }
 
@@ -228,20 +252,39 @@ impl<T: Registrar, J: Naming, K: Wait + Copy + Drop> Shared<T, J, K> {
         Ok(())
     }
 
-    /// The subscriptions on a root may be due.
-    pub fn ring<R: Wait>(&self, rt: &R, hall: &RootHall<J, K>) {
-        let subscribers = hall.subscribers(rt);
-        for chair in self.chairs.iter() {
-            if chair.is_among(subscribers) {
-                chair.bell.ring(rt);
-            }
+    /// The number of the watched root of a path.
+    pub fn number_of<R: Wait>(&self, rt: &R, path: &RootPath) -> Option<u64>
+        ensures { MatchOption result (MayHaveLacked path.now) (MayHaveHad path.now) }
+    {
+        self.roots.lock(rt).number_of(path)
+    }
+
+    /// Whether the root of a number is watched.
+    pub fn is_numbered<R: Wait>(&self, rt: &R, number: u64) -> bool
+        ensures { MatchBool result ((path : Path) × MayHaveHad path number) (MayHaveLackedNumber number) }
+    {
+        self.roots.lock(rt).is_numbered(number)
+    }
+
+    /// Lines may be due to each session that has a subscription on one of these roots, as their bits.
+    pub fn ring_for<R: Wait>(&self, rt: &R, roots: u64) {
+        for wake in self.wakes.iter() {
+            wake.ring(rt, roots);
         }
     }
 
-    /// A root isn't watched any longer: each session drops what it has of it.
-    pub fn ring_all<R: Wait>(&self, rt: &R) {
-        for chair in self.chairs.iter() {
-            chair.bell.ring(rt);
+    /// Notes the roots that the session of a slot has subscriptions on, as their bits.
+    pub fn note<R: Wait>(&self, rt: &R, slot: usize, roots: u64) {
+        if let Some(wake) = self.wakes.get(slot) {
+            wake.note(rt, roots);
+        }
+    }
+
+    /// Waits until lines may be due to the session of a slot: `false` if the server closes.
+    pub fn wait<R: Wait>(&self, rt: &R, slot: usize) -> bool {
+        match self.wakes.get(slot) {
+            Some(wake) => wake.wait(rt),
+            None => false,
         }
     }
 
@@ -254,8 +297,8 @@ impl<T: Registrar, J: Naming, K: Wait + Copy + Drop> Shared<T, J, K> {
                 hall.end(rt);
             }
         }
-        for chair in self.chairs.iter() {
-            chair.bell.close(rt);
+        for wake in self.wakes.iter() {
+            wake.close(rt);
         }
         self.closing.store(1, Ordering::SeqCst);
     }
@@ -268,19 +311,19 @@ fn start(workers: &mut Vec<Worker>, number: u64) -> Result<(), NoMemory> {
     Ok(())
 }
 
-/// The chairs, and the table of roots.
+/// The flags, and the table of roots.
 fn fittings<J: Naming, K: Wait + Drop>(
     alloc: Global,
-) -> Result<(Vec<Chair<J>>, RootTable<Arc<RootHall<J, K>>>), NoMemory> {
-    let chairs = chairs(alloc)?;
+) -> Result<(Vec<WakeFlag>, RootTable<Arc<RootHall<J, K>>>), NoMemory> {
+    let wakes = wakes(alloc)?;
     let roots = RootTable::new(alloc)?;
-    Ok((chairs, roots))
+    Ok((wakes, roots))
 }
 
-fn chairs<J: Naming>(alloc: Global) -> Result<Vec<Chair<J>>, NoMemory> {
-    let mut chairs = Vec::new(alloc);
-    for slot in 0..CHAIRS {
-        chairs.push(Chair::new(alloc, slot))?;
+fn wakes(alloc: Global) -> Result<Vec<WakeFlag>, NoMemory> {
+    let mut wakes = Vec::new(alloc);
+    for _ in 0..CHAIRS {
+        wakes.push(WakeFlag::new())?;
     }
-    Ok(chairs)
+    Ok(wakes)
 }

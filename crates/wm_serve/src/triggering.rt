@@ -1,15 +1,20 @@
 //! Runs the triggers of a root: which of them stand, which run is due, and that none is started once it was deleted, is decided
 //! by the machines of wm_triggers.
-//! Tests: serve_tests/src/triggers.rt.
-ghost use Rattle.std.specs.Prelude.{◌<◌, length};
-ghost use Rattle.wm_share.specs.PublishedLists.{Begins};
+//! Definitions: specs/TriggerWork.antt. Tests: serve_tests/src/triggers.rt.
+ghost use Rattle.std.specs.Prelude.{◌≡◌, ◌⊎◌, ◌<◌, false, length, map, IfErr, IfOk, OnErr, OnOk};
+ghost use Rattle.wm_share.specs.PublishedLists.{Begins, disconnected, history};
+ghost use Rattle.wm_view.specs.Histories.{is_ready};
+ghost use Rattle.wm_triggers.specs.KeptRuns.{kept_for};
+ghost use Rattle.wm_serve.specs.TriggerWork.{EachInTurn, FailsAt, RunsAt, RunsIfDue, RunsOrStays, due_for};
 
 use std::alloc::Global;
 use std::sync::Wait;
 use wm_disk::{NoMemory, Refusal};
 use wm_hall::RootHall;
 use wm_share::{Naming, Viewer};
-use wm_triggers::{DefinedTrigger, DefinitionRuns, Permit, Programs, Run, TriggerRun, TriggerRuns};
+use wm_triggers::{
+    DefinedTrigger, DefinedTriggers, DefinitionRuns, Permit, Programs, Run, TriggerRuns,
+};
 
 /// The permit to start a definition of a trigger, which the root gives while the definition stands.
 #[derive(Drop)]
@@ -32,21 +37,25 @@ impl<R: Wait, J: Naming, K: Wait + Drop> Permit for StandingPermit<'_, R, J, K> 
     }
 }
 
-/// The run that is due, as the viewer sees the root.
+/// The run of a definition that is due, as the viewer sees the root: its files are those that changed since the last run that was
+/// started. `NotReady` before the first whole listing, `NoPlace` if the root is gone, and `NoMemory`.
 fn due_run<J: Naming>(
     alloc: Global,
     viewer: &mut Viewer<J>,
-    runs: &TriggerRun,
+    one: &DefinitionRuns,
 ) -> Result<Option<Run>, Refusal>
-    ensures { Begins viewer.old.list viewer.new.list }
+    ensures seen { Begins viewer.old.list viewer.new.list }
+    ensures due { IfOk result (λ run. run ≡ due_for one.now (history viewer.new.list)) }
+    ensures refused { IfErr result (λ e. (e ≡ Refusal.NoMemory) ⊎ ((e ≡ Refusal.NoPlace) × (viewer.new ≡ disconnected viewer.old)) ⊎ ((e ≡ Refusal.NotReady) × (is_ready (history viewer.new.list) ≡ false))) }
 {
-    let query = runs.ask(alloc)?;
+    let query = one.runs().ask(alloc)?;
     let answer = viewer.answer(alloc, &query);
     drop(query);
-    Ok(runs.run_of(answer?))
+    Ok(one.runs().run_of(answer?))
 }
 
-/// Starts the program of a run that is due, and waits for its end: whether it was started.
+/// Starts the program of a run that is due, and waits for its end, however it ends. `DeviceFailed` if it couldn't be started, or
+/// its definition doesn't stand any longer, and `NoMemory`.
 fn start<R: Wait, J: Naming, K: Wait + Drop, P: Programs>(
     rt: &R,
     alloc: Global,
@@ -54,21 +63,21 @@ fn start<R: Wait, J: Naming, K: Wait + Drop, P: Programs>(
     programs: &P,
     one: &DefinitionRuns,
     run: &Run,
-) -> bool {
-    let Ok(definition) = one.definition() else {
-        return false;
-    };
+) -> Result<(), Refusal>
+    ensures ran { OnOk result (P.has_run programs.now hall.now.path one.now.trigger run.now) }
+    ensures failed { IfErr result (λ e. (e ≡ Refusal.NoMemory) ⊎ ((e ≡ Refusal.DeviceFailed) × P.has_failed programs.now hall.now.path one.now.trigger run.now)) }
+{
+    let definition = one.definition()?;
     let permit = StandingPermit {
         rt,
         hall,
         one: definition,
     };
-    programs
-        .run(alloc, &hall.path, one.trigger(), run, permit)
-        .is_ok()
+    programs.run(alloc, &hall.path, one.trigger(), run, permit)
 }
 
-/// Runs the trigger at a place if it is due.
+/// Runs the definition at a place if a run of it is due. It is refused as `due_run` and `start` are: its next run then lists the
+/// same files again.
 fn run_at<R: Wait, J: Naming, K: Wait + Drop, P: Programs>(
     rt: &R,
     alloc: Global,
@@ -79,19 +88,60 @@ fn run_at<R: Wait, J: Naming, K: Wait + Drop, P: Programs>(
     place: usize,
 ) -> Result<(), Refusal>
     requires { place < length runs.old }
+    ensures seen { Begins viewer.old.list viewer.new.list }
+    ensures ran { OnOk result (RunsAt (P.has_run programs.now) hall.now.path (history viewer.new.list) place runs.old runs.new) }
+    ensures same { OnErr result (runs.new ≡ runs.old) }
+    ensures refused { IfErr result (λ e. (e ≡ Refusal.NoMemory) ⊎ ((e ≡ Refusal.NoPlace) × (viewer.new ≡ disconnected viewer.old)) ⊎ ((e ≡ Refusal.NotReady) × (is_ready (history viewer.new.list) ≡ false)) ⊎ ((e ≡ Refusal.DeviceFailed) × FailsAt (P.has_failed programs.now) hall.now.path (history viewer.new.list) place runs.old)) }
 {
     let one = runs.at(place);
-    let Some(run) = due_run(alloc, viewer, one.runs())? else {
+    let Some(run) = due_run(alloc, viewer, one)? else {
         return Ok(());
     };
-    if start(rt, alloc, hall, programs, one, &run) {
-        runs.started(place, &run);
-    }
-    drop(run);
+    start(rt, alloc, hall, programs, one, &run)?;
+    runs.started(place, &run);
     Ok(())
 }
 
-/// Runs each trigger once that is due. One whose run finds no memory is tried again with the next change.
+/// Runs each definition of which a run is due, one after another, whether or not others are refused: the last refusal, if there is one.
+fn run_each<R: Wait, J: Naming, K: Wait + Drop, P: Programs>(
+    rt: &R,
+    alloc: Global,
+    hall: &RootHall<J, K>,
+    viewer: &mut Viewer<J>,
+    programs: &P,
+    runs: &mut TriggerRuns,
+) -> Result<(), Refusal>
+    ensures each { EachInTurn (RunsOrStays (P.has_run programs.now) hall.now.path) viewer.old.list runs.old runs.new viewer.new.list }
+    ensures ok { OnOk result (EachInTurn (RunsIfDue (P.has_run programs.now) hall.now.path) viewer.old.list runs.old runs.new viewer.new.list) }
+{
+    let mut met = Ok(());
+    for place in 0..runs.len() {
+        if let Err(refusal) = run_at(rt, alloc, hall, viewer, programs, runs, place) {
+            met = Err(refusal);
+        }
+    }
+    met
+}
+
+/// A round: the runs of just these definitions are kept, and each of which a run is due is run, in their order. One that is refused is
+/// tried again with the next change.
+fn run_round<R: Wait, J: Naming, K: Wait + Drop, P: Programs>(
+    rt: &R,
+    alloc: Global,
+    hall: &RootHall<J, K>,
+    viewer: &mut Viewer<J>,
+    programs: &P,
+    defined: &DefinedTriggers,
+    runs: &mut TriggerRuns,
+) -> Result<(), Refusal>
+    ensures each { (runs.new ≡ runs.old) ⊎ EachInTurn (RunsOrStays (P.has_run programs.now) hall.now.path) viewer.old.list (map (kept_for runs.old) defined.now) runs.new viewer.new.list }
+    ensures ok { OnOk result (EachInTurn (RunsIfDue (P.has_run programs.now) hall.now.path) viewer.old.list (map (kept_for runs.old) defined.now) runs.new viewer.new.list) }
+{
+    runs.keep(alloc, defined)?;
+    run_each(rt, alloc, hall, viewer, programs, runs)
+}
+
+/// A round of the triggers that are defined now.
 fn run_all<R: Wait, J: Naming, K: Wait + Drop, P: Programs>(
     rt: &R,
     alloc: Global,
@@ -101,16 +151,9 @@ fn run_all<R: Wait, J: Naming, K: Wait + Drop, P: Programs>(
     runs: &mut TriggerRuns,
 ) -> Result<(), Refusal> {
     let defined = hall.defined(rt, alloc)?;
-    let kept = runs.keep(alloc, &defined);
+    let met = run_round(rt, alloc, hall, viewer, programs, &defined, runs);
     drop(defined);
-    kept?;
-    for place in 0..runs.len() {
-        if place >= runs.len() {
-            return Ok(());
-        }
-        let _run = run_at(rt, alloc, hall, viewer, programs, runs, place);
-    }
-    Ok(())
+    met
 }
 
 /// Runs the triggers with each change, until the root isn't watched any longer. Without a viewer it runs none.

@@ -1,12 +1,15 @@
-//! What threads are given of a server: `Shared` as a house.
+//! What threads are given of a server.
 //! Tests: serve_tests/src/sessions.rt.
 use crate::answering::sit_on;
+use crate::connection::Slot;
+use crate::door::CHAIRS;
 use crate::house::{Crawl, House, Worker};
-use crate::registrar::Registrar;
+use crate::registrar::ServerDesk;
 use crate::second::SystemSeconds;
 use crate::shared::Shared;
 use crate::telling::tell_for;
 use crate::triggering::trigger_for;
+use crate::wake::bit_of;
 use std::alloc::Global;
 use std::os::unix::net::UnixStream;
 use std::sync::Wait;
@@ -32,35 +35,56 @@ fn crawl_of<J: Naming, K: Wait + Drop>(
     })
 }
 
-impl<T: Registrar, J: Naming, K: Wait + Copy + Drop> House for Shared<T, J, K> {
+/// A server with its connection slots.
+#[derive(Drop)]
+pub struct Slots<'a, T: ServerDesk, J: Naming, K: Wait + Clock + Copy + Drop> {
+    shared: &'a Shared<T, J, K>,
+    slots: Vec<Slot<'a, T, J, K>>,
+}
+
+impl<'a, T: ServerDesk, J: Naming, K: Wait + Clock + Copy + Drop> Slots<'a, T, J, K> {
+    /// The slots of a server, without a session.
+    pub fn new(alloc: Global, shared: &'a Shared<T, J, K>) -> Result<Slots<'a, T, J, K>, NoMemory> {
+        let mut slots = Vec::new(alloc);
+        for number in 0..CHAIRS {
+            slots.push(Slot::new(number as usize))?;
+        }
+        Ok(Slots { shared, slots })
+    }
+}
+
+impl<'a, T: ServerDesk, J: Naming, K: Wait + Clock + Copy + Drop> House for Slots<'a, T, J, K> {
     fn open_door<R: Wait>(&self, rt: &R, chairs: u64) {
-        self.door.open(rt, chairs);
+        self.shared.door.open(rt, chairs);
     }
 
     fn enter<R: Wait>(&self, rt: &R, stream: UnixStream) -> Result<(), (Refusal, UnixStream)> {
-        self.door.enter(rt, stream)
+        self.shared.door.enter(rt, stream)
     }
 
-    fn sit<R: Wait + Clock>(&self, rt: &R, alloc: Global, chair: usize) {
-        if let Some(chair) = self.chairs.get(chair) {
-            sit_on(rt, alloc, self, chair);
+    fn sit<R: Wait>(&self, rt: &R, alloc: Global, chair: usize) {
+        if let Some(chair) = self.slots.get(chair) {
+            sit_on(rt, alloc, self.shared, chair);
         }
     }
 
     fn tell<R: Wait>(&self, rt: &R, alloc: Global, chair: usize) {
-        if let Some(chair) = self.chairs.get(chair) {
-            tell_for(rt, alloc, self, chair);
+        if let Some(chair) = self.slots.get(chair) {
+            tell_for(rt, alloc, self.shared, chair);
         }
     }
 
     fn flush<R: Wait + Clock>(&self, rt: &R) {
-        self.desk.flush(rt, &self.closing);
+        self.shared.desk.flush(rt, &self.shared.closing);
     }
 
     fn next_worker<R: Wait>(&self, rt: &R) -> Option<Worker> {
-        let missing = self.came.wait_while(rt, self.missing.lock(rt), |missing| {
-            missing.workers.is_empty() && !missing.is_closing
-        });
+        let missing = self
+            .shared
+            .came
+            .wait_while(rt, self.shared.missing.lock(rt), |missing| {
+                missing.workers.is_empty() && !missing.is_closing
+            });
         let next = if missing.is_closing {
             None
         } else {
@@ -71,11 +95,15 @@ impl<T: Registrar, J: Naming, K: Wait + Copy + Drop> House for Shared<T, J, K> {
     }
 
     fn started<R: Wait>(&self, rt: &R, worker: Worker) {
-        self.missing.lock(rt).workers.retain(|one| *one != worker);
+        self.shared
+            .missing
+            .lock(rt)
+            .workers
+            .retain(|one| *one != worker);
     }
 
     fn next_crawl<R: Wait>(&self, rt: &R, alloc: Global, root: u64) -> Option<Crawl> {
-        let hall = self.numbered(rt, root)?;
+        let hall = self.shared.numbered(rt, root)?;
         for _ in rt.forever() {
             let Some((ticket, subtree)) = hall.work.next_crawl(rt) else {
                 drop(hall);
@@ -93,14 +121,14 @@ impl<T: Registrar, J: Naming, K: Wait + Copy + Drop> House for Shared<T, J, K> {
     }
 
     fn begin_reading<R: Wait>(&self, rt: &R, alloc: Global, root: u64) -> Option<Begun> {
-        let hall = self.numbered(rt, root)?;
+        let hall = self.shared.numbered(rt, root)?;
         let begun = hall.begin_reading(rt, alloc);
         drop(hall);
         Some(begun)
     }
 
     fn give_up_reading<R: Wait>(&self, rt: &R, root: u64) {
-        if let Some(hall) = self.numbered(rt, root) {
+        if let Some(hall) = self.shared.numbered(rt, root) {
             hall.give_up_reading(rt);
             drop(hall);
         }
@@ -113,36 +141,42 @@ impl<T: Registrar, J: Naming, K: Wait + Copy + Drop> House for Shared<T, J, K> {
         root: u64,
         found: Reading,
     ) -> Result<Progress, Refusal> {
-        let Some(hall) = self.numbered(rt, root) else {
+        let Some(hall) = self.shared.numbered(rt, root) else {
             drop(found);
             return Err(Refusal::NotWatched);
         };
-        let met = hall.take_in(rt, alloc, self.forgetting, &SystemSeconds { rt }, found);
-        self.ring(rt, &hall);
+        let met = hall.take_in(
+            rt,
+            alloc,
+            self.shared.forgetting,
+            &SystemSeconds { rt },
+            found,
+        );
+        self.shared.ring_for(rt, bit_of(root));
         drop(hall);
         met
     }
 
     fn crawled<R: Wait>(&self, rt: &R, root: u64, ticket: u64, ended: Result<Progress, Refusal>) {
-        if let Some(hall) = self.numbered(rt, root) {
+        if let Some(hall) = self.shared.numbered(rt, root) {
             hall.work.crawled(rt, ticket, ended);
             drop(hall);
         }
     }
 
     fn run_triggers<R: Wait, P: Programs>(&self, rt: &R, alloc: Global, root: u64, programs: &P) {
-        if let Some(hall) = self.numbered(rt, root) {
+        if let Some(hall) = self.shared.numbered(rt, root) {
             trigger_for(rt, alloc, &hall, programs);
             drop(hall);
         }
     }
 
     fn close_door<R: Wait>(&self, rt: &R) {
-        self.door.close(rt);
+        self.shared.door.close(rt);
     }
 
     fn close<R: Wait>(&self, rt: &R) -> Result<(), Refusal> {
-        self.end_workers(rt);
-        self.desk.close(rt)
+        self.shared.end_workers(rt);
+        self.shared.desk.close(rt)
     }
 }

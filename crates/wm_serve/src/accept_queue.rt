@@ -1,0 +1,99 @@
+//! The accept queue: the sessions that were let in and wait for a connection slot. Never are more there than slots.
+//! Definitions: specs/AcceptQueues.antt. Tests: serve_tests/src/sessions.rt.
+ghost use Rattle.std.specs.Prelude.{◌≡◌, ◌⊎◌, ◌<◌, ◌≤◌, ◌+◌, ◌-◌, ◌++◌, ◌∷◌, [], true, max, not, ◌==◌, ◌&&◌, length, MatchOption, MatchResult};
+ghost use Rattle.wm_serve.specs.AcceptQueues.{empty_queue, sessions_present};
+
+use std::alloc::Global;
+use std::marker::Model;
+use wm_disk::Refusal;
+
+/// The sessions that wait for a slot, how many have one, and how many may be there at once.
+#[derive(Drop)]
+pub struct AcceptQueue<T> {
+    waiting: Vec<T>,
+    served: u64,
+    slots: u64,
+    is_closed: bool,
+}
+
+impl<T> Model for AcceptQueue<T> {
+    ghost use Rattle.std.specs.Prelude.{◌≤◌, ◌+◌, length};
+    ghost use Rattle.wm_serve.specs.AcceptQueues.{SessionQueue};
+
+    ghost Value = { SessionQueue T };
+
+    ghost view = { λ q. record { waiting = q.waiting.items; served = q.served; slots = q.slots; is_closed = q.is_closed } };
+
+    ghost invariant = { λ q. length q.waiting.items + q.served ≤ q.slots };
+}
+
+impl<T: Drop> AcceptQueue<T> {
+    /// A queue of no slot: nobody is let in yet.
+    pub fn new(alloc: Global) -> AcceptQueue<T>
+        ensures { result ≡ empty_queue }
+    {
+        AcceptQueue {
+            waiting: Vec::new(alloc),
+            served: 0,
+            slots: 0,
+            is_closed: false,
+        }
+    }
+
+    /// So many sessions may be there at once, if no more might already.
+    pub fn open(&mut self, slots: u64)
+        ensures { self.new ≡ record self.old { slots = max self.old.slots slots } }
+    {
+        self.slots = self.slots.max(slots);
+    }
+
+    /// Lets a session in, behind those that wait. `TooMany` exactly if each slot is taken, and `NoMemory`: the session comes back
+    /// then, and nothing changes.
+    pub fn admit(&mut self, session: T) -> Result<(), (Refusal, T)>
+        ensures admitted { MatchResult result (λ _. (sessions_present self.old < self.old.slots) × (self.new ≡ record self.old { waiting = self.old.waiting ++ session ∷ [] }))
+            (λ e. (e.1 ≡ session) × (self.new ≡ self.old) × (((e.0 ≡ Refusal.TooMany) × (self.old.slots ≤ sessions_present self.old)) ⊎ ((e.0 ≡ Refusal.NoMemory) × (sessions_present self.old < self.old.slots)))) }
+    {
+        if self.waiting.len() as u64 + self.served >= self.slots {
+            return Err((Refusal::TooMany, session));
+        }
+        if self.waiting.try_reserve(1).is_err() {
+            return Err((Refusal::NoMemory, session));
+        }
+        self.waiting.push_reserved(session);
+        Ok(())
+    }
+
+    /// Whether a slot has to wait: no session is there for it, and one may still come.
+    pub fn must_wait(&self) -> bool
+        ensures { result ≡ (length self.now.waiting == 0 && not self.now.is_closed) }
+    {
+        self.waiting.is_empty() && !self.is_closed
+    }
+
+    /// Gives a slot the session that came first; `None` if none waits.
+    pub fn take(&mut self) -> Option<T>
+        ensures { MatchOption result ((self.old.waiting ≡ []) × (self.new ≡ self.old))
+            (λ session. (self.old.waiting ≡ session ∷ self.new.waiting) × (self.new ≡ record self.old { waiting = self.new.waiting; served = self.old.served + 1 })) }
+    {
+        if self.waiting.is_empty() {
+            return None;
+        }
+        let session = self.waiting.remove(0);
+        self.served += 1;
+        Some(session)
+    }
+
+    /// A session that had a slot has ended.
+    pub fn leave(&mut self)
+        ensures { self.new ≡ record self.old { served = self.old.served - 1 } }
+    {
+        self.served = self.served.saturating_sub(1);
+    }
+
+    /// No session comes any longer.
+    pub fn close(&mut self)
+        ensures { self.new ≡ record self.old { is_closed = true } }
+    {
+        self.is_closed = true;
+    }
+}
