@@ -1,7 +1,7 @@
 //! All of `watchmand`: its words, and what meets them.
 //!
-//! [`Words`] is what its words ask for (specs/ProgramWords.antt). `format`, `lines` and `migrate` are met by `wm_server`,
-//! `serve` by `wm_serve`, and [`watchmand`] is the whole program.
+//! [`Words`] is what its words ask for (specs/ProgramWords.antt). [`watchmand`] does it on a [`ProgramHost`] (specs/ProgramRuns.antt):
+//! `format`, `lines` and `migrate` by `wm_server`, and `serve` by what its caller hands in, which is `wm_serve`'s.
 //!
 //! Tests: serve_tests/src/words.rt; of the built program tools/first_session.sh and tools/rough_use.py.
 #![tactic(auto)]
@@ -9,5 +9,5 @@
 mod program;
 mod words;
 
-pub use program::watchmand;
+pub use program::{ProgramHost, watchmand};
 pub use words::Words;

@@ -1,56 +1,57 @@
 //! All of `watchmand`, with its status.
-//! Tests: tools/first_session.sh, tools/rough_use.py.
+//! Definitions: specs/ProgramRuns.antt, specs/ProgramWords.antt. Tests: tools/first_session.sh, tools/rough_use.py.
+ghost use Rattle.std.specs.Prelude.{◌≡◌, ◌⊎◌, ◌<◌, map};
+ghost use Rattle.std.specs.String.{string_bytes};
+ghost use Rattle.wm_session.specs.session.Streams.{streams};
+ghost use Rattle.wm_server.specs.program.Systems.{IsUndone};
+ghost use Rattle.wm_program.specs.ProgramRuns.{IsServedOn, RunsProgram};
+ghost use Rattle.wm_program.specs.ProgramWords.{AsksProgram, ProgramWanted, shown_status};
+
 use crate::words::Words;
 use std::alloc::Global;
-use std::fs::{File, Files};
-use std::io;
 use std::io::{BufRead, Write};
-use std::net::Net;
-use std::sync::Wait;
-use std::thread::Threads;
-use std::time::Clock;
-use wm_crawler::{Folders, Open};
 use wm_disk::{NoMemory, Refusal};
-use wm_serve::serve;
+use wm_serve::Settings;
+use wm_server::lines::refuse;
 use wm_server::program;
-use wm_server::system::Host;
+use wm_server::system::System;
 use wm_session::{Input, Output};
-use wm_triggers::Programs;
+
+/// What the program runs on: the system's files, and the server of a state file (its first path) on a socket (its second), which is
+/// refused as `wm_serve::serve` is. The program that starts threads hands the server in.
+#[derive(Drop)]
+pub struct ProgramHost<S, V> {
+    pub system: S,
+    pub serve: V,
+}
 
 /// `watchmand` with these words, of which its own name is none: gives the status to end with. What is printed
 /// goes to `writer`, and what goes wrong is told on `faults`. It is 0; 1 where the start, what was asked or the
 /// last close was refused, or what is shown can't be; 2 where the words aren't understood.
 pub fn watchmand<
-    H: Threads + Wait + Clock + Net + Files<File = File> + Sync,
-    F: Folders + Sync,
-    P: Programs + Sync,
-    R: BufRead + Drop,
+    S: System,
+    V: FnMut(String, String, Settings) -> Result<(), Refusal>,
+    R: BufRead,
     W: Write,
     E: Write,
 >(
-    rt: &H,
     alloc: Global,
+    host: &mut ProgramHost<S, V>,
     words: &[&str],
-    folders: &F,
-    programs: &P,
-    reader: R,
-    writer: &mut W,
-    faults: &mut E,
-) -> u8 {
+    reader: &mut Input<R>,
+    writer: &mut Output<W>,
+    faults: &mut Output<E>,
+) -> u8
+    requires { V.IsAlwaysCallable host.old.serve }
+    ensures fault { ((wanted : ProgramWanted) → AsksProgram (map (λ word. word.now) words.now) wanted → wanted ≡ shown_status 2) → 0 < result }
+    ensures runs { ((host.new.serve ≡ host.old.serve) × IsUndone S.File.Disk S.System R.remaining W.contents E.contents host.old.system host.new.system (streams reader.old writer.old faults.old) (streams reader.new writer.new faults.new) result)
+        ⊎ ((wanted : ProgramWanted) × AsksProgram (map (λ word. word.now) words.now) wanted
+        × RunsProgram S.File.Disk S.System (IsServedOn V.step string_bytes) R.remaining W.contents E.contents wanted (map (λ word. word.now) words.now) host.old host.new (streams reader.old writer.old faults.old) (streams reader.new writer.new faults.new) result) }
+    ensures quiet { result ≡ 0 → faults.new ≡ faults.old }
+{
     match Words::read(alloc, words) {
         Ok(Words::Plain) => {
-            let mut system = Host::new(rt);
-            let mut reader = Input::new(reader);
-            let mut writer = Output::new(writer);
-            let mut faults = Output::new(faults);
-            program::watchmand(
-                alloc,
-                &mut system,
-                words,
-                &mut reader,
-                &mut writer,
-                &mut faults,
-            )
+            program::watchmand(alloc, &mut host.system, words, reader, writer, faults)
         }
         Ok(
             Words::Serve {
@@ -58,47 +59,12 @@ pub fn watchmand<
                 socket,
                 settings,
             },
-        ) => {
-            let served = serve(
-                rt,
-                alloc,
-                file.as_str(),
-                socket.as_str(),
-                folders,
-                &Open,
-                programs,
-                settings,
-                writer,
-            );
-            end(served, faults)
-        }
-        Ok(Words::Shown { text, status: 0 }) => shown(text.as_str(), 0, writer),
-        Ok(Words::Shown { text, status }) => shown(text.as_str(), status, faults),
-        Err(NoMemory) => end(Err(Refusal::NoMemory), faults),
+        ) => match (host.serve)(file, socket, settings) {
+            Ok(()) => 0,
+            Err(refusal) => refuse(refusal, faults),
+        },
+        Ok(Words::Shown { text, status: 0 }) => program::shown(&text, 0, writer),
+        Ok(Words::Shown { text, status }) => program::shown(&text, status, faults),
+        Err(NoMemory) => refuse(Refusal::NoMemory, faults),
     }
-}
-
-/// Shows a text: the status, or 1 where that fails.
-fn shown<W: Write>(text: &str, status: u8, writer: &mut W) -> u8 {
-    match writer.write_all(text.as_bytes()) {
-        Ok(()) => status,
-        Err(_) => 1,
-    }
-}
-
-/// Tells why a program was refused: its name, and the refusal's number and name.
-fn tell<E: Write>(refusal: Refusal, faults: &mut E) -> io::Result<()> {
-    faults.write_all(b"watchmand: ")?;
-    faults.write_all(refusal.text().as_bytes())?;
-    faults.write_all(b"\n")
-}
-
-/// The status of what was served, with what is told of a refusal.
-fn end<E: Write>(served: Result<(), Refusal>, faults: &mut E) -> u8 {
-    let Err(refusal) = served else {
-        return 0;
-    };
-    // Where even this can't be told, the status tells it.
-    let _told = tell(refusal, faults);
-    1
 }

@@ -51,8 +51,8 @@ pub fn watchmand<S: System, R: BufRead, W: Write, E: Write>(
     }
 }
 
-/// Shows help, the version, or a fault of the words.
-fn shown<W: Write>(text: &str, status: u8, writer: &mut Output<W>) -> u8
+/// Shows help, the version, or a fault of the words: the status, or 1 if that fails.
+pub fn shown<W: Write>(text: &str, status: u8, writer: &mut Output<W>) -> u8
     ensures { ((result ≡ status) × Appends (W.contents (writer_of writer.old)) (W.contents (writer_of writer.new)) text.now)
         ⊎ ((result ≡ 1) × (writer_failed writer.new ≡ true)) }
 {

@@ -72,7 +72,7 @@ pub fn tell<E: Write>(refusal: Refusal, faults: &mut Output<E>) -> io::Result<()
 }
 
 /// The status of a program that was refused, which it tells on `faults`.
-pub(crate) fn refuse<E: Write>(refusal: Refusal, faults: &mut Output<E>) -> u8
+pub fn refuse<E: Write>(refusal: Refusal, faults: &mut Output<E>) -> u8
     ensures status { result ≡ 1 }
     ensures told { IsTold E.contents refusal faults.old faults.new }
 {
