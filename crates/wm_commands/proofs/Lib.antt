@@ -1,0 +1,6 @@
+mod Answering
+mod Behind
+mod Floats
+mod Holders
+mod Named
+mod Texts

@@ -1,0 +1,4 @@
+pub mod CommandAnswers
+pub mod CommandRuns
+pub mod Folders
+pub mod Questions
