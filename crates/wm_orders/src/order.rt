@@ -1,0 +1,223 @@
+//! What is asked of `wm`, by what clap found in the words.
+
+use clap::ArgMatches;
+use serde_json::Value;
+use std::alloc::Global;
+use wm_commands::{Style, since_text};
+use wm_disk::NoMemory;
+
+/// The commands.
+#[derive(Clone, Copy, Debug, PartialEq, Eq)]
+pub enum Verb {
+    Up,
+    Down,
+    Watch,
+    Unwatch,
+    List,
+    Status,
+    Files,
+    Changes,
+    Wait,
+    Run,
+    Sync,
+}
+
+impl Verb {
+    /// The command of this name.
+    pub fn of(name: &str) -> Option<Verb> {
+        match name {
+            "up" => Some(Verb::Up),
+            "down" => Some(Verb::Down),
+            "watch" => Some(Verb::Watch),
+            "unwatch" => Some(Verb::Unwatch),
+            "list" => Some(Verb::List),
+            "status" => Some(Verb::Status),
+            "files" => Some(Verb::Files),
+            "changes" => Some(Verb::Changes),
+            "wait" => Some(Verb::Wait),
+            "run" => Some(Verb::Run),
+            "sync" => Some(Verb::Sync),
+            _ => None,
+        }
+    }
+}
+
+/// A command with its arguments.
+#[derive(Drop)]
+pub struct Order {
+    pub verb: Verb,
+    pub target: Target,
+    pub question: Question,
+    pub program: Program,
+    pub style: Style,
+}
+
+/// What a command is about.
+#[derive(Drop)]
+pub struct Target {
+    /// The socket that is named.
+    pub socket: Option<String>,
+    /// The folder that is named.
+    pub dir: Option<String>,
+}
+
+/// Which files are asked for.
+#[derive(Drop)]
+pub struct Question {
+    /// Any of these globs fits, and this expression.
+    pub patterns: Vec<String>,
+    pub own: Option<Value>,
+    /// Since which clock, as a query has it.
+    pub since: Option<String>,
+    /// Nothing is waited for before the question.
+    pub is_unsynced: bool,
+}
+
+/// What is run.
+#[derive(Drop)]
+pub struct Program {
+    /// The program, and its words; none, if nothing is run.
+    pub words: Vec<String>,
+    /// For how many milliseconds nothing changes before a run.
+    pub settle: u32,
+}
+
+/// A copy of a text that may be there.
+fn copied(alloc: Global, text: Option<&str>) -> Result<Option<String>, NoMemory> {
+    match text {
+        Some(text) => Ok(Some(String::from_str(alloc, text)?)),
+        None => Ok(None),
+    }
+}
+
+/// Copies of the texts that clap found by a name.
+fn all(alloc: Global, matches: &ArgMatches<'_>, name: &str) -> Result<Vec<String>, NoMemory> {
+    let Some(texts) = matches.get_strs(name) else {
+        return Ok(Vec::new(alloc));
+    };
+    let mut copies = Vec::with_capacity(alloc, texts.len())?;
+    for text in texts {
+        copies.push(String::from_str(alloc, text)?)?;
+    }
+    Ok(copies)
+}
+
+/// Whether a flag is set.
+fn is_set(matches: &ArgMatches<'_>, name: &str) -> bool {
+    match matches.get_str(name) {
+        Some(text) => text == "true",
+        None => false,
+    }
+}
+
+/// The clock since which is asked.
+fn since_of(alloc: Global, matches: &ArgMatches<'_>) -> Result<Option<String>, NoMemory> {
+    match matches.get_str("since") {
+        Some(word) => Ok(Some(since_text(alloc, word)?)),
+        None => Ok(None),
+    }
+}
+
+/// The expression that a word is. `None` if it is no JSON.
+fn own_of(alloc: Global, word: Option<&str>) -> Result<Option<Option<Value>>, NoMemory> {
+    let Some(word) = word else {
+        return Ok(Some(None));
+    };
+    match Value::from_str(alloc, word) {
+        Ok(value) => Ok(Some(Some(value))),
+        Err(error) if error.is_memory() => Err(NoMemory),
+        Err(_) => Ok(None),
+    }
+}
+
+/// For how long nothing changes before a run. `None` if the word is no number.
+fn settle_of(word: Option<&str>) -> Option<u32> {
+    match word {
+        None => Some(50),
+        Some(word) => word.parse::<u32>().ok(),
+    }
+}
+
+/// The style that is asked for.
+fn style_of(matches: &ArgMatches<'_>) -> Style {
+    Style {
+        is_json: is_set(matches, "json"),
+        is_nul: is_set(matches, "nul"),
+        is_clock: is_set(matches, "clock"),
+    }
+}
+
+/// Whether each pattern can be asked for: `[` and a backslash stand in none.
+fn are_patterns(patterns: &[String]) -> bool {
+    for pattern in patterns {
+        let bytes = pattern.as_bytes();
+        if bytes.contains(&b'[') || bytes.contains(&b'\\') {
+            return false;
+        }
+    }
+    true
+}
+
+/// What a command is about.
+fn target_of(alloc: Global, matches: &ArgMatches<'_>) -> Result<Target, NoMemory> {
+    let socket = copied(alloc, matches.get_str("socket"))?;
+    let dir = copied(alloc, matches.get_str("DIR"))?;
+    Ok(Target { socket, dir })
+}
+
+/// Which files are asked for, or what is wrong with it.
+fn question_of(
+    alloc: Global,
+    matches: &ArgMatches<'_>,
+) -> Result<Result<Question, &'static str>, NoMemory> {
+    let Some(own) = own_of(alloc, matches.get_str("expr"))? else {
+        return Ok(Err("the value of --expr is no JSON, as '[\"suffix\",\"c\"]'"));
+    };
+    let patterns = all(alloc, matches, "PATTERN")?;
+    if !are_patterns(&patterns) {
+        return Ok(Err("a PATTERN has * ? and **, and can't have [ or \\"));
+    }
+    let since = since_of(alloc, matches)?;
+    Ok(Ok(Question {
+        patterns,
+        own,
+        since,
+        is_unsynced: is_set(matches, "no-sync"),
+    }))
+}
+
+/// What is run, or what is wrong with it.
+fn program_of(
+    alloc: Global,
+    matches: &ArgMatches<'_>,
+) -> Result<Result<Program, &'static str>, NoMemory> {
+    let Some(settle) = settle_of(matches.get_str("settle")) else {
+        return Ok(Err("MS isn't a whole number from 0 to 4294967295"));
+    };
+    let words = all(alloc, matches, "COMMAND")?;
+    Ok(Ok(Program { words, settle }))
+}
+
+/// What is asked for by what clap found behind a command, or what is wrong with it.
+pub(crate) fn order_of(
+    alloc: Global,
+    verb: Verb,
+    matches: &ArgMatches<'_>,
+) -> Result<Result<Order, &'static str>, NoMemory> {
+    let question = match question_of(alloc, matches)? {
+        Ok(question) => question,
+        Err(what) => return Ok(Err(what)),
+    };
+    let program = match program_of(alloc, matches)? {
+        Ok(program) => program,
+        Err(what) => return Ok(Err(what)),
+    };
+    let target = target_of(alloc, matches)?;
+    Ok(Ok(Order {
+        verb,
+        target,
+        question,
+        program,
+        style: style_of(matches),
+    }))
+}
