@@ -1,0 +1,72 @@
+//! Which root holds a folder, and the names of its files from there.
+use crate::checks::check;
+use wm_commands::{holder_of, name_in, reported_name};
+use wm_names::RootPath;
+
+/// A folder, and which of `/a`, `/a/b`, `/a/b/c` and `/ab` holds it.
+const HOLDERS: &[(&str, Option<&str>)] = &[
+    ("/a", Some("/a")),
+    ("/a/x", Some("/a")),
+    ("/a/b", Some("/a/b")),
+    ("/a/bc", Some("/a")),
+    ("/a/b/d/e", Some("/a/b")),
+    ("/a/b/c/d", Some("/a/b/c")),
+    ("/ab", Some("/ab")),
+    ("/ab/c", Some("/ab")),
+    ("/abc", None),
+    ("/", None),
+    ("/b", None),
+];
+
+#[test]
+fn holders_of_the_table(rt: HostRuntime) {
+    let alloc = rt.alloc();
+    let mut roots = Vec::new(alloc);
+    for text in ["/a/b", "/a", "/ab", "/a/b/c"] {
+        roots
+            .push(RootPath::read(alloc, text).expect(&rt, "root"))
+            .expect(&rt, "memory");
+    }
+    for (dir, wanted) in HOLDERS {
+        let found = holder_of(&roots, dir).map(|root| root.as_str());
+        check!(rt; found == *wanted, dir);
+    }
+}
+
+/// A root, a folder, a file of the root, and its name from the folder.
+const NAMES: &[(&str, &str, &str, Option<&str>)] = &[
+    ("/a", "/a", "x/y.c", Some("x/y.c")),
+    ("/a", "/a/x", "x/y.c", Some("y.c")),
+    ("/a", "/a/x", "x/z/y.c", Some("z/y.c")),
+    ("/a", "/a/x", "x", None),
+    ("/a", "/a/x", "xy.c", None),
+    ("/a", "/a/x", "xy/z", None),
+    ("/a", "/a/x", "y/x/z", None),
+    ("/a", "/b", "x", None),
+];
+
+#[test]
+fn names_of_the_table(rt: HostRuntime) {
+    let alloc = rt.alloc();
+    for (root, dir, name, wanted) in NAMES {
+        let found = reported_name(alloc, root, dir, name).expect(&rt, "memory");
+        let found = found.as_ref().map(|text| text.as_str());
+        check!(rt; found == *wanted, (root, dir, name));
+    }
+}
+
+/// A root, a folder, and its path below the root.
+const BELOW: &[(&str, &str, Option<&str>)] = &[
+    ("/a", "/a", None),
+    ("/a", "/a/b", Some("b")),
+    ("/a", "/a/b/c", Some("b/c")),
+    ("/a", "/ab", None),
+];
+
+#[test]
+fn below_of_the_table(rt: HostRuntime) {
+    for (root, dir, wanted) in BELOW {
+        let found = name_in(rt.alloc(), root, dir).expect(&rt, "memory");
+        check!(rt; found == *wanted, (root, dir));
+    }
+}

@@ -1,0 +1,15 @@
+//! Tests of what the commands of `wm` decide, by tables.
+#![tactic(auto)]
+
+#[cfg(test)]
+mod answers;
+#[cfg(test)]
+mod checks;
+#[cfg(test)]
+mod folders;
+#[cfg(test)]
+mod questions;
+#[cfg(test)]
+mod runs;
+#[cfg(test)]
+mod words;
