@@ -6,6 +6,7 @@ SOCKET ?= watchmand.socket
 PROGRAM := crates/watchmand/out/watchmand
 CLIENT := crates/wmctl/out/wmctl
 FEED := crates/wmfeed/out/wmfeed
+COMMANDS := crates/wm/out/wm
 ASK := bench/out/ask
 FILES ?= 100000
 # The version, where the programs have it.
@@ -17,7 +18,7 @@ PAGES := GUIDE.md QUERIES.md FORMATS.md PROMISES.md DEFINITIONS.md ARCHITECTURE.
 EXAMPLES := build.sh compile_trigger.sh follow.py test_runner.sh
 SOURCES := crates.txt $(shell find crates -name out -prune -o -type f \( -name '*.rt' -o -name '*.antt' \) -print)
 
-.PHONY: help clean uninstall test lint edits build run lines serve-use quick-use feed-use install bench bench-commands bench-crawl bench-view bench-share bench-match bench-peer bench-feed bench-plots clients crawl-tree session examples examples-use dist dist-use kill faults growths sweep fuzz hostile desk-memory state-file file-calls
+.PHONY: help clean uninstall test lint edits build run lines serve-use quick-use feed-use wm-use install bench bench-commands bench-crawl bench-view bench-share bench-match bench-peer bench-feed bench-plots clients crawl-tree session examples examples-use dist dist-use kill faults growths sweep fuzz hostile desk-memory state-file file-calls
 
 help:
 	@echo "make test          the whole gate: each proof from nothing, edits that must be refused, tests, programs, and each growth of"
@@ -28,7 +29,7 @@ help:
 	@echo "make run           serves SOCKET=$(SOCKET) over STATE=$(STATE), which it makes where it isn't there, and tells what to try next"
 	@echo "                   (it and all below build what they run first, by rt; only clients, bench-peer, bench-feed and bench-plots use the network)"
 	@echo "make lines         answers request lines from standard input over STATE=$(STATE)"
-	@echo "make install       puts watchmand, wmctl and wmfeed into PREFIX/bin (PREFIX=$(PREFIX)), with man pages, completion, systemd user units and"
+	@echo "make install       puts watchmand, wm, wmctl and wmfeed into PREFIX/bin (PREFIX=$(PREFIX)), with man pages, completion, systemd user units and"
 	@echo "                   docs (UNIT_PREFIX: where the units are to find the programs, if not in PREFIX); make uninstall takes them away"
 	@echo "make dist          makes dist/$(ARCHIVE).tar.gz and its .sha256 (tar, gzip, strip); make dist-use tries the archive"
 	@echo "make session       a first session, and one that asks since moments, by the built program; make examples: those of README.md and docs/QUERIES.md;"
@@ -43,6 +44,7 @@ help:
 	@echo "                   (python3; strace and inotify-tools for what needs them)"
 	@echo "make feed-use      a feed beside a server, in some seventy cases: its views against what stands in the folders, questions about now, its"
 	@echo "                   ends (python3, git, inotify-tools, setpriv; strace, rsync, vim, unshare for what needs them; some ten minutes)"
+	@echo "make wm-use        what a person does with wm, from nothing to a killed server, line by line (inotify-tools; a minute)"
 	@echo "make kill          kills the built program again and again, a migration too, and looks for what it answered (python3); make faults:"
 	@echo "                   each call that it makes of its state file, or of a migration's two, fails once (python3, strace); make growths: each growth of memory in three"
 	@echo "                   sessions is refused once (python3, cc)"
@@ -86,6 +88,10 @@ $(FEED): $(SOURCES)
 	cd crates/wmfeed && rt run -- --help </dev/null >&2
 	@touch $@
 
+$(COMMANDS): $(SOURCES)
+	cd crates/wm && rt run -- --help </dev/null >&2
+	@touch $@
+
 # What a crawl or a long reply took goes back to the system by the C library's setting. A `format` that fails ends it, and has taken its file away. A part that a killed one left is answered `14 Damaged`.
 run: $(PROGRAM) $(CLIENT) $(FEED)
 	@test -e $(STATE) || $(PROGRAM) format $(STATE) >&2
@@ -112,15 +118,22 @@ quick-use: $(PROGRAM) $(CLIENT) $(FEED)
 feed-use: $(PROGRAM) $(CLIENT) $(FEED)
 	tools/feed_use.py $(PROGRAM) $(CLIENT) $(FEED)
 
-install: $(PROGRAM) $(CLIENT) $(FEED)
-	install -d $(DESTDIR)$(PREFIX)/bin $(DESTDIR)$(PREFIX)/share/man/man1 $(DESTDIR)$(PREFIX)/share/bash-completion/completions
+# What a person does with wm, from nothing to a killed server.
+wm-use: $(COMMANDS) $(PROGRAM) $(FEED)
+	tools/wm_use.sh $(COMMANDS) $(PROGRAM) $(FEED)
+
+install: $(PROGRAM) $(CLIENT) $(FEED) $(COMMANDS)
+	install -d $(DESTDIR)$(PREFIX)/bin $(DESTDIR)$(PREFIX)/share/man/man1 $(DESTDIR)$(PREFIX)/share/bash-completion/completions $(DESTDIR)$(PREFIX)/share/zsh/site-functions
 	install -d $(DESTDIR)$(PREFIX)/share/systemd/user $(addprefix $(DESTDIR)$(PREFIX)/share/doc/watchmand/,docs examples bench)
 	install -m 755 $(PROGRAM) $(DESTDIR)$(PREFIX)/bin/watchmand
 	install -m 755 $(CLIENT) $(DESTDIR)$(PREFIX)/bin/wmctl
 	install -m 755 $(FEED) $(DESTDIR)$(PREFIX)/bin/wmfeed
-	install -m 644 man/watchmand.1 man/wmctl.1 man/wmfeed.1 $(DESTDIR)$(PREFIX)/share/man/man1
+	install -m 755 $(COMMANDS) $(DESTDIR)$(PREFIX)/bin/wm
+	install -m 644 man/watchmand.1 man/wm.1 man/wmctl.1 man/wmfeed.1 $(DESTDIR)$(PREFIX)/share/man/man1
 	install -m 644 completion/watchmand.bash $(DESTDIR)$(PREFIX)/share/bash-completion/completions/watchmand
+	ln -sf watchmand $(DESTDIR)$(PREFIX)/share/bash-completion/completions/wm
 	ln -sf watchmand $(DESTDIR)$(PREFIX)/share/bash-completion/completions/wmctl
+	install -m 644 completion/_wm $(DESTDIR)$(PREFIX)/share/zsh/site-functions/_wm
 	ln -sf watchmand $(DESTDIR)$(PREFIX)/share/bash-completion/completions/wmfeed
 	sed 's|@PREFIX@|$(UNIT_PREFIX)|' systemd/watchmand.service > $(DESTDIR)$(PREFIX)/share/systemd/user/watchmand.service
 	sed 's|@PREFIX@|$(UNIT_PREFIX)|' systemd/wmfeed.service > $(DESTDIR)$(PREFIX)/share/systemd/user/wmfeed.service
@@ -132,16 +145,17 @@ install: $(PROGRAM) $(CLIENT) $(FEED)
 
 # Earlier versions put the units below lib, where systemd doesn't look.
 uninstall:
-	rm -f $(addprefix $(DESTDIR)$(PREFIX)/bin/,watchmand wmctl wmfeed)
-	rm -f $(addprefix $(DESTDIR)$(PREFIX)/share/man/man1/,watchmand.1 wmctl.1 wmfeed.1)
-	rm -f $(addprefix $(DESTDIR)$(PREFIX)/share/bash-completion/completions/,watchmand wmctl wmfeed)
+	rm -f $(addprefix $(DESTDIR)$(PREFIX)/bin/,watchmand wm wmctl wmfeed)
+	rm -f $(addprefix $(DESTDIR)$(PREFIX)/share/man/man1/,watchmand.1 wm.1 wmctl.1 wmfeed.1)
+	rm -f $(addprefix $(DESTDIR)$(PREFIX)/share/bash-completion/completions/,watchmand wm wmctl wmfeed)
+	rm -f $(DESTDIR)$(PREFIX)/share/zsh/site-functions/_wm
 	rm -f $(addprefix $(DESTDIR)$(PREFIX)/share/systemd/user/,watchmand.service wmfeed.service)
 	rm -f $(addprefix $(DESTDIR)$(PREFIX)/lib/systemd/user/,watchmand.service wmfeed.service wmfeed@.service)
 	rm -rf $(DESTDIR)$(PREFIX)/share/doc/watchmand
 
 # An archive of what `install` puts into a prefix, with stripped programs, for a machine with the GNU C library alone.
-dist: $(PROGRAM) $(CLIENT) $(FEED)
-	tools/dist.sh $(PROGRAM) $(CLIENT) $(FEED) $(VERSION) dist/$(ARCHIVE)
+dist: $(PROGRAM) $(CLIENT) $(FEED) $(COMMANDS)
+	tools/dist.sh $(PROGRAM) $(CLIENT) $(FEED) $(COMMANDS) $(VERSION) dist/$(ARCHIVE)
 
 # The archive as a user has it, without the kit.
 dist-use: dist

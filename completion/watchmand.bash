@@ -1,4 +1,4 @@
-# Completion for watchmand, wmctl and wmfeed in bash. Tests: tools/completion.sh
+# Completion for watchmand, wm, wmctl and wmfeed in bash. Tests: tools/completion.sh
 
 # The commands of a server that wmctl completes, without those that a feeder sends.
 _wmctl_requests='version watch watch-del watch-list clock since query recrawl subscribe unsubscribe trigger trigger-del trigger-list age-out'
@@ -72,6 +72,39 @@ _wmfeed() {
     fi
 }
 
+_wm() {
+    COMPREPLY=()
+    local word=${COMP_WORDS[COMP_CWORD]} before=${COMP_WORDS[COMP_CWORD - 1]}
+    if ((COMP_CWORD == 1)); then
+        _watchmand_words 'up down watch unwatch list files changes wait run sync status --help --version'
+    elif [[ ${COMP_WORDS[1]} == run && " ${COMP_WORDS[*]:2:COMP_CWORD-2} " == *' -- '* ]]; then
+        _wm_command
+    elif [[ $before == --socket ]]; then
+        _watchmand_files
+    elif [[ $before == --since || $before == --expr || $before == --settle ]]; then
+        return
+    elif [[ $word == -* ]]; then
+        case ${COMP_WORDS[1]} in
+            files | wait) _watchmand_words '--nul --json --clock --expr --no-sync --socket --help' ;;
+            changes) _watchmand_words '--since --nul --json --clock --expr --no-sync --socket --help' ;;
+            run) _watchmand_words '--settle --expr --no-sync --socket --help' ;;
+            *) _watchmand_words '--socket --help' ;;
+        esac
+    elif [[ ${COMP_WORDS[1]} != up && ${COMP_WORDS[1]} != down && ${COMP_WORDS[1]} != list && ${COMP_WORDS[1]} != status ]]; then
+        _watchmand_files
+    fi
+}
+
+# Behind -- stands a command with words of its own: its name is completed, and then files.
+_wm_command() {
+    if [[ ${COMP_WORDS[COMP_CWORD - 1]} == -- ]]; then
+        mapfile -t COMPREPLY < <(compgen -c -- "${COMP_WORDS[COMP_CWORD]}" | sort -u)
+    else
+        _watchmand_files
+    fi
+}
+
 complete -F _watchmand watchmand
+complete -F _wm wm
 complete -F _wmctl wmctl
 complete -F _wmfeed wmfeed

@@ -36,6 +36,16 @@ offers '--gc-age --gc-interval' watchmand serve state socket --gc
 offers '1 16' watchmand serve state socket --workers 1
 offers '' watchmand serve state socket --sessions ''
 offers '--help' watchmand lines --
+offers 'changes' wm c
+offers 'unwatch up' wm u
+offers 'socket state' wm watch s
+offers '' wm up s
+offers '--since --socket' wm changes --s
+offers '--settle --socket' wm run --s
+offers 'socket' wm files --socket so
+offers 'socket' wm run . -- cat so
+offers 'sha256sum' wm run -- sha256
+offers '' wm changes --since ''
 offers 'socket' wmctl so
 offers "'[\"watch-list\"]'" wmctl socket "'[\"watch-l"
 offers "'[\"recrawl\",\"$folder\"" wmctl socket "'[\"rec"

@@ -1,9 +1,9 @@
 #!/bin/sh
 # Makes ARCHIVE.tar.gz of what `make install` puts into a prefix, with stripped programs, and ARCHIVE.tar.gz.sha256. The same files make the
 # same bytes.
-# usage: tools/dist.sh WATCHMAND WMCTL WMFEED VERSION ARCHIVE
+# usage: tools/dist.sh WATCHMAND WMCTL WMFEED WM VERSION ARCHIVE
 set -eu
-program=$1 client=$2 feed=$3 version=$4 archive=$5
+program=$1 client=$2 feed=$3 commands=$4 version=$5 archive=$6
 [ "$("$program" --version)" = "watchmand $version" ] || { echo "$program isn't of version $version" >&2 && exit 1; }
 name=$(basename "$archive")
 folder=$(mktemp -d)
@@ -12,8 +12,9 @@ mkdir "$folder/built" "$folder/$name"
 strip -o "$folder/built/watchmand" "$program"
 strip -o "$folder/built/wmctl" "$client"
 strip -o "$folder/built/wmfeed" "$feed"
-make -s install -o "$folder/built/watchmand" -o "$folder/built/wmctl" -o "$folder/built/wmfeed" PROGRAM="$folder/built/watchmand" \
-  CLIENT="$folder/built/wmctl" FEED="$folder/built/wmfeed" DESTDIR="$folder/$name" PREFIX= UNIT_PREFIX=%h/.local
+strip -o "$folder/built/wm" "$commands"
+make -s install -o "$folder/built/watchmand" -o "$folder/built/wmctl" -o "$folder/built/wmfeed" -o "$folder/built/wm" PROGRAM="$folder/built/watchmand" \
+  CLIENT="$folder/built/wmctl" FEED="$folder/built/wmfeed" COMMANDS="$folder/built/wm" DESTDIR="$folder/$name" PREFIX= UNIT_PREFIX=%h/.local
 cp LICENSE "$folder/$name"
 sed 's#](\(docs\|bench\)/#](share/doc/watchmand/\1/#g' README.md > "$folder/$name/README.md"
 mkdir -p "$(dirname "$archive")"

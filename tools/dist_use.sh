@@ -9,7 +9,7 @@ folder=$(mktemp -d)
 trap 'rm -rf "$folder"' EXIT
 (cd "$(dirname "$archive")" && sha256sum -c "$(basename "$archive").sha256")
 tar -xzf "$archive" -C "$folder" --strip-components=1
-for program in watchmand wmctl wmfeed; do
+for program in watchmand wm wmctl wmfeed; do
   echo "$program links against:"
   ldd "$folder/bin/$program" | sed 's/ (0x.*//'
   # what stands before an arrow, or the loader, by its path
@@ -28,6 +28,7 @@ sort -u "$folder/libraries" | while read -r library; do
 done
 mkdir -p "$folder/tmp"
 alone watchmand --version
+alone wm --version
 alone wmctl --version
 alone wmfeed --version
 at=$([ "$(id -u)" = 0 ] && echo /tmp || echo tmp)
@@ -52,4 +53,6 @@ if command -v systemctl > "$folder/found"; then
 fi
 bash -n "$folder/share/bash-completion/completions/wmctl"
 bash -n "$folder/share/bash-completion/completions/wmfeed"
+bash -n "$folder/share/bash-completion/completions/wm"
+if command -v zsh > "$folder/found"; then zsh -n "$folder/share/zsh/site-functions/_wm"; fi
 "$here/completion.sh"

@@ -1,0 +1,94 @@
+//! `wm files` and `wm changes`: one question, and what is shown of its answer.
+
+use crate::failure::Failure;
+use crate::feeds::is_fed;
+use crate::listening::read_answer;
+use crate::place::{Place, expression_of, place_of};
+use crate::server::{Reply, Server};
+use serde_json::Value;
+use std::io::IsTerminal;
+use wm_commands::{query_line, root_line, shown_of};
+use wm_orders::Order;
+
+/// Says on standard error that no feed runs, and has the root crawled in its place.
+fn without_feed(server: &Server<'_>, root: &str) -> Result<(), Failure> {
+    eprintln!(server.rt;
+        "wm: {root}: no feed runs, so it is crawled for this question; 'wm up' starts a feed"
+    )?;
+    server.crawl(root)
+}
+
+/// Waits until the server knows all that happened in a root so far: by its feed, and else by a crawl.
+pub fn sync(server: &Server<'_>, root: &str) -> Result<(), Failure> {
+    server.await_crawl(root, server.rt.stderr().is_terminal())?;
+    if !is_fed(server.rt, server.socket, false)? {
+        return without_feed(server, root);
+    }
+    let json = root_line(server.rt.alloc(), "clock", root)?;
+    match server.ask(json, Some(root))? {
+        Reply::Line(_) => Ok(()),
+        Reply::Refused(refusal, line) => Err(server.refused(root, refusal, &line)),
+        Reply::NoFeed => without_feed(server, root),
+    }
+}
+
+/// The line of the answer to the question of an order, since a clock if there is one.
+pub fn answer_line(
+    server: &Server<'_>,
+    place: &Place,
+    order: &Order,
+    since: Option<&str>,
+    is_json: bool,
+) -> Result<String, Failure> {
+    if order.question.is_unsynced {
+        server.await_crawl(&place.root, server.rt.stderr().is_terminal())?;
+    } else {
+        sync(server, &place.root)?;
+    }
+    let expression = expression_of(server, place, order)?;
+    let json = query_line(server.rt.alloc(), &place.root, since, expression, is_json)?;
+    server.line(&place.root, json)
+}
+
+/// Handles `files` and `changes`.
+pub fn list(server: &Server<'_>, dir: String, order: &Order) -> Result<u8, Failure> {
+    let place = place_of(server, dir)?;
+    let since = match &order.question.since {
+        Some(since) => Some(since.as_str()),
+        None => None,
+    };
+    let line = answer_line(server, &place, order, since, order.style.is_json)?;
+    if since.is_some() && !order.style.is_json {
+        note_fresh(server, &place, &line)?;
+    }
+    show(server, &place, order, &line)
+}
+
+/// Says on standard error that an answer is fresh.
+fn note_fresh(server: &Server<'_>, place: &Place, line: &str) -> Result<(), Failure> {
+    if let Some(answer) = read_answer(server, place, line.as_bytes())? {
+        if answer.is_fresh {
+            let dir = place.dir.as_str();
+            eprintln!(server.rt;
+                "wm: {dir}: a fresh answer: all that is there, and not what was deleted"
+            )?;
+        }
+    }
+    Ok(())
+}
+
+/// Shows the line of an answer, and returns the status.
+pub fn show(server: &Server<'_>, place: &Place, order: &Order, line: &str) -> Result<u8, Failure> {
+    let shown = shown_of(
+        server.rt.alloc(),
+        order.style,
+        &place.root,
+        &place.dir,
+        line,
+    )?;
+    if shown.status == 3 {
+        return Err(server.lost("its reply is no answer"));
+    }
+    server.rt.print(shown.text.as_str())?;
+    Ok(shown.status)
+}

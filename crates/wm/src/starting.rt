@@ -1,0 +1,315 @@
+//! `wm up` and `wm down`: the server and the feed in the background.
+
+use crate::failure::{Failure, at_path, failed};
+use crate::feeds::{is_fed, is_program};
+use crate::places::Places;
+use crate::server::Server;
+use std::fs::{DirBuilder, OpenOptions};
+use std::os::unix::fs::{DirBuilderExt, OpenOptionsExt};
+use std::process::{Child, Command, Stdio};
+use std::time::Duration;
+use std::{env, fs, thread};
+
+/// How often it is looked whether a server answers, and how long between two looks, in milliseconds.
+const LOOKS: u32 = 200;
+
+const PAUSE: u64 = 25;
+
+/// How often it is looked whether a feed stays.
+const FEED_LOOKS: u32 = 10;
+
+/// Makes a folder with the folders above it, for this user alone, if it isn't there.
+fn make_folder(rt: &HostRuntime, path: &str) -> Result<(), Failure> {
+    match DirBuilder::new()
+        .recursive(true)
+        .mode(0o700)
+        .create(rt, path)
+    {
+        Ok(()) => Ok(()),
+        Err(error) => Err(at_path(rt.alloc(), 1, path, &error)),
+    }
+}
+
+/// The failure of a program that can't be started.
+fn unstarted(rt: &HostRuntime, name: &str) -> Failure {
+    match format!(in rt.alloc(); "{name}: can't be started: install it beside wm, or on the PATH") {
+        Ok(text) => failed(1, text),
+        Err(_) => Failure::NoMemory,
+    }
+}
+
+/// The folder of this program.
+fn own_folder(rt: &HostRuntime) -> Result<Option<String>, Failure> {
+    let Ok(here) = env::current_exe(rt) else {
+        return Ok(None);
+    };
+    let here = here.into_string();
+    match here.rsplit_once('/') {
+        Some((folder, _)) => Ok(Some(String::from_str(rt.alloc(), folder)?)),
+        None => Ok(None),
+    }
+}
+
+/// The path of a program in a folder, if it is there.
+fn program_in(rt: &HostRuntime, folder: &str, name: &str) -> Result<Option<String>, Failure> {
+    let path = format!(in rt.alloc(); "{folder}/{name}")?;
+    match fs::metadata(rt, path.as_str()) {
+        Ok(found) if found.is_file() => Ok(Some(path)),
+        _ => Ok(None),
+    }
+}
+
+/// The path of a program: beside this one if it is there, and else on the PATH.
+fn program(rt: &HostRuntime, name: &str) -> Result<String, Failure> {
+    if let Some(folder) = own_folder(rt)? {
+        if let Some(path) = program_in(rt, &folder, name)? {
+            return Ok(path);
+        }
+    }
+    let Ok(folders) = env::var(rt, "PATH") else {
+        return Err(unstarted(rt, name));
+    };
+    for folder in folders.as_str().split(':') {
+        if let Some(path) = program_in(rt, folder, name)? {
+            return Ok(path);
+        }
+    }
+    Err(unstarted(rt, name))
+}
+
+/// Makes the state file if it isn't there.
+fn make_state(rt: &HostRuntime, state: &str) -> Result<(), Failure> {
+    if fs::metadata(rt, state).is_ok() {
+        return Ok(());
+    }
+    let watchmand = program(rt, "watchmand")?;
+    let mut command = Command::new(rt.alloc(), watchmand.as_str())?;
+    command.arg("format")?.arg(state)?;
+    command.stdin(Stdio::null()).stdout(Stdio::null());
+    match command.status(rt) {
+        Ok(status) if status.success() => Ok(()),
+        Ok(_) => {
+            let text = format!(in rt.alloc();
+                "{state}: 'watchmand format' can't make it: look at the folder's rights and the disk"
+            )?;
+            Err(failed(1, text))
+        }
+        Err(_) => Err(unstarted(rt, "watchmand")),
+    }
+}
+
+/// The file where the started programs write.
+fn log_of(rt: &HostRuntime, places: &Places) -> Result<String, Failure> {
+    let state = places.state.as_str();
+    Ok(format!(in rt.alloc(); "{state}/log")?)
+}
+
+/// The file with the number of a program that was started.
+fn number_file(rt: &HostRuntime, places: &Places, name: &str) -> Result<String, Failure> {
+    let state = places.state.as_str();
+    Ok(format!(in rt.alloc(); "{state}/{name}.pid")?)
+}
+
+/// Writes the number of a program down that was started and stays.
+fn write_number(
+    rt: &HostRuntime,
+    places: &Places,
+    name: &str,
+    child: &Child,
+) -> Result<(), Failure> {
+    let number = child.id();
+    let file = number_file(rt, places, name)?;
+    match fs::write(rt, file.as_str(), format!(in rt.alloc(); "{number}\n")?) {
+        Ok(()) => Ok(()),
+        Err(error) => Err(at_path(rt.alloc(), 1, &file, &error)),
+    }
+}
+
+/// Starts a program in a session of its own, whose output goes to the log.
+fn start(rt: &HostRuntime, places: &Places, name: &str, words: &[&str]) -> Result<Child, Failure> {
+    let alloc = rt.alloc();
+    let log = log_of(rt, places)?;
+    let mut options = OpenOptions::new();
+    options.append(true).create(true).mode(0o600);
+    let output = match options.open(rt, log.as_str()) {
+        Ok(output) => output,
+        Err(error) => return Err(at_path(alloc, 1, &log, &error)),
+    };
+    let errors = output.try_clone()?;
+    let path = program(rt, name)?;
+    let mut command = Command::new(alloc, "setsid")?;
+    command.arg(path.as_str())?;
+    for word in words {
+        command.arg(*word)?;
+    }
+    command.env("MALLOC_TRIM_THRESHOLD_", "131072")?;
+    command.env("WATCHMAND_EXPLAIN", "1")?;
+    command.stdin(Stdio::null()).stdout(output).stderr(errors);
+    match command.spawn(rt) {
+        Ok(child) => Ok(child),
+        Err(_) => Err(unstarted(rt, "setsid")),
+    }
+}
+
+/// The number of a program that was started and still runs. `None` if none does.
+fn running(rt: &HostRuntime, places: &Places, name: &str) -> Result<Option<String>, Failure> {
+    let alloc = rt.alloc();
+    let file = number_file(rt, places, name)?;
+    let Ok(text) = fs::read_to_string(rt, file.as_str()) else {
+        return Ok(None);
+    };
+    let number = text.as_str().trim();
+    let file = format!(in alloc; "/proc/{number}/cmdline")?;
+    match fs::read_to_string(rt, file.as_str()) {
+        Ok(words) if is_program(words.as_str(), name) => {
+            Ok(Some(String::from_str(alloc, number)?))
+        }
+        _ => Ok(None),
+    }
+}
+
+/// The last line of a text.
+fn last_line(text: &str) -> &str {
+    let text = text.trim();
+    match text.rsplit_once('\n') {
+        Some((_, last)) => last,
+        None => text,
+    }
+}
+
+/// What to do if this was the last that a program said when it was started.
+fn advice_at_start(last: &str) -> &'static str {
+    if last.contains("inotifywait") {
+        ": install inotify-tools"
+    } else if last.contains("13 DeviceFailed") {
+        ": another server has the file 'state' beside the log, or there is no right to it"
+    } else if last.contains("14 Damaged") {
+        ": the file 'state' beside the log is damaged, or no state file: GUIDE.md has what to do"
+    } else {
+        "; it didn't start"
+    }
+}
+
+/// The failure of a program that ended at its start, or doesn't answer, with the last line of the log.
+fn not_started(rt: &HostRuntime, places: &Places, name: &str) -> Failure {
+    let Ok(log) = log_of(rt, places) else {
+        return Failure::NoMemory;
+    };
+    let said = fs::read_to_string(rt, log.as_str());
+    let last = match &said {
+        Ok(said) => last_line(said.as_str()),
+        Err(_) => "",
+    };
+    let advice = advice_at_start(last);
+    match format!(in rt.alloc(); "{last}{advice}; {log} has all that it said") {
+        Ok(text) => failed(1, text),
+        Err(_) => Failure::NoMemory,
+    }
+}
+
+/// Whether a program that was started has ended.
+fn has_ended(child: &mut Child) -> bool {
+    matches!(child.try_wait(), Ok(Some(_)))
+}
+
+/// Starts the server, and waits until it answers.
+fn start_server(server: &Server<'_>, places: &Places) -> Result<(), Failure> {
+    let rt = server.rt;
+    let state = places.state.as_str();
+    let file = format!(in rt.alloc(); "{state}/state")?;
+    make_state(rt, &file)?;
+    let mut child = start(
+        rt,
+        places,
+        "watchmand",
+        &["serve", file.as_str(), server.socket],
+    )?;
+    for _ in 0..LOOKS {
+        if server.is_there()? {
+            return write_number(rt, places, "watchmand", &child);
+        }
+        if has_ended(&mut child) {
+            break;
+        }
+        thread::sleep(rt, Duration::from_millis(PAUSE));
+    }
+    Err(not_started(rt, places, "watchmand"))
+}
+
+/// Starts the feed, and looks for a moment whether it stays.
+fn start_feed(server: &Server<'_>, places: &Places) -> Result<(), Failure> {
+    let rt = server.rt;
+    let mut child = start(rt, places, "wmfeed", &[server.socket])?;
+    for _ in 0..FEED_LOOKS {
+        if has_ended(&mut child) {
+            return Err(not_started(rt, places, "wmfeed"));
+        }
+        thread::sleep(rt, Duration::from_millis(PAUSE));
+    }
+    write_number(rt, places, "wmfeed", &child)
+}
+
+/// Makes the folder of a socket. It is a failure if something else is at the socket's path.
+fn make_socket_folder(rt: &HostRuntime, socket: &str) -> Result<(), Failure> {
+    if let Ok(found) = fs::metadata(rt, socket) {
+        if found.is_file() || found.is_dir() {
+            let text = format!(in rt.alloc();
+                "{socket}: is no socket; --socket or WATCHMAND_SOCKET names another path"
+            )?;
+            return Err(failed(1, text));
+        }
+    }
+    match socket.rsplit_once('/') {
+        Some(("", _)) | None => Ok(()),
+        Some((folder, _)) => make_folder(rt, folder),
+    }
+}
+
+/// Handles `up`.
+pub fn up(server: &Server<'_>, places: &Places) -> Result<u8, Failure> {
+    let rt = server.rt;
+    make_folder(rt, &places.state)?;
+    let socket = places.socket.as_str();
+    if server.is_there()? {
+        println!(rt; "a server answers at {socket}")?;
+    } else {
+        make_socket_folder(rt, socket)?;
+        start_server(server, places)?;
+        println!(rt; "a server was started at {socket}")?;
+    }
+    if !is_fed(rt, socket, true)? {
+        start_feed(server, places)?;
+        println!(rt; "a feed was started")?;
+    }
+    Ok(0)
+}
+
+/// Ends a program that was started.
+fn end(rt: &HostRuntime, places: &Places, name: &str) -> Result<(), Failure> {
+    let alloc = rt.alloc();
+    let Some(number) = running(rt, places, name)? else {
+        println!(rt; "no {name} of 'wm up' runs")?;
+        return Ok(());
+    };
+    let mut command = Command::new(alloc, "kill")?;
+    command.arg(number.as_str())?;
+    let _status = command.status(rt);
+    for _ in 0..LOOKS {
+        if running(rt, places, name)?.is_none() {
+            println!(rt; "{name} ended")?;
+            return Ok(());
+        }
+        thread::sleep(rt, Duration::from_millis(PAUSE));
+    }
+    let text = format!(in alloc;
+        "{name}: process {number} doesn't end; 'kill -9 {number}' ends it, and loses nothing"
+    )?;
+    Err(failed(1, text))
+}
+
+/// Handles `down`.
+pub fn down(server: &Server<'_>, places: &Places) -> Result<u8, Failure> {
+    end(server.rt, places, "wmfeed")?;
+    end(server.rt, places, "watchmand")?;
+    Ok(0)
+}
