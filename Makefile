@@ -25,7 +25,7 @@ help:
 	@echo "                   memory refused in three sessions, and quick-use (rt, python3, cc; some two hours on two processors)"
 	@echo "make edits         the edits that must be refused and that the gate leaves out for its time (tools/edits; rt, some three hours)"
 	@echo "make lint          what the gate doesn't see: no definition's name in the specs of two crates, and no use of another crate's proofs/ (sh, awk; at once)"
-	@echo "make build         builds watchmand (rt; some 45 minutes the first time, since it proves it)"
+	@echo "make build         builds the programs, crates side by side (rt, python3; up to 45 minutes the first time, since it proves them)"
 	@echo "make run           serves SOCKET=$(SOCKET) over STATE=$(STATE), which it makes where it isn't there, and tells what to try next"
 	@echo "                   (it and all below build what they run first, by rt; only clients, bench-peer, bench-feed and bench-plots use the network)"
 	@echo "make lines         answers request lines from standard input over STATE=$(STATE)"
@@ -75,22 +75,9 @@ edits:
 
 build: $(PROGRAM)
 
-# `rt run` proves what has changed since it last did, builds the program and runs it once.
-$(PROGRAM): $(SOURCES)
-	cd crates/watchmand && rt run -- --help </dev/null >&2
-	@touch $@
-
-$(CLIENT): $(SOURCES)
-	cd crates/wmctl && rt run -- --help </dev/null >&2
-	@touch $@
-
-$(FEED): $(SOURCES)
-	cd crates/wmfeed && rt run -- --help </dev/null >&2
-	@touch $@
-
-$(COMMANDS): $(SOURCES)
-	cd crates/wm && rt run -- --help </dev/null >&2
-	@touch $@
+# All programs at once, since they stand on the same crates: what has changed is proved, crates side by side, with a line for each.
+$(PROGRAM) $(CLIENT) $(FEED) $(COMMANDS) &: $(SOURCES)
+	tools/build.py >&2
 
 # What a crawl or a long reply took goes back to the system by the C library's setting. A `format` that fails ends it, and has taken its file away. A part that a killed one left is answered `14 Damaged`.
 run: $(PROGRAM) $(CLIENT) $(FEED)
