@@ -33,8 +33,8 @@ help:
 	@echo "                   docs (UNIT_PREFIX: where the units are to find the programs, if not in PREFIX); make uninstall takes them away"
 	@echo "make dist          makes dist/$(ARCHIVE).tar.gz and its .sha256 (tar, gzip, strip); make dist-use tries the archive"
 	@echo "make session       a first session, and one that asks since moments, by the built program; make examples: those of README.md and docs/QUERIES.md;"
-	@echo "                   make examples-use: the programs of examples/ and docs/GUIDE.md; docs/QUERIES.md and limits over a socket (cc,"
-	@echo "                   python3)"
+	@echo "                   make examples-use: the programs of examples/; README.md and docs/GUIDE.md, line by line; docs/QUERIES.md and limits"
+	@echo "                   over a socket (cc, python3, inotify-tools)"
 	@echo "make state-file    a file with two owners, a format that fails, a killed one; make file-calls: its calls (strace)"
 	@echo "make serve-use     rough use of a server by the built program (python3; setpriv, if root); make clients: Watchman's own clients talk"
 	@echo "                   to it; make bench-peer: it beside Watchman 4.9.0 (both python3; apt-get, where Watchman isn't installed; cc);"
@@ -159,10 +159,10 @@ session: $(PROGRAM)
 examples: $(PROGRAM)
 	tools/examples.sh $(PROGRAM)
 
-# The programs of examples/ at a server that is killed in their midst; the guide's lines; the page for users, and the limits, over a socket.
-examples-use: $(PROGRAM) $(CLIENT)
+# The programs of examples/ at a server that is killed in their midst; the sessions of README.md and docs/GUIDE.md; the page for users, and the limits, over a socket.
+examples-use: $(PROGRAM) $(CLIENT) $(FEED) $(COMMANDS)
 	examples/run.sh $(PROGRAM) $(CLIENT)
-	tools/guide.sh $(PROGRAM) $(CLIENT)
+	tools/page_sessions.py $(PROGRAM) $(CLIENT) $(FEED) $(COMMANDS)
 	tools/page_over_socket.py $(PROGRAM)
 	tools/limits_over_socket.py $(PROGRAM)
 
