@@ -11,6 +11,8 @@ PROGRAMS = ("watchmand", "wmctl", "wmfeed", "wm")
 # What a check takes of memory, in bytes, most of the time.
 ROOM = 3 << 30
 HOW = {"stdin": subprocess.DEVNULL, "stdout": subprocess.PIPE, "stderr": subprocess.STDOUT, "text": True, "errors": "replace"}
+# So that rt's lines come as it prints them.
+HOW["env"] = {**os.environ, "PYTHONUNBUFFERED": "1"}
 
 
 def needed():
