@@ -130,3 +130,10 @@ length-newer counts (c ∷ cs) =
     let ih = length-newer (counts_with counts c) cs in
     let next = counts_with counts c in
     elim (is_newer counts c) as (λ b. length (cond b (c ∷ newer_of next cs) (newer_of next cs)) ≤ length (c ∷ cs)) [ true ↦ omega (arith, ih) | false ↦ omega (arith, ih) ]
+
+length-with : (counts : List ℕ) (c : Call) → length (counts_with counts c) ≡ length counts
+length-with counts c = elim (is_newer counts c) as (λ b. length (cond b (slice_set counts c.seat c.count) counts) ≡ length counts) [ true ↦ length-set counts c.seat c.count | false ↦ refl ]
+
+pub length-counts : (counts : List ℕ) (cs : List Call) → length (counts_after counts cs) ≡ length counts
+length-counts counts [] = refl
+length-counts counts (c ∷ cs) = length-counts (counts_with counts c) cs ∙ length-with counts c

@@ -51,7 +51,7 @@ use Rattle.wm_groupcommit.specs.contracts.locked.deliveries.ReplyView
 use Rattle.wm_groupcommit.specs.contracts.locked.deliveries.Replies
 use Rattle.wm_groupcommit.specs.contracts.locked.deliveries.RepliesProtocolDeliveryReplyView.TheImpl as RepliesImpl
 use Rattle.wm_groupcommit.specs.contracts.locked.deliveries.Delivery
-use denote.Param.Send.{IsSend, IsSync, recorded_send, recorded_sync, struct_send, struct_sync, view_send, plain_send}
+use denote.Param.Send.{IsSend, IsSync, part_keyless, recorded_send, recorded_sync, struct_send, struct_sync, view_send, plain_send}
 use denote.Builtin
 use denote.RattleType
 use denote.Struct.Declared
@@ -60,6 +60,9 @@ use Rattle.std.proofs.Common.{rules}
 
 pub snapshot_send : (Y : RattleType.RattleType) → IsSend (Snapshot.the_row Y)
 snapshot_send Y = record { owned = λ d vs. ((λ vss. (tt, ((λ uss. (tt, tt)), tt))), tt); leaving = λ k f vs. tt }
+
+snapshot_sync : (Y : RattleType.RattleType) → IsSync (Snapshot.the_row Y)
+snapshot_sync Y = record { shared = λ d b o κ q. part_keyless (Snapshot.the_row Y) (snapshot_send Y) q d b o }
 
 pub history_send : IsSend History.the_row
 history_send =
@@ -140,5 +143,5 @@ module _ (T : RattleType.RattleType) (g : disks.Ghosts T.Denot) where
         (EndsSent.the_sync (Option.the_row Call.the_row))
         GlobalSent.the_sync
         FreesSent.the_frees,
-    (MutexSent.the_sync (LockedDesk.the_row T g) (locked_send s), (ParkerSent.the_field_sync, (GlobalSent.the_field_sync, tt))),
+    (MutexSent.the_sync (LockedDesk.the_row T g) (locked_send s), (snapshot_sync (LockedDesk.the_row T g), (ParkerSent.the_field_sync, (GlobalSent.the_field_sync, tt)))),
   ))

@@ -3,7 +3,7 @@ use Rattle.std.proofs.lemmas.List.{take-append-le, length-append}
 use Rattle.std.proofs.Common.{◌≡◌, ◌≢◌, ◌≤◌, length, arith, ℕ, zero, suc, true, false, true≢false, Option, Some, None, List, [], ◌∷◌, ◌++◌, set, ⊎_elim, refl, sym, ap, ◌∙◌, subst, append_assoc, append-nil}
 use mathlib.Core.Option.{some, some-ne-none, some-injective}
 use lib.ListN.{get_elem?}
-use Rattle.crossbeam_queue.specs.Fifo.{Pushes, Pops, Forks}
+use Rattle.crossbeam_queue.specs.Fifo.{Pushes, PushesAfter, Pops, PopsFrom, Forks}
 use Rattle.crossbeam_queue.proofs.Lists.{at_set, at_snoc}
 use Rattle.wm_registry.specs.Roots.{State}
 use Rattle.wm_groupcommit.specs.declared.queued.Call.{Call}
@@ -13,7 +13,7 @@ use Rattle.wm_groupcommit.specs.declared.locked.deliveries.ReplyView.{ReplyView}
 use Rattle.wm_checkpoint.specs.Machines.{replayed}
 use Rattle.wm_registry.specs.Registry.{after_command}
 use Rattle.wm_groupcommit.specs.Books.{Right, AllRight, IsShownAt, commands_of, state_at}
-use Rattle.wm_groupcommit.specs.ReplyQueues.{reply_view, unnamed, end_to, newcomer, StartsWith, KeepsBase, RightFor, IsLater, answers_in, base_of, list_of, AreTo, AreShownFor, IsShownFor, FitsEnd, Replying, Gave, Took}
+use Rattle.wm_groupcommit.specs.ReplyQueues.{reply_view, unnamed, end_to, newcomer, StartsWith, KeepsBase, RightFor, IsLater, answers_in, base_of, list_of, AreTo, AreShownFor, IsShownFor, FitsEnd, Replying, with_given, Gave, Dropped, Took}
 use Rattle.wm_groupcommit.proofs.Answering.{AllRight-front}
 
 pub StartsWith-all : (l : List Call) → StartsWith l l
@@ -141,7 +141,7 @@ pub gives : (n port : ℕ) (v : ReplyView) (x : Delivery) → v.writes ≡ true 
 gives n port v x may later right own shown items views _ h at =
     let mine = h.4 port v at in
     let known = mine.1 may in
-    let w = reply_view v.writes v.seat (base_of x) (list_of x) v.got in
+    let w = with_given v x in
     let keeps : KeepsBase h.2 (base_of x) = subst (λ b. KeepsBase b (base_of x)) known.1 later.0 in
     let longer : StartsWith (list_of x) h.3 = subst (λ l. StartsWith (list_of x) l) known.2 later.1 in
     let queued : RightFor (base_of x) (list_of x) (answers_in items) = RightFor-later h.2 (base_of x) h.3 (list_of x) (answers_in items) keeps longer h.5 in (
@@ -171,7 +171,7 @@ pub gets : (port : ℕ) (v : ReplyView) → Pops Replying port v (Took v)
 gets port v x items views h at =
     let mine = h.4 port v at in
     let got = v.got ++ x.answer ∷ [] in
-    let w = reply_view v.writes v.seat h.2 h.3 got in
+    let w = reply_view v.writes v.seat h.2 h.3 got v.given in
     let right : RightFor h.2 h.3 got = RightFor-append h.2 h.3 v.got (x.answer ∷ []) (RightFor-later v.base h.2 v.list h.3 v.got mine.2.0 mine.2.1 mine.3) (RightFor-head h.2 h.3 x.answer (answers_in items) h.5) in (
       w,
       (
@@ -186,3 +186,12 @@ gets port v x items views h at =
       ),
       (refl, refl, mine.0.0 ∙ h.6.0, mine.2, refl, right, h.7.0),
     )
+
+-- the oldest that is queued is dropped
+pub drops : (n port : ℕ) (v : ReplyView) → PopsFrom Replying n port v (Dropped v)
+drops n port v x items views full h at =
+    (v, (h.0, h.1, h.2, h.3, ends_set h.0 h.1 h.2 h.3 views port v (h.4 port v at) (λ j u _ e. h.4 j u e), RightFor-rest h.2 h.3 x.answer (answers_in items) h.5, h.6.1, h.7.1), refl)
+
+-- and then this is handed over
+pub gives_behind : (n port : ℕ) (v : ReplyView) (x : Delivery) → Pushes Replying n port v x (Gave v x) → PushesAfter Replying n port (Dropped v) x Gave
+gives_behind n port v x push old w same = subst (λ u. Pushes Replying n port u x (Gave u x)) (sym same) push

@@ -2,10 +2,12 @@ pub mod Answering
 pub mod Counted
 pub mod Merging
 pub mod Delivering
+pub mod Giving
 pub mod Locking
 pub mod Settling
 pub mod Lasting
 pub mod Comparing
 pub mod Refusing
 pub mod Submitting
+pub mod Looking
 pub mod Crossing

@@ -26,3 +26,11 @@ abbrev pub Merged : List Call → List CallView → Type 0
 Merged items views =
     (gone : List Call) × (putters : List ℕ) × (takers : List ℕ)
     × IsMerge (λ v. v.pushed) (gone ++ items) views putters × IsMerge (λ v. v.popped) gone views takers
+
+-- these calls may be queued while a place has put and taken so many
+abbrev pub MayBeQueued : CallView → List Call → Type 0
+MayBeQueued v items = (views : List CallView) × (place : ℕ) × Merged items views × (get_elem? views place ≡ some v)
+
+-- at one moment no call was queued: all that the places had put was taken
+abbrev pub WasEmpty : CallView → Type 0
+WasEmpty v = MayBeQueued v []

@@ -9,19 +9,19 @@ use Rattle.wm_groupcommit.specs.declared.locked.deliveries.Delivery.{Delivery}
 use Rattle.wm_groupcommit.specs.declared.locked.deliveries.ReplyView.{ReplyView}
 use Rattle.wm_groupcommit.specs.Books.{AllRight, state_at}
 
-abbrev pub reply_view : Bool → Option ℕ → Option State → List Call → List Answer → ReplyView
-reply_view writes seat base list got = record { writes = writes; seat = seat; base = base; list = list; got = got }
+abbrev pub reply_view : Bool → Option ℕ → Option State → List Call → List Answer → List Delivery → ReplyView
+reply_view writes seat base list got given = record { writes = writes; seat = seat; base = base; list = list; got = got; given = given }
 
 -- the end of a queue that is of no seat yet
 abbrev pub unnamed : ReplyView
-unnamed = reply_view true None None [] []
+unnamed = reply_view true None None [] [] []
 
 -- the flusher's end to a new seat, and the seat's own
 abbrev pub end_to : ℕ → ReplyView
-end_to seat = reply_view true (Some seat) None [] []
+end_to seat = reply_view true (Some seat) None [] [] []
 
 abbrev pub newcomer : ℕ → ReplyView
-newcomer seat = reply_view false (Some seat) None [] []
+newcomer seat = reply_view false (Some seat) None [] [] []
 
 abbrev pub StartsWith : List Call → List Call → Type 0
 StartsWith list seen = (rest : List Call) × (list ≡ seen ++ rest)
@@ -77,12 +77,27 @@ Replying items views =
     × ((port : ℕ) (v : ReplyView) → get_elem? views port ≡ some v → FitsEnd seat writer base list port v)
     × RightFor base list (answers_in items) × AreTo seat (answers_in items) × AreShownFor base list items
 
--- the flusher's end has handed an answer over
+-- the flusher's end once it has handed this over
+abbrev pub with_given : ReplyView → Delivery → ReplyView
+with_given v x = reply_view v.writes v.seat (base_of x) (list_of x) v.got (v.given ++ x ∷ [])
+
 abbrev pub Gave : ReplyView → Delivery → ReplyView → Type 0
-Gave v x w = w ≡ reply_view v.writes v.seat (base_of x) (list_of x) v.got
+Gave v x w = w ≡ with_given v x
+
+-- the flusher's end has dropped an answer that the seat hasn't taken
+abbrev pub Dropped : ReplyView → Delivery → ReplyView → Type 0
+Dropped v x w = w ≡ v
 
 -- the seat has one answer more, which is to a call of its own, and right with all others for a list that begins with what it had seen; so is what is shown with it
 abbrev pub Took : ReplyView → Delivery → ReplyView → Type 0
 Took v x w =
     (w.writes ≡ v.writes) × (w.seat ≡ v.seat) × (v.seat ≡ Some x.answer.call.seat)
     × IsLater v w.base w.list × (w.got ≡ v.got ++ x.answer ∷ []) × RightFor w.base w.list w.got × IsShownFor w.base w.list x
+
+-- these answers may be queued while an end knows so much
+abbrev pub MayBeHanded : ReplyView → List Delivery → Type 0
+MayBeHanded v items = (views : List ReplyView) × (port : ℕ) × Replying items views × (get_elem? views port ≡ some v)
+
+-- at one moment no answer was queued
+abbrev pub HadNone : ReplyView → Type 0
+HadNone v = (items : List Delivery) × (length items ≡ 0) × MayBeHanded v items

@@ -1,5 +1,5 @@
 -- What contracts say of a seat: whose it is, what it has submitted, and how a submit is answered.
-use Rattle.std.specs.Prelude.{◌≡◌, ◌≤◌, ◌+◌, ◌⊎◌, ℕ, true, Some, List, [], ◌∷◌, ◌++◌, length, max, slice_get}
+use Rattle.std.specs.Prelude.{◌≡◌, ◌≤◌, ◌+◌, ◌⊎◌, ℕ, true, false, Some, List, [], ◌∷◌, ◌++◌, length, max, slice_get}
 use Rattle.crossbeam_queue.specs.SegTies.{IsSegPassOf}
 use Rattle.wm_disk.specs.declared.refusal.Refusal.{Refusal}
 use Rattle.wm_disk.specs.declared.refusal.Refusal.TheVariants.{NoMemory, NotWatched, OldVersion, BadTrigger, Full, TooMany}
@@ -9,15 +9,16 @@ use Rattle.wm_registry.specs.declared.reply.Reply.TheVariants.{Refused}
 use Rattle.wm_registry.specs.Registry.{is_change, reply_to}
 use Rattle.wm_registry.specs.Roots.{State}
 use Rattle.wm_groupcommit.specs.declared.desk.Desk.{Desk}
-use Rattle.wm_groupcommit.specs.declared.desk.Flusher.{Flusher}
+use Rattle.wm_groupcommit.specs.declared.locked.flusher.Flusher.{Flusher}
 use Rattle.wm_groupcommit.specs.declared.queued.Answer.{Answer}
 use Rattle.wm_groupcommit.specs.declared.queued.Call.{Call}
 use Rattle.wm_groupcommit.specs.declared.seat.Seat.{Seat}
 use Rattle.wm_groupcommit.specs.Books.{answer, state_at}
-use Rattle.wm_groupcommit.specs.CallQueues.{call_view}
+use Rattle.wm_groupcommit.specs.CallQueues.{WasEmpty, call_view}
 use Rattle.wm_groupcommit.specs.ReplyQueues.{newcomer, IsLater}
 use Rattle.wm_groupcommit.specs.Receipts.{ReceiptState, shown, standing_for, mark_of}
-use Rattle.wm_groupcommit.specs.Submits.{Declined, TookOne}
+use Rattle.wm_groupcommit.specs.Submits.{Declined, LookAnswered, TookOne, Unlooked}
+use Rattle.wm_store.specs.Stored.{Stored}
 
 module _ {D : Type 0} where
   -- the seat is one of this desk
@@ -27,6 +28,15 @@ module _ {D : Type 0} where
   abbrev pub IsFlusherOf : Desk D → Flusher → Type 0
   IsFlusherOf desk flusher = IsSegPassOf desk.queue flusher.pass
 
+  -- This store was put under the desk's lock at first, with no command accepted at the desk, no seat and no flusher.
+  pub record IsNewDesk (desk : Desk D) (store : Stored D) : Type 0 where
+    pub store_is : desk.found.value.book.store ≡ store
+    pub base : desk.found.value.book.base ≡ store.registry
+    pub list : desk.found.value.book.list ≡ []
+    pub ends : desk.found.value.ends ≡ []
+    pub counts : desk.found.value.counts ≡ []
+    pub flusher : desk.found.value.has_flusher ≡ false
+
 -- the calls that the seat has put into the queue
 abbrev pub pushed_calls : Seat → List Call
 pushed_calls seat = seat.pass.me.view.client.pushed
@@ -34,6 +44,10 @@ pushed_calls seat = seat.pass.me.view.client.pushed
 -- the calls that the flusher has taken from the queue
 abbrev pub popped_calls : Flusher → List Call
 popped_calls flusher = flusher.pass.me.view.client.popped
+
+-- at one moment no call was queued, and all that the seats had submitted was taken
+abbrev pub FoundNone : Flusher → Type 0
+FoundNone flusher = WasEmpty flusher.pass.me.view.client
 
 -- the accepted commands that the flusher had when it last answered this seat
 abbrev pub known_list : Seat → List Call
@@ -108,6 +122,15 @@ pub record HasLooked (old new : Seat) (registry : State) (count : ℕ) : Type 0 
   pub registry_is : registry ≡ state_at base (known_list new) count
   pub seen : new.seen ≡ count
   pub calls : new.calls ≡ old.calls
+  pub queue : new.pass.me.view.client ≡ old.pass.me.view.client
+  pub taken : LookAnswered old.replies new.replies old.seen new.seen registry count
+
+-- The seat has seen no more and has put nothing into the queue. It has taken nothing; or a delivery that shows it no registry, or an older one.
+pub record HasNotLooked (old new : Seat) : Type 0 where
+  pub seen : new.seen ≡ old.seen
+  pub calls : new.calls ≡ old.calls
+  pub queue : new.pass.me.view.client ≡ old.pass.me.view.client
+  pub why : (new.replies ≡ old.replies) ⊎ Unlooked old.replies new.replies old.seen
 
 -- a refusal that the registry alone gives
 abbrev pub IsOfRegistry : Refusal → Type 0

@@ -1,5 +1,5 @@
 -- What a submit answers.
-use Rattle.std.specs.Prelude.{◌≡◌, ◌≢◌, ◌≤◌, ◌<◌, ◌⊎◌, ℕ, Some, List, [], ◌∷◌, ◌++◌}
+use Rattle.std.specs.Prelude.{◌≡◌, ◌≢◌, ◌≤◌, ◌<◌, ◌⊎◌, ℕ, Some, None, List, [], ◌∷◌, ◌++◌}
 use Rattle.wm_disk.specs.declared.refusal.Refusal.{Refusal}
 use Rattle.wm_disk.specs.declared.refusal.Refusal.TheVariants.{StoreFailed}
 use Rattle.wm_registry.specs.declared.reply.Reply.{Reply}
@@ -7,9 +7,11 @@ use Rattle.wm_registry.specs.declared.reply.Reply.TheVariants.{Refused}
 use Rattle.wm_registry.specs.Roots.{State}
 use Rattle.wm_groupcommit.specs.declared.queued.Call.{Call}
 use Rattle.wm_groupcommit.specs.declared.queued.Answer.{Answer}
+use Rattle.wm_groupcommit.specs.declared.locked.deliveries.Delivery.{Delivery}
 use Rattle.wm_groupcommit.specs.declared.locked.deliveries.ReplyView.{ReplyView}
 use Rattle.wm_groupcommit.specs.Books.{Right, RightReply}
 use Rattle.wm_groupcommit.specs.Receipts.{ReceiptState, standing_for, mark_of}
+use Rattle.wm_groupcommit.specs.ReplyQueues.{Took}
 
 abbrev pub IsRefusal : Reply → Type 0
 IsRefusal reply = (e : Refusal) × (reply ≡ Refused e)
@@ -43,3 +45,11 @@ Submitted old new seen now call reply receipt =
 
 abbrev pub Turned : ReplyView → ReplyView → ℕ → Call → Refusal → Type 0
 Turned old new seen call e = (a : Answer) × (base : State) × TookOne old new a base × Declined seen call a e
+
+-- the seat took one delivery, which shows this registry after so many commands, no fewer than it had seen; it has then seen these
+abbrev pub LookAnswered : ReplyView → ReplyView → ℕ → ℕ → State → ℕ → Type 0
+LookAnswered old new seen now registry count = (x : Delivery) × Took old x new × (x.registry ≡ Some registry) × (x.answer.at ≡ count) × (seen ≤ count) × (now ≡ count)
+
+-- the seat took one delivery, which shows no registry, or one after fewer commands than it had seen
+abbrev pub Unlooked : ReplyView → ReplyView → ℕ → Type 0
+Unlooked old new seen = (x : Delivery) × Took old x new × ((x.registry ≡ None) ⊎ (x.answer.at < seen))

@@ -1,25 +1,25 @@
 //! The desk: a queue of calls, and the store with its list of accepted commands under a lock.
 //! Definitions: specs/Seats.antt, specs/Submits.antt. Tests: file_tests/src/desk.
-ghost use Rattle.std.specs.Prelude.{◌≡◌, ◌≤◌, ◌⊎◌, ◌++◌, true, Some, length, IfOk, IfErr, IfSome, OnErr, OnOk};
-ghost use Rattle.wm_registry.specs.Roots.{State};
-ghost use Rattle.wm_groupcommit.specs.Books.{state_at};
+ghost use Rattle.std.specs.Prelude.{◌≡◌, ◌<◌, ◌⊎◌, [], ◌++◌, true, Some, length, IfOk, IfErr, IfSome, OnErr, OnOk};
 ghost use Rattle.wm_disk.specs.declared.refusal.Refusal.TheVariants.{BadArguments as bad_arguments, DeviceFailed as device_failed, NoMemory as no_memory, NoPlace as no_place, StoreFailed as store_failed};
 ghost use Rattle.wm_store.specs.Batches.{is_begin};
 ghost use Rattle.wm_groupcommit.specs.Receipts.{StandsInBook, accepted_command};
 ghost use Rattle.wm_groupcommit.specs.ReplyQueues.{IsLater, Took};
-ghost use Rattle.wm_groupcommit.specs.Seats.{IsSameSeat, HasLooked, HasPushed, IsAnswered, IsFlusherOf, IsNewSeat, IsOfRegistry, IsRefusedAfter, IsSeatOf, IsTurned, call_from, popped_calls};
-ghost use Rattle.wm_groupcommit.specs.Submits.{Submitted, Turned};
+ghost use Rattle.wm_groupcommit.specs.LockedState.{IsUnclosed};
+ghost use Rattle.wm_groupcommit.specs.Seats.{IsSameSeat, FoundNone, HasLooked, HasNotLooked, HasPushed, IsAnswered, IsFlusherOf, IsNewDesk, IsNewSeat, IsOfRegistry, IsRefusedAfter, IsSeatOf, IsTurned, call_from, popped_calls};
+ghost use Rattle.wm_groupcommit.specs.Submits.{LookAnswered, Submitted, Turned, Unlooked};
 
 use crate::book::Book;
 use crate::locked::{
-    CallPass, CallQueue, Closed, Delivery, Flushed, LockedDesk, ReplyReceiver, Room, is_empty,
-    new_pass, pop, push,
+    Accepted, CallQueue, Closed, Delivery, Flushed, Flusher, LockedDesk, NoFlusher, NoSeat,
+    RegistryCopy, ReplyReceiver, Room, Shown, Unclosed, is_empty, new_pass, push,
 };
 use crate::queued::Call;
 use crate::receipt::Receipt;
 use crate::same_commands::copied;
 use crate::seat::{Seat, settle};
 use std::alloc::Global;
+use std::snapshot::Snapshot;
 use std::sync::{Mutex, Wait};
 use std::thread;
 use std::thread::Parker;
@@ -36,30 +36,29 @@ const LOOKS: u32 = 400;
 pub struct Desk<D: Disk + Drop> {
     queue: CallQueue,
     locked: Mutex<LockedDesk<D>>,
+    // what was put under the lock at first
+    found: Snapshot<LockedDesk<D>>,
     // where the flusher's thread sleeps
     sleeper: Parker,
     alloc: Global,
 }
 
-/// The place of the one who commits.
-#[derive(Drop)]
-pub struct Flusher {
-    pass: CallPass,
-}
-
 impl<D: Disk + Drop> Desk<D> {
-    /// A desk over the store. `16 NoMemory` hands the store back.
+    /// A desk over the store, which stays as it is, with no seat and no flusher yet. `16 NoMemory` hands the store back.
     pub fn new(alloc: Global, store: Store<D>) -> Result<Desk<D>, (Refusal, Store<D>)>
-        ensures { IfErr result (λ e. (e.0 ≡ no_memory) × (e.1 ≡ store)) }
+        ensures ok { IfOk result (λ desk. IsNewDesk desk store) }
+        ensures err { IfErr result (λ e. (e.0 ≡ no_memory) × (e.1 ≡ store)) }
     {
         let book = Book::open(store);
         let Ok((queue, pass)) = CallQueue::with_rule(alloc) else {
             return Err((Refusal::NoMemory, book.into_store()));
         };
         drop(pass);
+        let (locked, found) = under_lock(LockedDesk::new(alloc, book));
         Ok(Desk {
             queue,
-            locked: Mutex::new(LockedDesk::new(alloc, book)),
+            locked,
+            found,
             sleeper: Parker::new(),
             alloc,
         })
@@ -70,6 +69,7 @@ impl<D: Disk + Drop> Desk<D> {
         let Desk {
             queue,
             locked,
+            found: _,
             sleeper: _,
             alloc: _,
         } = self;
@@ -80,7 +80,7 @@ impl<D: Disk + Drop> Desk<D> {
     /// Closes the store, and wakes the flusher's thread. What was submitted and isn't committed by then is
     /// answered `12 StoreFailed` at the next flush, or `16 NoMemory` where there is no room. It is refused as
     /// [`Store::close`] is.
-    pub fn close<R: Wait>(&self, rt: &R) -> Result<Closed<D>, Refusal>
+    pub fn close<R: Wait>(&self, rt: &R) -> Result<Closed<D>, Unclosed<D>>
         ensures { IfErr result (λ e. (e ≡ device_failed) ⊎ (e ≡ store_failed)) }
     {
         let closed = close(&mut *self.locked.lock(rt));
@@ -89,7 +89,7 @@ impl<D: Disk + Drop> Desk<D> {
     }
 
     /// A new seat. `18 NoPlace` where 64 were given, and `16 NoMemory` when out of memory.
-    pub fn seat<R: Wait>(&self, rt: &R) -> Result<Seat, Refusal>
+    pub fn seat<R: Wait>(&self, rt: &R) -> Result<Seat, NoSeat>
         ensures ok { IfOk result (λ seat. IsSeatOf self.now seat × IsNewSeat seat) }
         ensures err { IfErr result (λ e. (e ≡ no_place) ⊎ (e ≡ no_memory)) }
     {
@@ -105,15 +105,11 @@ impl<D: Disk + Drop> Desk<D> {
     }
 
     /// The flusher, once; `18 NoPlace` from then on.
-    pub fn flusher<R: Wait>(&self, rt: &R) -> Result<Flusher, Refusal>
-        ensures ok { IfOk result (λ flusher. IsFlusherOf self.now flusher) }
+    pub fn flusher<R: Wait>(&self, rt: &R) -> Result<Flusher, NoFlusher>
+        ensures ok { IfOk result (λ flusher. IsFlusherOf self.now flusher × (popped_calls flusher ≡ [])) }
         ensures err { IfErr result (λ e. e ≡ no_place) }
     {
-        let made = self.locked.lock(rt).flusher();
-        made?;
-        Ok(Flusher {
-            pass: new_pass(&self.queue),
-        })
+        self.locked.lock(rt).flusher(&self.queue)
     }
 
     /// Puts a command into the queue, wakes the flusher's thread, and sleeps until the answer is there; where no
@@ -164,18 +160,20 @@ impl<D: Disk + Drop> Desk<D> {
         receive(rt, &mut seat.replies, &mut seat.seen, mine, is_alone)
     }
 
-    /// Takes up to 64 calls from the queue, in one step, commits their commands, and answers them. `16 NoMemory`
+    /// Takes up to 64 calls from the queue, in one step, commits their commands, and answers them; it takes none only
+    /// if none was queued at one moment. `16 NoMemory`
     /// if there is no memory for that many, and then nothing was taken.
     pub fn flush_once<R: Wait>(&self, rt: &R, flusher: &mut Flusher) -> Result<Flushed, Refusal>
         requires { IsFlusherOf self.now flusher.old }
         ensures flusher { IsFlusherOf self.now flusher.new }
         ensures popped { IfOk result (λ f. popped_calls flusher.new ≡ popped_calls flusher.old ++ f.calls) }
+        ensures some { IfOk result (λ f. (0 < length f.calls) ⊎ FoundNone flusher.old) }
         ensures err { IfErr result (λ e. (e ≡ no_memory) × (popped_calls flusher.new ≡ popped_calls flusher.old)) }
     {
         let Ok(room) = Room::new(self.alloc) else {
             return Err(Refusal::NoMemory);
         };
-        let Ok(popped) = pop(rt, self.alloc, &self.queue, &mut flusher.pass) else {
+        let Ok(popped) = flusher.pop(rt, self.alloc, &self.queue) else {
             return Err(Refusal::NoMemory);
         };
         Ok(self.locked.lock(rt).answer(rt, self.alloc, popped, room))
@@ -194,25 +192,25 @@ impl<D: Disk + Drop> Desk<D> {
 
     /// A copy of the registry, as the last flush left it, and how many commands had been accepted by then. It
     /// waits for a flush that runs. `NoMemory` changes nothing.
-    pub fn registry<R: Wait>(&self, rt: &R) -> Result<(Registry, u64), NoMemory> {
+    pub fn registry<R: Wait>(&self, rt: &R) -> Result<RegistryCopy, NoMemory> {
         self.locked.lock(rt).registry(self.alloc)
     }
 
     /// A copy of the registry, as the last flush left it, and how many commands had been accepted by then, which the seat has then seen. It
-    /// waits for a flush that runs. `NoMemory` changes nothing.
+    /// waits for a flush that runs. `NoMemory` shows the seat nothing new.
     pub fn look<R: Wait>(&self, rt: &R, seat: &mut Seat) -> Result<(Registry, u64), NoMemory>
         requires { IsSeatOf self.now seat.old }
         ensures seat { IsSeatOf self.now seat.new }
         ensures continues { IsSameSeat seat.old seat.new }
         ensures looked { IfOk result (λ r. HasLooked seat.old seat.new r.0 r.1) }
-        ensures err { OnErr result (seat.new.seen ≡ seat.old.seen) }
+        ensures err { OnErr result (HasNotLooked seat.old seat.new) }
     {
-        self.locked.lock(rt).show(rt, self.alloc, seat.number)?;
-        receive_shown(rt, &mut seat.replies, &mut seat.seen)
+        let shown = self.locked.lock(rt).show(rt, self.alloc, seat.number)?;
+        receive_shown(rt, &mut seat.replies, &mut seat.seen, shown)
     }
 
     /// How many commands were accepted, as the last flush left it. It waits for a flush that runs.
-    pub fn accepted<R: Wait>(&self, rt: &R) -> u64 {
+    pub fn accepted<R: Wait>(&self, rt: &R) -> Accepted {
         self.locked.lock(rt).accepted()
     }
 
@@ -227,12 +225,27 @@ impl<D: Disk + Drop> Desk<D> {
     }
 }
 
-/// Closes the store of the locked desk.
-fn close<D: Disk + Drop>(desk: &mut LockedDesk<D>) -> Result<Closed<D>, Refusal>
-    ensures { IfErr result (λ e. (e ≡ device_failed) ⊎ (e ≡ store_failed)) }
+/// The locked desk under its lock, and as it is then.
+fn under_lock<D: Disk + Drop>(
+    desk: LockedDesk<D>,
+) -> (Mutex<LockedDesk<D>>, Snapshot<LockedDesk<D>>)
+    ensures { result.1.value ≡ desk }
 {
-    desk.close()?;
-    Ok(Closed::of(desk))
+    let found = Snapshot::of(&desk);
+    (Mutex::new(desk), found)
+}
+
+/// Closes the store of the locked desk.
+fn close<D: Disk + Drop>(desk: &mut LockedDesk<D>) -> Result<Closed<D>, Unclosed<D>>
+    ensures ok { OnOk result (desk.new.book.store.closed ≡ true) }
+    ensures refused { IfErr result (λ e. IsUnclosed D.Disk desk.old desk.new e) }
+    ensures kinds { IfErr result (λ e. (e ≡ device_failed) ⊎ (e ≡ store_failed)) }
+{
+    let before = Snapshot::of(desk);
+    match desk.close() {
+        Ok(()) => Ok(Closed::of(desk)),
+        Err(refusal) => Err(Unclosed::of(refusal, before, desk)),
+    }
 }
 
 /// Whether a call comes while it looks.
@@ -268,20 +281,23 @@ fn receive_shown<R: Wait>(
     rt: &R,
     replies: &mut ReplyReceiver,
     seen: &mut u64,
+    _shown: Shown,
 ) -> Result<(Registry, u64), NoMemory>
+    requires own { replies.old.seat ≡ Some _shown.seat }
     ensures seat { replies.new.seat ≡ replies.old.seat }
     ensures later { IsLater replies.old replies.new.base replies.new.list }
-    ensures ok { IfOk result (λ r. (base : State) × (replies.new.base ≡ Some base) × (seen.old ≤ r.1) × (r.1 ≤ length replies.new.list) × (r.0 ≡ state_at base replies.new.list r.1) × (seen.new ≡ r.1)) }
-    ensures err { OnErr result (seen.new ≡ seen.old) }
+    ensures ok { IfOk result (λ r. LookAnswered replies.old replies.new seen.old seen.new r.0 r.1) }
+    ensures err { OnErr result ((seen.new ≡ seen.old) × Unlooked replies.old replies.new seen.old) }
 {
-    let delivery = sleep_for(rt, replies);
-    match delivery.into_shown() {
-        (Some(registry), at) if at >= *seen => {
-            *seen = at;
-            Ok((registry, at))
-        }
-        _ => Err(NoMemory),
+    let (registry, at) = sleep_for(rt, replies).into_shown();
+    if at < *seen {
+        return Err(NoMemory);
     }
+    let Some(registry) = registry else {
+        return Err(NoMemory);
+    };
+    *seen = at;
+    Ok((registry, at))
 }
 
 /// Waits for an answer.

@@ -14,7 +14,7 @@ mod receipt;
 mod same_commands;
 mod seat;
 
-pub use desk::{Desk, Flusher};
-pub use locked::{Closed, Flushed};
+pub use desk::Desk;
+pub use locked::{Accepted, Closed, Flushed, Flusher, NoFlusher, NoSeat, RegistryCopy, Unclosed};
 pub use receipt::{Receipt, Standing};
 pub use seat::Seat;

@@ -1,32 +1,43 @@
 //! What lies under the lock: the book, and the flusher's ends of the reply queues.
 //! Definitions: specs/LockedState.antt. Tests: file_tests/src/desk/rows.rt.
-ghost use Rattle.std.specs.Prelude.{◌≡◌, ◌≤◌, ◌<◌, ◌⊎◌, ◌+◌, ◌++◌, ◌∷◌, true, false, Some, None, List, [], length, vec_capacity, vec_len, IfOk, IfErr, IfSome, OnOk};
+ghost use Rattle.std.specs.Prelude.{◌≡◌, ◌≤◌, ◌<◌, ◌⊎◌, ◌+◌, ◌++◌, ◌∷◌, true, false, Some, None, [], length, vec_capacity, vec_len, IfOk, IfErr, IfSome, OnErr, OnOk};
+ghost use Rattle.crossbeam_queue.specs.SegTies.{IsSegPassOf};
 ghost use Rattle.wm_disk.specs.declared.refusal.Refusal.TheVariants.{DeviceFailed as device_failed, NoMemory as no_memory, NoPlace as no_place, StoreFailed as store_failed};
 ghost use Rattle.wm_store.specs.Calls.{CallsStore};
 ghost use Rattle.wm_groupcommit.specs.Books.{IsShownAt, Right, AllRight};
-ghost use Rattle.wm_groupcommit.specs.Commits.{IsCommit};
+ghost use Rattle.wm_groupcommit.specs.CallQueues.{call_view};
 ghost use Rattle.wm_groupcommit.specs.Counting.{newer_of, kept_newer, counts_after, counts_with};
 ghost use Rattle.wm_groupcommit.specs.Receipts.{StandsInBook, accepted_command};
 ghost use Rattle.wm_groupcommit.specs.ReplyQueues.{end_to, newcomer, StartsWith};
 ghost use Rattle.wm_registry.specs.Limits.{max_batch};
-ghost use Rattle.wm_groupcommit.specs.LockedState.{AllLater, AreNumbered, seats};
+ghost use Rattle.wm_groupcommit.specs.LockedState.{AllLater, AreNumbered, HaveGiven, IsFlushed, deliveries_of, delivery_of, seats, shown_to};
 
+mod accepted;
 mod call_queue;
 mod call_rule;
 mod closed;
 mod deliveries;
 mod flushed;
+mod flusher;
+mod no_place;
+mod registry_copy;
 mod reply_ends;
+mod shown;
 
 use crate::book::Book;
 use crate::queued::{Answer, Call};
 use crate::receipt::Receipt;
-pub use call_queue::{CallPass, CallQueue, PoppedCalls, is_empty, new_pass, pop, push};
-pub use closed::Closed;
+pub use accepted::Accepted;
+pub use call_queue::{CallPass, CallQueue, PoppedCalls, is_empty, new_pass, push};
+pub use closed::{Closed, Unclosed};
 pub use deliveries::Delivery;
 pub use flushed::Flushed;
+pub use flusher::Flusher;
+pub use no_place::{NoFlusher, NoSeat};
+pub use registry_copy::RegistryCopy;
 pub use reply_ends::ReplyReceiver;
 use reply_ends::{ReplySender, reply_queue};
+pub use shown::Shown;
 use std::alloc::Global;
 use std::marker::Model;
 use std::snapshot::Snapshot;
@@ -49,7 +60,7 @@ pub struct LockedDesk<D: Disk + Drop> {
 }
 
 impl<D: Disk + Drop> Model for LockedDesk<D> {
-    ghost use Rattle.std.specs.Prelude.{Some};
+    ghost use Rattle.std.specs.Prelude.{◌≡◌, Some, length};
     ghost use Rattle.wm_groupcommit.specs.LockedState.{LockedState, AllLater, AreNumbered};
     ghost use Rattle.wm_groupcommit.specs.Counting.{IsCounted};
 
@@ -57,7 +68,7 @@ impl<D: Disk + Drop> Model for LockedDesk<D> {
 
     ghost view = { λ s. record { book = s.book; ends = s.ends.items; counts = s.counts.items; has_flusher = s.has_flusher } };
 
-    ghost invariant = { λ s. AllLater s.ends.items (Some s.book.base) s.book.list × IsCounted s.counts.items s.book.list × AreNumbered 0 s.ends.items };
+    ghost invariant = { λ s. AllLater s.ends.items (Some s.book.base) s.book.list × IsCounted s.counts.items s.book.list × AreNumbered 0 s.ends.items × (length s.counts.items ≡ length s.ends.items) };
 }
 
 impl<D: Disk + Drop> LockedDesk<D> {
@@ -75,60 +86,84 @@ impl<D: Disk + Drop> LockedDesk<D> {
     }
 
     /// A new seat's number and its end of its reply queue. `NoPlace` where 64 were given, and `NoMemory`.
-    pub fn seat(&mut self, alloc: Global) -> Result<(u64, ReplyReceiver), Refusal>
+    pub fn seat(&mut self, alloc: Global) -> Result<(u64, ReplyReceiver), NoSeat>
         ensures ok { IfOk result (λ r. (r.0 ≡ length self.old.ends) × (r.1 ≡ newcomer r.0) × (self.new.ends ≡ self.old.ends ++ end_to r.0 ∷ [])) }
         ensures free { IfOk result (λ _. length self.old.ends < seats) }
-        ensures err { IfErr result (λ e. (self.new.ends ≡ self.old.ends) × (((e ≡ no_place) × (seats ≤ length self.old.ends)) ⊎ (e ≡ no_memory))) }
+        ensures counts { OnOk result (self.new.counts ≡ self.old.counts ++ 0 ∷ []) }
+        ensures err { IfErr result (λ e. ((e ≡ no_place) × (seats ≤ length self.old.ends)) ⊎ (e ≡ no_memory)) }
+        ensures same { OnErr result (self.new ≡ self.old) }
         ensures book { (self.new.book ≡ self.old.book) × (self.new.has_flusher ≡ self.old.has_flusher) }
     {
         if self.ends.len() >= SEATS {
-            return Err(Refusal::NoPlace);
+            return Err(NoSeat {
+                refusal: Refusal::NoPlace,
+            });
         }
         if self.ends.reserve(1).is_err() {
-            return Err(Refusal::NoMemory);
+            return Err(NoSeat {
+                refusal: Refusal::NoMemory,
+            });
         }
         if self.counts.reserve(1).is_err() {
-            return Err(Refusal::NoMemory);
+            return Err(NoSeat {
+                refusal: Refusal::NoMemory,
+            });
         }
         let number = self.ends.len() as u64;
         let Ok((end, replies)) = reply_queue(alloc, number) else {
-            return Err(Refusal::NoMemory);
+            return Err(NoSeat {
+                refusal: Refusal::NoMemory,
+            });
         };
         self.ends.push_reserved(end);
         self.counts.push_reserved(0);
         Ok((number, replies))
     }
 
-    /// The flusher's place, once; `NoPlace` from then on.
-    pub fn flusher(&mut self) -> Result<(), Refusal>
-        ensures book { (self.new.book ≡ self.old.book) × (self.new.ends ≡ self.old.ends) × (self.new.has_flusher ≡ true) }
+    /// The flusher of the desk with this queue, once; `NoPlace` from then on.
+    pub fn flusher(&mut self, queue: &CallQueue) -> Result<Flusher, NoFlusher>
+        ensures book { (self.new.book ≡ self.old.book) × (self.new.ends ≡ self.old.ends) × (self.new.counts ≡ self.old.counts) × (self.new.has_flusher ≡ true) }
         ensures err { IfErr result (λ e. (e ≡ no_place) × (self.old.has_flusher ≡ true)) }
-        ensures ok { IfOk result (λ _. self.old.has_flusher ≡ false) }
+        ensures ok { IfOk result (λ flusher. IsSegPassOf queue.now flusher.pass × (flusher.pass.me.view.client ≡ call_view [] [])) }
+        ensures once { OnOk result (self.old.has_flusher ≡ false) }
     {
         if self.has_flusher {
-            return Err(Refusal::NoPlace);
+            return Err(NoFlusher {
+                refusal: Refusal::NoPlace,
+            });
         }
         self.has_flusher = true;
-        Ok(())
+        Ok(Flusher::of(queue))
     }
 
     /// How many commands were accepted.
-    pub fn accepted(&self) -> u64
-        ensures { result ≡ length self.now.book.list }
+    pub fn accepted(&self) -> Accepted
+        ensures { result ≡ self.now.book.list }
     {
-        self.book.accepted()
+        Accepted {
+            count: self.book.accepted(),
+            seen: self.book.seen(),
+        }
     }
 
     /// The registry after all of the list, and how many commands the list has. `NoMemory`.
-    pub fn registry(&self, alloc: Global) -> Result<(Registry, u64), NoMemory>
-        ensures { IfOk result (λ r. (r.0 ≡ self.now.book.store.registry) × (r.1 ≡ length self.now.book.list)) }
+    pub fn registry(&self, alloc: Global) -> Result<RegistryCopy, NoMemory>
+        ensures { IfOk result (λ r. (r.base ≡ self.now.book.base) × (r.list ≡ self.now.book.list)) }
     {
-        self.book.registry(alloc)
+        let (registry, count) = self.book.registry(alloc)?;
+        Ok(RegistryCopy {
+            registry,
+            count,
+            seen: self.book.seen(),
+        })
     }
 
-    /// Hands a seat a copy of the registry, with how many commands the list has. `NoMemory` hands nothing over.
-    pub fn show<R: Wait>(&mut self, rt: &R, alloc: Global, seat: u64) -> Result<(), NoMemory>
+    /// Hands a seat a copy of the registry, with how many commands the list has, and no other seat anything. `NoMemory` hands nothing over.
+    pub fn show<R: Wait>(&mut self, rt: &R, alloc: Global, seat: u64) -> Result<Shown, NoMemory>
         ensures book { (self.new.book ≡ self.old.book) × (self.new.counts ≡ self.old.counts) × (self.new.has_flusher ≡ self.old.has_flusher) }
+        ensures given { OnOk result (HaveGiven 0 (shown_to seat self.old.book.base self.old.book.list self.old.book.store.registry ∷ []) self.old.ends self.new.ends) }
+        ensures shown { IfOk result (λ shown. shown.seat ≡ seat) }
+        ensures err { OnErr result (self.new.ends ≡ self.old.ends) }
     {
         let (registry, at) = self.book.registry(alloc)?;
         // the reply to a `Begin`, which is the same at each time
@@ -142,7 +177,7 @@ impl<D: Disk + Drop> LockedDesk<D> {
             reply: Reply::Refused(Refusal::BadArguments),
         };
         deliver(rt, &self.book, &mut self.ends, answer, Some(registry));
-        Ok(())
+        Ok(Shown { seat })
     }
 
     /// The receipt's command, which stands at its number in the list that the receipt is right for: the book's, as far
@@ -159,7 +194,8 @@ impl<D: Disk + Drop> LockedDesk<D> {
     /// Closes the store: from then on each call is answered `12`, or `16` where there is no room. It is refused
     /// as [`Store::close`] is.
     pub fn close(&mut self) -> Result<(), Refusal>
-        ensures list { (self.new.book.base ≡ self.old.book.base) × (self.new.book.list ≡ self.old.book.list) × (self.new.ends ≡ self.old.ends) }
+        ensures list { (self.new.book.base ≡ self.old.book.base) × (self.new.book.list ≡ self.old.book.list) }
+        ensures rest { (self.new.ends ≡ self.old.ends) × (self.new.counts ≡ self.old.counts) × (self.new.has_flusher ≡ self.old.has_flusher) }
         ensures closed { OnOk result (self.new.book.store.closed ≡ true) }
         ensures calls { CallsStore D.Disk self.old.book.store self.new.book.store result }
         ensures kinds { IfErr result (λ e. (e ≡ device_failed) ⊎ (e ≡ store_failed)) }
@@ -180,7 +216,7 @@ impl<D: Disk + Drop> LockedDesk<D> {
         book.into_store()
     }
 
-    /// Commits the popped calls, and hands each answer to its seat. A call that isn't newer than its seat's
+    /// Commits the popped calls, and hands each answer to the seat that called, and to no other. A call that isn't newer than its seat's
     /// last, of which no run makes one, is left out.
     pub fn answer<R: Wait>(
         &mut self,
@@ -190,9 +226,10 @@ impl<D: Disk + Drop> LockedDesk<D> {
         room: Room,
     ) -> Flushed
         requires few { length popped.calls.items ≤ max_batch }
-        ensures commits { (answers : List Answer) × IsCommit D.Disk self.old.book self.new.book (newer_of self.old.counts popped.calls.items) answers × AllRight self.new.book.base self.new.book.list answers × (result.count ≡ length answers) }
+        ensures flushed { IsFlushed D.Disk self.old self.new popped.calls.items result.count }
         ensures taken { result.calls ≡ popped.calls.items }
         ensures counts { self.new.counts ≡ counts_after self.old.counts popped.calls.items }
+        ensures flusher { self.new.has_flusher ≡ self.old.has_flusher }
     {
         let Room {
             mut calls,
@@ -251,6 +288,7 @@ fn keep(counts: &mut Vec<u64>, call: Call, kept: &mut Vec<Call>)
     }
 }
 
+/// Hands each answer to the end of the seat that called, in order, and nothing to another.
 fn deliver_all<R: Wait, D: Disk + Drop>(
     rt: &R,
     book: &Book<D>,
@@ -262,12 +300,14 @@ fn deliver_all<R: Wait, D: Disk + Drop>(
     requires numbered { AreNumbered 0 ends.old.items }
     ensures later { AllLater ends.new.items (Some book.now.base) book.now.list }
     ensures numbered { AreNumbered 0 ends.new.items }
+    ensures given { HaveGiven 0 (deliveries_of book.now.base book.now.list answers.items) ends.old.items ends.new.items }
 {
     for answer in answers {
         deliver(rt, book, ends, answer, None);
     }
 }
 
+/// Hands the answer, with the registry if one is shown, to the end of the seat that called, and nothing to another.
 fn deliver<R: Wait, D: Disk + Drop>(
     rt: &R,
     book: &Book<D>,
@@ -281,6 +321,7 @@ fn deliver<R: Wait, D: Disk + Drop>(
     requires shown { IsShownAt book.now.base book.now.list answer.at registry }
     ensures later { AllLater ends.new.items (Some book.now.base) book.now.list }
     ensures numbered { AreNumbered 0 ends.new.items }
+    ensures given { HaveGiven 0 (delivery_of book.now.base book.now.list registry answer ∷ []) ends.old.items ends.new.items }
 {
     let at = answer.call.seat as usize;
     if at < ends.len() {

@@ -55,7 +55,7 @@ pub(crate) fn submit_one<R: Wait + Abort>(
     desk: &Kept,
     command: Command,
 ) -> Result<(Reply, Receipt), Refusal> {
-    let mut seat = desk.seat(rt).expect(rt, "a seat");
+    let mut seat = desk.seat(rt).ok().expect(rt, "a seat");
     let answer = desk.submit(rt, &mut seat, command);
     drop(seat);
     answer
@@ -72,7 +72,7 @@ pub(crate) fn refusal_of<R: Wait + Abort>(
 
 /// Flushes until so many commands were answered, asleep while there are none, and tells how many were.
 pub(crate) fn flush_for<R: Wait + Abort>(rt: &R, desk: &Kept, wanted: usize) -> usize {
-    let mut flusher = desk.flusher(rt).expect(rt, "a flusher");
+    let mut flusher = desk.flusher(rt).ok().expect(rt, "a flusher");
     let mut total: usize = 0;
     for _ in rt.forever() {
         if total >= wanted {

@@ -49,7 +49,7 @@ fn define<R: Wait + Abort>(
 
 /// Watches `/a` and defines its trigger a hundred times, each time otherwise; the first two receipts and the last.
 fn define_all<R: Wait + Abort>(rt: &R, alloc: Global, desk: &Kept) -> (Receipt, Receipt, Receipt) {
-    let mut seat = desk.seat(rt).expect(rt, "a seat");
+    let mut seat = desk.seat(rt).ok().expect(rt, "a seat");
     let a = watch(rt, alloc, "/a");
     let (_, watched) = desk.submit(rt, &mut seat, a).expect(rt, "/a");
     let first = define(rt, alloc, desk, &mut seat, true);
@@ -101,11 +101,13 @@ fn has_alone(registry: &Registry, wanted: &Trigger) -> bool {
 
 /// The registry has to have the last definition, after 101 commands.
 fn assert_registry<R: Wait + Abort>(rt: &R, desk: &Kept, last: &Trigger) {
-    let (registry, accepted) = desk.registry(rt).expect(rt, "memory");
+    let copy = desk.registry(rt).expect(rt, "memory");
+    let accepted = copy.count();
     check!(rt; accepted == 101, accepted);
+    let registry = copy.into_registry();
     check!(rt; has_alone(&registry, last));
     drop(registry);
-    let accepted = desk.accepted(rt);
+    let accepted = desk.accepted(rt).count();
     check!(rt; accepted == 101, accepted);
 }
 
@@ -129,7 +131,7 @@ fn ask_all<R: Wait + Abort>(rt: &R, alloc: Global, desk: &Kept) {
 fn stands_after_a_hundred(rt: HostRuntime) {
     let alloc = rt.alloc();
     let desk = desk(&rt, alloc);
-    check!(rt; desk.accepted(&rt) == 0);
+    check!(rt; desk.accepted(&rt).count() == 0);
     let shared = &desk;
     let (total, ()) = join(
         &rt,

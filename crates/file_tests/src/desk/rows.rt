@@ -80,7 +80,9 @@ fn ask_late<R: Wait + Abort>(rt: &R, alloc: Global, desk: &Kept, seat: &mut Seat
 {
     let begin = desk.submit(rt, seat, Command::Begin).err();
     check!(rt; begin == Some(Refusal::BadArguments));
-    drop(desk.close(rt).expect(rt, "a closed desk"));
+    let closed = desk.close(rt);
+    check!(rt; closed.is_ok());
+    drop(closed);
     let c = watch(rt, alloc, "/c");
     let late = desk.submit(rt, seat, c).err();
     check!(rt; late == Some(Refusal::StoreFailed));
@@ -88,8 +90,8 @@ fn ask_late<R: Wait + Abort>(rt: &R, alloc: Global, desk: &Kept, seat: &mut Seat
 
 /// Six commands from two seats.
 fn ask_both<R: Wait + Abort>(rt: &R, alloc: Global, desk: &Kept) {
-    let mut one = desk.seat(rt).expect(rt, "a seat");
-    let mut two = desk.seat(rt).expect(rt, "a second seat");
+    let mut one = desk.seat(rt).ok().expect(rt, "a seat");
+    let mut two = desk.seat(rt).ok().expect(rt, "a second seat");
     let (first, again) = ask_twice(rt, alloc, desk, &mut one);
     ask_other(rt, alloc, desk, &mut two);
     assert_listed(rt, desk, &first, &again);
@@ -151,7 +153,7 @@ fn watch_one<R: Wait + Abort>(
 /// Watches 32 paths from that number on, and gives the numbers at which they stand.
 fn watch_all<R: Wait + Abort>(rt: &R, alloc: Global, desk: &Kept, first: usize) -> Numbers {
     let mut numbers = [0; 32];
-    let mut seat = desk.seat(rt).expect(rt, "a seat");
+    let mut seat = desk.seat(rt).ok().expect(rt, "a seat");
     for i in 0..32 {
         numbers[i] = watch_one(rt, alloc, desk, &mut seat, first.wrapping_add(i));
     }

@@ -20,6 +20,28 @@ fn always_no_place(rt: HostRuntime) {
     drop(desk.into_store());
 }
 
+/// Why the desk gives no seat.
+fn seat_refusal<R: Wait>(rt: &R, desk: &Kept) -> Option<Refusal> {
+    match desk.seat(rt) {
+        Ok(seat) => {
+            drop(seat);
+            None
+        }
+        Err(none) => Some(none.refusal()),
+    }
+}
+
+/// Why the desk gives no flusher.
+fn flusher_refusal<R: Wait>(rt: &R, desk: &Kept) -> Option<Refusal> {
+    match desk.flusher(rt) {
+        Ok(flusher) => {
+            drop(flusher);
+            None
+        }
+        Err(none) => Some(none.refusal()),
+    }
+}
+
 /// The desk has to have 64 seats and one flusher.
 fn assert_places<R: Wait + Abort>(rt: &R, desk: &Kept) {
     for _ in 0..64 {
@@ -27,11 +49,11 @@ fn assert_places<R: Wait + Abort>(rt: &R, desk: &Kept) {
         check!(rt; seat.is_ok());
         drop(seat);
     }
-    check!(rt; desk.seat(rt).err() == Some(Refusal::NoPlace));
+    check!(rt; seat_refusal(rt, desk) == Some(Refusal::NoPlace));
     let flusher = desk.flusher(rt);
     check!(rt; flusher.is_ok());
     drop(flusher);
-    check!(rt; desk.flusher(rt).err() == Some(Refusal::NoPlace));
+    check!(rt; flusher_refusal(rt, desk) == Some(Refusal::NoPlace));
 }
 
 /// Whether the command that watches `/a` stands in the list.
@@ -54,7 +76,7 @@ fn watch_stands<R: Wait + Abort>(rt: &R, alloc: Global, desk: &Kept) -> bool {
 
 /// Flushes until something was answered, and tells how much was.
 fn flush_some<R: Wait + Abort>(rt: &R, desk: &Kept) -> usize {
-    let mut flusher = desk.flusher(rt).expect(rt, "a flusher");
+    let mut flusher = desk.flusher(rt).ok().expect(rt, "a flusher");
     for _ in rt.forever() {
         let flushed = desk.flush_once(rt, &mut flusher).expect(rt, "a flush");
         let count = flushed.count();

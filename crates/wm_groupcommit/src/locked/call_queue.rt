@@ -1,10 +1,10 @@
 //! The queue in which the seats put their calls and from which the flusher takes them.
 //! Definitions: specs/CallQueues.antt. Tests: file_tests/src/desk/rows.rt.
-ghost use Rattle.std.specs.Prelude.{◌≡◌, ◌≤◌, List, [], ◌∷◌, ◌++◌, length, vec_capacity, IfOk, OnErr, MatchResult};
+ghost use Rattle.std.specs.Prelude.{◌≡◌, ◌≤◌, ◌<◌, ◌⊎◌, List, [], ◌∷◌, ◌++◌, length, vec_capacity, IfOk, IsTrue, OnErr, MatchResult};
 ghost use Rattle.crossbeam_queue.specs.SegTies.{IsSegPassOf};
 ghost use Rattle.crossbeam_queue.specs.SegBatches.{Holds};
 ghost use Rattle.wm_registry.specs.Limits.{max_batch};
-ghost use Rattle.wm_groupcommit.specs.CallQueues.{call_view};
+ghost use Rattle.wm_groupcommit.specs.CallQueues.{WasEmpty, call_view};
 
 use super::call_rule::{CallView, Merges, Puts, Takes};
 use crate::queued::Call;
@@ -43,7 +43,9 @@ pub fn new_pass(queue: &CallQueue) -> CallPass
 }
 
 /// Whether no call was in it at one moment.
-pub fn is_empty(queue: &CallQueue) -> bool {
+pub fn is_empty(queue: &CallQueue) -> bool
+    ensures { IsTrue result → WasEmpty (call_view [] []) }
+{
     let mut pass = new_pass(queue);
     queue.is_empty_as::<Takes>(&mut pass)
 }
@@ -57,8 +59,8 @@ pub fn push<R: Wait>(rt: &R, queue: &CallQueue, pass: &mut CallPass, call: Call)
     queue.push_as::<Puts, R>(rt, pass, call)
 }
 
-/// Takes as many calls from the front as a batch may have, in one step. An `Err` where there is no room for
-/// so many, and then nothing was taken.
+/// Takes as many calls from the front as a batch may have, in one step; none only if none was queued at one moment. An `Err` if there is no
+/// memory for so many, and then nothing was taken.
 pub fn pop<R: Wait>(
     rt: &R,
     alloc: Global,
@@ -69,6 +71,7 @@ pub fn pop<R: Wait>(
     ensures queue { IsSegPassOf queue.now pass.new × (pass.new.id ≡ pass.old.id) }
     ensures popped { IfOk result (λ p. pass.new.me.view.client ≡ call_view pass.old.me.view.client.pushed (pass.old.me.view.client.popped ++ p.calls.items)) }
     ensures few { IfOk result (λ p. length p.calls.items ≤ max_batch) }
+    ensures some { IfOk result (λ p. (0 < length p.calls.items) ⊎ WasEmpty pass.old.me.view.client) }
     ensures err { OnErr result (pass.new.me.view.client ≡ pass.old.me.view.client) }
 {
     let mut calls = Vec::with_capacity(alloc, MAX_BATCH)?;

@@ -43,5 +43,7 @@ impl Outcomes<Call, CallView> for Takes {
 }
 
 impl Lesson<Call, CallView> for Takes {
-    ghost fact = { λ v items. Unit {0} };
+    ghost use Rattle.wm_groupcommit.specs.CallQueues.{MayBeQueued};
+
+    ghost fact = { MayBeQueued };
 }

@@ -48,13 +48,14 @@ impl Delivery {
 }
 
 /// What an end of a reply queue knows: whether it is the flusher's, the number of the seat, the registry that the
-/// desk found, the list of accepted commands, and the answers that it has. No value of it is made.
+/// desk found, the list of accepted commands, the answers that it has taken, and what it has handed over. No value of it is made.
 pub struct ReplyView {
     pub writes: bool,
     pub seat: Option<u64>,
     pub base: Option<Registry>,
     pub list: LinkedList<Call>,
     pub got: LinkedList<Answer>,
+    pub given: LinkedList<Delivery>,
 }
 
 /// Both ends are of one seat, and what is queued answers its calls. The flusher's end knows one list; the seat's has
@@ -102,8 +103,13 @@ impl Outcome<Delivery, ReplyView> for Gives {
     ghost then = { Gave };
 }
 
-impl Lesson<Delivery, ReplyView> for Gives {
-    ghost fact = { λ v items. Unit {0} };
+/// The flusher's end drops an answer that the seat hasn't taken.
+pub struct Drops;
+
+impl Outcome<Delivery, ReplyView> for Drops {
+    ghost use Rattle.wm_groupcommit.specs.ReplyQueues.{Dropped};
+
+    ghost then = { Dropped };
 }
 
 /// The seat's end takes an answer.
@@ -116,7 +122,9 @@ impl Outcome<Delivery, ReplyView> for Gets {
 }
 
 impl Lesson<Delivery, ReplyView> for Gets {
-    ghost fact = { λ v items. Unit {0} };
+    ghost use Rattle.wm_groupcommit.specs.ReplyQueues.{MayBeHanded};
+
+    ghost fact = { MayBeHanded };
 }
 
 /// A reply queue.

@@ -1,12 +1,14 @@
 //! The flusher's end of a reply queue, and the seat's, which sleeps while it waits.
 //! Definitions: specs/ReplyQueues.antt. Tests: file_tests/src/desk.
-ghost use Rattle.std.specs.Prelude.{◌≡◌, ◌⊎◌, true, Some, IfOk, IfSome, IfNone};
+ghost use Rattle.std.specs.Prelude.{◌≡◌, Some, IfOk, IfSome, IfNone};
 ghost use Rattle.std.specs.Arc.{arc_value};
 ghost use Rattle.crossbeam_queue.specs.Passes.{view, IsPassOf};
 ghost use Rattle.wm_groupcommit.specs.Books.{IsShownAt, Right};
-ghost use Rattle.wm_groupcommit.specs.ReplyQueues.{reply_view, end_to, newcomer, IsLater, base_of, list_of, Took};
+ghost use Rattle.wm_groupcommit.specs.ReplyQueues.{HadNone, end_to, newcomer, IsLater, base_of, list_of, with_given, Took};
 
-use super::deliveries::{Delivery, Gets, Gives, Numbered, ReplyPass, ReplyQueue, ReplyView, Roles};
+use super::deliveries::{
+    Delivery, Drops, Gets, Gives, Numbered, ReplyPass, ReplyQueue, ReplyView, Roles,
+};
 use std::alloc::{AllocError, Global};
 use std::marker::{Brand, Model};
 use std::sync::{Arc, Wait};
@@ -92,25 +94,28 @@ fn ends_of<N: Numbered>(
 }
 
 impl ReplySender {
-    /// Hands an answer to a call of the seat over, and wakes the seat's thread. If the queue is full the answer is lost.
+    /// Hands an answer to a call of the seat over, and wakes the seat's thread. An earlier answer that the seat hasn't taken is dropped for it; a
+    /// seat waits for each of its answers, so no run has one.
     pub(super) fn hand<R: Wait>(&mut self, rt: &R, delivery: Delivery)
         requires later { IsLater self.old (base_of delivery) (list_of delivery) }
         requires right { Right delivery.seen.value.base (list_of delivery) delivery.answer }
         requires own { self.old.seat ≡ Some delivery.answer.call.seat }
         requires shown { IsShownAt delivery.seen.value.base (list_of delivery) delivery.answer.at delivery.registry }
-        ensures { (self.new ≡ self.old) ⊎ (self.new ≡ reply_view true self.old.seat (base_of delivery) (list_of delivery) self.old.got) }
+        ensures { self.new ≡ with_given self.old delivery }
     {
         let queue: &ReplyQueue = &self.queue;
-        let _ = queue.push_as::<Gives, R>(rt, &mut self.pass, delivery);
+        let untaken = queue.force_push_as::<Gives, Drops, R>(rt, &mut self.pass, delivery);
+        drop(untaken);
         self.sleeper.unpark();
     }
 }
 
 impl ReplyReceiver {
-    /// Takes an answer, if one is there.
+    /// Takes an answer; none only if none was there at one moment.
     pub fn take<R: Wait>(&mut self, rt: &R) -> Option<Delivery>
         ensures some { IfSome result (λ x. Took self.old x self.new) }
         ensures none { IfNone result (self.new ≡ self.old) }
+        ensures empty { IfNone result (HadNone self.old) }
     {
         let queue: &ReplyQueue = &self.queue;
         queue.pop_as::<Gets, R>(rt, &mut self.pass)

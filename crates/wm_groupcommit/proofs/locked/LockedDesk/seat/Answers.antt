@@ -1,4 +1,4 @@
-use Rattle.std.proofs.Common.{◌≡◌, Some, [], ◌∷◌, ◌++◌, length, refl, sym, ap, ◌∙◌, subst, arith}
+use Rattle.std.proofs.Common.{◌≡◌, Some, [], ◌∷◌, ◌++◌, length, refl, sym, ap, ◌∙◌, subst, arith, length-append}
 use Rattle.wm_groupcommit.specs.Counting.{IsCounted}
 use Rattle.wm_groupcommit.specs.ReplyQueues.{IsLater}
 use Rattle.wm_groupcommit.specs.LockedState.{AllLater, AreNumbered}
@@ -25,4 +25,5 @@ invariant_of-self-2 g c =
       subst (λ l. AllLater l (Some base) list) (sym vs) (AllLater-push c.self.inside.ends.items end (Some base) list is c.self.invariant.0),
       subst (λ l. IsCounted l list) (sym ks) (counted_seat c.self.inside.counts.items list c.self.invariant.1),
       subst (λ l. AreNumbered 0 l) (sym vs) (AreNumbered-push c.self.inside.ends.items end own c.self.invariant.2),
+      omega (arith, ap length ks, length-append c.self.inside.counts.items (0 ∷ []), ap length vs, length-append c.self.inside.ends.items (end ∷ []), c.self.invariant.3),
     )
