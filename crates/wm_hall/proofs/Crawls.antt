@@ -7,8 +7,8 @@ use Rattle.std.specs.List.{find, list_any, position_from, remove}
 use Rattle.wm_disk.specs.declared.refusal.Refusal.{Refusal}
 use Rattle.wm_lines.specs.declared.progress.Progress.{Progress}
 use Rattle.wm_hall.specs.AskedCrawls.{AskedState, TicketsRise, collected, end_stage, ended_crawl, more_waiters, running, with_first}
-use Rattle.wm_hall.specs.declared.asked.Stage.TheVariants.{Running}
-use Rattle.wm_hall.specs.declared.asked.AskedCrawl.{AskedCrawl}
+use Rattle.wm_hall.specs.declared.asked_crawl.Stage.TheVariants.{Running}
+use Rattle.wm_hall.specs.declared.asked_crawl.AskedCrawl.{AskedCrawl}
 
 -- ---- the place of the first that passes a test
 

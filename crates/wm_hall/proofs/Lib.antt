@@ -1,2 +1,2 @@
 pub mod Crawls
-pub mod HandedIn
+pub mod Operating

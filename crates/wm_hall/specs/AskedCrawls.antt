@@ -6,9 +6,9 @@ use Rattle.wm_names.specs.Paths.{same_path}
 use Rattle.wm_names.specs.declared.subtree.Subtree.{Subtree}
 use Rattle.wm_names.specs.declared.subtree.Subtree.TheVariants.{Whole, Below}
 use Rattle.wm_lines.specs.declared.progress.Progress.{Progress}
-use Rattle.wm_hall.specs.declared.asked.Stage.{Stage}
-use Rattle.wm_hall.specs.declared.asked.Stage.TheVariants.{Waiting, Running, Done, Refused}
-use Rattle.wm_hall.specs.declared.asked.AskedCrawl.{AskedCrawl}
+use Rattle.wm_hall.specs.declared.asked_crawl.Stage.{Stage}
+use Rattle.wm_hall.specs.declared.asked_crawl.Stage.TheVariants.{Waiting, Running, Done, Refused}
+use Rattle.wm_hall.specs.declared.asked_crawl.AskedCrawl.{AskedCrawl}
 
 pub record AskedState : Type 0 where
   pub crawls : List AskedCrawl  -- in the order in which they were asked for

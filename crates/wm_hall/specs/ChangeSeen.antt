@@ -1,5 +1,5 @@
 -- What an operation of a session leaves: what is reported of it, and the list that the session's viewer has then learnt.
-use Rattle.std.specs.Prelude.{◌≡◌, ◌≤◌, ◌⊎◌, ℕ, Option, Some, Result, Ok, Err}
+use Rattle.std.specs.Prelude.{◌≡◌, ◌⊎◌, ℕ, Option, Some, Result, Ok, Err}
 use Rattle.wm_disk.specs.declared.refusal.Refusal.{Refusal}
 use Rattle.wm_disk.specs.declared.refusal.Refusal.TheVariants.{NoMemory, Exhausted}
 use Rattle.wm_view.specs.declared.op.Op.{Op}
@@ -22,9 +22,9 @@ IsUnpublished result = (result ≡ Err NoMemory) ⊎ (result ≡ Err Exhausted)
 abbrev pub IsEnded : Op → Option PublishedList → Result Progress Refusal → Type 0
 IsEnded op last result = ((list : PublishedList) × (last ≡ Some list) × IsEndOf op list result) ⊎ IsUnpublished result
 
--- What is reported is of a published list that ends with the change, at a moment no earlier than this one, and the viewer has then learnt it; or of none. The
--- viewer has forgotten nothing.
-abbrev pub IsChangeSeen : ViewerState → (earliest : ℕ) → Change → Result Progress Refusal → ViewerState → Type 0
-IsChangeSeen old earliest change result new =
+-- What is reported is of a published list that ends with the change, at a second that may be read, and the viewer has then learnt it; or of none. The viewer has
+-- forgotten nothing.
+abbrev pub IsChangeSeen : ViewerState → (ℕ → Type 0) → Change → Result Progress Refusal → ViewerState → Type 0
+IsChangeSeen old MayRead change result new =
     Begins old.list new.list
-    × (((list : PublishedList) × (moment : ℕ) × (earliest ≤ moment) × Begins list new.list × IsEndOf (op_at moment change) list result) ⊎ IsUnpublished result)
+    × (((list : PublishedList) × (moment : ℕ) × MayRead moment × Begins list new.list × IsEndOf (op_at moment change) list result) ⊎ IsUnpublished result)

@@ -44,6 +44,6 @@ IsUnanswered inquiry cursors old new e =
     ⊎ ((e ≡ TooMany) × (is_ready (history new.list) ≡ true) × (has_room_among inquiry.since cursors ≡ false))
 
 -- The answer is appended as cursors stand so; or nothing is.
-abbrev pub IsInquired : Inquiry → CursorList → ViewerState → List ℕ → Result (Unit {0}) Refusal → ViewerState → List ℕ → Type 0
+abbrev pub IsInquired : {A : Type 0} → Inquiry → CursorList → ViewerState → List ℕ → Result A Refusal → ViewerState → List ℕ → Type 0
 IsInquired inquiry cursors old before (Ok done) new after = (is_ready (history new.list) ≡ true) × (has_room_among inquiry.since cursors ≡ true) × (after ≡ before ++ answer_bytes inquiry cursors new)
 IsInquired inquiry cursors old before (Err e) new after = (after ≡ before) × IsUnanswered inquiry cursors old new e

@@ -1,5 +1,7 @@
 -- Readings of a root, what is observed meanwhile, and what was published since they began.
-use Rattle.std.specs.Prelude.{◌≡◌, ℕ, Bool, false, List, Option, Some, None, nat_lt}
+use Rattle.std.specs.Prelude.{◌≡◌, ◌⊎◌, ℕ, Bool, true, false, List, Option, Some, None, Result, Ok, Err, nat_lt}
+use Rattle.wm_disk.specs.declared.refusal.Refusal.{Refusal}
+use Rattle.wm_disk.specs.declared.refusal.Refusal.TheVariants.{BadClock, NoMemory}
 use Rattle.wm_names.specs.Paths.{Path}
 use Rattle.wm_names.specs.declared.entry.Meta.{Meta}
 use Rattle.wm_clock.specs.declared.clock_id.ClockId.{ClockId}
@@ -40,7 +42,18 @@ abbrev pub Notes : Option (List (Path × Option Meta)) → Noted → Noted → T
 Notes None old new = new ≡ old
 Notes (Some pairs) old new = new.incomplete ≡ false → (old.incomplete ≡ false) × ((p : Path) (read : Option Meta) → overlaid_state new p read ≡ last_told pairs p (overlaid_state old p read))
 
+-- what is noted of the pairs that were copied out of an operation; without memory for them the reading has to be done again
+abbrev pub IsNotedIf : {E : Type 0} → Result (Option (List (Path × Option Meta))) E → Option Noted → Option Noted → Type 0
+IsNotedIf pairs None new = new ≡ None
+IsNotedIf (Ok pairs) (Some old) new = (noted : Noted) × (new ≡ Some noted) × Notes pairs old noted
+IsNotedIf (Err e) (Some old) new = (noted : Noted) × (new ≡ Some noted) × (noted.incomplete ≡ true)
+
 -- what is noted, if a reading is under way
 abbrev pub NotesIf : Option (List (Path × Option Meta)) → Option Noted → Option Noted → Type 0
 NotesIf pairs None new = new ≡ None
 NotesIf pairs (Some old) new = (noted : Noted) × (new ≡ Some noted) × Notes pairs old noted
+
+-- A reading isn't handed in: memory ran out; or it has to be done again, since an observation was left out or no reading is under way.
+abbrev pub IsUnread : Option Noted → Refusal → Type 0
+IsUnread None e = e ≡ BadClock
+IsUnread (Some noted) e = ((e ≡ BadClock) × (noted.incomplete ≡ true)) ⊎ ((e ≡ NoMemory) × (noted.incomplete ≡ false))

@@ -1,148 +1,16 @@
 //! The crawls of a root that were asked for, as they lie under the lock of `Work`.
 //! Definitions: specs/AskedCrawls.antt. Tests: serve_tests/src/crawls.rt.
-ghost use Rattle.std.specs.Prelude.{◌≡◌, ◌⊎◌, ◌+◌, ◌++◌, ◌∷◌, ◌^◌, ◌-◌, ◌%◌, ◌<◌, [], true, false, None, length, position, IfOk, IfErr, IfSome, MatchBool, MatchOption};
+ghost use Rattle.std.specs.Prelude.{◌≡◌, ◌⊎◌, ◌+◌, ◌++◌, ◌∷◌, ◌^◌, ◌-◌, ◌%◌, ◌<◌, ◌==◌, [], true, false, cond, not, None, length, position, IfOk, IfErr, IfSome, MatchBool, MatchOption, MatchResult};
 ghost use Rattle.std.specs.List.{find, list_any, remove};
 ghost use Rattle.wm_names.specs.declared.subtree.Subtree.TheVariants.{Whole};
-ghost use Rattle.wm_hall.specs.AskedCrawls.{collected, ended_crawl, end_stage, has_ticket, is_at_rest, is_open, is_pending, is_same_part, is_waiting, more_waiters, new_crawl, running, serves, crawl_told, stage_told, with_first};
+ghost use Rattle.wm_hall.specs.AskedCrawls.{collected, ended_crawl, has_ticket, is_pending, is_waiting, more_waiters, new_crawl, running, serves, crawl_told, with_first};
 
+use crate::asked_crawl::AskedCrawl;
 use std::alloc::Global;
 use std::marker::Model;
 use wm_disk::{NoMemory, Refusal};
 use wm_lines::Progress;
 use wm_names::Subtree;
-
-/// How far a crawl is.
-#[derive(Clone, Copy)]
-pub(crate) enum Stage {
-    /// It is asked for.
-    Waiting,
-    /// The crawler does it.
-    Running,
-    /// It has ended so, and what waits for it is still to be told.
-    Done(Progress),
-    Refused(Refusal),
-}
-
-impl Stage {
-    fn is_at_rest(&self) -> bool
-        ensures { result ≡ is_at_rest self.now }
-    {
-        match self {
-            Stage::Waiting => true,
-            Stage::Running | Stage::Done(_) | Stage::Refused(_) => false,
-        }
-    }
-
-    fn is_open(&self) -> bool
-        ensures { result ≡ is_open self.now }
-    {
-        match self {
-            Stage::Waiting | Stage::Running => true,
-            Stage::Done(_) | Stage::Refused(_) => false,
-        }
-    }
-
-    fn ended(ended: Result<Progress, Refusal>) -> Stage
-        ensures { result ≡ end_stage ended }
-    {
-        match ended {
-            Ok(progress) => Stage::Done(progress),
-            Err(refusal) => Stage::Refused(refusal),
-        }
-    }
-
-    fn told(self) -> Result<Progress, Refusal>
-        ensures { result ≡ stage_told self }
-    {
-        match self {
-            Stage::Done(progress) => Ok(progress),
-            Stage::Refused(refusal) => Err(refusal),
-            Stage::Waiting | Stage::Running => Err(Refusal::NotWatched),
-        }
-    }
-}
-
-/// Whether the two are one part.
-fn is_same_part(one: &Subtree, other: &Subtree) -> bool
-    ensures { result ≡ is_same_part one.now other.now }
-{
-    match (one, other) {
-        (Subtree::Whole, Subtree::Whole) => true,
-        (Subtree::Below(top), Subtree::Below(other)) => top.same(other),
-        _ => false,
-    }
-}
-
-/// A crawl that was asked for.
-#[derive(Drop)]
-pub(crate) struct AskedCrawl {
-    ticket: u64,
-    subtree: Subtree,
-    stage: Stage,
-    /// How many sessions wait for its end.
-    waiters: u64,
-}
-
-impl AskedCrawl {
-    fn new(ticket: u64, subtree: Subtree, waiters: u64) -> AskedCrawl
-        ensures { result ≡ new_crawl ticket subtree waiters }
-    {
-        AskedCrawl {
-            ticket,
-            subtree,
-            stage: Stage::Waiting,
-            waiters,
-        }
-    }
-
-    /// Whether who asks for the part now may wait for this one.
-    fn serves(&self, subtree: &Subtree) -> bool
-        ensures { result ≡ serves subtree.now self.now }
-    {
-        self.stage.is_at_rest() && is_same_part(&self.subtree, subtree)
-    }
-
-    fn is_pending(&self, ticket: u64) -> bool
-        ensures { result ≡ is_pending ticket self.now }
-    {
-        self.ticket == ticket && self.stage.is_open()
-    }
-
-    /// So many more wait for it. Its ticket.
-    fn join(&mut self, waiters: u64) -> u64
-        ensures told { result ≡ self.old.ticket }
-        ensures joined { more_waiters waiters self.old ≡ self.new ∷ [] }
-    {
-        self.waiters = self.waiters.saturating_add(waiters);
-        self.ticket
-    }
-
-    /// It runs. Its ticket and its part.
-    fn run(&mut self) -> (u64, Result<Subtree, NoMemory>)
-        ensures told { (result.0 ≡ self.old.ticket) × IfOk result.1 (λ part. part ≡ self.old.subtree) }
-        ensures runs { running self.old ≡ self.new ∷ [] }
-    {
-        self.stage = Stage::Running;
-        (self.ticket, self.subtree.copy())
-    }
-
-    /// It has ended so. Whether anybody waits for it.
-    fn end(&mut self, ended: Result<Progress, Refusal>) -> bool
-        ensures { MatchBool result (ended_crawl ended self.old ≡ self.new ∷ []) (ended_crawl ended self.old ≡ []) }
-    {
-        self.stage = Stage::ended(ended);
-        self.waiters != 0
-    }
-
-    /// What it came to, for one of those who wait for it, and whether others still do.
-    fn collect(&mut self) -> (Result<Progress, Refusal>, bool)
-        ensures told { result.0 ≡ stage_told self.old.stage }
-        ensures left { MatchBool result.1 (collected self.old ≡ self.new ∷ []) (collected self.old ≡ []) }
-    {
-        self.waiters = self.waiters.saturating_sub(1);
-        (self.stage.told(), self.waiters != 0)
-    }
-}
 
 /// The place of the first crawl that serves the part.
 fn place_to_join(crawls: &[AskedCrawl], subtree: &Subtree) -> Option<usize>
@@ -171,6 +39,80 @@ fn remove_at(crawls: &mut Vec<AskedCrawl>, place: usize)
     ensures { crawls.new.items ≡ remove crawls.old.items place }
 {
     crawls.remove(place);
+}
+
+/// How often the view or the triggers of a root may have changed: the root alone counts it.
+#[derive(Clone, Copy)]
+pub struct ChangeCount {
+    count: u64,
+}
+
+/// There is nothing to do for a worker: the root isn't watched any longer, or the server closes. The root alone says so.
+#[derive(Drop)]
+pub struct NoWork {
+    has_ended: bool,
+}
+
+/// A crawl that has begun, as it was asked for: the root alone makes it.
+#[derive(Drop)]
+pub struct BegunCrawl {
+    ticket: u64,
+    subtree: Result<Subtree, NoMemory>,
+}
+
+impl BegunCrawl {
+    /// Its ticket.
+    pub fn ticket(&self) -> u64
+        ensures { result ≡ self.now.ticket }
+    {
+        self.ticket
+    }
+
+    /// Its part. `NoMemory` if that couldn't be copied: the crawl has begun all the same.
+    pub fn into_subtree(self) -> Result<Subtree, NoMemory>
+        ensures { result ≡ self.subtree }
+    {
+        self.subtree
+    }
+}
+
+/// A crawl of a ticket has ended: the root alone makes it.
+#[derive(Drop)]
+pub struct CrawlEnded {
+    ticket: u64,
+}
+
+impl Model for CrawlEnded {
+    ghost use Rattle.std.specs.Prelude.{ℕ};
+
+    ghost Value = { ℕ };
+
+    ghost view = { λ e. e.ticket };
+}
+
+/// What a crawl came to, for one who waited for it: the root alone says so.
+#[derive(Drop)]
+pub struct Crawled {
+    ended: Result<Progress, Refusal>,
+}
+
+impl Model for Crawled {
+    ghost use Rattle.std.specs.Prelude.{Result};
+    ghost use Rattle.wm_disk.specs.declared.refusal.Refusal.{Refusal};
+    ghost use Rattle.wm_lines.specs.declared.progress.Progress.{Progress};
+
+    ghost Value = { Result Progress Refusal };
+
+    ghost view = { λ c. c.ended };
+}
+
+impl Crawled {
+    /// How it ended.
+    pub fn into_result(self) -> Result<Progress, Refusal>
+        ensures { result ≡ self }
+    {
+        self.ended
+    }
 }
 
 /// The crawls of a root that were asked for, and what else its workers wait for. No ticket is given twice.
@@ -209,11 +151,26 @@ impl Asked {
         })
     }
 
-    /// How often the view or the triggers may have changed, counted modulo 2^64.
-    pub(crate) fn changes(&self) -> u64
-        ensures { result ≡ self.now.changes }
+    /// Whether the view or the triggers may have changed since.
+    pub(crate) fn has_changed(&self, seen: Option<ChangeCount>) -> bool
+        ensures { MatchOption seen (result ≡ true) (λ seen. result ≡ not (seen.count == self.now.changes)) }
     {
-        self.changes
+        match seen {
+            Some(seen) => seen.count != self.changes,
+            None => true,
+        }
+    }
+
+    /// How often the view or the triggers may have changed, counted modulo 2^64; unless the root has ended.
+    pub(crate) fn next_change(&self) -> Result<ChangeCount, NoWork>
+        ensures { MatchResult result (λ count. (self.now.has_ended ≡ false) × (count.count ≡ self.now.changes)) (λ none. (self.now.has_ended ≡ true) × (none.has_ended ≡ true)) }
+    {
+        if self.has_ended {
+            return Err(NoWork { has_ended: true });
+        }
+        Ok(ChangeCount {
+            count: self.changes,
+        })
     }
 
     /// Whether the root isn't watched any longer, or the server closes.
@@ -224,17 +181,23 @@ impl Asked {
     }
 
     /// The view or the triggers may have changed.
-    pub(crate) fn note_change(&mut self)
-        ensures { self.new ≡ record self.old { changes = (self.old.changes + 1) % 2 ^ 64 } }
+    pub(crate) fn note_change(&mut self) -> ChangeCount
+        ensures told { result.count ≡ self.new.changes }
+        ensures noted { self.new ≡ record self.old { changes = (self.old.changes + 1) % 2 ^ 64 } }
     {
         self.changes = self.changes.wrapping_add(1);
+        ChangeCount {
+            count: self.changes,
+        }
     }
 
     /// The root isn't watched any longer, or the server closes.
-    pub(crate) fn end_root(&mut self)
-        ensures { self.new ≡ record self.old { has_ended = true } }
+    pub(crate) fn end_root(&mut self) -> NoWork
+        ensures told { result.has_ended ≡ true }
+        ensures ended { self.new ≡ record self.old { has_ended = true } }
     {
         self.has_ended = true;
+        NoWork { has_ended: true }
     }
 
     /// Whether the crawl of this ticket has still to end.
@@ -290,6 +253,21 @@ impl Asked {
         }
     }
 
+    /// Begins the first crawl that waits, as `begin`, unless the root has ended. Refused too if none waits.
+    pub(crate) fn next_crawl(&mut self) -> Result<BegunCrawl, NoWork>
+        ensures begun { IfOk result (λ begun. (self.old.has_ended ≡ false) × IfSome (find is_waiting self.old.crawls) (λ crawl. (begun.ticket ≡ crawl.ticket) × IfOk begun.subtree (λ part. part ≡ crawl.subtree))) }
+        ensures runs { self.new ≡ record self.old { crawls = cond self.old.has_ended self.old.crawls (with_first is_waiting running self.old.crawls) } }
+        ensures none { IfErr result (λ none. (none.has_ended ≡ self.old.has_ended) × ((self.old.has_ended ≡ true) ⊎ (find is_waiting self.old.crawls ≡ None))) }
+    {
+        if self.has_ended {
+            return Err(NoWork { has_ended: true });
+        }
+        match self.begin() {
+            Some((ticket, subtree)) => Ok(BegunCrawl { ticket, subtree }),
+            None => Err(NoWork { has_ended: false }),
+        }
+    }
+
     /// The crawl of a ticket has ended so. It goes if nobody waits for it.
     pub(crate) fn end(&mut self, ticket: u64, ended: Result<Progress, Refusal>)
         ensures { self.new ≡ record self.old { crawls = with_first (has_ticket ticket) (ended_crawl ended) self.old.crawls } }
@@ -320,6 +298,25 @@ impl Asked {
                 }
             }
             None => Err(Refusal::NotWatched),
+        }
+    }
+
+    /// As `end`, for the crawler.
+    pub(crate) fn crawled(&mut self, ticket: u64, ended: Result<Progress, Refusal>) -> CrawlEnded
+        ensures told { result ≡ ticket }
+        ensures ended { self.new ≡ record self.old { crawls = with_first (has_ticket ticket) (ended_crawl ended) self.old.crawls } }
+    {
+        self.end(ticket, ended);
+        CrawlEnded { ticket }
+    }
+
+    /// As `collect`, for who waited.
+    pub(crate) fn collected(&mut self, ticket: u64) -> Crawled
+        ensures told { result ≡ crawl_told (find (has_ticket ticket) self.old.crawls) }
+        ensures left { self.new ≡ record self.old { crawls = with_first (has_ticket ticket) collected self.old.crawls } }
+    {
+        Crawled {
+            ended: self.collect(ticket),
         }
     }
 }

@@ -1,6 +1,6 @@
 //! Questions of a root, as a viewer answers them: the replies of `query`, `since` and `clock`.
 //! Definitions: `answer_to` of wm_since, `history` of wm_share. Tests: serve_tests/src/halls.rt and sessions.rt.
-ghost use Rattle.std.specs.Prelude.{◌≡◌, ◌⊎◌, ◌++◌, ◌≤◌, true, false, IfOk, IfErr, OnErr, vec_capacity};
+ghost use Rattle.std.specs.Prelude.{◌≡◌, ◌⊎◌, ◌++◌, ◌≤◌, true, false, Some, IfOk, IfErr, OnErr, vec_capacity};
 ghost use Rattle.wm_expr.specs.Meanings.{holds};
 ghost use Rattle.wm_view.specs.Histories.{is_ready};
 ghost use Rattle.wm_since.specs.Answers.{answer_to, clock_of as clock_of_history, question, from_clock};
@@ -9,59 +9,98 @@ ghost use Rattle.wm_share.specs.PublishedLists.{Begins, disconnected, history};
 ghost use Rattle.wm_lines.specs.Replies.{line_text, query_reply};
 
 use std::alloc::Global;
+use std::marker::Model;
 use wm_clock::{ClockId, CursorName};
 use wm_disk::Refusal;
 use wm_lines::{Expression, reply};
 use wm_share::{Naming, Viewer};
 use wm_since::{Cursors, Every, Fields, Query, Since};
 
+/// A question, and what is told of each file.
+#[derive(Drop)]
+pub(crate) struct Question {
+    pub(crate) query: Query<Expression>,
+    pub(crate) fields: Fields,
+}
+
+/// Where a cursor of a root stands: the root alone makes it.
+#[derive(Drop)]
+pub struct CursorClock {
+    clock: Option<ClockId>,
+}
+
+impl Model for CursorClock {
+    ghost use Rattle.std.specs.Prelude.{Option};
+    ghost use Rattle.wm_clock.specs.declared.clock_id.ClockId.{ClockId};
+
+    ghost Value = { Option ClockId };
+
+    ghost view = { λ c. c.clock };
+}
+
+impl CursorClock {
+    /// The clock; none if there is no such cursor.
+    pub fn clock(&self) -> Option<ClockId>
+        ensures { result ≡ self.now }
+    {
+        self.clock
+    }
+}
+
+/// Where a cursor stands.
+pub(crate) fn cursor_clock(cursors: &Cursors, name: &CursorName) -> CursorClock
+    ensures { result ≡ cursor_at name.now cursors.now }
+{
+    CursorClock {
+        clock: cursors.clock(name),
+    }
+}
+
 /// Appends the answer to a question, and gives its clock. `NotReady` before the first whole listing, `NoPlace` if the root is
 /// gone, and `NoMemory`; nothing is appended then.
-pub fn tell<J: Naming>(
+pub(crate) fn tell<J: Naming>(
     alloc: Global,
     viewer: &mut Viewer<J>,
-    query: &Query<Expression>,
-    fields: &Fields,
+    asked: &Question,
     out: &mut Vec<u8>,
 ) -> Result<ClockId, Refusal>
     ensures seen { Begins viewer.old.list viewer.new.list }
     ensures ready { IfOk result (λ _. is_ready (history viewer.new.list) ≡ true) }
     ensures clock { IfOk result (λ clock. clock ≡ clock_of_history (history viewer.new.list)) }
-    ensures told { IfOk result (λ _. out.new.items ≡ out.old.items ++ line_text (query_reply fields.now (answer_to (holds query.now.test) (history viewer.new.list) (question query.now)))) }
+    ensures told { IfOk result (λ _. out.new.items ≡ out.old.items ++ line_text (query_reply asked.now.fields (answer_to (holds asked.now.query.test) (history viewer.new.list) (question asked.now.query)))) }
     ensures refused { IfErr result (λ e. (e ≡ Refusal.NoMemory) ⊎ ((e ≡ Refusal.NoPlace) × (viewer.new ≡ disconnected viewer.old)) ⊎ ((e ≡ Refusal.NotReady) × (is_ready (history viewer.new.list) ≡ false))) }
     ensures err { OnErr result (out.new.items ≡ out.old.items) }
     ensures room { vec_capacity out.old ≤ vec_capacity out.new }
 {
-    let answer = viewer.answer(alloc, query)?;
-    reply::put_answer(alloc, &answer, fields, out)?;
+    let answer = viewer.answer(alloc, &asked.query)?;
+    reply::put_answer(alloc, &answer, &asked.fields, out)?;
     Ok(answer.clock)
 }
 
 /// Appends the answer to a question since a cursor's clock, and moves the cursor to the answer's. It is refused as `tell` is, and
-/// `TooMany` where there is no room for a new cursor; no cursor is moved then.
-pub fn tell_by<J: Naming>(
+/// `TooMany` where there is no room for a new cursor; no cursor is moved then. Where the cursor stands then is given.
+pub(crate) fn tell_by<J: Naming>(
     alloc: Global,
     viewer: &mut Viewer<J>,
     cursors: &mut Cursors,
     name: CursorName,
-    mut query: Query<Expression>,
-    fields: &Fields,
+    mut asked: Question,
     out: &mut Vec<u8>,
-) -> Result<(), Refusal>
+) -> Result<CursorClock, Refusal>
     ensures seen { Begins viewer.old.list viewer.new.list }
-    ensures told { IfOk result (λ _. out.new.items ≡ out.old.items ++ line_text (query_reply fields.now (answer_to (holds query.test) (history viewer.new.list) (record { since = from_clock (cursor_at name cursors.old); empty_on_fresh = query.empty_on_fresh })))) }
+    ensures told { IfOk result (λ _. out.new.items ≡ out.old.items ++ line_text (query_reply asked.fields (answer_to (holds asked.query.test) (history viewer.new.list) (record { since = from_clock (cursor_at name cursors.old); empty_on_fresh = asked.query.empty_on_fresh })))) }
     ensures ready { IfOk result (λ _. (is_ready (history viewer.new.list) ≡ true) × (has_room name cursors.old ≡ true)) }
-    ensures moved { IfOk result (λ _. cursors.new ≡ moved_to name (clock_of_history (history viewer.new.list)) cursors.old) }
+    ensures moved { IfOk result (λ at. (at ≡ Some (clock_of_history (history viewer.new.list))) × (cursors.new ≡ moved_to name (clock_of_history (history viewer.new.list)) cursors.old)) }
     ensures refused { IfErr result (λ e. (e ≡ Refusal.NoMemory) ⊎ ((e ≡ Refusal.NoPlace) × (viewer.new ≡ disconnected viewer.old)) ⊎ ((e ≡ Refusal.NotReady) × (is_ready (history viewer.new.list) ≡ false)) ⊎ ((e ≡ Refusal.TooMany) × (is_ready (history viewer.new.list) ≡ true) × (has_room name cursors.old ≡ false))) }
     ensures err { OnErr result ((out.new.items ≡ out.old.items) × (cursors.new ≡ cursors.old)) }
     ensures room { vec_capacity out.old ≤ vec_capacity out.new }
 {
-    query.since = Since::from_clock(cursors.clock(&name));
+    asked.query.since = Since::from_clock(cursors.clock(&name));
     let has_room = cursors.has_room(&name);
-    match tell_with_room(alloc, viewer, has_room, &query, fields, out) {
+    match tell_with_room(alloc, viewer, has_room, &asked, out) {
         Ok(clock) => {
             cursors.moved(name, clock);
-            Ok(())
+            Ok(CursorClock { clock: Some(clock) })
         }
         Err(refusal) => Err(refusal),
     }
@@ -73,28 +112,27 @@ fn tell_with_room<J: Naming>(
     alloc: Global,
     viewer: &mut Viewer<J>,
     has_room: bool,
-    query: &Query<Expression>,
-    fields: &Fields,
+    asked: &Question,
     out: &mut Vec<u8>,
 ) -> Result<ClockId, Refusal>
     ensures seen { Begins viewer.old.list viewer.new.list }
     ensures ok { IfOk result (λ clock. (is_ready (history viewer.new.list) ≡ true) × (has_room ≡ true) × (clock ≡ clock_of_history (history viewer.new.list))) }
-    ensures told { IfOk result (λ _. out.new.items ≡ out.old.items ++ line_text (query_reply fields.now (answer_to (holds query.now.test) (history viewer.new.list) (question query.now)))) }
+    ensures told { IfOk result (λ _. out.new.items ≡ out.old.items ++ line_text (query_reply asked.now.fields (answer_to (holds asked.now.query.test) (history viewer.new.list) (question asked.now.query)))) }
     ensures refused { IfErr result (λ e. (e ≡ Refusal.NoMemory) ⊎ ((e ≡ Refusal.NoPlace) × (viewer.new ≡ disconnected viewer.old)) ⊎ ((e ≡ Refusal.NotReady) × (is_ready (history viewer.new.list) ≡ false)) ⊎ ((e ≡ Refusal.TooMany) × (is_ready (history viewer.new.list) ≡ true) × (has_room ≡ false))) }
     ensures err { OnErr result (out.new.items ≡ out.old.items) }
     ensures room { vec_capacity out.old ≤ vec_capacity out.new }
 {
     if !has_room {
         // a root that isn't ready says so first
-        viewer.answer(alloc, query)?;
+        viewer.answer(alloc, &asked.query)?;
         return Err(Refusal::TooMany);
     }
-    tell(alloc, viewer, query, fields, out)
+    tell(alloc, viewer, asked, out)
 }
 
 /// Where the root stands, as the viewer sees it. It costs what changed since a clock that it was told before. `NotReady` before the
 /// first whole listing, `NoPlace` if the root is gone, and `NoMemory`.
-pub fn clock<J: Naming>(
+pub(crate) fn clock<J: Naming>(
     alloc: Global,
     viewer: &mut Viewer<J>,
     told: Option<ClockId>,
@@ -116,17 +154,16 @@ pub fn clock<J: Naming>(
 pub(crate) fn inquire_of<J: Naming>(
     alloc: Global,
     viewer: &mut Viewer<J>,
-    query: Query<Expression>,
-    fields: &Fields,
+    asked: Question,
     out: &mut Vec<u8>,
 ) -> Result<(), Refusal>
     ensures seen { Begins viewer.old.list viewer.new.list }
     ensures ready { IfOk result (λ _. is_ready (history viewer.new.list) ≡ true) }
-    ensures told { IfOk result (λ _. out.new.items ≡ out.old.items ++ line_text (query_reply fields.now (answer_to (holds query.test) (history viewer.new.list) (question query)))) }
+    ensures told { IfOk result (λ _. out.new.items ≡ out.old.items ++ line_text (query_reply asked.fields (answer_to (holds asked.query.test) (history viewer.new.list) (question asked.query)))) }
     ensures refused { IfErr result (λ e. (e ≡ Refusal.NoMemory) ⊎ ((e ≡ Refusal.NoPlace) × (viewer.new ≡ disconnected viewer.old)) ⊎ ((e ≡ Refusal.NotReady) × (is_ready (history viewer.new.list) ≡ false))) }
     ensures err { OnErr result (out.new.items ≡ out.old.items) }
     ensures room { vec_capacity out.old ≤ vec_capacity out.new }
 {
-    tell(alloc, viewer, &query, fields, out)?;
+    tell(alloc, viewer, &asked, out)?;
     Ok(())
 }

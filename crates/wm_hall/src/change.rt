@@ -1,18 +1,18 @@
 //! What is handed in of a root, before it has its moment. Definitions: specs/Changes.antt.
 //! Tests: serve_tests/src/halls.rt, serve_tests/src/moments.rt.
-ghost use Rattle.std.specs.Prelude.{◌≡◌, ◌≤◌, ℕ};
+ghost use Rattle.std.specs.Prelude.{◌≡◌, ℕ};
 ghost use Rattle.wm_hall.specs.Changes.{op_at};
 
 use wm_view::{Listing, Op, Pairs};
 
 /// What reads the moment of an operation.
 pub trait Seconds {
-    /// The earliest second that it may read.
-    ghost earliest: { Self → ℕ };
+    /// Whether it may read this second.
+    ghost may_read: { Self → ℕ → Type 0 };
 
     /// The second that it is now, since 1970.
     fn second(&self) -> u64
-        ensures { earliest self.now ≤ result };
+        ensures { may_read self.now result };
 }
 
 /// An operation without its moment. The root reads the moment once it is the operation's turn, so that the moments of a

@@ -7,19 +7,27 @@
 #![tactic(auto)]
 
 mod asked;
+mod asked_crawl;
 mod asking;
+mod backlog;
 mod change;
 mod hall;
-mod keeping;
-mod performing;
+mod locked_root;
 mod reading;
+mod retention;
 mod starts;
+mod triggers;
+mod viewer_pool;
 mod work;
 
-pub use asking::{clock, tell, tell_by};
+pub use asked::{BegunCrawl, ChangeCount, CrawlEnded, Crawled, NoWork};
+pub use asking::CursorClock;
 pub use change::{Change, Seconds};
 pub use hall::RootHall;
-pub use keeping::Forgetting;
-pub use reading::{Begun, Reading};
+pub use locked_root::Learnt;
+pub use reading::{Begun, CrawlTools, Reading};
+pub use retention::Retention;
 pub use starts::start_of;
+pub use triggers::{Defined, StandingTriggers, StartPermit};
+pub use viewer_pool::PoolEmpty;
 pub use work::Work;

@@ -1,6 +1,8 @@
 //! What the workers of a root are asked: crawls, and to look whether a trigger is due.
 //! Tests: serve_tests/src/crawls.rt.
-use crate::asked::Asked;
+ghost use Rattle.std.specs.Prelude.{◌≡◌, ◌⊎◌, IfErr};
+
+use crate::asked::{Asked, BegunCrawl, ChangeCount, CrawlEnded, Crawled, NoWork};
 use std::alloc::Global;
 use std::sync::{Condvar, Mutex, Wait};
 use wm_disk::{NoMemory, Refusal};
@@ -11,7 +13,7 @@ use wm_names::Subtree;
 #[derive(Drop)]
 pub struct Work {
     asked: Mutex<Asked>,
-    stirred: Condvar,
+    notified: Condvar,
 }
 
 impl Work {
@@ -20,65 +22,74 @@ impl Work {
         let asked = Asked::new(alloc)?;
         Ok(Work {
             asked: Mutex::new(asked),
-            stirred: Condvar::new(),
+            notified: Condvar::new(),
         })
     }
 
-    /// The view or the triggers may have changed.
-    pub fn stir<R: Wait>(&self, rt: &R) {
+    /// The view or the triggers may have changed: how often they did.
+    pub fn notify<R: Wait>(&self, rt: &R) -> ChangeCount {
         let mut asked = self.asked.lock(rt);
-        asked.note_change();
+        let count = asked.note_change();
         drop(asked);
-        self.stirred.notify_all();
+        self.notified.notify_all();
+        count
     }
 
     /// The root isn't watched any longer, or the server closes.
-    pub fn end<R: Wait>(&self, rt: &R) {
-        self.asked.lock(rt).end_root();
-        self.stirred.notify_all();
+    pub fn end<R: Wait>(&self, rt: &R) -> NoWork {
+        let ended = self.asked.lock(rt).end_root();
+        self.notified.notify_all();
+        ended
     }
 
-    /// Asks for a crawl of a part, and waits for the end of one that began after that. `NotWatched` where
-    /// the root isn't watched any longer or the server closes, what the crawl or the view refuses, `NoMemory`,
-    /// and `Exhausted` after 2^64 - 1 crawls.
-    pub fn crawl<R: Wait>(&self, rt: &R, subtree: Subtree) -> Result<Progress, Refusal> {
+    /// Asks for a crawl of a part, and waits for the end of one that began after that: what the crawl or the view refuses, and
+    /// `NotWatched` if the root isn't watched any longer or the server closes. Not asked for are `NoMemory`, and `Exhausted` after
+    /// 2^64 - 1 crawls.
+    pub fn crawl<R: Wait>(&self, rt: &R, subtree: Subtree) -> Result<Crawled, Refusal>
+        ensures refused { IfErr result (λ e. (e ≡ Refusal.NoMemory) ⊎ (e ≡ Refusal.Exhausted)) }
+    {
         let mut asked = self.asked.lock(rt);
         let ticket = asked.ask(&subtree, 1)?;
-        self.stirred.notify_all();
-        let mut asked = self.stirred.wait_while(rt, asked, |asked| {
+        self.notified.notify_all();
+        let mut asked = self.notified.wait_while(rt, asked, |asked| {
             asked.is_pending(ticket) && !asked.has_ended()
         });
-        asked.collect(ticket)
+        Ok(asked.collected(ticket))
     }
 
-    /// Waits until a crawl is asked for: its ticket and its part; `None` at the end. Where the part can't be
-    /// copied it is `NoMemory`, and the crawl has begun all the same.
-    pub fn next_crawl<R: Wait>(&self, rt: &R) -> Option<(u64, Result<Subtree, NoMemory>)> {
-        let mut asked = self.stirred.wait_while(rt, self.asked.lock(rt), |asked| {
+    /// Waits until a crawl is asked for, which has begun then; there is none at the end.
+    pub fn next_crawl<R: Wait>(&self, rt: &R) -> Result<BegunCrawl, NoWork> {
+        let mut asked = self.notified.wait_while(rt, self.asked.lock(rt), |asked| {
             !asked.has_waiting() && !asked.has_ended()
         });
-        if asked.has_ended() {
-            return None;
-        }
-        asked.begin()
+        asked.next_crawl()
     }
 
     /// The crawl of a ticket has ended so.
-    pub fn crawled<R: Wait>(&self, rt: &R, ticket: u64, ended: Result<Progress, Refusal>) {
+    pub fn crawled<R: Wait>(
+        &self,
+        rt: &R,
+        ticket: u64,
+        ended: Result<Progress, Refusal>,
+    ) -> CrawlEnded
+        ensures { result ≡ ticket }
+    {
         let mut asked = self.asked.lock(rt);
-        asked.end(ticket, ended);
+        let crawl = asked.crawled(ticket, ended);
         drop(asked);
-        self.stirred.notify_all();
+        self.notified.notify_all();
+        crawl
     }
 
-    /// Waits until something may have changed since; `None` at the end.
-    pub fn next_change<R: Wait>(&self, rt: &R, seen: u64) -> Option<u64> {
-        let asked = self.stirred.wait_while(rt, self.asked.lock(rt), |asked| {
-            asked.changes() == seen && !asked.has_ended()
+    /// Waits until something may have changed since: how often it did. There is nothing at the end.
+    pub fn next_change<R: Wait>(
+        &self,
+        rt: &R,
+        seen: Option<ChangeCount>,
+    ) -> Result<ChangeCount, NoWork> {
+        let asked = self.notified.wait_while(rt, self.asked.lock(rt), |asked| {
+            !asked.has_changed(seen) && !asked.has_ended()
         });
-        if asked.has_ended() {
-            return None;
-        }
-        Some(asked.changes())
+        asked.next_change()
     }
 }

@@ -1,6 +1,6 @@
 use Rattle.std.proofs.Common.{List, [], ◌∷◌, ◌++◌, sym, ap, subst, ◌∙◌, arith}
 use Rattle.wm_hall.specs.AskedCrawls.{TicketsRise, new_crawl}
-use Rattle.wm_hall.specs.declared.asked.AskedCrawl.{AskedCrawl}
+use Rattle.wm_hall.specs.declared.asked_crawl.AskedCrawl.{AskedCrawl}
 use Rattle.wm_hall.proofs.Crawls.{rise-more}
 use Rattle.wm_hall.proofs.asked.Asked.add.Goals as goal
 

@@ -1,6 +1,6 @@
 use Rattle.std.proofs.Common.{◌≡◌, Some, None, Ok, List, position, sym, ap, subst, ◌∙◌}
 use Rattle.wm_hall.specs.AskedCrawls.{TicketsRise, more_waiters, serves}
-use Rattle.wm_hall.specs.declared.asked.AskedCrawl.{AskedCrawl}
+use Rattle.wm_hall.specs.declared.asked_crawl.AskedCrawl.{AskedCrawl}
 use Rattle.wm_hall.proofs.Crawls.{changed, found_state, if_found, if_none, more-keeps, rise-first, set-at, some_none, unfound_state}
 use Rattle.wm_hall.proofs.asked.Asked.ask.Goals as goal
 

@@ -1,7 +1,7 @@
 use Rattle.std.proofs.Common.{◌≡◌, Option, Some, None, List, position, sym, ap, subst, ◌∙◌, refl}
 use Rattle.std.specs.Prelude.{IfOk, MatchOption}
 use Rattle.wm_hall.specs.AskedCrawls.{TicketsRise, is_waiting, running}
-use Rattle.wm_hall.specs.declared.asked.AskedCrawl.{AskedCrawl}
+use Rattle.wm_hall.specs.declared.asked_crawl.AskedCrawl.{AskedCrawl}
 use Rattle.wm_hall.proofs.Crawls.{changed, found_state, rise-first, running-keeps, set-at, unchanged_state, unfound_state}
 use Rattle.wm_hall.proofs.asked.Asked.begin.Goals as goal
 

@@ -1,6 +1,6 @@
 use Rattle.std.proofs.Common.{◌≡◌, Some, None, List, position, sym, ap, subst, ◌∙◌}
 use Rattle.wm_hall.specs.AskedCrawls.{TicketsRise, collected, crawl_told, has_ticket}
-use Rattle.wm_hall.specs.declared.asked.AskedCrawl.{AskedCrawl}
+use Rattle.wm_hall.specs.declared.asked_crawl.AskedCrawl.{AskedCrawl}
 use Rattle.wm_hall.proofs.Crawls.{changed, collected-keeps, found_state, gone-at, rise-first, set-at, unchanged_state, unfound_state, when_false, when_true}
 use Rattle.wm_hall.proofs.asked.Asked.collect.Goals as goal
 

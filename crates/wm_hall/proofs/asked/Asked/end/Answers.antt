@@ -1,6 +1,6 @@
 use Rattle.std.proofs.Common.{◌≡◌, Some, None, List, position, sym, ap, subst, ◌∙◌}
 use Rattle.wm_hall.specs.AskedCrawls.{TicketsRise, ended_crawl, has_ticket}
-use Rattle.wm_hall.specs.declared.asked.AskedCrawl.{AskedCrawl}
+use Rattle.wm_hall.specs.declared.asked_crawl.AskedCrawl.{AskedCrawl}
 use Rattle.wm_hall.proofs.Crawls.{changed, ended-keeps, gone-at, rise-first, set-at, unchanged_state}
 use Rattle.wm_hall.proofs.asked.Asked.end.Goals as goal
 

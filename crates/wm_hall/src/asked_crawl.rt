@@ -1,0 +1,140 @@
+//! A crawl of a root that was asked for. Definitions: specs/AskedCrawls.antt. Tests: serve_tests/src/crawls.rt.
+ghost use Rattle.std.specs.Prelude.{◌≡◌, ◌∷◌, [], IfOk, MatchBool};
+ghost use Rattle.wm_hall.specs.AskedCrawls.{collected, ended_crawl, end_stage, is_at_rest, is_open, is_pending, is_same_part, more_waiters, new_crawl, running, serves, stage_told};
+
+use wm_disk::{NoMemory, Refusal};
+use wm_lines::Progress;
+use wm_names::Subtree;
+
+/// How far a crawl is.
+#[derive(Clone, Copy)]
+pub(crate) enum Stage {
+    /// It is asked for.
+    Waiting,
+    /// The crawler does it.
+    Running,
+    /// It has ended so, and what waits for it is still to be told.
+    Done(Progress),
+    Refused(Refusal),
+}
+
+impl Stage {
+    pub(crate) fn is_at_rest(&self) -> bool
+        ensures { result ≡ is_at_rest self.now }
+    {
+        match self {
+            Stage::Waiting => true,
+            Stage::Running | Stage::Done(_) | Stage::Refused(_) => false,
+        }
+    }
+
+    fn is_open(&self) -> bool
+        ensures { result ≡ is_open self.now }
+    {
+        match self {
+            Stage::Waiting | Stage::Running => true,
+            Stage::Done(_) | Stage::Refused(_) => false,
+        }
+    }
+
+    fn ended(ended: Result<Progress, Refusal>) -> Stage
+        ensures { result ≡ end_stage ended }
+    {
+        match ended {
+            Ok(progress) => Stage::Done(progress),
+            Err(refusal) => Stage::Refused(refusal),
+        }
+    }
+
+    fn told(self) -> Result<Progress, Refusal>
+        ensures { result ≡ stage_told self }
+    {
+        match self {
+            Stage::Done(progress) => Ok(progress),
+            Stage::Refused(refusal) => Err(refusal),
+            Stage::Waiting | Stage::Running => Err(Refusal::NotWatched),
+        }
+    }
+}
+
+/// Whether the two are one part.
+fn is_same_part(one: &Subtree, other: &Subtree) -> bool
+    ensures { result ≡ is_same_part one.now other.now }
+{
+    match (one, other) {
+        (Subtree::Whole, Subtree::Whole) => true,
+        (Subtree::Below(top), Subtree::Below(other)) => top.same(other),
+        _ => false,
+    }
+}
+
+/// A crawl that was asked for.
+#[derive(Drop)]
+pub(crate) struct AskedCrawl {
+    pub(crate) ticket: u64,
+    subtree: Subtree,
+    pub(crate) stage: Stage,
+    /// How many sessions wait for its end.
+    waiters: u64,
+}
+
+impl AskedCrawl {
+    pub(crate) fn new(ticket: u64, subtree: Subtree, waiters: u64) -> AskedCrawl
+        ensures { result ≡ new_crawl ticket subtree waiters }
+    {
+        AskedCrawl {
+            ticket,
+            subtree,
+            stage: Stage::Waiting,
+            waiters,
+        }
+    }
+
+    /// Whether who asks for the part now may wait for this one.
+    pub(crate) fn serves(&self, subtree: &Subtree) -> bool
+        ensures { result ≡ serves subtree.now self.now }
+    {
+        self.stage.is_at_rest() && is_same_part(&self.subtree, subtree)
+    }
+
+    pub(crate) fn is_pending(&self, ticket: u64) -> bool
+        ensures { result ≡ is_pending ticket self.now }
+    {
+        self.ticket == ticket && self.stage.is_open()
+    }
+
+    /// So many more wait for it. Its ticket.
+    pub(crate) fn join(&mut self, waiters: u64) -> u64
+        ensures told { result ≡ self.old.ticket }
+        ensures joined { more_waiters waiters self.old ≡ self.new ∷ [] }
+    {
+        self.waiters = self.waiters.saturating_add(waiters);
+        self.ticket
+    }
+
+    /// It runs. Its ticket and its part.
+    pub(crate) fn run(&mut self) -> (u64, Result<Subtree, NoMemory>)
+        ensures told { (result.0 ≡ self.old.ticket) × IfOk result.1 (λ part. part ≡ self.old.subtree) }
+        ensures runs { running self.old ≡ self.new ∷ [] }
+    {
+        self.stage = Stage::Running;
+        (self.ticket, self.subtree.copy())
+    }
+
+    /// It has ended so. Whether anybody waits for it.
+    pub(crate) fn end(&mut self, ended: Result<Progress, Refusal>) -> bool
+        ensures { MatchBool result (ended_crawl ended self.old ≡ self.new ∷ []) (ended_crawl ended self.old ≡ []) }
+    {
+        self.stage = Stage::ended(ended);
+        self.waiters != 0
+    }
+
+    /// What it came to, for one of those who wait for it, and whether others still do.
+    pub(crate) fn collect(&mut self) -> (Result<Progress, Refusal>, bool)
+        ensures told { result.0 ≡ stage_told self.old.stage }
+        ensures left { MatchBool result.1 (collected self.old ≡ self.new ∷ []) (collected self.old ≡ []) }
+    {
+        self.waiters = self.waiters.saturating_sub(1);
+        (self.stage.told(), self.waiters != 0)
+    }
+}
