@@ -53,7 +53,7 @@ pub(crate) fn flush_until<R: Wait + Abort, D: Disk + Drop>(
     desk: &Desk<D>,
     ends: &AtomicU64,
 ) {
-    let mut flusher = desk.flusher(rt).expect(rt, "a flusher");
+    let mut flusher = desk.flusher(rt).ok().expect(rt, "a flusher");
     for _ in rt.forever() {
         let is_ending = ends.load(Ordering::SeqCst) == 1;
         if flush_some(rt, desk, &mut flusher, is_ending) {

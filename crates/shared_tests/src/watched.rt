@@ -4,11 +4,17 @@ ghost use Rattle.std.specs.Prelude.{◌≡◌, ◌⊎◌, IfErr};
 use std::alloc::Global;
 use std::sync::{Arc, Mutex, Wait};
 use wm_disk::Refusal;
-use wm_hall::{Forgetting, RootHall, Seconds};
+use wm_hall::{Retention, RootHall, Seconds};
 use wm_names::RootPath;
 use wm_registry::Command;
 use wm_share::{Naming, Opened, Shares};
 use wm_shared::Roots;
+
+/// Nothing is forgotten by itself.
+const RETENTION: Retention = Retention {
+    age_seconds: 1_000_000,
+    interval_seconds: 1_000_000,
+};
 
 /// The roots in the order of watching, and the number of the next.
 #[derive(Drop)]
@@ -107,7 +113,7 @@ fn hall_of<J: Naming, K: Wait + Copy + Drop>(
     number: u64,
 ) -> Option<Arc<RootHall<J, K>>> {
     let (keeper, pool) = shares.share(keeping, alloc, 1, number).ok()?;
-    let hall = RootHall::new(alloc, path, number, keeper, pool).ok()?;
+    let hall = RootHall::new(alloc, path, number, keeper, pool, RETENTION).ok()?;
     Arc::new(alloc, hall).ok()
 }
 
@@ -135,7 +141,9 @@ fn take_out<J: Naming, K: Wait + Copy + Drop>(followed: &mut Followed<J, K>, pat
 }
 
 impl<J: Naming, K: Wait + Copy + Drop> Seconds for Watched<J, K> {
-    ghost earliest = { λ roots. 0 };
+    ghost use Rattle.std.specs.Prelude.{◌≡◌};
+
+    ghost may_read = { λ roots second. second ≡ roots.second };
 
     fn second(&self) -> u64 {
         self.second
@@ -150,6 +158,10 @@ impl<J: Naming, K: Wait + Copy + Drop> Roots<J, K> for Watched<J, K> {
     ghost lacks = { λ roots path. ⊤ };
 
     ghost ended = { λ roots number. ⊤ };
+
+    ghost followed = { λ roots count. ⊤ };
+
+    ghost woken = { λ roots number. ⊤ };
 
     fn find<R: Wait>(
         &self,
@@ -173,7 +185,7 @@ impl<J: Naming, K: Wait + Copy + Drop> Roots<J, K> for Watched<J, K> {
 
     fn await_followed<R: Wait>(&self, _rt: &R, _count: u64) {}
 
-    fn ring<R: Wait>(&self, _rt: &R, _hall: &RootHall<J, K>) {}
+    fn wake<R: Wait>(&self, _rt: &R, _hall: &RootHall<J, K>) {}
 
     fn is_watched<R: Wait>(&self, rt: &R, number: u64) -> bool {
         has_number(&self.followed.lock(rt).halls, number)
@@ -181,12 +193,5 @@ impl<J: Naming, K: Wait + Copy + Drop> Roots<J, K> for Watched<J, K> {
 
     fn number_of<R: Wait>(&self, rt: &R, path: &RootPath) -> Option<u64> {
         number_at(&self.followed.lock(rt).halls, path)
-    }
-
-    fn forgetting(&self) -> Forgetting {
-        Forgetting {
-            age: 1_000_000,
-            interval: 1_000_000,
-        }
     }
 }

@@ -1,5 +1,5 @@
 -- From what an operation on a root tells to the state at which it was met.
-use Rattle.std.proofs.Common.{◌≡◌, ◌∙◌, ◌⊎◌, inl, inr, ℕ, ◌≤◌, Bool, true, false, true≢false, not, List, [], ◌∷◌, ◌++◌, length, cond, refl, sym, ap, subst, rules, arith}
+use Rattle.std.proofs.Common.{◌≡◌, ◌∙◌, ◌⊎◌, inl, inr, ℕ, ◌≤◌, Bool, true, false, true≢false, not, List, [], ◌∷◌, ◌++◌, length, cond, max, refl, sym, ap, subst, rules, arith}
 use Rattle.std.specs.Prelude.{Option, Some, None, Result, Ok, Err, nat_lt, ◌&&◌, ◌||◌, ◌==◌}
 use Rattle.std.specs.List.{fold}
 use Rattle.wm_disk.specs.declared.refusal.Refusal.{Refusal}
@@ -218,6 +218,9 @@ module _ (has : Path → ℕ → Type 0) (path : Path) (op : Op) where
 
 -- ---- at the moment that it was given, or at a later one
 
+pub not_before : (moment now given : ℕ) → moment ≡ max now given → given ≤ moment
+not_before moment now given is = omega (arith, is)
+
 -- an operation was met at a moment no earlier than it was given
 pub record IsChanged (has : Path → ℕ → Type 0) (a : SharedKnown) (path : Path) (op : Op) (result : Result Progress Refusal) (b : SharedKnown) : Type 0 where
   pub moment : ℕ
@@ -248,7 +251,7 @@ module _ (has : Path → ℕ → Type 0) (path : Path) (op : Op) where
   pub changed_refused : (a b : SharedKnown) (e : Refusal) → KeepsSeat a.seat b.seat → b.viewers ≡ a.viewers → (e ≡ NoMemory) ⊎ ((e ≡ NotWatched) × IsUnwatchedAfter path a.seat b.seat) → IsChanged has a path op (Err e) b
   changed_refused a b e keeps same refused = changed_when_given a b (Err e) (performed_refused has path (at_moment (moment_given op) op) a b e keeps same refused)
 
-  module _ (given : ℕ) (change : Change) (of : op ≡ op_at given change) where
+  module _ (given : ℕ) (change : Change) (of : op ≡ op_at given change) (MayRead : ℕ → Type 0) (rises : (moment : ℕ) → MayRead moment → given ≤ moment) where
     is_at : (moment : ℕ) → op_at moment change ≡ at_moment moment op
     is_at moment = sym (at_another moment given change) ∙ ap (at_moment moment) (sym of)
 
@@ -256,12 +259,12 @@ module _ (has : Path → ℕ → Type 0) (path : Path) (op : Op) where
     is_later moment le = subst (λ m. m ≤ moment) (sym (ap moment_given of ∙ given_of given change)) le
 
     pub changed_found : (number : ℕ) (a b : SharedKnown) (result : Result Progress Refusal) → OperatedLaw → has path number → KeepsSeat a.seat b.seat
-        → IsToldBy number a.viewers result b.viewers (λ old new. IsChangeSeen old given change result new) → IsChanged has a path op result b
+        → IsToldBy number a.viewers result b.viewers (λ old new. IsChangeSeen old MayRead change result new) → IsChanged has a path op result b
     changed_found number a b result law root keeps (inl (is, same)) =
         changed_when_given a b result (performed_in_vain has path (at_moment (moment_given op) op) a b result keeps (inl same) is)
-    changed_found number a b result law root keeps (inr (more, (sees, inl (list, moment, le, learnt, end)))) =
+    changed_found number a b result law root keeps (inr (more, (sees, inl (list, moment, read, learnt, end)))) =
         let last = subst (λ o. IsEndOf o list result) (is_at moment) end in
-        changed_at moment a b result (is_later moment le) (performed_on has path (at_moment moment op) number a b result more list law root keeps learnt last)
+        changed_at moment a b result (is_later moment (rises moment read)) (performed_on has path (at_moment moment op) number a b result more list law root keeps learnt last)
     changed_found number a b result law root keeps (inr (more, (sees, inr (inl is)))) =
         changed_when_given a b result (performed_in_vain has path (at_moment (moment_given op) op) a b result keeps (inr (number, more)) is)
     changed_found number a b result law root keeps (inr (more, (sees, inr (inr is)))) =

@@ -21,6 +21,11 @@ sat_seen (Some old) seat sat = let is : seat.seen ≡ old.seen = ap (λ (s : Sea
 pub shown_to : (old now : Option Seat) (r : State) (count : ℕ) → (seat : Seat) × (new : Seat) × IsSatOn old seat × (now ≡ Some new) × SeatGoesOn seat new × IsLookedAt seat r count new → IsShownTo old r now
 shown_to old now r count (seat, new, sat, is, goes, looked) = (new, is, fewer (seen_by old) seat.seen new r (sat_seen old seat sat) looked.after)
 
+-- it was shown after as many commands as were counted
+pub shown_at : (old now : Option Seat) (r : State) (count : ℕ) (l : (seat : Seat) × (new : Seat) × IsSatOn old seat × (now ≡ Some new) × SeatGoesOn seat new × IsLookedAt seat r count new) → (shown_to old now r count l).2.at ≡ count
+unfolding shown_to fewer
+shown_at old now r count (seat, new, sat, is, goes, looked) = looked.at
+
 -- a session that keeps its seat has seen no less
 kept_seen : (old mid : Option Seat) → KeepsSeat old mid → seen_by old ≤ seen_by mid
 kept_seen None mid keeps = omega arith

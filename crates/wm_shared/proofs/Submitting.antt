@@ -1,5 +1,5 @@
 -- From what a seat knows of a command to the state at which it was met.
-use Rattle.std.specs.Prelude.{◌≤◌, ◌+◌, Option, Some, Result, Ok, Err, IfOk, IfErr, MatchResult, if◌then◌else◌}
+use Rattle.std.specs.Prelude.{◌≤◌, ◌+◌, Option, Some, None, Result, Ok, Err, IfOk, IfErr, MatchResult, if◌then◌else◌}
 use Rattle.std.proofs.Common.{◌≡◌, ◌∙◌, ◌⊎◌, inl, inr, ℕ, Bool, true, false, [], refl, sym, ap, subst, true≢false}
 use Rattle.wm_disk.specs.declared.refusal.Refusal.{Refusal}
 use Rattle.wm_disk.specs.declared.refusal.Refusal.TheVariants as refusals
@@ -22,7 +22,7 @@ use Rattle.wm_groupcommit.specs.declared.seat.Seat.{Seat}
 use Rattle.wm_session.specs.session.Faults.{Way, Defined, Device, Memory, Spent, reply_or}
 use Rattle.wm_session.specs.session.Fronts.{Commands}
 use Rattle.wm_session.specs.session.Sessions.{SessionState, reply_to_command}
-use Rattle.wm_shared.specs.Commands.{KeepsSeat, IsCommandFoundBy, IsReceipted, IsReplied, IsSatOn, SeatGoesOn}
+use Rattle.wm_shared.specs.Commands.{KeepsSeat, IsCommandFoundBy, IsReceipted, IsReplied, IsReplyFollowed, IsSatOn, IsStandingFollowed, IsTurnedByFailure, SeatGoesOn}
 use Rattle.wm_shared.specs.Looks.{IsLookedAt}
 use Rattle.wm_shared.specs.MetShared.{MetShared, SharedKnown, no_root}
 use Rattle.wm_shared.specs.SharedLaws.{keeps_same}
@@ -30,13 +30,6 @@ use Rattle.wm_shared.proofs.OneRoot.{with_registry}
 
 nothing : State
 nothing = record { version = Two; incarnation = 0; next = 0; roots = [] }
-
--- a command was found to be met in a way at a state
-record IsFound (old : Seat) (c : Command) (reply : Reply) (new : Seat) : Type 0 where
-  pub way : Way
-  pub found : SessionState
-  pub by : IsCommandFoundBy way (is_change (reply_to_command found c)) old found new
-  pub reply_is : reply ≡ reply_or way (reply_to_command found c)
 
 working : (r : State) (c : Command) → is_begin c ≡ false → reply_to_command (with_registry r false) c ≡ reply_to r c
 working r c plain = ap (λ (b : Bool). if b then Refused refusals.BadArguments else reply_to r c) plain
@@ -47,121 +40,150 @@ failed r c plain = ap (λ (b : Bool). if b then Refused refusals.BadArguments el
 batched : (r : State) (c : Command) → is_begin c ≡ false → in_batch r c ≡ reply_to r c
 batched r c plain = ap (λ (b : Bool). if b then Refused refusals.BadArguments else reply_to r c) plain
 
--- a reply with a receipt
-answered : (old new : Seat) (c : Command) (reply : Reply) (standing : Option Standing) → is_begin c ≡ false → IsReceipted old c reply standing new → IsFound old c reply new
-answered old new c reply standing plain h =
-    let a = h.answered in
-    let r = state_at a.base (known_list new) a.at in
-    let is : reply_to_command (with_registry r false) c ≡ reply = working r c plain ∙ sym a.right in
-    record {
-      way = Defined;
-      found = with_registry r false;
-      by = inl (record {
-        after = record { base = a.base; at = a.at; found = a.found; later = a.later; registry_is = refl };
-        works = refl;
-        seen = λ accepts. a.seen ∙ ap mark_of a.standing ∙ ap (λ (b : Bool). mark_of (if b then Stands (a.at + 1) c else Stays a.at)) (sym (ap is_change is) ∙ accepts);
-      });
-      reply_is = sym is;
-    }
-
--- a refusal that speaks of the store, the device, the slot's number or memory
-by_failure : (old new : Seat) (c : Command) (e : Refusal) → is_begin c ≡ false → IsTurned old new c e → IsFailure e → IsFound old c (Refused e) new
-by_failure old new c e plain turned (inl is) = record {
-  way = Defined;
-  found = with_registry nothing true;
-  by = inr (refl, (c, subst (λ x. IsTurned old new c x) is turned));
-  reply_is = ap Refused is ∙ sym (failed nothing c plain);
-}
-by_failure old new c e plain turned (inr (inl is)) = record { way = Device; found = with_registry nothing false; by = (c, subst (λ x. IsTurned old new c x) is turned); reply_is = ap Refused is }
-by_failure old new c e plain turned (inr (inr (inl is))) = record { way = Spent; found = with_registry nothing false; by = (c, subst (λ x. IsTurned old new c x) is turned); reply_is = ap Refused is }
-by_failure old new c e plain turned (inr (inr (inr is))) = record { way = Memory; found = with_registry nothing false; by = (c, subst (λ x. IsTurned old new c x) is turned); reply_is = ap Refused is }
-
 refusal_or : Refusal → Reply → Refusal
 refusal_or e Changed = e
 refusal_or e Replaced = e
 refusal_or e Unchanged = e
 refusal_or e (Refused x) = x
 
--- a refusal of the registry
-by_registry : (old new : Seat) (c : Command) (e : Refusal) (a : Answer) (base : State) → is_begin c ≡ false → new.replies.base ≡ Some base → a.call ≡ call_from old c → old.seen ≤ a.at → a.reply ≡ Refused e
-    → RightReply base (known_list new) a → IsFound old c (Refused e) new
-by_registry old new c e a base plain found call later is right =
-    let r = state_at base (known_list new) a.at in
-    let met : reply_to_command (with_registry r false) c ≡ Refused e =
-    working r c plain ∙ sym (batched r c plain) ∙ ap (λ x. in_batch r x.command) (sym call) ∙ sym right.1 ∙ is in
-    record {
-      way = Defined;
-      found = with_registry r false;
-      by = inl (record {
-        after = record { base = base; at = a.at; found = found; later = (later, right.0); registry_is = refl };
-        works = refl;
-        seen = λ accepts. absurd (true≢false (sym accepts ∙ ap is_change met));
-      });
-      reply_is = sym met;
-    }
+module _ (accepted followed : ℕ → Type 0) where
+  -- a command was found to be met in a way at a state
+  record IsFound (old : Seat) (c : Command) (reply : Reply) (new : Seat) : Type 0 where
+    pub way : Way
+    pub found : SessionState
+    pub by : IsCommandFoundBy accepted followed way (is_change (reply_to_command found c)) old found new
+    pub reply_is : reply ≡ reply_or way (reply_to_command found c)
 
-declined : (old new : Seat) (c : Command) (e : Refusal) → is_begin c ≡ false → IsTurned old new c e → IsDeclined old new (call_from old c) e → IsFound old c (Refused e) new
-unfolding refusal_or
-declined old new c e plain turned d =
-    elim d.declined [
-      | inl (is, misfits) ↦ by_failure old new c e plain turned (inl is)
-      | inr (call, later, is) ↦ elim d.taken.2 [
-        | inl (x, so, failure) ↦ by_failure old new c e plain turned (subst IsFailure (ap (refusal_or e) (sym so ∙ is)) failure)
-        | inr right ↦ by_registry old new c e d.answer d.base plain d.taken.0 call later is right
+  -- what the roots have followed of a reply with a receipt
+  standing_followed : (b : Bool) (at : ℕ) (c : Command) (reply : Reply) → IsStandingFollowed accepted followed (Some (if b then Stands (at + 1) c else Stays at)) reply → IsReplyFollowed accepted followed b at
+  standing_followed true at c reply goes = goes
+  standing_followed false at c reply goes = inl goes
+
+  -- a reply with a receipt
+  answered : (old new : Seat) (c : Command) (reply : Reply) (standing : Option Standing) → is_begin c ≡ false → IsReceipted old c reply standing new → IsStandingFollowed accepted followed standing reply → IsFound old c reply new
+  answered old new c reply standing plain h goes =
+      let a = h.answered in
+      let r = state_at a.base (known_list new) a.at in
+      let is : reply_to_command (with_registry r false) c ≡ reply = working r c plain ∙ sym a.right in
+      record {
+        way = Defined;
+        found = with_registry r false;
+        by = inl (
+          record {
+            after = record { base = a.base; at = a.at; found = a.found; later = a.later; registry_is = refl };
+            works = refl;
+            seen = λ accepts. a.seen ∙ ap mark_of a.standing ∙ ap (λ (b : Bool). mark_of (if b then Stands (a.at + 1) c else Stays a.at)) (sym (ap is_change is) ∙ accepts);
+          },
+          inl (subst (λ (b : Bool). IsReplyFollowed accepted followed b a.at) (sym (ap is_change is))
+              (standing_followed (is_change reply) a.at c reply (subst (λ o. IsStandingFollowed accepted followed o reply) (h.standing_is ∙ ap (λ (x : Standing). Some x) a.standing) goes))),
+        );
+        reply_is = sym is;
+      }
+
+  -- a refusal that speaks of the store, the device, the slot's number or memory
+  by_failure : (old new : Seat) (c : Command) (e : Refusal) → is_begin c ≡ false → IsTurned old new c e → IsFailure e → IsFound old c (Refused e) new
+  by_failure old new c e plain turned (inl is) = record {
+    way = Defined;
+    found = with_registry nothing true;
+    by = inr (refl, (c, subst (λ x. IsTurned old new c x) is turned));
+    reply_is = ap Refused is ∙ sym (failed nothing c plain);
+  }
+  by_failure old new c e plain turned (inr (inl is)) = record { way = Device; found = with_registry nothing false; by = (c, subst (λ x. IsTurned old new c x) is turned); reply_is = ap Refused is }
+  by_failure old new c e plain turned (inr (inr (inl is))) = record { way = Spent; found = with_registry nothing false; by = (c, subst (λ x. IsTurned old new c x) is turned); reply_is = ap Refused is }
+  by_failure old new c e plain turned (inr (inr (inr is))) = record { way = Memory; found = with_registry nothing false; by = (c, subst (λ x. IsTurned old new c x) is turned); reply_is = ap Refused is }
+
+  -- what the roots have followed of a refusal
+  refusal_followed : (old new : Seat) (c : Command) (e : Refusal) (at : ℕ) → IsTurned old new c e → IsStandingFollowed accepted followed None (Refused e) → IsReplyFollowed accepted followed false at ⊎ IsTurnedByFailure old new
+  unfolding refusal_or
+  refusal_followed old new c e at turned (inl (x, is, failure)) = inr (x, failure, (c, subst (λ y. IsTurned old new c y) (ap (refusal_or e) is) turned))
+  refusal_followed old new c e at turned (inr caught) = inl (inr caught)
+
+  -- a refusal of the registry
+  by_registry : (old new : Seat) (c : Command) (e : Refusal) (a : Answer) (base : State) → is_begin c ≡ false → IsTurned old new c e → IsStandingFollowed accepted followed None (Refused e) → new.replies.base ≡ Some base → a.call ≡ call_from old c → old.seen ≤ a.at → a.reply ≡ Refused e
+      → RightReply base (known_list new) a → IsFound old c (Refused e) new
+  by_registry old new c e a base plain turned goes found call later is right =
+      let r = state_at base (known_list new) a.at in
+      let met : reply_to_command (with_registry r false) c ≡ Refused e =
+      working r c plain ∙ sym (batched r c plain) ∙ ap (λ x. in_batch r x.command) (sym call) ∙ sym right.1 ∙ is in
+      record {
+        way = Defined;
+        found = with_registry r false;
+        by = inl (
+          record {
+            after = record { base = base; at = a.at; found = found; later = (later, right.0); registry_is = refl };
+            works = refl;
+            seen = λ accepts. absurd (true≢false (sym accepts ∙ ap is_change met));
+          },
+          subst (λ (b : Bool). IsReplyFollowed accepted followed b a.at ⊎ IsTurnedByFailure old new) (sym (ap is_change met)) (refusal_followed old new c e a.at turned goes),
+        );
+        reply_is = sym met;
+      }
+
+  declined : (old new : Seat) (c : Command) (e : Refusal) → is_begin c ≡ false → IsTurned old new c e → IsStandingFollowed accepted followed None (Refused e) → IsDeclined old new (call_from old c) e → IsFound old c (Refused e) new
+  unfolding refusal_or
+  declined old new c e plain turned goes d =
+      elim d.declined [
+        | inl (is, misfits) ↦ by_failure old new c e plain turned (inl is)
+        | inr (call, later, is) ↦ elim d.taken.2 [
+          | inl (x, so, failure) ↦ by_failure old new c e plain turned (subst IsFailure (ap (refusal_or e) (sym so ∙ is)) failure)
+          | inr right ↦ by_registry old new c e d.answer d.base plain turned goes d.taken.0 call later is right
+        ]
       ]
-    ]
 
-turned_found : (old new : Seat) (c : Command) (e : Refusal) → is_begin c ≡ false → IsTurned old new c e → IsFound old c (Refused e) new
-turned_found old new c e plain turned =
-    elim turned.why [
-      | inl (is, same) ↦ by_failure old new c e plain turned (inr (inr (inr is)))
-      | inr d ↦ declined old new c e plain turned d
-    ]
+  turned_found : (old new : Seat) (c : Command) (e : Refusal) → is_begin c ≡ false → IsTurned old new c e → IsStandingFollowed accepted followed None (Refused e) → IsFound old c (Refused e) new
+  turned_found old new c e plain turned goes =
+      elim turned.why [
+        | inl (is, same) ↦ by_failure old new c e plain turned (inr (inr (inr is)))
+        | inr d ↦ declined old new c e plain turned goes d
+      ]
 
-replied_found : (old new : Seat) (c : Command) (reply : Reply) (standing : Option Standing) → is_begin c ≡ false → IsReplied old c reply standing new → IsFound old c reply new
-replied_found old new c reply standing plain (inl h) = answered old new c reply standing plain h
-replied_found old new c reply standing plain (inr h) = subst (λ x. IsFound old c x new) (sym h.reply_is) (turned_found old new c h.refusal plain h.turned)
+  replied_found : (old new : Seat) (c : Command) (reply : Reply) (standing : Option Standing) → is_begin c ≡ false → IsStandingFollowed accepted followed standing reply → IsReplied old c reply standing new → IsFound old c reply new
+  replied_found old new c reply standing plain goes (inl h) = answered old new c reply standing plain h goes
+  replied_found old new c reply standing plain goes (inr h) =
+      let refused : IsStandingFollowed accepted followed None (Refused h.refusal) = subst (λ x. IsStandingFollowed accepted followed None x) h.reply_is (subst (λ o. IsStandingFollowed accepted followed o reply) h.standing_is goes) in
+      subst (λ x. IsFound old c x new) (sym h.reply_is) (turned_found old new c h.refusal plain h.turned refused)
 
 -- ---- from the session's place
 
--- a command was met by a session
-pub record IsSubmitted (has : Path → ℕ → Type 0) (a : SharedKnown) (c : Command) (reply : Reply) (b : SharedKnown) : Type 0 where
-  pub way : Way
-  pub found : SessionState
-  pub by : (left : SessionState) → MetShared has a Commands way (is_change (reply_to_command found c)) found left b
-  pub reply_is : reply ≡ reply_or way (reply_to_command found c)
+module _ (has : Path → ℕ → Type 0) (woken accepted followed : ℕ → Type 0) where
+  -- a command was met by a session
+  pub record IsSubmitted (a : SharedKnown) (c : Command) (reply : Reply) (b : SharedKnown) : Type 0 where
+    pub way : Way
+    pub found : SessionState
+    pub by : (left : SessionState) → MetShared has woken accepted followed a Commands way (is_change (reply_to_command found c)) found left b
+    pub reply_is : reply ≡ reply_or way (reply_to_command found c)
 
-pub submitted : (has : Path → ℕ → Type 0) (a b : SharedKnown) (c : Command) (reply : Reply) (standing : Option Standing) → is_begin c ≡ false → b.viewers ≡ a.viewers
-    → ((b.seat ≡ a.seat) × (reply ≡ Refused refusals.NoMemory))
-    ⊎ ((seat : Seat) × (new : Seat) × IsSatOn a.seat seat × (b.seat ≡ Some new) × SeatGoesOn seat new × IsReplied seat c reply standing new)
-    → IsSubmitted has a c reply b
-submitted has a b c reply standing plain same (inl (stays, is)) = record { way = Memory; found = no_root; by = λ left. (same, inl (refl, subst (λ o. KeepsSeat a.seat o) (sym stays) (keeps_same a.seat))); reply_is = is }
-submitted has a b c reply standing plain same (inr (seat, new, sat, now, goes, replied)) =
-    let f = replied_found seat new c reply standing plain replied in
-    record { way = f.way; found = f.found; by = λ left. (same, inr (seat, new, sat, now, goes, f.by)); reply_is = f.reply_is }
+  pub submitted : (a b : SharedKnown) (c : Command) (reply : Reply) (standing : Option Standing) → is_begin c ≡ false → IsStandingFollowed accepted followed standing reply → b.viewers ≡ a.viewers
+      → ((b.seat ≡ a.seat) × (reply ≡ Refused refusals.NoMemory))
+      ⊎ ((seat : Seat) × (new : Seat) × IsSatOn a.seat seat × (b.seat ≡ Some new) × SeatGoesOn seat new × IsReplied seat c reply standing new)
+      → IsSubmitted a c reply b
+  submitted a b c reply standing plain follows same (inl (stays, is)) = record { way = Memory; found = no_root; by = λ left. (same, inl (refl, subst (λ o. KeepsSeat a.seat o) (sym stays) (keeps_same a.seat))); reply_is = is }
+  submitted a b c reply standing plain follows same (inr (seat, new, sat, now, goes, replied)) =
+      let f = replied_found accepted followed seat new c reply standing plain follows replied in
+      record { way = f.way; found = f.found; by = λ left. (same, inr (seat, new, sat, now, goes, f.by)); reply_is = f.reply_is }
 
--- a `Begin` is refused on the registry that the seat was shown
-pub begin_refused : (has : Path → ℕ → Type 0) (a b : SharedKnown) (r : State) (count : ℕ) → b.viewers ≡ a.viewers
-    → (seat : Seat) × (new : Seat) × IsSatOn a.seat seat × (b.seat ≡ Some new) × SeatGoesOn seat new × IsLookedAt seat r count new
-    → IsSubmitted has a commands.Begin (Refused refusals.BadArguments) b
-begin_refused has a b r count same (seat, new, sat, now, goes, looked) = record {
-  way = Defined;
-  found = with_registry r false;
-  by = λ left. (same, inr (seat, new, sat, now, goes, inl (record { after = looked.after; works = refl; seen = λ accepts. absurd (true≢false (sym accepts)) })));
-  reply_is = refl;
-}
+  -- a `Begin` is refused on the registry that the seat was shown
+  pub begin_refused : (a b : SharedKnown) (r : State) (count : ℕ) → b.viewers ≡ a.viewers
+      → ((seat : Seat) × (new : Seat) × IsSatOn a.seat seat × (b.seat ≡ Some new) × SeatGoesOn seat new × IsLookedAt seat r count new) × followed count
+      → IsSubmitted a commands.Begin (Refused refusals.BadArguments) b
+  begin_refused a b r count same ((seat, new, sat, now, goes, looked), follows) = record {
+    way = Defined;
+    found = with_registry r false;
+    by = λ left. (same, inr (seat, new, sat, now, goes, inl (record { after = looked.after; works = refl; seen = λ accepts. absurd (true≢false (sym accepts)) }, inl (inl (subst followed (sym looked.at) follows)))));
+    reply_is = refl;
+  }
 
--- memory ran out for the look
-pub begin_unseen : (has : Path → ℕ → Type 0) (a b : SharedKnown) (e : Refusal) → b.viewers ≡ a.viewers → KeepsSeat a.seat b.seat → e ≡ refusals.NoMemory → IsSubmitted has a commands.Begin (Refused e) b
-begin_unseen has a b e same keeps is = record { way = Memory; found = no_root; by = λ left. (same, inl (refl, keeps)); reply_is = ap Refused is }
+  -- memory ran out for the look
+  pub begin_unseen : (a b : SharedKnown) (e : Refusal) → b.viewers ≡ a.viewers → KeepsSeat a.seat b.seat → e ≡ refusals.NoMemory → IsSubmitted a commands.Begin (Refused e) b
+  begin_unseen a b e same keeps is = record { way = Memory; found = no_root; by = λ left. (same, inl (refl, keeps)); reply_is = ap Refused is }
 
-pub begin_met : (has : Path → ℕ → Type 0) (a b : SharedKnown) (c : Command) (looked : Result (State × ℕ) Refusal) (reply : Reply) → c ≡ commands.Begin → b.viewers ≡ a.viewers → KeepsSeat a.seat b.seat
-    → IfOk looked (λ r. (seat : Seat) × (new : Seat) × IsSatOn a.seat seat × (b.seat ≡ Some new) × SeatGoesOn seat new × IsLookedAt seat r.0 r.1 new) → IfErr looked (λ e. e ≡ refusals.NoMemory)
-    → MatchResult looked (λ r. reply ≡ Refused refusals.BadArguments) (λ e. reply ≡ Refused e) → IsSubmitted has a c reply b
-begin_met has a b c (Ok r) reply is same keeps ok err met =
-    subst (λ x. IsSubmitted has a x reply b) (sym is) (subst (λ x. IsSubmitted has a commands.Begin x b) (sym met) (begin_refused has a b r.0 r.1 same ok))
-begin_met has a b c (Err e) reply is same keeps ok err met =
-    subst (λ x. IsSubmitted has a x reply b) (sym is) (subst (λ x. IsSubmitted has a commands.Begin x b) (sym met) (begin_unseen has a b e same keeps err))
+  pub begin_met : (a b : SharedKnown) (c : Command) (looked : Result (State × ℕ) Refusal) (reply : Reply) → c ≡ commands.Begin → b.viewers ≡ a.viewers → KeepsSeat a.seat b.seat
+      → IfOk looked (λ r. ((seat : Seat) × (new : Seat) × IsSatOn a.seat seat × (b.seat ≡ Some new) × SeatGoesOn seat new × IsLookedAt seat r.0 r.1 new) × followed r.1) → IfErr looked (λ e. e ≡ refusals.NoMemory)
+      → MatchResult looked (λ r. reply ≡ Refused refusals.BadArguments) (λ e. reply ≡ Refused e) → IsSubmitted a c reply b
+  begin_met a b c (Ok r) reply is same keeps ok err met =
+      subst (λ x. IsSubmitted a x reply b) (sym is) (subst (λ x. IsSubmitted a commands.Begin x b) (sym met) (begin_refused a b r.0 r.1 same ok))
+  begin_met a b c (Err e) reply is same keeps ok err met =
+      subst (λ x. IsSubmitted a x reply b) (sym is) (subst (λ x. IsSubmitted a commands.Begin x b) (sym met) (begin_unseen a b e same keeps err))
 
 pub is_plain : (c : Command) → (c ≡ commands.Begin → ⊥) → is_begin c ≡ false
 is_plain commands.Begin other = absurd (other refl)

@@ -14,10 +14,10 @@ use Rattle.wm_subs.specs.Subscribers.{Subscriber, due_answer}
 use Rattle.wm_lines.specs.declared.query.Inquiry.{Inquiry}
 use Rattle.wm_share.specs.PublishedLists.{ViewerState, disconnected, history}
 use Rattle.wm_hall.specs.Inquired.{IsInquired}
-use Rattle.wm_shared.specs.RootsSeen.{IsAnswerSeen, IsClockSeen, IsDueSeen, unless_gone}
+use Rattle.wm_shared.specs.RootsSeen.{IsAnswerSeen, IsClockSeen, IsDueSeen, done_or_refused, unless_gone}
 
-pub inquired_still : (q : Inquiry) (cursors : CursorList) (old new : ViewerState) (before after : List ℕ) (result : Result (Unit {0}) Refusal)
-    → IsInquired q cursors old before result new after → IsAnswerSeen q new before (unless_gone result) after
+pub inquired_still : {A : Type 0} → (q : Inquiry) (cursors : CursorList) (old new : ViewerState) (before after : List ℕ) (result : Result A Refusal)
+    → IsInquired q cursors old before result new after → IsAnswerSeen q new before (unless_gone (done_or_refused result)) after
 inquired_still q cursors old new before after (Ok u) met = (cursors, met.0, met.1, met.2)
 inquired_still q cursors old new before after (Err e) (same, why) =
     elim why [

@@ -7,8 +7,9 @@ use Rattle.wm_registry.specs.declared.reply.Reply.{Reply}
 use Rattle.wm_registry.specs.declared.reply.Reply.TheVariants.{Refused}
 use Rattle.wm_registry.specs.Roots.{State}
 use Rattle.wm_store.specs.Batches.{is_begin}
-use Rattle.wm_groupcommit.specs.Books.{state_at}
+use Rattle.wm_groupcommit.specs.Books.{IsFailed, IsFailure, state_at}
 use Rattle.wm_groupcommit.specs.declared.receipt.Standing.{Standing}
+use Rattle.wm_groupcommit.specs.declared.receipt.Standing.TheVariants.{Stands, Unchanged as Stays}
 use Rattle.wm_groupcommit.specs.declared.seat.Seat.{Seat}
 use Rattle.wm_groupcommit.specs.Receipts.{ReceiptState, shown}
 use Rattle.wm_groupcommit.specs.Seats.{HasPushed, IsAnswered, IsNewSeat, IsOfRegistry, IsRefusedAfter, IsSameSeat, IsTurned, call_from, known_list}
@@ -76,14 +77,38 @@ pub record IsMetAfter (old new : Seat) (accepts : Bool) (s : SessionState) : Typ
 abbrev pub IsTurnedBy : Seat → Seat → Refusal → Type 0
 IsTurnedBy old new e = (command : Command) × IsTurned old new command e
 
--- what the seat knows of a command that was met in a way
-abbrev pub IsCommandFoundBy : Way → Bool → Seat → SessionState → Seat → Type 0
-IsCommandFoundBy Defined accepts old s new = IsMetAfter old new accepts s ⊎ ((s.has_failed ≡ true) × IsTurnedBy old new StoreFailed)
-IsCommandFoundBy Device accepts old s new = IsTurnedBy old new DeviceFailed
-IsCommandFoundBy Memory accepts old s new = IsTurnedBy old new NoMemory
-IsCommandFoundBy Spent accepts old s new = IsTurnedBy old new Exhausted
+-- a refusal that is none of the registry's
+abbrev pub IsTurnedByFailure : Seat → Seat → Type 0
+IsTurnedByFailure old new = (e : Refusal) × IsFailure e × IsTurnedBy old new e
 
--- Memory ran out before a seat was asked; or the session's seat, or a new one, submitted it.
-abbrev pub IsSubmittedBy : Way → Bool → Option Seat → SessionState → Option Seat → Type 0
-IsSubmittedBy way accepts old s now =
-    ((way ≡ Memory) × KeepsSeat old now) ⊎ ((seat : Seat) × (new : Seat) × IsSatOn old seat × (now ≡ Some new) × SeatGoesOn seat new × IsCommandFoundBy way accepts seat s new)
+-- ---- what the roots have followed
+
+-- `accepted n` says that the desk had accepted so many commands, and `followed n` that the watched roots had followed so many of them.
+module _ (accepted followed : ℕ → Type 0) where
+  -- the roots have followed all that the desk had accepted
+  abbrev pub IsCaughtUp : Type 0
+  IsCaughtUp = (count : ℕ) × accepted count × followed count
+
+  -- The roots have followed what a reply by the registry after `at` commands shows: an accepted command itself, and else these commands or all that the desk had accepted.
+  abbrev pub IsReplyFollowed : Bool → ℕ → Type 0
+  IsReplyFollowed true at = followed (at + 1)
+  IsReplyFollowed false at = followed at ⊎ IsCaughtUp
+
+  -- the same of a reply, by where its command stands
+  abbrev pub IsStandingFollowed : Option Standing → Reply → Type 0
+  IsStandingFollowed (Some (Stands number command)) reply = followed number
+  IsStandingFollowed (Some (Stays after)) reply = followed after
+  IsStandingFollowed None reply = IsFailed reply ⊎ IsCaughtUp
+
+  -- what the seat knows of a command that was met in a way
+  abbrev pub IsCommandFoundBy : Way → Bool → Seat → SessionState → Seat → Type 0
+  IsCommandFoundBy Defined accepts old s new =
+      ((met : IsMetAfter old new accepts s) × (IsReplyFollowed accepts met.after.at ⊎ IsTurnedByFailure old new)) ⊎ ((s.has_failed ≡ true) × IsTurnedBy old new StoreFailed)
+  IsCommandFoundBy Device accepts old s new = IsTurnedBy old new DeviceFailed
+  IsCommandFoundBy Memory accepts old s new = IsTurnedBy old new NoMemory
+  IsCommandFoundBy Spent accepts old s new = IsTurnedBy old new Exhausted
+
+  -- Memory ran out before a seat was asked; or the session's seat, or a new one, submitted it.
+  abbrev pub IsSubmittedBy : Way → Bool → Option Seat → SessionState → Option Seat → Type 0
+  IsSubmittedBy way accepts old s now =
+      ((way ≡ Memory) × KeepsSeat old now) ⊎ ((seat : Seat) × (new : Seat) × IsSatOn old seat × (now ≡ Some new) × SeatGoesOn seat new × IsCommandFoundBy way accepts seat s new)

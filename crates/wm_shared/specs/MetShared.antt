@@ -78,19 +78,25 @@ IsMetOnRoot has path asks way old s t new =
 
 -- ---- where any call is met
 
--- the registry is shown as the session's seat knows it, or memory ran out
-abbrev pub IsListedBy : Way → Option Seat → SessionState → Option Seat → Type 0
-IsListedBy Defined old s now = IsShownTo old s.registry now
-IsListedBy Device old s now = ⊥
-IsListedBy Memory old s now = Unit {0}
-IsListedBy Spent old s now = ⊥
+-- The registry is shown as the session's seat knows it, and the roots have followed its commands; or memory ran out.
+abbrev pub IsListedBy : (ℕ → Type 0) → Way → Option Seat → SessionState → Option Seat → Type 0
+IsListedBy followed Defined old s now = (is : IsShownTo old s.registry now) × followed is.2.at
+IsListedBy followed Device old s now = ⊥
+IsListedBy followed Memory old s now = Unit {0}
+IsListedBy followed Spent old s now = ⊥
 
--- What is known of a call on a part, where `has path number` says that the watched root of a path had the number. An operation is met at a moment no earlier than
--- it was given.
-abbrev pub MetShared : (Path → ℕ → Type 0) → SharedKnown → Part → Way → Bool → SessionState → SessionState → SharedKnown → Type 0
-MetShared has old Nowhere way accepts s t new = IsWithoutDevice way × (t ≡ s) × (new ≡ old)
-MetShared has old Commands way accepts s t new = (new.viewers ≡ old.viewers) × IsSubmittedBy way accepts old.seat s new.seat
-MetShared has old Lists way accepts s t new = (t ≡ s) × (new.viewers ≡ old.viewers) × KeepsSeat old.seat new.seat × IsListedBy way old.seat s new.seat
-MetShared has old (Changes path given moment) way accepts s t new = (given ≤ moment) × IsMetOnRoot has path false way old s t new
-MetShared has old (Asks path) way accepts s t new = IsMetOnRoot has path true way old s t new
-MetShared has old (Looks path) way accepts s t new = IsMetOnRoot has path true way old s t new
+-- If a viewer of the session has seen more by a change of a root, those who wait for changes of the root were woken.
+abbrev pub AreWoken : (Path → ℕ → Type 0) → (ℕ → Type 0) → Path → SharedKnown → SharedKnown → Type 0
+AreWoken has woken path old new = (new.viewers ≡ old.viewers) ⊎ ((number : ℕ) × has path number × woken number)
+
+-- `has path number` says that the watched root of a path had the number, `woken number` that those who wait for its changes were woken, `accepted n` that the
+-- desk had accepted so many commands, and `followed n` that the roots had followed so many.
+module _ (has : Path → ℕ → Type 0) (woken accepted followed : ℕ → Type 0) where
+  -- What is known of a call on a part. An operation is met at a moment no earlier than it was given.
+  abbrev pub MetShared : SharedKnown → Part → Way → Bool → SessionState → SessionState → SharedKnown → Type 0
+  MetShared old Nowhere way accepts s t new = IsWithoutDevice way × (t ≡ s) × (new ≡ old)
+  MetShared old Commands way accepts s t new = (new.viewers ≡ old.viewers) × IsSubmittedBy accepted followed way accepts old.seat s new.seat
+  MetShared old Lists way accepts s t new = (t ≡ s) × (new.viewers ≡ old.viewers) × KeepsSeat old.seat new.seat × IsListedBy followed way old.seat s new.seat
+  MetShared old (Changes path given moment) way accepts s t new = (given ≤ moment) × AreWoken has woken path old new × IsMetOnRoot has path false way old s t new
+  MetShared old (Asks path) way accepts s t new = IsMetOnRoot has path true way old s t new
+  MetShared old (Looks path) way accepts s t new = IsMetOnRoot has path true way old s t new

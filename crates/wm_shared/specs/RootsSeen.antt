@@ -58,6 +58,11 @@ abbrev pub unless_gone : {A : Type 0} → Result A Refusal → Result A Refusal
 unless_gone (Err NoPlace) = Err NoMemory
 unless_gone told = told
 
+-- whether a question was answered
+abbrev pub done_or_refused : {A : Type 0} → Result A Refusal → Result (Unit {0}) Refusal
+done_or_refused (Ok done) = Ok tt
+done_or_refused (Err e) = Err e
+
 -- what is due on a root that wasn't found: nothing if it isn't watched
 abbrev pub unless_unwatched : Refusal → Result (Option Answer) Refusal
 unless_unwatched NotWatched = Ok None

@@ -50,19 +50,19 @@ keeps_then (Some a) b c x y =
 
 -- ---- laws of a front
 
-module _ (has : Path → ℕ → Type 0) where
-  pub memory_on_root : (path : Path) (asks : Bool) (a : SharedKnown) (s : SessionState) → IsMetOnRoot has path asks Memory a s s a
+module _ (has : Path → ℕ → Type 0) (woken accepted followed : ℕ → Type 0) where
+  memory_on_root : (path : Path) (asks : Bool) (a : SharedKnown) (s : SessionState) → IsMetOnRoot has path asks Memory a s s a
   memory_on_root path asks a s = (tt, keeps_same a.seat, inl (tt, inl refl))
 
-  pub stands_shared : (a : SharedKnown) (part : Part) → IsMetWhenGiven part → (s : SessionState) × ((accepts : Bool) → MetShared has a part Memory accepts s s a)
+  pub stands_shared : (a : SharedKnown) (part : Part) → IsMetWhenGiven part → (s : SessionState) × ((accepts : Bool) → MetShared has woken accepted followed a part Memory accepts s s a)
   stands_shared a Nowhere when = (no_root, λ accepts. (tt, refl, refl))
   stands_shared a Commands when = (no_root, λ accepts. (refl, inl (refl, keeps_same a.seat)))
   stands_shared a Lists when = (no_root, λ accepts. (refl, refl, keeps_same a.seat, tt))
-  stands_shared a (Changes path given moment) when = (no_root, λ accepts. (omega (arith, when), memory_on_root path false a no_root))
+  stands_shared a (Changes path given moment) when = (no_root, λ accepts. (omega (arith, when), inl refl, memory_on_root path false a no_root))
   stands_shared a (Asks path) when = (no_root, λ accepts. memory_on_root path true a no_root)
   stands_shared a (Looks path) when = (no_root, λ accepts. memory_on_root path true a no_root)
 
-  pub idles_shared : (a : SharedKnown) → (s : SessionState) × MetShared has a Nowhere Defined false s s a
+  pub idles_shared : (a : SharedKnown) → (s : SessionState) × MetShared has woken accepted followed a Nowhere Defined false s s a
   idles_shared a = (no_root, (tt, refl, refl))
 
   -- where memory runs out behind a look
@@ -77,7 +77,7 @@ module _ (has : Path → ℕ → Type 0) where
     ],
   )
 
-  pub runs_out_shared : (a b : SharedKnown) (part : Part) (s : SessionState) → is_look part ≡ true → MetShared has a part Defined false s s b → (accepts : Bool) → MetShared has a part Memory accepts s s b
+  pub runs_out_shared : (a b : SharedKnown) (part : Part) (s : SessionState) → is_look part ≡ true → MetShared has woken accepted followed a part Defined false s s b → (accepts : Bool) → MetShared has woken accepted followed a part Memory accepts s s b
   runs_out_shared a b Nowhere s look met accepts = (tt, met.1, met.2)
   runs_out_shared a b Commands s look met accepts = absurd cc
   runs_out_shared a b Lists s look met accepts = (met.0, met.1, met.2, tt)

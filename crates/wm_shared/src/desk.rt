@@ -7,20 +7,25 @@ ghost use Rattle.wm_groupcommit.specs.Seats.{IsSeatOf};
 use crate::registrar::Registrar;
 use std::sync::Wait;
 use wm_disk::{Disk, NoMemory, Refusal};
-use wm_groupcommit::{Desk, Seat, Standing};
+use wm_groupcommit::{Accepted, Desk, Seat, Standing};
 use wm_registry::{Command, Registry, Reply};
 
 impl<D: Disk + Drop> Registrar for Desk<D> {
     ghost gave = { λ desk seat. IsSeatOf desk seat };
 
+    ghost had_accepted = { λ count. Unit {0} };
+
     ghost sole = { λ desk seat. Prim.hlevel (codes, ℕ_set) };
 
-    fn accepted<R: Wait>(&self, rt: &R) -> u64 {
+    fn accepted<R: Wait>(&self, rt: &R) -> Accepted {
         Desk::accepted(self, rt)
     }
 
     fn seat<R: Wait>(&self, rt: &R) -> Result<Seat, Refusal> {
-        Desk::seat(self, rt)
+        match Desk::seat(self, rt) {
+            Ok(seat) => Ok(seat),
+            Err(none) => Err(none.refusal()),
+        }
     }
 
     fn submit<R: Wait>(

@@ -1,6 +1,6 @@
 //! A session's seat at the desk.
 //! Definitions: specs/Commands.antt, specs/Looks.antt. Tests: shared_tests/src/fronts.rt.
-ghost use Rattle.std.specs.Prelude.{◌≡◌, ◌⊎◌, None, Some, IfOk, IfErr};
+ghost use Rattle.std.specs.Prelude.{◌≡◌, ◌⊎◌, None, Some, IfOk, IfErr, length};
 ghost use Rattle.wm_disk.specs.declared.refusal.Refusal.TheVariants.{NoMemory as no_memory};
 ghost use Rattle.wm_groupcommit.specs.declared.seat.Seat.{Seat as seats};
 ghost use Rattle.wm_registry.specs.declared.reply.Reply.TheVariants.{Refused as refused};
@@ -11,7 +11,7 @@ use crate::registrar::Registrar;
 use std::marker::Model;
 use std::sync::Wait;
 use wm_disk::Refusal;
-use wm_groupcommit::{Seat, Standing};
+use wm_groupcommit::{Accepted, Seat, Standing};
 use wm_registry::{Command, Registry, Reply};
 
 /// A seat with the desk that gave it. Contracts see the seat.
@@ -76,7 +76,9 @@ impl<'a, T: Registrar> Place<'a, T> {
     }
 
     /// How many commands were accepted by now.
-    pub fn accepted<R: Wait>(&self, rt: &R) -> u64 {
+    pub fn accepted<R: Wait>(&self, rt: &R) -> Accepted
+        ensures { T.had_accepted (length result) }
+    {
         self.desk.accepted(rt)
     }
 

@@ -1,6 +1,6 @@
 //! What a session's front asks of its desk: a bound in place of the type, so that little is proved of what stands below it.
 //! Definitions: specs/Commands.antt, specs/Looks.antt. Tests: shared_tests/src/fronts.rt.
-ghost use Rattle.std.specs.Prelude.{◌≡◌, IfOk, IfErr, OnErr};
+ghost use Rattle.std.specs.Prelude.{◌≡◌, ℕ, IfOk, IfErr, OnErr, length};
 ghost use Rattle.wm_groupcommit.specs.Seats.{IsNewSeat};
 ghost use Rattle.wm_groupcommit.specs.declared.seat.Seat.{Seat};
 ghost use Rattle.wm_shared.specs.Commands.{IsReplied, SeatGoesOn};
@@ -8,7 +8,7 @@ ghost use Rattle.wm_shared.specs.Looks.{IsLookedAt};
 
 use std::sync::Wait;
 use wm_disk::Refusal;
-use wm_groupcommit::{Seat, Standing};
+use wm_groupcommit::{Accepted, Seat, Standing};
 use wm_registry::{Command, Registry, Reply};
 
 /// What meets the commands of sessions, each from a seat that it gave.
@@ -19,8 +19,12 @@ pub trait Registrar {
     /// There is one proof of it at most.
     ghost sole: { (desk : Self) (seat : Seat) → IsProp (gave desk seat) };
 
+    /// Whether so many commands had been accepted.
+    ghost had_accepted: { ℕ → Type 0 };
+
     /// How many commands were accepted by now.
-    fn accepted<R: Wait>(&self, rt: &R) -> u64;
+    fn accepted<R: Wait>(&self, rt: &R) -> Accepted
+        ensures { had_accepted (length result) };
 
     /// A new seat; it is refused as `Desk::seat` is.
     fn seat<R: Wait>(&self, rt: &R) -> Result<Seat, Refusal>

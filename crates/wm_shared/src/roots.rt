@@ -7,7 +7,7 @@ ghost use Rattle.wm_names.specs.Paths.{Path};
 use std::alloc::Global;
 use std::sync::{Arc, Wait};
 use wm_disk::Refusal;
-use wm_hall::{Forgetting, RootHall, Seconds};
+use wm_hall::{RootHall, Seconds};
 use wm_names::RootPath;
 use wm_registry::Command;
 use wm_share::Naming;
@@ -23,6 +23,12 @@ pub trait Roots<J: Naming, K: Wait + Drop>: Seconds {
     /// Whether no watched root had the number.
     ghost ended: { Self → ℕ → Type 0 };
 
+    /// Whether the roots had followed so many of the accepted commands.
+    ghost followed: { Self → ℕ → Type 0 };
+
+    /// Whether those who wait for changes of the root of a number were woken.
+    ghost woken: { Self → ℕ → Type 0 };
+
     /// The root of a path. `NotWatched` if there is none, after the commands that were followed; and `NoMemory`.
     fn find<R: Wait>(
         &self,
@@ -34,13 +40,16 @@ pub trait Roots<J: Naming, K: Wait + Drop>: Seconds {
         ensures refused { IfErr result (λ e. (e ≡ Refusal.NotWatched) ⊎ (e ≡ Refusal.NoMemory)) };
 
     /// Has the roots follow the accepted command of this number, once they have followed all earlier ones.
-    fn follow<R: Wait>(&self, rt: &R, alloc: Global, number: u64, command: Command);
+    fn follow<R: Wait>(&self, rt: &R, alloc: Global, number: u64, command: Command)
+        ensures { followed self.now number };
 
     /// Waits until the roots have followed so many commands.
-    fn await_followed<R: Wait>(&self, rt: &R, count: u64);
+    fn await_followed<R: Wait>(&self, rt: &R, count: u64)
+        ensures { followed self.now count };
 
-    /// The view of a root may have changed: the subscriptions on it may be due.
-    fn ring<R: Wait>(&self, rt: &R, hall: &RootHall<J, K>);
+    /// The view of a root may have changed: those who wait for that are woken, since the subscriptions on it may be due.
+    fn wake<R: Wait>(&self, rt: &R, hall: &RootHall<J, K>)
+        ensures { woken self.now hall.now.number };
 
     /// Whether the root of a number is watched.
     fn is_watched<R: Wait>(&self, rt: &R, number: u64) -> bool
@@ -49,7 +58,4 @@ pub trait Roots<J: Naming, K: Wait + Drop>: Seconds {
     /// The number of the watched root of a path, after the commands that were followed; none if there is none.
     fn number_of<R: Wait>(&self, rt: &R, path: &RootPath) -> Option<u64>
         ensures { MatchOption result (lacks self.now path.now) (has self.now path.now) };
-
-    /// When deleted paths are forgotten.
-    fn forgetting(&self) -> Forgetting;
 }

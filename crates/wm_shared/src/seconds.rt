@@ -10,7 +10,9 @@ pub(crate) struct SinceGiven<'a, S> {
 }
 
 impl<S: Seconds> Seconds for SinceGiven<'_, S> {
-    ghost earliest = { λ s. s.given };
+    ghost use Rattle.std.specs.Prelude.{◌≡◌, ℕ, max};
+
+    ghost may_read = { λ s second. (now : ℕ) × S.may_read s.seconds.now now × (second ≡ max now s.given) };
 
     fn second(&self) -> u64 {
         self.seconds.second().max(self.given)

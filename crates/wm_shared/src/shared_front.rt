@@ -1,7 +1,8 @@
 //! The front of a session that shares a desk and roots with others: what is known of a call is what the session's own seat and viewers
 //! tell. Definitions: specs/MetShared.antt. Tests: shared_tests/src/fronts.rt.
-ghost use Rattle.std.specs.Prelude.{◌≡◌, ◌⊎◌, Some, IfOk, IfErr, MatchResult};
+ghost use Rattle.std.specs.Prelude.{◌≡◌, ◌⊎◌, Some, false, IfOk, IfErr, MatchBool, MatchOption, MatchResult};
 ghost use Rattle.std.specs.Arc.{arc_value};
+ghost use Rattle.std.specs.List.{list_any};
 ghost use Rattle.wm_since.specs.Cursors.{CursorList};
 ghost use Rattle.wm_disk.specs.declared.refusal.Refusal.TheVariants.{BadArguments as bad_arguments};
 ghost use Rattle.wm_registry.specs.declared.reply.Reply.TheVariants.{Refused as refused};
@@ -9,9 +10,11 @@ ghost use Rattle.wm_session.specs.session.Fronts.{start_with};
 ghost use Rattle.wm_session.specs.session.Inquiries.{since_point};
 ghost use Rattle.wm_names.specs.Paths.{Path};
 ghost use Rattle.wm_shared.specs.Ended.{AreWatched};
-ghost use Rattle.wm_shared.specs.RootsSeen.{IsSeenMore, unless_unwatched};
-ghost use Rattle.wm_shared.specs.Commands.{KeepsSeat};
-ghost use Rattle.wm_shared.specs.Looks.{IsUnwatchedAfter};
+ghost use Rattle.wm_shared.specs.RootsSeen.{IsSeenMore, is_viewer_of, unless_unwatched};
+ghost use Rattle.wm_groupcommit.specs.Books.{IsFailed};
+ghost use Rattle.wm_groupcommit.specs.declared.seat.Seat.{Seat as seats};
+ghost use Rattle.wm_shared.specs.Commands.{IsSatOn, IsStandingFollowed, KeepsSeat, SeatGoesOn};
+ghost use Rattle.wm_shared.specs.Looks.{IsLookedAt, IsUnwatchedAfter};
 
 use crate::place::Place;
 use crate::registrar::Registrar;
@@ -23,7 +26,7 @@ use std::sync::{Arc, Wait};
 use wm_clock::{ClockId, ClockSpec};
 use wm_disk::Refusal;
 use wm_groupcommit::Standing;
-use wm_hall::{Change, RootHall};
+use wm_hall::{Change, Learnt, RootHall};
 use wm_lines::{Expression, Inquiry, Progress};
 use wm_names::RootPath;
 use wm_registry::{Command, Registry, Reply, Version};
@@ -80,11 +83,11 @@ impl<'a, T: Registrar, H: Roots<J, K>, J: Naming, K: Wait + Copy + Drop> SharedF
     }
 
     /// The session's viewer of a root, if there is one, learns what was published last.
-    pub fn learn(&mut self, hall: &RootHall<J, K>)
-        ensures learnt { (self.new.viewers ≡ self.old.viewers) ⊎ IsSeenMore hall.now.number self.old.viewers self.new.viewers }
+    pub fn learn(&mut self, hall: &RootHall<J, K>) -> Option<Learnt>
+        ensures learnt { MatchOption result ((list_any (is_viewer_of hall.now.number) self.old.viewers ≡ false) × (self.new.viewers ≡ self.old.viewers)) (λ learnt. IsSeenMore hall.now.number self.old.viewers self.new.viewers) }
         ensures kept { self.new ≡ record self.old { viewers = self.new.viewers } }
     {
-        self.viewers.learn(&self.rt, hall);
+        self.viewers.learn(&self.rt, hall)
     }
 
     /// Drops the session's viewers of roots that aren't watched any longer.
@@ -96,12 +99,14 @@ impl<'a, T: Registrar, H: Roots<J, K>, J: Naming, K: Wait + Copy + Drop> SharedF
     }
 }
 
-/// Whether a refusal is the registry's, so that it shows which roots are watched.
-fn is_of_registry(reply: Reply) -> bool {
+/// Whether a reply speaks of the store, the device, the slot's number or memory, and so shows nothing of which roots are watched.
+fn is_failed(reply: Reply) -> bool
+    ensures { MatchBool result (IsFailed reply) (IsFailed reply → ⊥) }
+{
     match reply {
-        Reply::Refused(refusal) => !matches!(
+        Reply::Refused(refusal) => matches!(
             refusal,
-            Refusal::NoMemory | Refusal::DeviceFailed | Refusal::StoreFailed
+            Refusal::StoreFailed | Refusal::DeviceFailed | Refusal::Exhausted | Refusal::NoMemory
         ),
         Reply::Changed | Reply::Replaced | Reply::Unchanged => false,
     }
@@ -115,20 +120,37 @@ fn follow<T: Registrar, H: Roots<J, K>, J: Naming, K: Wait + Copy + Drop>(
     place: &Place<'_, T>,
     reply: Reply,
     standing: Option<Standing>,
-) {
+)
+    ensures { IsStandingFollowed T.had_accepted (H.followed roots.now) standing reply }
+{
     match standing {
         Some(Standing::Stands { number, command }) => roots.follow(rt, alloc, number, command),
         Some(Standing::Unchanged { after }) => roots.await_followed(rt, after),
         None => {
-            if is_of_registry(reply) {
-                roots.await_followed(rt, place.accepted(rt));
+            if !is_failed(reply) {
+                roots.await_followed(rt, place.accepted(rt).count());
             }
         }
     }
 }
 
-/// Asks the desk whether a root that the server hasn't found is watched. `NotWatched` if it isn't; and `NoMemory`. Else the roots have
-/// followed the desk.
+/// Looks at the registry, and waits until the roots have followed the commands after which it stands so. `NoMemory`.
+fn look_followed<T: Registrar, H: Roots<J, K>, J: Naming, K: Wait + Copy + Drop>(
+    rt: &K,
+    roots: &H,
+    place: &mut Place<'_, T>,
+) -> Result<(Registry, u64), Refusal>
+    ensures keeps { KeepsSeat place.old place.new }
+    ensures looked { IfOk result (λ r. ((seat : seats) × (new : seats) × IsSatOn place.old seat × (place.new ≡ Some new) × SeatGoesOn seat new × IsLookedAt seat r.0 r.1 new) × H.followed roots.now r.1) }
+    ensures refused { IfErr result (λ e. e ≡ Refusal.NoMemory) }
+{
+    let (registry, count) = place.look(rt)?;
+    roots.await_followed(rt, count);
+    Ok((registry, count))
+}
+
+/// Asks the desk whether a root that the server hasn't found is watched, and has the roots follow. `NotWatched` if it isn't; and
+/// `NoMemory`.
 fn confirm<T: Registrar, H: Roots<J, K>, J: Naming, K: Wait + Copy + Drop>(
     rt: &K,
     roots: &H,
@@ -138,11 +160,10 @@ fn confirm<T: Registrar, H: Roots<J, K>, J: Naming, K: Wait + Copy + Drop>(
     ensures keeps { KeepsSeat place.old place.new }
     ensures refused { IfErr result (λ e. (e ≡ Refusal.NoMemory) ⊎ ((e ≡ Refusal.NotWatched) × IsUnwatchedAfter path.now place.old place.new)) }
 {
-    let (registry, count) = place.look(rt)?;
+    let (registry, _) = look_followed(rt, roots, place)?;
     if registry.roots().get(path).is_none() {
         return Err(Refusal::NotWatched);
     }
-    roots.await_followed(rt, count);
     Ok(())
 }
 
@@ -180,7 +201,7 @@ fn since_named<J: Naming, K: Wait + Copy + Drop>(
     ensures { (cursors : CursorList) × (result ≡ since_point (Some since.now) cursors) }
 {
     match since {
-        ClockSpec::Cursor(name) => Since::from_clock(hall.cursor(rt, name)),
+        ClockSpec::Cursor(name) => Since::from_clock(hall.cursor(rt, name).clock()),
         ClockSpec::Clock(clock) => Some(Since::Clock(*clock)),
         ClockSpec::Seconds(seconds) => Some(Since::Moment(*seconds)),
         ClockSpec::Another => None,
@@ -240,7 +261,7 @@ impl<'a, T: Registrar, H: Roots<J, K>, J: Naming, K: Wait + Copy + Drop> Front
     ghost use Rattle.wm_shared.specs.SharedLaws.{idles_shared, keeps_same, keeps_then, runs_out_shared, stands_shared};
     ghost use Rattle.wm_shared.specs.Commands.{KeepsSeat};
 
-    ghost met = { λ a part way accepts s t b. MetShared (H.has a.roots.now) (record { seat = a.place; viewers = a.viewers }) part way accepts s t (record { seat = b.place; viewers = b.viewers }) };
+    ghost met = { λ a part way accepts s t b. MetShared (H.has a.roots.now) (H.woken a.roots.now) T.had_accepted (H.followed a.roots.now) (record { seat = a.place; viewers = a.viewers }) part way accepts s t (record { seat = b.place; viewers = b.viewers }) };
 
     ghost leads_to = { λ a asked b. KeepsSeat a.place b.place };
 
@@ -248,7 +269,7 @@ impl<'a, T: Registrar, H: Roots<J, K>, J: Naming, K: Wait + Copy + Drop> Front
 
     fn submit(&mut self, alloc: Global, command: Command) -> Reply {
         if let Command::Begin = command {
-            let looked = self.place.look(&self.rt);
+            let looked = look_followed(&self.rt, self.roots, &mut self.place);
             return begin_refused(looked);
         }
         let (reply, standing) = self.place.submit(&self.rt, command);
@@ -265,7 +286,6 @@ impl<'a, T: Registrar, H: Roots<J, K>, J: Naming, K: Wait + Copy + Drop> Front
                 return Err(refusal);
             }
         };
-        let forgetting = self.roots.forgetting();
         let (given, change) = Change::of(op);
         let seconds = SinceGiven {
             seconds: self.roots,
@@ -273,8 +293,8 @@ impl<'a, T: Registrar, H: Roots<J, K>, J: Naming, K: Wait + Copy + Drop> Front
         };
         let met = self
             .viewers
-            .change(&self.rt, alloc, &hall, forgetting, &seconds, change);
-        self.roots.ring(&self.rt, &hall);
+            .change(&self.rt, alloc, &hall, &seconds, change);
+        self.roots.wake(&self.rt, &hall);
         drop(hall);
         met
     }
@@ -342,11 +362,10 @@ impl<'a, T: Registrar, H: Roots<J, K>, J: Naming, K: Wait + Copy + Drop> Front
     }
 
     fn look(&mut self, _alloc: Global) -> Result<(), Refusal> {
-        let (registry, count) = match self.place.look(&self.rt) {
+        let (registry, _) = match look_followed(&self.rt, self.roots, &mut self.place) {
             Ok(looked) => looked,
             Err(refusal) => return Err(refusal),
         };
-        self.roots.await_followed(&self.rt, count);
         self.registry = registry;
         Ok(())
     }
@@ -355,11 +374,11 @@ impl<'a, T: Registrar, H: Roots<J, K>, J: Naming, K: Wait + Copy + Drop> Front
         &self.registry
     }
 
-    ghost stands = { λ a part when. stands_shared (H.has a.roots.now) (record { seat = a.place; viewers = a.viewers }) part when };
+    ghost stands = { λ a part when. stands_shared (H.has a.roots.now) (H.woken a.roots.now) T.had_accepted (H.followed a.roots.now) (record { seat = a.place; viewers = a.viewers }) part when };
 
-    ghost runs_out = { λ a b part s. runs_out_shared (H.has a.roots.now) (record { seat = a.place; viewers = a.viewers }) (record { seat = b.place; viewers = b.viewers }) part s };
+    ghost runs_out = { λ a b part s. runs_out_shared (H.has a.roots.now) (H.woken a.roots.now) T.had_accepted (H.followed a.roots.now) (record { seat = a.place; viewers = a.viewers }) (record { seat = b.place; viewers = b.viewers }) part s };
 
-    ghost idles = { λ a. idles_shared (H.has a.roots.now) (record { seat = a.place; viewers = a.viewers }) };
+    ghost idles = { λ a. idles_shared (H.has a.roots.now) (H.woken a.roots.now) T.had_accepted (H.followed a.roots.now) (record { seat = a.place; viewers = a.viewers }) };
 
     ghost stays = { λ a asked. keeps_same a.place };
 

@@ -6,7 +6,7 @@ ghost use Rattle.wm_share.specs.PublishedLists.{ViewerState};
 ghost use Rattle.wm_hall.specs.ChangeSeen.{IsChangeSeen};
 ghost use Rattle.wm_names.specs.Paths.{Path};
 ghost use Rattle.wm_shared.specs.Ended.{AreWatched};
-ghost use Rattle.wm_shared.specs.RootsSeen.{IsAnswerSeen, IsClockSeen, IsSeenMore, IsDueSeen, IsViewerPlaced, IsToldBy, is_viewer_of, unless_gone as unless_gone_lem};
+ghost use Rattle.wm_shared.specs.RootsSeen.{IsAnswerSeen, IsClockSeen, IsSeenMore, IsDueSeen, IsViewerPlaced, IsToldBy, done_or_refused as answered_lem, is_viewer_of, unless_gone as unless_gone_lem};
 
 use crate::roots::Roots;
 use std::alloc::Global;
@@ -14,7 +14,7 @@ use std::marker::Model;
 use std::sync::Wait;
 use wm_clock::ClockId;
 use wm_disk::Refusal;
-use wm_hall::{Change, Forgetting, RootHall, Seconds};
+use wm_hall::{Change, Learnt, RootHall, Seconds};
 use wm_lines::{Expression, Inquiry, Progress};
 use wm_share::{Naming, Viewer};
 use wm_since::Answer;
@@ -44,6 +44,16 @@ fn unless_gone<A>(told: Result<A, Refusal>) -> Result<A, Refusal>
     match told {
         Err(Refusal::NoPlace) => Err(Refusal::NoMemory),
         told => told,
+    }
+}
+
+/// Whether a question was answered.
+fn answered<A: Drop>(told: Result<A, Refusal>) -> Result<(), Refusal>
+    ensures { result ≡ answered_lem told }
+{
+    match told {
+        Ok(_) => Ok(()),
+        Err(refusal) => Err(refusal),
     }
 }
 
@@ -136,7 +146,7 @@ impl<J: Naming> Viewers<J> {
             }
         };
         let viewer = &mut self.all[place];
-        let told = hall.inquire(rt, alloc, viewer, inquiry, out);
+        let told = answered(hall.inquire(rt, alloc, viewer, inquiry, out));
         unless_gone(told)
     }
 
@@ -178,11 +188,10 @@ impl<J: Naming> Viewers<J> {
         rt: &R,
         alloc: Global,
         hall: &RootHall<J, K>,
-        forgetting: Forgetting,
         seconds: &S,
         change: Change,
     ) -> Result<Progress, Refusal>
-        ensures { IsToldBy hall.now.number self.old result self.new (λ old new. IsChangeSeen old (S.earliest seconds.now) change result new) }
+        ensures { IsToldBy hall.now.number self.old result self.new (λ old new. IsChangeSeen old (S.may_read seconds.now) change result new) }
     {
         let place = match self.place(rt, hall) {
             Ok(place) => place,
@@ -192,15 +201,20 @@ impl<J: Naming> Viewers<J> {
             }
         };
         let viewer = &mut self.all[place];
-        hall.change(rt, alloc, forgetting, seconds, viewer, change)
+        hall.change(rt, alloc, seconds, viewer, change)
     }
 
     /// The viewer of a root, if there is one, learns what was published last.
-    pub fn learn<R: Wait, K: Wait + Drop>(&mut self, rt: &R, hall: &RootHall<J, K>)
-        ensures { (self.new ≡ self.old) ⊎ IsSeenMore hall.now.number self.old self.new }
+    pub fn learn<R: Wait, K: Wait + Drop>(
+        &mut self,
+        rt: &R,
+        hall: &RootHall<J, K>,
+    ) -> Option<Learnt>
+        ensures { MatchOption result ((list_any (is_viewer_of hall.now.number) self.old ≡ false) × (self.new ≡ self.old)) (λ learnt. IsSeenMore hall.now.number self.old self.new) }
     {
-        if let Some(place) = self.find(hall.number) {
-            hall.teach(rt, &mut self.all[place]);
+        match self.find(hall.number) {
+            Some(place) => Some(hall.teach(rt, &mut self.all[place])),
+            None => None,
         }
     }
 

@@ -4,5 +4,5 @@ use Rattle.wm_shared.proofs.shared_front.confirm.Goals as goal
 
 pub returns-then-is_none-clause-refused : goal.returns-then-is_none-clause-refused
 returns-then-is_none-clause-refused g c =
-    let looked = c.in_ok-registry.ensures.looked in
-    inr (refl, (c.in_ok-registry.registry, shown_to c.args.place.now c.look.new.self c.in_ok-registry.registry c.in_ok-registry.count looked, search rules))
+    let looked = c.in_ok-registry.ensures.looked.0 in
+    inr (refl, (c.in_ok-registry.registry, shown_to c.args.place.now c.look_followed.new.place c.in_ok-registry.registry _ looked, search rules))

@@ -14,7 +14,7 @@ standing name (Some clock) = ((name, clock) ∷ [], ap (λ (b : Bool). cond {A =
 
 pub returns-in-Cursor : goal.returns-in-Cursor
 returns-in-Cursor g c =
-    let s = standing c.in-Cursor.name c.cursor.result in
+    let s = standing c.in-Cursor.name c.clock.result in
     (s.0, c.from_clock.ensures ∙ ap from_clock (sym s.1) ∙ ap (λ x. since_point (Some x) s.0) (sym c.in-Cursor.is))
 
 pub returns-in-Clock : goal.returns-in-Clock

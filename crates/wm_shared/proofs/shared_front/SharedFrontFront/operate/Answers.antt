@@ -1,6 +1,6 @@
-use Rattle.std.proofs.Common.{refl}
+use Rattle.std.proofs.Common.{inl, inr, refl, subst}
 use Rattle.wm_shared.specs.MetShared.{SharedKnown}
-use Rattle.wm_shared.proofs.Changing.{changed_found, changed_refused}
+use Rattle.wm_shared.proofs.Changing.{changed_found, changed_refused, not_before}
 use Rattle.wm_shared.proofs.shared_front.SharedFrontFront.operate.Goals as goal
 
 pub returns-in-Err-clause-met : goal.returns-in-Err-clause-met
@@ -9,7 +9,7 @@ returns-in-Err-clause-met g c =
     let b : SharedKnown = record { seat = c.find_root.new.place; viewers = c.args.self.now.viewers } in
     let has = g.H.Roots.has c.args.self.now.roots.now in
     let w = changed_refused has c.args.root.now c.args.op a b c.in-Err.refusal c.find_root.ensures.keeps refl c.in-Err.ensures.refused in
-    record { way = w.way; found = w.found; moment = w.moment; later = w.later; at = (w.later, w.by); reply_is = w.reply_is }
+    record { way = w.way; found = w.found; moment = w.moment; later = w.later; at = (w.later, inl refl, w.by); reply_is = w.reply_is }
 
 pub returns-in-Err-clause-later : goal.returns-in-Err-clause-later
 returns-in-Err-clause-later g c = c.find_root.ensures.keeps
@@ -21,8 +21,8 @@ returns-clause-met g c =
     let has = g.H.Roots.has c.args.self.now.roots.now in
     let number = c.deref.result.now.number in
     let root : has c.args.root.now number = rw c.deref.ensures c.in-Ok.ensures.has in
-    let w = changed_found has c.args.root.now c.args.op c.of-given.result.0 c.of-given.result.1 c.of-given.ensures number a b c.change-met.result c.every_line.ensures.operated root c.find_root.ensures.keeps c.change-met.ensures in
-    record { way = w.way; found = w.found; moment = w.moment; later = w.later; at = (w.later, w.by); reply_is = w.reply_is }
+    let w = changed_found has c.args.root.now c.args.op c.of-given.result.0 c.of-given.result.1 c.of-given.ensures _ (λ moment read. not_before moment read.0 c.of-given.result.0 read.2) number a b c.change-met.result c.every_line.ensures.operated root c.find_root.ensures.keeps c.change-met.ensures in
+    record { way = w.way; found = w.found; moment = w.moment; later = w.later; at = (w.later, inr (number, root, rw c.deref.ensures (subst (λ x. g.H.Roots.woken c.args.self.now.roots.now x.number) c.deref-2.ensures c.wake.ensures)), w.by); reply_is = w.reply_is }
 
 pub returns-clause-later : goal.returns-clause-later
 returns-clause-later g c = c.find_root.ensures.keeps

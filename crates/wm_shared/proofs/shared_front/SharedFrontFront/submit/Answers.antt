@@ -11,20 +11,20 @@ use Rattle.wm_shared.proofs.shared_front.SharedFrontFront.submit.Goals as goal
 pub returns-in-Begin-clause-met : goal.returns-in-Begin-clause-met
 returns-in-Begin-clause-met g c =
     let a : SharedKnown = record { seat = c.args.self.now.place; viewers = c.args.self.now.viewers } in
-    let b : SharedKnown = record { seat = c.look-looked.new.self; viewers = c.args.self.now.viewers } in
+    let b : SharedKnown = record { seat = c.look_followed-looked.new.place; viewers = c.args.self.now.viewers } in
     let has = g.H.Roots.has c.args.self.now.roots.now in
-    let w = begin_met has a b c.args.command c.look-looked.result c.begin_refused.result c.in-Begin.is refl c.look-looked.ensures.keeps c.look-looked.ensures.looked c.look-looked.ensures.refused c.begin_refused.ensures in
+    let w = begin_met has (g.H.Roots.woken c.args.self.now.roots.now) g.T.Registrar.had_accepted (g.H.Roots.followed c.args.self.now.roots.now) a b c.args.command c.look_followed-looked.result c.begin_refused.result c.in-Begin.is refl c.look_followed-looked.ensures.keeps c.look_followed-looked.ensures.looked c.look_followed-looked.ensures.refused c.begin_refused.ensures in
     record { way = w.way; found = w.found; at = w.by (state_or w.way (state_after_command w.found c.args.command) w.found); reply_is = w.reply_is }
 
 pub returns-in-Begin-clause-later : goal.returns-in-Begin-clause-later
-returns-in-Begin-clause-later g c = c.look-looked.ensures.keeps
+returns-in-Begin-clause-later g c = c.look_followed-looked.ensures.keeps
 
 pub returns-clause-met : goal.returns-clause-met
 returns-clause-met g c =
     let a : SharedKnown = record { seat = c.args.self.now.place; viewers = c.args.self.now.viewers } in
     let b : SharedKnown = record { seat = c.submit-reply.new.self; viewers = c.args.self.now.viewers } in
     let has = g.H.Roots.has c.args.self.now.roots.now in
-    let w = submitted has a b c.args.command c.submit-reply.result.0 c.submit-reply.result.1 (is_plain c.args.command c.in_default.not-Begin) refl c.submit-reply.ensures in
+    let w = submitted has (g.H.Roots.woken c.args.self.now.roots.now) g.T.Registrar.had_accepted (g.H.Roots.followed c.args.self.now.roots.now) a b c.args.command c.submit-reply.result.0 c.submit-reply.result.1 (is_plain c.args.command c.in_default.not-Begin) c.follow.ensures refl c.submit-reply.ensures in
     record { way = w.way; found = w.found; at = w.by (state_or w.way (state_after_command w.found c.args.command) w.found); reply_is = w.reply_is }
 
 pub returns-clause-later : goal.returns-clause-later

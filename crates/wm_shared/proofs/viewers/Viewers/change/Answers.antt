@@ -14,7 +14,7 @@ pub returns : goal.returns
 returns g c =
     let x = c.index_mut-viewer.result.now in
     let new = c.change.new.viewer in
-    told_at c.args.hall.now.number c.in-Ok.place c.args.self.now c.place.new.self (slice_set c.self.inside.all.items c.in-Ok.place new) x new c.change.result (λ old seen. IsChangeSeen old (g.S.Seconds.earliest c.args.seconds.now) c.args.change c.change.result seen) c.in-Ok.ensures.placed
+    told_at c.args.hall.now.number c.in-Ok.place c.args.self.now c.place.new.self (slice_set c.self.inside.all.items c.in-Ok.place new) x new c.change.result (λ old seen. IsChangeSeen old (g.S.Seconds.may_read c.args.seconds.now) c.args.change c.change.result seen) c.in-Ok.ensures.placed
     (c.index_mut-viewer.ensures.value ∙ ap (λ (l : ViewerList). get_or l c.in-Ok.place x) c.self.view_is)
     (ap (λ (l : ViewerList). slice_set l c.in-Ok.place new) c.self.view_is)
     c.change.ensures.0

@@ -1,6 +1,6 @@
 use Rattle.std.proofs.Common.{arith, ◌∙◌, ◌<◌, length, get_or, ap, sym, subst}
 use Rattle.std.proofs.Common.{slice_set}
-use Rattle.wm_shared.specs.RootsSeen.{IsAnswerSeen, ViewerList}
+use Rattle.wm_shared.specs.RootsSeen.{IsAnswerSeen, ViewerList, unless_gone}
 use Rattle.wm_shared.proofs.Placing.{told_at}
 use Rattle.wm_shared.proofs.Telling.{inquired_still}
 use Rattle.wm_shared.proofs.viewers.Viewers.inquire.Goals as goal
@@ -13,9 +13,9 @@ index_mut-viewer-requires g c =
 pub returns-clause-met : goal.returns-clause-met
 returns-clause-met g c =
     let x = c.index_mut-viewer.result.now in
-    let new = c.inquire-told.new.viewer in
-    told_at c.args.hall.now.number c.in-Ok.place c.args.self.now c.place.new.self (slice_set c.self.inside.all.items c.in-Ok.place new) x new c.unless_gone.result (λ old seen. IsAnswerSeen c.args.inquiry seen c.args.out.now.items c.unless_gone.result c.inquire-told.new.out.items) c.in-Ok.ensures.placed
+    let new = c.inquire.new.viewer in
+    told_at c.args.hall.now.number c.in-Ok.place c.args.self.now c.place.new.self (slice_set c.self.inside.all.items c.in-Ok.place new) x new c.unless_gone.result (λ old seen. IsAnswerSeen c.args.inquiry seen c.args.out.now.items c.unless_gone.result c.inquire.new.out.items) c.in-Ok.ensures.placed
     (c.index_mut-viewer.ensures.value ∙ ap (λ (l : ViewerList). get_or l c.in-Ok.place x) c.self.view_is)
     (ap (λ (l : ViewerList). slice_set l c.in-Ok.place new) c.self.view_is)
-    c.inquire-told.ensures.seen
-    (subst (λ r. IsAnswerSeen c.args.inquiry new c.args.out.now.items r c.inquire-told.new.out.items) (sym c.unless_gone.ensures) (inquired_still c.args.inquiry c.inquire-told.ensures.met.0 x new c.args.out.now.items c.inquire-told.new.out.items c.inquire-told.result c.inquire-told.ensures.met.1))
+    c.inquire.ensures.seen
+    (subst (λ r. IsAnswerSeen c.args.inquiry new c.args.out.now.items r c.inquire.new.out.items) (sym (c.unless_gone.ensures ∙ ap unless_gone c.answered-told.ensures)) (inquired_still c.args.inquiry c.inquire.ensures.met.0 x new c.args.out.now.items c.inquire.new.out.items c.inquire.result c.inquire.ensures.met.1))

@@ -1,4 +1,4 @@
-use Rattle.std.proofs.Common.{arith, ◌∙◌, ◌<◌, inr, length, get_or, ap, sym, subst, slice_set}
+use Rattle.std.proofs.Common.{arith, ◌∙◌, ◌<◌, length, get_or, ap, sym, subst, slice_set}
 use Rattle.wm_shared.specs.RootsSeen.{ViewerList}
 use Rattle.wm_shared.proofs.Placing.{found_there, seen_at}
 use Rattle.wm_shared.proofs.viewers.Viewers.learn.Goals as goal
@@ -14,7 +14,7 @@ returns-in-Some g c =
     let x = c.index_mut.result.now in
     let new = c.teach.new.viewer in
     let placed = found_there number c.in-Some.place c.args.self.now c.in-Some.ensures.0 c.in-Some.ensures.1 c.in-Some.ensures.2 in
-    inr (seen_at number c.in-Some.place c.args.self.now (slice_set c.self.inside.all.items c.in-Some.place new) x new placed
+    seen_at number c.in-Some.place c.args.self.now (slice_set c.self.inside.all.items c.in-Some.place new) x new placed
     (c.index_mut.ensures.value ∙ ap (λ (l : ViewerList). get_or l c.in-Some.place x) c.self.view_is)
     (ap (λ (l : ViewerList). slice_set l c.in-Some.place new) c.self.view_is)
-    c.teach.ensures.seen)
+    c.teach.ensures.seen
