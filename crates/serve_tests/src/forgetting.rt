@@ -7,7 +7,7 @@ use std::alloc::{Alloc, Global};
 use std::marker::Brand;
 use std::process::Abort;
 use std::sync::Wait;
-use wm_hall::{Forgetting, RootHall};
+use wm_hall::{Retention, RootHall};
 use wm_share::{Naming, Opened, Shares};
 use wm_shared::Viewers;
 
@@ -58,6 +58,12 @@ const FORGETS: &[(u64, &str, &str)] = &[
     (116, SINCE_2, FRESH),
 ];
 
+/// What was deleted 10 seconds ago is forgotten, each 5 seconds.
+const SOON: Retention = Retention {
+    age_seconds: 10,
+    interval_seconds: 5,
+};
+
 fn forget_rows<J: Naming, R: Wait + Abort, K: Wait + Drop>(
     rt: &R,
     alloc: Global,
@@ -67,13 +73,7 @@ fn forget_rows<J: Naming, R: Wait + Abort, K: Wait + Drop>(
     let mut out = Vec::new(alloc);
     for (moment, line, told) in FORGETS {
         out.clear();
-        let at = At {
-            moment: *moment,
-            forgetting: Forgetting {
-                age: 10,
-                interval: 5,
-            },
-        };
+        let at = At { moment: *moment };
         let met = meet_line_at(rt, alloc, hall, viewers, at, line, &mut out);
         check!(rt; is_told(met, &out, told), line);
     }
@@ -83,7 +83,7 @@ fn forgets<J: Naming, R: Wait + Abort>(rt: &R, alloc: Global, opened: Opened)
     requires { opened.seen.book ≡ J.book }
 {
     let shares: Shares<J> = Shares::new(opened);
-    let hall = opened_hall(rt, alloc, shares);
+    let hall = opened_hall(rt, alloc, shares, SOON);
     let mut viewers = Viewers::new(alloc);
     forget_rows(rt, alloc, &hall, &mut viewers);
     drop(viewers);

@@ -7,7 +7,7 @@ use std::marker::Brand;
 use std::process::Abort;
 use std::sync::Wait;
 use wm_disk::Refusal;
-use wm_hall::{Change, Forgetting, RootHall, Seconds};
+use wm_hall::{Change, Retention, RootHall, Seconds};
 use wm_lines::{Inquiry, Request, reply};
 use wm_names::RootPath;
 use wm_share::{MAX_VIEWERS, Naming, Opened, Shares, Viewer};
@@ -70,28 +70,27 @@ const TOLD: &[(usize, &str, &str)] = &[
     ),
 ];
 
-/// When an operation is, in seconds, and when what is deleted is forgotten.
+/// When an operation is, in seconds.
 #[derive(Clone, Copy)]
 pub struct At {
     pub moment: u64,
-    pub forgetting: Forgetting,
 }
 
 impl Seconds for At {
-    ghost earliest = { λ at. 0 };
+    ghost may_read = { λ at second. second ≡ at.moment };
 
     fn second(&self) -> u64 {
         self.moment
     }
 }
 
-/// Each operation is at one second, and nothing is forgotten by itself.
-const ALWAYS: At = At {
-    moment: 10,
-    forgetting: Forgetting {
-        age: 1_000,
-        interval: 1_000,
-    },
+/// Each operation is at one second.
+const ALWAYS: At = At { moment: 10 };
+
+/// Nothing is forgotten by itself.
+pub const NEVER: Retention = Retention {
+    age_seconds: 1_000_000,
+    interval_seconds: 1_000_000,
 };
 
 /// A hall of the root 5.
@@ -99,11 +98,12 @@ pub fn opened_hall<'a, J: Naming, R: Wait + Abort>(
     rt: &'a R,
     alloc: Global,
     mut shares: Shares<J>,
+    retention: Retention,
 ) -> RootHall<J, &'a R> {
     let path = RootPath::read(alloc, "/r").expect(rt, "a path");
     let (keeper, pool) = shares.share(rt, alloc, 1, 5).expect(rt, "a share");
     drop(shares);
-    RootHall::new(alloc, &path, 5, keeper, pool).expect(rt, "a hall")
+    RootHall::new(alloc, &path, 5, keeper, pool, retention).expect(rt, "a hall")
 }
 
 /// Performs an operation of a session, and tells where the view stands then.
@@ -118,7 +118,7 @@ fn operate<J: Naming, R: Wait + Abort, K: Wait + Drop>(
 ) -> Result<(), Refusal> {
     out.try_reserve(reply::PROGRESS_ROOM).expect(rt, "memory");
     let tells_floor = matches!(change, Change::AgeOut(_));
-    let met = viewers.change(rt, alloc, hall, at.forgetting, &at, change)?;
+    let met = viewers.change(rt, alloc, hall, &at, change)?;
     if tells_floor {
         reply::put_floor(met.floor, out);
     } else {
@@ -229,15 +229,13 @@ fn tells_two_sessions<J: Naming, R: Wait + Abort>(rt: &R, alloc: Global, opened:
     requires { opened.seen.book ≡ J.book }
 {
     let shares: Shares<J> = Shares::new(opened);
-    let hall = opened_hall(rt, alloc, shares);
+    let hall = opened_hall(rt, alloc, shares, NEVER);
     let mut first = Viewers::new(alloc);
     let mut second = Viewers::new(alloc);
     tell_rows(rt, alloc, &hall, &mut first, &mut second);
-    let tick = hall.tick(rt);
     drop(second);
     drop(first);
     drop(hall);
-    assert_eq!(rt; tick, 2);
 }
 
 #[test]
@@ -327,7 +325,7 @@ fn keeps_limits<J: Naming, R: Wait + Abort>(rt: &R, alloc: Global, opened: Opene
     requires { opened.seen.book ≡ J.book }
 {
     let shares: Shares<J> = Shares::new(opened);
-    let hall = opened_hall(rt, alloc, shares);
+    let hall = opened_hall(rt, alloc, shares, NEVER);
     keeps_both_limits(rt, alloc, &hall);
     drop(hall);
 }

@@ -2,7 +2,7 @@
 ghost use Rattle.std.specs.Prelude.{◌≡◌};
 
 use crate::checks::check;
-use crate::halls::{meet_line, opened_hall};
+use crate::halls::{NEVER, meet_line, opened_hall};
 use std::alloc::{Alloc, Global};
 use std::marker::Brand;
 use std::process::Abort;
@@ -10,7 +10,7 @@ use std::sync::Wait;
 use std::sync::atomic::{AtomicU64, Ordering};
 use std::thread;
 use std::thread::Threads;
-use wm_hall::{Change, Forgetting, RootHall, Seconds};
+use wm_hall::{Change, RootHall, Seconds};
 use wm_names::{Kind, Meta, RelPath};
 use wm_share::{Naming, Opened, Shares};
 use wm_shared::Viewers;
@@ -23,17 +23,14 @@ struct Rising {
 }
 
 impl Seconds for Rising {
-    ghost earliest = { λ rising. 0 };
+    ghost use Rattle.std.specs.Prelude.{⊤};
+
+    ghost may_read = { λ rising second. ⊤ };
 
     fn second(&self) -> u64 {
         self.next.fetch_add(1, Ordering::SeqCst)
     }
 }
-
-const NEVER: Forgetting = Forgetting {
-    age: 1_000_000,
-    interval: 1_000_000,
-};
 
 /// The first second that the clock gives, behind that of the root's first listing.
 const FIRST: u64 = 100;
@@ -66,7 +63,7 @@ fn make_files<J: Naming, R: Wait + Abort, K: Wait + Drop>(
     let mut viewers = Viewers::new(alloc);
     for number in 0..FILES {
         let change = made(rt, alloc, letter, number);
-        let met = viewers.change(rt, alloc, hall, NEVER, rising, change);
+        let met = viewers.change(rt, alloc, hall, rising, change);
         check!(*rt; met.is_ok(), number);
     }
     drop(viewers);
@@ -133,7 +130,7 @@ fn two_threads<J: Naming + Send + Sync, R: Wait + Abort + Threads + Sync>(
     requires { opened.seen.book ≡ J.book }
 {
     let shares: Shares<J> = Shares::new(opened);
-    let hall = opened_hall(rt, alloc, shares);
+    let hall = opened_hall(rt, alloc, shares, NEVER);
     let rising = Rising {
         next: AtomicU64::new(FIRST),
     };

@@ -10,7 +10,7 @@ use std::time::Clock;
 use wm_crawler::{SystemFolders, Turnstile};
 use wm_disk::Refusal;
 use wm_file::{FileDisk, Unknown};
-use wm_serve::{Settings, serve};
+use wm_serve::{ServerPaths, Settings, Tools, serve};
 use wm_triggers::SystemPrograms;
 
 /// The files of a test's server.
@@ -81,16 +81,15 @@ impl Place {
             sessions,
         };
         let mut printed = Vec::new(alloc);
-        serve(
-            rt,
-            alloc,
-            self.state.as_str(),
-            self.socket.as_str(),
-            &self.folders,
-            gate,
-            &self.programs,
-            settings,
-            &mut printed,
-        )
+        let paths = ServerPaths {
+            file: self.state.as_str(),
+            socket: self.socket.as_str(),
+        };
+        let tools = Tools {
+            folders: &self.folders,
+            turnstile: gate,
+            programs: &self.programs,
+        };
+        serve(rt, alloc, paths, &tools, settings, &mut printed)
     }
 }

@@ -54,10 +54,10 @@ fn one_session_after_another(rt: HostRuntime) {
     check!(rt; answered);
 }
 
-/// Comes in once there is a chair.
+/// Comes in once a slot is free.
 fn come_in(rt: &HostRuntime, host: &impl Abort, place: &Place) -> bool {
     for _ in 0..TRIES {
-        // a session that finds no chair may also be cut off
+        // a session that finds no slot may also be cut off
         if let Ok(true) = is_served(rt, host, place) {
             return true;
         }
@@ -74,7 +74,7 @@ fn sit_down(rt: &HostRuntime, host: &impl Abort, place: &Place, clients: &mut Ve
     is_answered
 }
 
-/// Fills each chair, and tells how many sessions were answered.
+/// Fills each slot, and tells how many sessions were answered.
 fn sit_on_each(
     rt: &HostRuntime,
     host: &impl Abort,
@@ -99,7 +99,7 @@ fn told_late(rt: &HostRuntime, host: &impl Abort, place: &Place) -> (String, Str
     (first, second)
 }
 
-/// Fills each chair, tells what one session more is told and a line later, and lets one more in once another left.
+/// Fills each slot, tells what one session more is told and a line later, and lets one more in once another left.
 fn too_many(rt: &HostRuntime, host: &impl Abort, place: &Place) -> (u64, String, String) {
     let mut clients = Vec::new(rt.alloc());
     let answered = sit_on_each(rt, host, place, &mut clients);

@@ -8,7 +8,7 @@ use Rattle.clap.specs.Words.{App, first_of, first_value, HasMatchesOf, IsAmong, 
 use Rattle.clap.specs.declared.error.ErrorKind.{ErrorKind}
 use Rattle.clap.specs.declared.error.ErrorKind.TheVariants.{OutOfMemory}
 use Rattle.clap.specs.declared.parser.ArgMatches.{ArgMatches}
-use Rattle.wm_serve.specs.declared.serving.Settings.{Settings}
+use Rattle.wm_serve.specs.declared.server.Settings.{Settings}
 use Rattle.wm_program.specs.ProgramWords.{AsksProgram, FindsServe, MeetsFor, ServesBy, TellsSettings, ProgramWanted, plain, program_app, serve_on, told_for_kind, shown_status}
 
 some≢none : {X : Type 0} (x : X) → Some x ≡ None → ⊥

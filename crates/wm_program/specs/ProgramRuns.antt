@@ -3,7 +3,7 @@ use Rattle.std.specs.Prelude.{◌≡◌, ◌⊎◌, true, ℕ, List, Option, Res
 use Rattle.clap.specs.Words.{Text}
 use Rattle.wm_disk.specs.declared.disk.Disk as disks
 use Rattle.wm_disk.specs.declared.refusal.Refusal.{Refusal}
-use Rattle.wm_serve.specs.declared.serving.Settings.{Settings}
+use Rattle.wm_serve.specs.declared.server.Settings.{Settings}
 use Rattle.wm_session.specs.session.Streams.{Streams, writer_failed}
 use Rattle.wm_server.specs.program.Programs.{IsTold}
 use Rattle.wm_server.specs.program.Systems.{IsUndone, Runs, Shows}

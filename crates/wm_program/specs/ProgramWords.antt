@@ -9,7 +9,7 @@ use Rattle.clap.specs.declared.builder.ArgAction.TheVariants.{Set}
 use Rattle.clap.specs.declared.error.ErrorKind.{ErrorKind}
 use Rattle.clap.specs.declared.error.ErrorKind.TheVariants as kind
 use Rattle.wm_crawler.specs.Crawls.{max_workers}
-use Rattle.wm_serve.specs.declared.serving.Settings.{Settings}
+use Rattle.wm_serve.specs.declared.server.Settings.{Settings}
 use Rattle.wm_server.specs.program.Words.{watchmand_app}
 use Rattle.wm_program.specs.declared.words.Words.{Words}
 use Rattle.wm_program.specs.declared.words.Words.TheVariants as words

@@ -7,7 +7,7 @@ ghost use Rattle.clap.specs.Values.{kind_of};
 ghost use Rattle.clap.specs.Words.{app_of, found_of, new_app, rows_of, rule_of, subcommand_rows_of};
 ghost use Rattle.clap.specs.declared.builder.Command.TheViews.{out-Command};
 ghost use Rattle.wm_crawler.specs.Crawls.{max_workers};
-ghost use Rattle.wm_serve.specs.declared.serving.Settings.{Settings as settings_lem};
+ghost use Rattle.wm_serve.specs.declared.server.Settings.{Settings as settings_lem};
 ghost use Rattle.wm_program.specs.ProgramWords.{AsksProgram, FindsServe, MeetsFor, NamedFor, ServesBy, TellsNumber, TellsSettings, place_rule, number_rule, program_app, serve_app, told_for_kind, shown_status, word_text, program_wanted};
 
 use clap::error::ErrorKind;

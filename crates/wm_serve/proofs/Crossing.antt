@@ -17,7 +17,6 @@ use Rattle.std.proofs.option.Option.TheSendSync as OptionSent
 use Rattle.std.proofs.sync.Arc.TheSendSync as ArcSent
 use Rattle.std.proofs.sync.Condvar.TheSendSync as CondvarSent
 use Rattle.std.proofs.sync.Mutex.TheSendSync as MutexSent
-use Rattle.std.proofs.sync.atomic.AtomicU64.TheSendSync as CountSent
 use Rattle.std.specs.contracts.alloc.Global
 use Rattle.std.specs.contracts.impls.GlobalAllocator.TheImpl as GlobalImpl
 use Rattle.std.specs.contracts.option.Option
@@ -47,15 +46,16 @@ use Rattle.wm_serve.specs.contracts.connection.Connection
 use Rattle.wm_serve.specs.contracts.connection.Slot
 use Rattle.wm_serve.specs.contracts.following.Following
 use Rattle.wm_serve.specs.contracts.root_table.RootTable
-use Rattle.wm_serve.specs.contracts.shared.Missing
 use Rattle.wm_serve.specs.contracts.shared.Shared
 use Rattle.wm_serve.specs.contracts.slots.Slots
-use Rattle.wm_serve.proofs.wake.WakeFlag.TheSendSync as WakeSent
-use Rattle.wm_serve.specs.contracts.wake.WakeFlag
-use Rattle.wm_serve.proofs.door.Door.TheSendSync as DoorSent
+use Rattle.wm_serve.specs.contracts.unstarted_workers.UnstartedWorkers
+use Rattle.wm_serve.proofs.unstarted_workers.UnstartedWorkers.TheSendSync as UnstartedSent
+use Rattle.wm_serve.proofs.wake_flag.WakeFlag.TheSendSync as WakeSent
+use Rattle.wm_serve.specs.contracts.wake_flag.WakeFlag
+use Rattle.wm_serve.proofs.waiting_sessions.WaitingSessions.TheSendSync as WaitingSent
 use Rattle.wm_serve.proofs.following.Following.TheSendSync as FollowingSent
 use Rattle.wm_serve.proofs.root_table.RootTable.TheSendSync as TableSent
-use Rattle.wm_hall.proofs.keeping.Forgetting.TheSendSync as ForgettingSent
+use Rattle.wm_hall.proofs.retention.Retention.TheSendSync as RetentionSent
 
 -- ---- what makes the roots' views
 
@@ -87,9 +87,6 @@ roots_sync J K g k =
     let hall = Arc.the_row (RootHall.the_row J K g) Global.the_row GlobalImpl.ghosts in
     MutexSent.the_sync (RootTable.the_row hall) (TableSent.the_send hall (hall_send J K g k))
 
-missing_sync : IsSync (Mutex.the_row Missing.the_row)
-missing_sync = search (crosses, Expressions.crosses, sendable) depth 60 fits 20000
-
 -- ---- the wake flags
 
 wakes_sync : IsSync (Vec.the_row WakeFlag.the_row Global.the_row GlobalImpl.ghosts)
@@ -109,7 +106,7 @@ shared_sync T J K g desk k k' =
             roots_sync J K g k,
             (
               MutexSent.the_sync Following.the_row FollowingSent.the_send,
-              (CondvarSent.the_sync, (missing_sync, (CondvarSent.the_sync, (wakes_sync, (DoorSent.the_sync, (CountSent.the_sync, (ForgettingSent.the_sync, tt))))))),
+              (CondvarSent.the_sync, (MutexSent.the_sync UnstartedWorkers.the_row UnstartedSent.the_send, (CondvarSent.the_sync, (wakes_sync, (WaitingSent.the_sync, (RetentionSent.the_sync, tt)))))),
             ),
           ),
         ),

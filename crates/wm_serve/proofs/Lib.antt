@@ -5,3 +5,5 @@ mod Parting
 mod Rising
 mod Rounds
 mod SeatSent
+mod Steps
+mod Workers

@@ -1,4 +1,4 @@
--- The sessions that were let in and wait for a connection slot, and those that have one.
+-- The sessions that were admitted and wait for a connection slot, and those that have one.
 use Rattle.std.specs.Prelude.{ℕ, ◌+◌, Bool, false, List, [], length}
 
 -- the sessions that wait, in the order of their coming, how many have a slot, how many may be there at once, and whether no other comes

@@ -1,6 +1,9 @@
 pub mod AcceptQueues
+pub mod AdmissionLines
 pub mod CrawlLines
+pub mod FollowedRoots
 pub mod SentLines
 pub mod TriggerWork
+pub mod UnstartedWorkers
 pub mod WakeFlags
 pub mod WatchedRoots

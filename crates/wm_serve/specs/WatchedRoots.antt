@@ -1,14 +1,16 @@
 -- The watched roots of a server with their numbers, in the order of watching.
-use Rattle.std.specs.Prelude.{◌≡◌, ◌<◌, ◌≤◌, ℕ, Bool, true, false, ◌==◌, ◌&&◌, List, [], ◌∷◌, ◌++◌, Option, Some, None}
+use Rattle.std.specs.Prelude.{◌≡◌, ◌<◌, ◌+◌, ◌^◌, ◌-◌, ℕ, Bool, true, false, ◌==◌, ◌&&◌, nat_le, nat_lt, List, [], ◌∷◌, ◌++◌, length, Option, Some, None}
+use Rattle.std.specs.Option.{option_map}
 use Rattle.std.specs.List.{list_any}
 use Rattle.std.specs.Str.{bytes_eq}
 use Rattle.wm_names.specs.Paths.{Path}
+use Rattle.wm_registry.specs.Limits.{max_roots}
 use Rattle.wm_serve.specs.declared.root_table.WatchedRoot.{WatchedRoot}
 
--- the roots that are watched, and the greatest number that a root ever had
+-- the roots that are watched, and the number that the next root is to have
 pub record WatchedRoots (H : Type 0) : Type 0 where
   pub roots : List (WatchedRoot H)
-  pub last : ℕ
+  pub next : ℕ
 
 abbrev pub has_path : {H : Type 0} → Path → WatchedRoot H → Bool
 has_path path root = bytes_eq root.path path
@@ -24,14 +26,22 @@ is_absent (Some hall) = false
 abbrev pub lacks_hall : {H : Type 0} → ℕ → WatchedRoot H → Bool
 lacks_hall number root = has_number number root && is_absent root.hall
 
--- each number is greater than the one before it, from above the first bound up to the last
+-- each number is greater than the one before it, and the next number is above them all
 abbrev pub RiseFrom : {H : Type 0} → ℕ → List (WatchedRoot H) → ℕ → Type 0
-RiseFrom low [] last = low ≤ last
-RiseFrom low (root ∷ roots) last = (low < root.number) × RiseFrom root.number roots last
+RiseFrom low [] next = low < next
+RiseFrom low (root ∷ roots) next = (low < root.number) × RiseFrom root.number roots next
 
--- no number comes twice, and none is above the last
+-- no number comes twice, and none will
 abbrev pub RootNumbersRise : {H : Type 0} → WatchedRoots H → Type 0
-RootNumbersRise w = RiseFrom 0 w.roots w.last
+RootNumbersRise w = RiseFrom 0 w.roots w.next
+
+-- a root of the number may be put: no root has had it, and fewer roots are watched than may be
+abbrev pub may_put : {H : Type 0} → ℕ → WatchedRoots H → Bool
+may_put number w = nat_le w.next number && (nat_lt number (2 ^ 64 - 1) && nat_lt (length w.roots) max_roots)
+
+-- behind the others comes a root
+abbrev pub with_put_root : {H : Type 0} → WatchedRoot H → WatchedRoots H → WatchedRoots H
+with_put_root root w = record { roots = w.roots ++ root ∷ []; next = root.number + 1 }
 
 -- ---- what a server may have had
 
@@ -42,6 +52,10 @@ pub record RootName : Type 0 where
 
 abbrev pub root_name : {H : Type 0} → WatchedRoot H → RootName
 root_name root = record { path = root.path; number = root.number }
+
+abbrev pub root_names : {H : Type 0} → List (WatchedRoot H) → List RootName
+root_names [] = []
+root_names (root ∷ roots) = root_name root ∷ root_names roots
 
 -- each number is greater than the one before it
 abbrev pub NamesRise : ℕ → List RootName → Type 0
@@ -69,3 +83,11 @@ IsFirst {X} p all x = (before : List X) × (after : List X) × (all ≡ before +
 -- the first that passes stands elsewhere: in place of it are these
 abbrev pub ReplacesFirst : {X : Type 0} → (X → Bool) → List X → X → List X → List X → Type 0
 ReplacesFirst {X} p old x others new = (before : List X) × (after : List X) × (old ≡ before ++ x ∷ after) × (list_any p before ≡ false) × (p x ≡ true) × (new ≡ before ++ (others ++ after))
+
+-- the first root of the path has the number
+abbrev pub FindsNumber : {H : Type 0} → Path → List (WatchedRoot H) → ℕ → Type 0
+FindsNumber {H} path roots number = (root : WatchedRoot H) × IsFirst (has_path path) roots root × (root.number ≡ number)
+
+-- the first root of the path has the hall, by what halls share
+abbrev pub FindsHall : {H V : Type 0} → (H → V) → Path → List (WatchedRoot H) → Option H → Type 0
+FindsHall {H} value path roots hall = (root : WatchedRoot H) × IsFirst (has_path path) roots root × (option_map value hall ≡ option_map value root.hall)

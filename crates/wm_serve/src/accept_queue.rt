@@ -1,4 +1,4 @@
-//! The accept queue: the sessions that were let in and wait for a connection slot. Never are more there than slots.
+//! The accept queue: the sessions that were admitted and wait for a connection slot. Never are more there than slots.
 //! Definitions: specs/AcceptQueues.antt. Tests: serve_tests/src/sessions.rt.
 ghost use Rattle.std.specs.Prelude.{◌≡◌, ◌⊎◌, ◌<◌, ◌≤◌, ◌+◌, ◌-◌, ◌++◌, ◌∷◌, [], true, max, not, ◌==◌, ◌&&◌, length, MatchOption, MatchResult};
 ghost use Rattle.wm_serve.specs.AcceptQueues.{empty_queue, sessions_present};
@@ -28,7 +28,7 @@ impl<T> Model for AcceptQueue<T> {
 }
 
 impl<T: Drop> AcceptQueue<T> {
-    /// A queue of no slot: nobody is let in yet.
+    /// A queue of no slot: nobody is admitted yet.
     pub fn new(alloc: Global) -> AcceptQueue<T>
         ensures { result ≡ empty_queue }
     {
@@ -47,7 +47,7 @@ impl<T: Drop> AcceptQueue<T> {
         self.slots = self.slots.max(slots);
     }
 
-    /// Lets a session in, behind those that wait. `TooMany` exactly if each slot is taken, and `NoMemory`: the session comes back
+    /// Admits a session, behind those that wait. `TooMany` exactly if each slot is taken, and `NoMemory`: the session comes back
     /// then, and nothing changes.
     pub fn admit(&mut self, session: T) -> Result<(), (Refusal, T)>
         ensures admitted { MatchResult result (λ _. (sessions_present self.old < self.old.slots) × (self.new ≡ record self.old { waiting = self.old.waiting ++ session ∷ [] }))

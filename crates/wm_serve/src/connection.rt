@@ -1,9 +1,9 @@
 //! A connection slot: the session that two threads share, one of its lines and one of the lines that are due to it.
 //! Tests: serve_tests/src/sessions.rt.
 use crate::registrar::ServerDesk;
-use crate::sending::{answer_line, send, send_due};
+use crate::sent_lines::{answer_line, send, send_due};
 use crate::shared::Shared;
-use crate::wake::bit_of;
+use crate::wake_state::bit_of;
 use std::alloc::Global;
 use std::io;
 use std::net::Shutdown;
@@ -91,7 +91,7 @@ impl<'a, T: ServerDesk, J: Naming, K: Wait + Clock + Copy + Drop> Connection<'a,
     }
 
     /// Sends what is due. A client that doesn't read it is cut off.
-    fn tell<R: Wait>(&mut self, rt: &R, alloc: Global, shared: &Shared<T, J, K>) {
+    fn send_updates<R: Wait>(&mut self, rt: &R, alloc: Global, shared: &Shared<T, J, K>) {
         self.drop_ended(rt, alloc, shared);
         let mut writer = &*self.stream;
         if send_due(alloc, &mut self.session, &mut self.page, &mut writer).is_err() {
@@ -157,14 +157,14 @@ impl<'a, T: ServerDesk, J: Naming, K: Wait + Clock + Copy + Drop> Slot<'a, T, J,
     /// The session's viewer of a root learns what was published of it.
     pub fn learn<R: Wait>(&self, rt: &R, hall: &RootHall<J, K>) {
         if let Some(one) = &mut *self.connection.lock(rt) {
-            one.session.front.learn(hall);
+            let _learnt = one.session.front.learn(hall);
         }
     }
 
     /// Sends what is due.
-    pub fn tell<R: Wait>(&self, rt: &R, alloc: Global, shared: &Shared<T, J, K>) {
+    pub fn send_updates<R: Wait>(&self, rt: &R, alloc: Global, shared: &Shared<T, J, K>) {
         if let Some(one) = &mut *self.connection.lock(rt) {
-            one.tell(rt, alloc, shared);
+            one.send_updates(rt, alloc, shared);
         }
     }
 }

@@ -5,17 +5,18 @@
 //! of commands, and a session that has seen more commands than that waits until the table has followed them.
 //!
 //! Tests: serve_tests/src/sessions.rt.
-ghost use Rattle.std.specs.Prelude.{◌≡◌, ◌⊎◌, ◌<◌, ◌+◌, max, nat_lt, IfErr};
+ghost use Rattle.std.specs.Prelude.{◌≡◌, ◌⊎◌, ◌+◌, max, nat_lt, IfErr};
 
+use crate::followed_roots::Followed;
 use crate::registrar::ServerDesk;
 use crate::second::SystemSeconds;
 use crate::shared::Shared;
-use crate::wake::bit_of;
+use crate::wake_state::bit_of;
 use std::alloc::Global;
 use std::sync::{Arc, Wait};
 use std::time::Clock;
 use wm_disk::Refusal;
-use wm_hall::{Forgetting, RootHall, Seconds};
+use wm_hall::{RootHall, Seconds};
 use wm_names::RootPath;
 use wm_registry::{Command, Trigger};
 use wm_share::Naming;
@@ -27,28 +28,24 @@ pub struct Following {
     incarnation: u64,
     /// How many accepted commands were followed.
     count: u64,
-    /// The number of the next root that is watched.
-    next_root: u64,
 }
 
 impl Following {
     /// Nothing is followed yet.
     pub fn new() -> Following
-        ensures { (result.incarnation ≡ 0) × (result.count ≡ 0) × (result.next_root ≡ 1) }
+        ensures { (result.incarnation ≡ 0) × (result.count ≡ 0) }
     {
         Following {
             incarnation: 0,
             count: 0,
-            next_root: 1,
         }
     }
 
     /// The roots stand as in a registry.
-    pub fn begin(&mut self, incarnation: u64, next_root: u64, count: u64)
-        ensures { (self.new.incarnation ≡ incarnation) × (self.new.next_root ≡ next_root) × (self.new.count ≡ count) }
+    pub fn begin(&mut self, incarnation: u64, count: u64)
+        ensures { (self.new.incarnation ≡ incarnation) × (self.new.count ≡ count) }
     {
         self.incarnation = incarnation;
-        self.next_root = next_root;
         self.count = count;
     }
 
@@ -68,21 +65,11 @@ impl Following {
 
     /// The command of this number was followed.
     fn followed(&mut self, number: u64)
-        ensures { (self.new.count ≡ max self.old.count number) × (self.new.next_root ≡ self.old.next_root) × (self.new.incarnation ≡ self.old.incarnation) }
+        ensures { (self.new.count ≡ max self.old.count number) × (self.new.incarnation ≡ self.old.incarnation) }
     {
         if self.count < number {
             self.count = number;
         }
-    }
-
-    /// The number of a root that is watched now: no other root has it.
-    fn take_number(&mut self) -> u64
-        requires { self.old.next_root < 18446744073709551615 }
-        ensures { (result ≡ self.old.next_root) × (self.new.next_root ≡ self.old.next_root + 1) × (self.new.count ≡ self.old.count) × (self.new.incarnation ≡ self.old.incarnation) }
-    {
-        let number = self.next_root;
-        self.next_root = number + 1;
-        number
     }
 }
 
@@ -95,7 +82,7 @@ impl<T: ServerDesk, J: Naming, K: Wait + Clock + Copy + Drop> Shared<T, J, K> {
             self.following.lock(rt),
             |following| following.is_before(number),
         );
-        let changed = self.apply(rt, alloc, &mut following, number, command);
+        let changed = self.apply(rt, alloc, following.incarnation, number, command);
         following.followed(number);
         drop(following);
         self.followed.notify_all();
@@ -120,44 +107,56 @@ impl<T: ServerDesk, J: Naming, K: Wait + Clock + Copy + Drop> Shared<T, J, K> {
         &self,
         rt: &R,
         alloc: Global,
-        following: &mut Following,
+        incarnation: u64,
         number: u64,
         command: Command,
     ) -> Option<Arc<RootHall<J, K>>> {
+        let made = self.hall_for(rt, alloc, incarnation, &command);
+        let followed = self.follow_in_table(rt, command, made);
+        self.follow_in_hall(rt, number, followed)
+    }
+
+    /// A hall for the root that a command adds, with the number that it is made for; `None` if the command adds none, or memory ran
+    /// out for it.
+    fn hall_for<R: Wait>(
+        &self,
+        rt: &R,
+        alloc: Global,
+        incarnation: u64,
+        command: &Command,
+    ) -> Option<(u64, Arc<RootHall<J, K>>)> {
         match command {
-            Command::Begin => None,
             Command::Watch(path) => {
-                self.watch(rt, alloc, following, path);
-                None
+                let number = self.roots.lock(rt).next();
+                let hall = self.new_hall(rt, alloc, path, incarnation, number).ok()?;
+                Some((number, hall))
             }
-            Command::WatchDel(path) => self.unwatch(rt, &path),
-            Command::Trigger(path, trigger) => self.define(rt, &path, number, trigger),
-            Command::TriggerDel(path, name) => {
+            _ => None,
+        }
+    }
+
+    /// Does to a hall what is left to do for a command of this number: the workers of one that ends end, and each session drops what
+    /// it has of it.
+    fn follow_in_hall<R: Wait>(
+        &self,
+        rt: &R,
+        number: u64,
+        followed: Followed<Arc<RootHall<J, K>>>,
+    ) -> Option<Arc<RootHall<J, K>>> {
+        match followed {
+            Followed::Nothing => None,
+            Followed::Ended(hall) => {
+                let _ended = hall.end(rt);
+                self.notify(rt, bit_of(hall.number));
+                Some(hall)
+            }
+            Followed::Defined(path, trigger) => self.define(rt, &path, number, trigger),
+            Followed::Deleted(path, name) => {
                 let hall = self.known_hall(rt, &path).ok()??;
-                hall.delete(rt, name.as_str());
+                let _deleted = hall.delete(rt, name.as_str());
                 Some(hall)
             }
         }
-    }
-
-    /// Adds a root. Without memory for its hall it is watched without one.
-    fn watch<R: Wait>(&self, rt: &R, alloc: Global, following: &mut Following, path: RootPath) {
-        if following.next_root == u64::MAX {
-            drop(path);
-            return;
-        }
-        let number = following.take_number();
-        let hall = self.new_hall(rt, alloc, &path, following.incarnation, number);
-        self.put(rt, path, number, hall.ok());
-    }
-
-    /// Takes a root out. Its workers end, and each session drops what it has of it.
-    fn unwatch<R: Wait>(&self, rt: &R, path: &RootPath) -> Option<Arc<RootHall<J, K>>> {
-        let taken = self.roots.lock(rt).take(path);
-        let hall = taken?.hall?;
-        hall.end(rt);
-        self.ring_for(rt, bit_of(hall.number));
-        Some(hall)
     }
 
     /// Defines a trigger of a root. A root without a hall gets its triggers with it.
@@ -208,7 +207,7 @@ impl<T: ServerDesk, J: Naming, K: Wait + Clock + Copy + Drop> Shared<T, J, K> {
     ) -> Result<(), Refusal>
         ensures { IfErr result (λ e. (e ≡ Refusal.NotWatched) ⊎ (e ≡ Refusal.NoMemory)) }
     {
-        let (registry, _) = self.desk.registry(rt)?;
+        let registry = self.desk.registry(rt)?.into_registry();
         let number = self.number_of(rt, path);
         let Some(root) = registry.roots().get(path) else {
             return Err(Refusal::NotWatched);
@@ -218,7 +217,7 @@ impl<T: ServerDesk, J: Naming, K: Wait + Clock + Copy + Drop> Shared<T, J, K> {
         }
         let hall = self.new_hall(rt, alloc, path, following.incarnation, root.number)?;
         for trigger in root.triggers.as_slice() {
-            hall.define(rt, following.count, trigger.copy()?)?;
+            let _defined = hall.define(rt, following.count, trigger.copy()?)?;
         }
         self.fill(rt, root.number, hall)?;
         Ok(())
@@ -226,7 +225,9 @@ impl<T: ServerDesk, J: Naming, K: Wait + Clock + Copy + Drop> Shared<T, J, K> {
 }
 
 impl<T: ServerDesk, J: Naming, K: Wait + Clock + Copy + Drop> Seconds for Shared<T, J, K> {
-    ghost earliest = { λ shared. 0 };
+    ghost use Rattle.std.specs.Prelude.{⊤};
+
+    ghost may_read = { λ shared second. ⊤ };
 
     fn second(&self) -> u64 {
         SystemSeconds { rt: &self.keeping }.second()
@@ -234,6 +235,7 @@ impl<T: ServerDesk, J: Naming, K: Wait + Clock + Copy + Drop> Seconds for Shared
 }
 
 impl<T: ServerDesk, J: Naming, K: Wait + Clock + Copy + Drop> Roots<J, K> for Shared<T, J, K> {
+    ghost use Rattle.std.specs.Prelude.{⊤};
     ghost use Rattle.wm_serve.specs.WatchedRoots.{MayHaveHad, MayHaveLacked, MayHaveLackedNumber};
 
     ghost has = { λ shared path number. MayHaveHad path number };
@@ -241,6 +243,10 @@ impl<T: ServerDesk, J: Naming, K: Wait + Clock + Copy + Drop> Roots<J, K> for Sh
     ghost lacks = { λ shared path. MayHaveLacked path };
 
     ghost ended = { λ shared number. MayHaveLackedNumber number };
+
+    ghost followed = { λ shared count. ⊤ };
+
+    ghost woken = { λ shared number. ⊤ };
 
     fn find<R: Wait>(
         &self,
@@ -259,8 +265,8 @@ impl<T: ServerDesk, J: Naming, K: Wait + Clock + Copy + Drop> Roots<J, K> for Sh
         self.await_all(rt, count);
     }
 
-    fn ring<R: Wait>(&self, rt: &R, hall: &RootHall<J, K>) {
-        self.ring_for(rt, bit_of(hall.number));
+    fn wake<R: Wait>(&self, rt: &R, hall: &RootHall<J, K>) {
+        self.notify(rt, bit_of(hall.number));
     }
 
     fn is_watched<R: Wait>(&self, rt: &R, number: u64) -> bool {
@@ -269,9 +275,5 @@ impl<T: ServerDesk, J: Naming, K: Wait + Clock + Copy + Drop> Roots<J, K> for Sh
 
     fn number_of<R: Wait>(&self, rt: &R, path: &RootPath) -> Option<u64> {
         Shared::number_of(self, rt, path)
-    }
-
-    fn forgetting(&self) -> Forgetting {
-        self.forgetting
     }
 }

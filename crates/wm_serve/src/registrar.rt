@@ -1,23 +1,23 @@
 //! What a server asks of its desk: a bound in place of the type, so that little is proved of what stands below it.
 //! Tests: serve_tests/src/sessions.rt.
+ghost use Rattle.std.specs.Prelude.{IsTrue};
 ghost use Rattle.wm_groupcommit.specs.Seats.{IsFlusherOf};
 
-use std::sync::Wait;
-use std::sync::atomic::{AtomicU64, Ordering};
+use crate::unstarted_workers::UnstartedWorkers;
+use std::sync::{Mutex, Wait};
 use std::thread;
 use std::time::{Clock, Duration};
 use wm_disk::{Disk, NoMemory, Refusal};
-use wm_groupcommit::{Desk, Flusher};
-use wm_registry::Registry;
+use wm_groupcommit::{Desk, Flusher, RegistryCopy};
 use wm_shared::Registrar;
 
 /// The desk of a server.
 pub trait ServerDesk: Registrar {
     /// The registry as it is now, and how many commands had been accepted by then.
-    fn registry<R: Wait>(&self, rt: &R) -> Result<(Registry, u64), NoMemory>;
+    fn registry<R: Wait>(&self, rt: &R) -> Result<RegistryCopy, NoMemory>;
 
-    /// Commits what is submitted, until `closing` is 1 and nothing is left.
-    fn flush<R: Wait + Clock>(&self, rt: &R, closing: &AtomicU64);
+    /// Commits what is submitted, until no worker is started any longer and nothing is left.
+    fn flush<R: Wait + Clock>(&self, rt: &R, unstarted: &Mutex<UnstartedWorkers>);
 
     /// Closes the store, refused as that is. Nothing is committed any longer.
     fn close<R: Wait>(&self, rt: &R) -> Result<(), Refusal>;
@@ -31,7 +31,8 @@ fn flush_once<R: Wait + Clock, D: Disk + Drop>(
     is_closing: bool,
 ) -> bool
     requires { IsFlusherOf desk.now flusher.old }
-    ensures { IsFlusherOf desk.now flusher.new }
+    ensures flusher { IsFlusherOf desk.now flusher.new }
+    ensures ends { IsTrue result → IsTrue is_closing }
 {
     match desk.flush_once(rt, flusher) {
         Ok(flushed) => {
@@ -49,16 +50,16 @@ fn flush_once<R: Wait + Clock, D: Disk + Drop>(
 }
 
 impl<D: Disk + Drop> ServerDesk for Desk<D> {
-    fn registry<R: Wait>(&self, rt: &R) -> Result<(Registry, u64), NoMemory> {
+    fn registry<R: Wait>(&self, rt: &R) -> Result<RegistryCopy, NoMemory> {
         Desk::registry(self, rt)
     }
 
-    fn flush<R: Wait + Clock>(&self, rt: &R, closing: &AtomicU64) {
+    fn flush<R: Wait + Clock>(&self, rt: &R, unstarted: &Mutex<UnstartedWorkers>) {
         let Ok(mut flusher) = self.flusher(rt) else {
             return;
         };
         for _ in rt.forever() {
-            let is_closing = closing.load(Ordering::SeqCst) == 1;
+            let is_closing = unstarted.lock(rt).is_closed();
             if flush_once(rt, self, &mut flusher, is_closing) {
                 return;
             }
@@ -66,8 +67,12 @@ impl<D: Disk + Drop> ServerDesk for Desk<D> {
     }
 
     fn close<R: Wait>(&self, rt: &R) -> Result<(), Refusal> {
-        let closed = Desk::close(self, rt)?;
-        drop(closed);
-        Ok(())
+        match Desk::close(self, rt) {
+            Ok(closed) => {
+                drop(closed);
+                Ok(())
+            }
+            Err(unclosed) => Err(unclosed.refusal()),
+        }
     }
 }

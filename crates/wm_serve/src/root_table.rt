@@ -1,11 +1,10 @@
 //! The table of the watched roots: each with its number, in the order of watching. A number is never put twice, so there is one
 //! hall, and one view, for each number that a clock may have.
 //! Definitions: specs/WatchedRoots.antt. Tests: serve_tests/src/sessions.rt.
-ghost use Rattle.std.specs.Prelude.{◌≡◌, ◌⊎◌, ◌≤◌, ◌<◌, ◌++◌, ◌∷◌, [], true, false, Some, None, get_or, take, length, IfOk, MatchBool, MatchOption};
+ghost use Rattle.std.specs.Prelude.{◌≡◌, ◌<◌, ◌≤◌, ◌∷◌, [], true, false, max, Some, None, get_or, take, length, IfOk, MatchBool, MatchOption};
 ghost use Rattle.std.specs.List.{list_any};
 ghost use Rattle.wm_names.specs.Paths.{Path};
-ghost use Rattle.wm_registry.specs.Limits.{max_roots};
-ghost use Rattle.wm_serve.specs.WatchedRoots.{IsFirst, MayHaveHad, MayHaveLacked, MayHaveLackedNumber, ReplacesFirst, RootNumbersRise, has_path, has_number, lacks_hall};
+ghost use Rattle.wm_serve.specs.WatchedRoots.{FindsNumber, IsFirst, MayHaveHad, MayHaveLacked, MayHaveLackedNumber, ReplacesFirst, RootNumbersRise, has_path, has_number, lacks_hall as lacks_hall_lem, may_put, with_put_root};
 
 use std::alloc::Global;
 use std::marker::Model;
@@ -22,11 +21,11 @@ pub struct WatchedRoot<H> {
     pub hall: Option<H>,
 }
 
-/// The watched roots, in the order of watching. Contracts see the list, and the greatest number that was ever put.
+/// The watched roots, in the order of watching. Contracts see the list, and the number that the next root is to have.
 #[derive(Drop)]
 pub struct RootTable<H> {
     roots: Vec<WatchedRoot<H>>,
-    last: u64,
+    next: u64,
 }
 
 impl<H> Model for RootTable<H> {
@@ -36,33 +35,51 @@ impl<H> Model for RootTable<H> {
 
     ghost Value = { WatchedRoots H };
 
-    ghost view = { λ t. record { roots = t.roots.items; last = t.last } };
+    ghost view = { λ t. record { roots = t.roots.items; next = t.next } };
 
-    ghost invariant = { λ t. (max_roots ≤ vec_capacity t.roots) × RootNumbersRise (record { roots = t.roots.items; last = t.last }) };
+    ghost invariant = { λ t. (max_roots ≤ vec_capacity t.roots) × RootNumbersRise (record { roots = t.roots.items; next = t.next }) };
 }
 
 impl<H: Drop> RootTable<H> {
-    /// A table of no root, with room for as many as may be watched. `NoMemory`.
+    /// A table of no root, with memory for as many as may be watched. `NoMemory`.
     pub fn new(alloc: Global) -> Result<RootTable<H>, NoMemory>
-        ensures { IfOk result (λ table. table ≡ record { roots = []; last = 0 }) }
+        ensures { IfOk result (λ table. table ≡ record { roots = []; next = 1 }) }
     {
         let mut roots = Vec::new(alloc);
         roots.try_reserve(MAX_ROOTS as usize)?;
-        Ok(RootTable { roots, last: 0 })
+        Ok(RootTable { roots, next: 1 })
     }
 
-    /// Appends a root whose number is above all that were put: whether it did. Else the root is dropped: its number had a root
-    /// before, or as many are watched as may be.
-    pub fn put(&mut self, root: WatchedRoot<H>) -> bool
-        ensures put { MatchBool result (self.new ≡ record { roots = self.old.roots ++ root ∷ []; last = root.number }) (self.new ≡ self.old) }
-        ensures new { MatchBool result (self.old.last < root.number) ((root.number ≤ self.old.last) ⊎ (max_roots ≤ length self.old.roots)) }
+    /// The number that the next root is to have.
+    pub fn next(&self) -> u64
+        ensures { result ≡ self.now.next }
     {
-        let number = root.number;
-        if number <= self.last || self.roots.push(root).is_err() {
-            return false;
+        self.next
+    }
+
+    /// The next root is to have at least this number.
+    pub fn begin_at(&mut self, next: u64)
+        ensures { self.new ≡ record self.old { next = max self.old.next next } }
+    {
+        if self.next < next {
+            self.next = next;
         }
-        self.last = number;
-        true
+    }
+
+    /// Whether a root of this number may be put: no root has had it, and fewer roots are watched than may be.
+    pub fn can_put(&self, number: u64) -> bool
+        ensures { result ≡ may_put number self.now }
+    {
+        self.next <= number && number < u64::MAX && self.roots.len() < MAX_ROOTS as usize
+    }
+
+    /// Appends a root.
+    pub fn put(&mut self, root: WatchedRoot<H>)
+        requires { may_put root.number self.old ≡ true }
+        ensures { self.new ≡ with_put_root root self.old }
+    {
+        self.next = root.number + 1;
+        self.roots.push_reserved(root);
     }
 
     /// The root of a path, if it is watched.
@@ -93,12 +110,13 @@ impl<H: Drop> RootTable<H> {
     pub fn numbers_rise(&self)
         ensures { RootNumbersRise self.now }
     {
-        let _last = self.last;
+        let _next = self.next;
     }
 
     /// The number of the root of a path, if it is watched.
     pub fn number_of(&self, path: &RootPath) -> Option<u64>
-        ensures { MatchOption result (MayHaveLacked path.now) (MayHaveHad path.now) }
+        ensures found { MatchOption result (list_any (has_path path.now) self.now.roots ≡ false) (FindsNumber path.now self.now.roots) }
+        ensures had { MatchOption result (MayHaveLacked path.now) (MayHaveHad path.now) }
     {
         self.numbers_rise();
         match self.find(path) {
@@ -109,7 +127,8 @@ impl<H: Drop> RootTable<H> {
 
     /// Whether a root of the number is watched.
     pub fn is_numbered(&self, number: u64) -> bool
-        ensures { MatchBool result ((path : Path) × MayHaveHad path number) (MayHaveLackedNumber number) }
+        ensures found { result ≡ list_any (has_number number) self.now.roots }
+        ensures had { MatchBool result ((path : Path) × MayHaveHad path number) (MayHaveLackedNumber number) }
     {
         self.numbers_rise();
         match self.numbered(number) {
@@ -140,7 +159,7 @@ impl<H: Drop> RootTable<H> {
     /// Takes the root of a path out, if it is watched.
     pub fn take(&mut self, path: &RootPath) -> Option<WatchedRoot<H>>
         ensures { MatchOption result ((list_any (has_path path.now) self.old.roots ≡ false) × (self.new ≡ self.old))
-            (λ root. ReplacesFirst (has_path path.now) self.old.roots root [] self.new.roots × (self.new.last ≡ self.old.last)) }
+            (λ root. ReplacesFirst (has_path path.now) self.old.roots root [] self.new.roots × (self.new.next ≡ self.old.next)) }
     {
         let place = self.place(path)?;
         Some(self.roots.remove(place))
@@ -148,7 +167,7 @@ impl<H: Drop> RootTable<H> {
 
     /// The place of the root of a number that has no hall.
     fn lacking(&self, number: u64) -> Option<usize>
-        ensures { MatchOption result (list_any (lacks_hall number) self.now.roots ≡ false) (λ i. (i < length self.now.roots) × (list_any (lacks_hall number) (take i self.now.roots) ≡ false) × ((d : WatchedRoot H) → lacks_hall number (get_or self.now.roots i d) ≡ true)) }
+        ensures { MatchOption result (list_any (lacks_hall_lem number) self.now.roots ≡ false) (λ i. (i < length self.now.roots) × (list_any (lacks_hall_lem number) (take i self.now.roots) ≡ false) × ((d : WatchedRoot H) → lacks_hall_lem number (get_or self.now.roots i d) ≡ true)) }
     {
         for place in 0..self.roots.len() {
             if self.roots[place].number == number && self.roots[place].hall.is_none() {
@@ -158,16 +177,25 @@ impl<H: Drop> RootTable<H> {
         None
     }
 
-    /// Gives the root of a number, which has no hall, this one. The hall comes back if there is no such root.
-    pub fn fill(&mut self, number: u64, hall: H) -> Option<H>
-        ensures { MatchOption result
-            ((old : WatchedRoot H) × ReplacesFirst (lacks_hall number) self.old.roots old (record old { hall = Some hall } ∷ []) self.new.roots × (self.new.last ≡ self.old.last))
-            (λ back. (back ≡ hall) × (list_any (lacks_hall number) self.old.roots ≡ false) × (self.new ≡ self.old)) }
+    /// Whether the root of a number is watched without a hall.
+    pub fn lacks_hall(&self, number: u64) -> bool
+        ensures { result ≡ list_any (lacks_hall_lem number) self.now.roots }
+    {
+        match self.lacking(number) {
+            Some(_) => true,
+            None => false,
+        }
+    }
+
+    /// Gives the root of a number, which has no hall, this one.
+    pub fn fill(&mut self, number: u64, hall: H)
+        requires { list_any (lacks_hall_lem number) self.old.roots ≡ true }
+        ensures { (old : WatchedRoot H) × ReplacesFirst (lacks_hall_lem number) self.old.roots old (record old { hall = Some hall } ∷ []) self.new.roots × (self.new.next ≡ self.old.next) }
     {
         let Some(place) = self.lacking(number) else {
-            return Some(hall);
+            drop(hall);
+            return;
         };
         self.roots[place].hall = Some(hall);
-        None
     }
 }

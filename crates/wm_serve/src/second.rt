@@ -10,7 +10,9 @@ pub struct SystemSeconds<'a, R> {
 }
 
 impl<R: Clock> Seconds for SystemSeconds<'_, R> {
-    ghost earliest = { λ s. 0 };
+    ghost use Rattle.std.specs.Prelude.{⊤};
+
+    ghost may_read = { λ s second. ⊤ };
 
     /// 0 if the clock gives none.
     fn second(&self) -> u64 {

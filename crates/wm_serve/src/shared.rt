@@ -1,24 +1,26 @@
-//! What all threads of a server share: the desk, the watched roots, a wake flag for each connection slot, and the door.
+//! What all threads of a server share: the desk, the watched roots, a wake flag for each connection slot, and the sessions that
+//! wait for one.
 //! Definitions: specs/WatchedRoots.antt. Tests: serve_tests/src/sessions.rt.
-ghost use Rattle.std.specs.Prelude.{◌≡◌, ◌⊎◌, IfOk, IfErr, IfSome, MatchBool, MatchOption};
+ghost use Rattle.std.specs.Prelude.{◌≡◌, ◌⊎◌, false, IfOk, IfErr, IfSome, MatchBool, MatchOption};
 ghost use Rattle.std.specs.Arc.{arc_value};
+ghost use Rattle.std.specs.List.{list_any};
 ghost use Rattle.wm_names.specs.Paths.{Path};
-ghost use Rattle.wm_serve.specs.WatchedRoots.{MayHaveHad, MayHaveLacked, MayHaveLackedNumber};
+ghost use Rattle.wm_serve.specs.WatchedRoots.{FindsHall, MayHaveHad, MayHaveLacked, MayHaveLackedNumber, has_path};
 
-use crate::door::{CHAIRS, Door};
+use crate::followed_roots::{Followed, fill_root, follow_command, put_root};
 use crate::following::Following;
-use crate::house::Worker;
 use crate::registrar::ServerDesk;
 use crate::root_table::{RootTable, WatchedRoot};
-use crate::wake::WakeFlag;
+use crate::unstarted_workers::UnstartedWorkers;
+use crate::waiting_sessions::{SLOTS, WaitingSessions};
+use crate::wake_flag::WakeFlag;
 use std::alloc::Global;
-use std::sync::atomic::{AtomicU64, Ordering};
 use std::sync::{Arc, Condvar, Mutex, Wait};
 use std::time::Clock;
 use wm_disk::{NoMemory, Refusal};
-use wm_hall::{Forgetting, RootHall};
+use wm_hall::{Retention, RootHall};
 use wm_names::RootPath;
-use wm_registry::Registry;
+use wm_registry::{Command, Registry};
 use wm_share::{Naming, Shares};
 
 /// The hall of the root of a path, as the table has it; `None` if memory ran out for it. `NotWatched` if no root has the path, and
@@ -27,7 +29,9 @@ pub fn hall_at<J: Naming, K: Wait + Drop>(
     roots: &RootTable<Arc<RootHall<J, K>>>,
     path: &RootPath,
 ) -> Result<Option<Arc<RootHall<J, K>>>, Refusal>
+    ensures found { IfOk result (FindsHall arc_value path.now roots.now.roots) }
     ensures had { IfOk result (λ found. IfSome found (λ hall. MayHaveHad path.now (arc_value hall).number)) }
+    ensures not_watched { IfErr result (λ e. e ≡ Refusal.NotWatched → list_any (has_path path.now) roots.now.roots ≡ false) }
     ensures refused { IfErr result (λ e. (e ≡ Refusal.NotWatched) ⊎ (e ≡ Refusal.NoMemory)) }
 {
     roots.numbers_rise();
@@ -47,13 +51,6 @@ pub fn hall_at<J: Naming, K: Wait + Drop>(
     }
 }
 
-/// The workers that are still to be started.
-#[derive(Drop)]
-pub struct Missing {
-    pub workers: Vec<Worker>,
-    pub is_closing: bool,
-}
-
 /// What all threads share.
 pub struct Shared<T: ServerDesk, J: Naming, K: Wait + Clock + Copy + Drop> {
     pub desk: T,
@@ -66,24 +63,26 @@ pub struct Shared<T: ServerDesk, J: Naming, K: Wait + Clock + Copy + Drop> {
     pub following: Mutex<Following>,
     /// The roots have followed one more command.
     pub followed: Condvar,
-    pub missing: Mutex<Missing>,
-    pub came: Condvar,
+    /// The workers that are still to be started. They are locked before the table is.
+    pub unstarted: Mutex<UnstartedWorkers>,
+    /// A worker is to be started, or the server closes.
+    pub workers_changed: Condvar,
     /// A flag for each connection slot.
     wakes: Vec<WakeFlag>,
-    pub door: Door,
-    /// 1 where the server closes.
-    pub closing: AtomicU64,
-    pub forgetting: Forgetting,
+    /// The sessions that wait for a slot.
+    pub waiting: WaitingSessions,
+    /// When deleted paths of a root are forgotten.
+    retention: Retention,
 }
 
 impl<T: ServerDesk, J: Naming, K: Wait + Clock + Copy + Drop> Shared<T, J, K> {
-    /// What all threads share, with no root and no worker yet, and a door that lets nobody in. `NoMemory` hands the desk back.
+    /// What all threads share, with no root and no worker yet, and nobody admitted. `NoMemory` hands the desk back.
     pub fn new(
         alloc: Global,
         keeping: K,
         desk: T,
         shares: Shares<J>,
-        forgetting: Forgetting,
+        retention: Retention,
     ) -> Result<Shared<T, J, K>, (NoMemory, T)> {
         let Ok((wakes, roots)) = fittings(alloc) else {
             return Err((NoMemory, desk));
@@ -95,15 +94,11 @@ impl<T: ServerDesk, J: Naming, K: Wait + Clock + Copy + Drop> Shared<T, J, K> {
             roots: Mutex::new(roots),
             following: Mutex::new(Following::new()),
             followed: Condvar::new(),
-            missing: Mutex::new(Missing {
-                workers: Vec::new(alloc),
-                is_closing: false,
-            }),
-            came: Condvar::new(),
+            unstarted: Mutex::new(UnstartedWorkers::new(alloc)),
+            workers_changed: Condvar::new(),
             wakes,
-            door: Door::new(alloc),
-            closing: AtomicU64::new(0),
-            forgetting,
+            waiting: WaitingSessions::new(alloc),
+            retention,
         })
     }
 
@@ -116,12 +111,11 @@ impl<T: ServerDesk, J: Naming, K: Wait + Clock + Copy + Drop> Shared<T, J, K> {
             roots: _,
             following: _,
             followed: _,
-            missing: _,
-            came: _,
+            unstarted: _,
+            workers_changed: _,
             wakes: _,
-            door: _,
-            closing: _,
-            forgetting: _,
+            waiting: _,
+            retention: _,
         } = self;
         desk
     }
@@ -170,11 +164,12 @@ impl<T: ServerDesk, J: Naming, K: Wait + Clock + Copy + Drop> Shared<T, J, K> {
 
     /// Has the roots of the registry at the start. `NoMemory`, and then some may have no hall.
     pub fn begin<R: Wait>(&self, rt: &R, alloc: Global) -> Result<(), NoMemory> {
-        let (registry, count) = self.desk.registry(rt)?;
-        self.following
-            .lock(rt)
-            .begin(registry.incarnation(), registry.next_root(), count);
+        let copy = self.desk.registry(rt)?;
+        let count = copy.count();
+        let registry = copy.into_registry();
+        self.following.lock(rt).begin(registry.incarnation(), count);
         let added = self.add_all(rt, alloc, &registry);
+        self.roots.lock(rt).begin_at(registry.next_root());
         drop(registry);
         added
     }
@@ -183,9 +178,14 @@ impl<T: ServerDesk, J: Naming, K: Wait + Clock + Copy + Drop> Shared<T, J, K> {
         for (path, root) in registry.roots() {
             let hall = self.new_hall(rt, alloc, path, registry.incarnation(), root.number)?;
             for trigger in root.triggers.as_slice() {
-                hall.define(rt, 0, trigger.copy()?)?;
+                let _defined = hall.define(rt, 0, trigger.copy()?)?;
             }
-            self.put(rt, path.copy(alloc)?, root.number, Some(hall));
+            let root = WatchedRoot {
+                path: path.copy(alloc)?,
+                number: root.number,
+                hall: Some(hall),
+            };
+            self.put(rt, root);
         }
         Ok(())
     }
@@ -204,52 +204,50 @@ impl<T: ServerDesk, J: Naming, K: Wait + Clock + Copy + Drop> Shared<T, J, K> {
             return Err(NoMemory);
         };
         drop(shares);
-        let hall = RootHall::new(alloc, path, number, keeper, pool)?;
+        let hall = RootHall::new(alloc, path, number, keeper, pool, self.retention)?;
         Arc::new(alloc, hall).map_err(|_| NoMemory)
     }
 
-    /// Puts a root into the table, and has the workers of its hall started. Without memory for these it has no hall yet.
-    pub fn put<R: Wait>(
-        &self,
-        rt: &R,
-        path: RootPath,
-        number: u64,
-        hall: Option<Arc<RootHall<J, K>>>,
-    ) {
-        let mut missing = self.missing.lock(rt);
-        let mut hall = hall;
-        if missing.workers.try_reserve(2).is_err() {
-            drop(hall);
-            hall = None;
-        }
-        let has_hall = hall.is_some();
-        let root = WatchedRoot { path, number, hall };
-        if self.roots.lock(rt).put(root) && has_hall {
-            let _started = start(&mut missing.workers, number);
-        }
-        drop(missing);
-        self.came.notify_all();
+    /// As [`put_root`].
+    fn put<R: Wait>(&self, rt: &R, root: WatchedRoot<Arc<RootHall<J, K>>>) {
+        let mut unstarted = self.unstarted.lock(rt);
+        let mut roots = self.roots.lock(rt);
+        put_root(&mut roots, &mut unstarted, root);
+        drop(roots);
+        drop(unstarted);
+        self.workers_changed.notify_all();
     }
 
-    /// Gives a root that has no hall this one, and has its workers started.
+    /// As [`fill_root`].
     pub fn fill<R: Wait>(
         &self,
         rt: &R,
         number: u64,
         hall: Arc<RootHall<J, K>>,
     ) -> Result<(), NoMemory> {
-        let mut missing = self.missing.lock(rt);
-        if missing.workers.try_reserve(2).is_err() {
-            drop(hall);
-            return Err(NoMemory);
-        }
-        match self.roots.lock(rt).fill(number, hall) {
-            None => start(&mut missing.workers, number)?,
-            Some(hall) => drop(hall),
-        }
-        drop(missing);
-        self.came.notify_all();
-        Ok(())
+        let mut unstarted = self.unstarted.lock(rt);
+        let mut roots = self.roots.lock(rt);
+        let filled = fill_root(&mut roots, &mut unstarted, number, hall);
+        drop(roots);
+        drop(unstarted);
+        self.workers_changed.notify_all();
+        filled
+    }
+
+    /// As [`follow_command`].
+    pub fn follow_in_table<R: Wait>(
+        &self,
+        rt: &R,
+        command: Command,
+        made: Option<(u64, Arc<RootHall<J, K>>)>,
+    ) -> Followed<Arc<RootHall<J, K>>> {
+        let mut unstarted = self.unstarted.lock(rt);
+        let mut roots = self.roots.lock(rt);
+        let followed = follow_command(&mut roots, &mut unstarted, command, made);
+        drop(roots);
+        drop(unstarted);
+        self.workers_changed.notify_all();
+        followed
     }
 
     /// The number of the watched root of a path.
@@ -267,9 +265,9 @@ impl<T: ServerDesk, J: Naming, K: Wait + Clock + Copy + Drop> Shared<T, J, K> {
     }
 
     /// Lines may be due to each session that has a subscription on one of these roots, as their bits.
-    pub fn ring_for<R: Wait>(&self, rt: &R, roots: u64) {
+    pub fn notify<R: Wait>(&self, rt: &R, roots: u64) {
         for wake in self.wakes.iter() {
-            wake.ring(rt, roots);
+            wake.notify(rt, roots);
         }
     }
 
@@ -288,27 +286,19 @@ impl<T: ServerDesk, J: Naming, K: Wait + Clock + Copy + Drop> Shared<T, J, K> {
         }
     }
 
-    /// Each worker ends, and each thread that tells subscriptions; the flusher ends once the desk is closed.
+    /// Each worker ends, and each thread that sends updates; the flusher ends once the desk is closed.
     pub fn end_workers<R: Wait>(&self, rt: &R) {
-        self.missing.lock(rt).is_closing = true;
-        self.came.notify_all();
+        self.unstarted.lock(rt).close();
+        self.workers_changed.notify_all();
         for root in self.roots.lock(rt).all() {
             if let Some(hall) = &root.hall {
-                hall.end(rt);
+                let _ended = hall.end(rt);
             }
         }
         for wake in self.wakes.iter() {
             wake.close(rt);
         }
-        self.closing.store(1, Ordering::SeqCst);
     }
-}
-
-/// Has both workers of a root started. There is room for them.
-fn start(workers: &mut Vec<Worker>, number: u64) -> Result<(), NoMemory> {
-    workers.push(Worker::Crawler(number))?;
-    workers.push(Worker::Triggers(number))?;
-    Ok(())
 }
 
 /// The flags, and the table of roots.
@@ -322,7 +312,7 @@ fn fittings<J: Naming, K: Wait + Drop>(
 
 fn wakes(alloc: Global) -> Result<Vec<WakeFlag>, NoMemory> {
     let mut wakes = Vec::new(alloc);
-    for _ in 0..CHAIRS {
+    for _ in 0..SLOTS {
         wakes.push(WakeFlag::new())?;
     }
     Ok(wakes)

@@ -1,23 +1,23 @@
 //! What threads are given of a server.
 //! Tests: serve_tests/src/sessions.rt.
-use crate::answering::sit_on;
 use crate::connection::Slot;
-use crate::door::CHAIRS;
-use crate::house::{Crawl, House, Worker};
 use crate::registrar::ServerDesk;
 use crate::second::SystemSeconds;
+use crate::server_handle::{Crawl, ServerHandle};
+use crate::sessions::serve_sessions;
 use crate::shared::Shared;
-use crate::telling::tell_for;
-use crate::triggering::trigger_for;
-use crate::wake::bit_of;
+use crate::trigger_worker::run_triggers;
+use crate::unstarted_workers::Worker;
+use crate::updates::send_updates;
+use crate::waiting_sessions::SLOTS;
+use crate::wake_state::bit_of;
 use std::alloc::Global;
 use std::os::unix::net::UnixStream;
 use std::sync::Wait;
 use std::time::Clock;
 use wm_disk::{NoMemory, Refusal};
-use wm_hall::{Begun, Reading, RootHall};
+use wm_hall::{Begun, BegunCrawl, Reading, RootHall};
 use wm_lines::Progress;
-use wm_names::Subtree;
 use wm_share::Naming;
 use wm_triggers::Programs;
 
@@ -25,12 +25,14 @@ use wm_triggers::Programs;
 fn crawl_of<J: Naming, K: Wait + Drop>(
     alloc: Global,
     hall: &RootHall<J, K>,
-    ticket: u64,
-    subtree: Result<Subtree, NoMemory>,
+    begun: BegunCrawl,
 ) -> Result<Crawl, NoMemory> {
+    let path = hall.path.copy(alloc)?;
+    let ticket = begun.ticket();
+    let subtree = begun.into_subtree()?;
     Ok(Crawl {
-        path: hall.path.copy(alloc)?,
-        subtree: subtree?,
+        path,
+        subtree,
         ticket,
     })
 }
@@ -46,75 +48,68 @@ impl<'a, T: ServerDesk, J: Naming, K: Wait + Clock + Copy + Drop> Slots<'a, T, J
     /// The slots of a server, without a session.
     pub fn new(alloc: Global, shared: &'a Shared<T, J, K>) -> Result<Slots<'a, T, J, K>, NoMemory> {
         let mut slots = Vec::new(alloc);
-        for number in 0..CHAIRS {
+        for number in 0..SLOTS {
             slots.push(Slot::new(number as usize))?;
         }
         Ok(Slots { shared, slots })
     }
 }
 
-impl<'a, T: ServerDesk, J: Naming, K: Wait + Clock + Copy + Drop> House for Slots<'a, T, J, K> {
-    fn open_door<R: Wait>(&self, rt: &R, chairs: u64) {
-        self.shared.door.open(rt, chairs);
+impl<'a, T: ServerDesk, J: Naming, K: Wait + Clock + Copy + Drop> ServerHandle
+    for Slots<'a, T, J, K> {
+    fn open_slots<R: Wait>(&self, rt: &R, slots: u64) {
+        self.shared.waiting.open(rt, slots);
     }
 
-    fn enter<R: Wait>(&self, rt: &R, stream: UnixStream) -> Result<(), (Refusal, UnixStream)> {
-        self.shared.door.enter(rt, stream)
+    fn admit<R: Wait>(&self, rt: &R, stream: UnixStream) -> Result<(), (Refusal, UnixStream)> {
+        self.shared.waiting.admit(rt, stream)
     }
 
-    fn sit<R: Wait>(&self, rt: &R, alloc: Global, chair: usize) {
-        if let Some(chair) = self.slots.get(chair) {
-            sit_on(rt, alloc, self.shared, chair);
+    fn serve_sessions<R: Wait>(&self, rt: &R, alloc: Global, slot: usize) {
+        if let Some(slot) = self.slots.get(slot) {
+            serve_sessions(rt, alloc, self.shared, slot);
         }
     }
 
-    fn tell<R: Wait>(&self, rt: &R, alloc: Global, chair: usize) {
-        if let Some(chair) = self.slots.get(chair) {
-            tell_for(rt, alloc, self.shared, chair);
+    fn send_updates<R: Wait>(&self, rt: &R, alloc: Global, slot: usize) {
+        if let Some(slot) = self.slots.get(slot) {
+            send_updates(rt, alloc, self.shared, slot);
         }
     }
 
     fn flush<R: Wait + Clock>(&self, rt: &R) {
-        self.shared.desk.flush(rt, &self.shared.closing);
+        self.shared.desk.flush(rt, &self.shared.unstarted);
     }
 
     fn next_worker<R: Wait>(&self, rt: &R) -> Option<Worker> {
-        let missing = self
-            .shared
-            .came
-            .wait_while(rt, self.shared.missing.lock(rt), |missing| {
-                missing.workers.is_empty() && !missing.is_closing
-            });
-        let next = if missing.is_closing {
-            None
-        } else {
-            missing.workers.last().copied()
-        };
-        drop(missing);
-        next
+        let unstarted = self.shared.workers_changed.wait_while(
+            rt,
+            self.shared.unstarted.lock(rt),
+            |unstarted| unstarted.must_wait(),
+        );
+        unstarted.next()
     }
 
     fn started<R: Wait>(&self, rt: &R, worker: Worker) {
-        self.shared
-            .missing
-            .lock(rt)
-            .workers
-            .retain(|one| *one != worker);
+        self.shared.unstarted.lock(rt).started(worker);
     }
 
     fn next_crawl<R: Wait>(&self, rt: &R, alloc: Global, root: u64) -> Option<Crawl> {
         let hall = self.shared.numbered(rt, root)?;
         for _ in rt.forever() {
-            let Some((ticket, subtree)) = hall.work.next_crawl(rt) else {
+            let Ok(begun) = hall.work.next_crawl(rt) else {
                 drop(hall);
                 return None;
             };
-            match crawl_of(alloc, &hall, ticket, subtree) {
+            let ticket = begun.ticket();
+            match crawl_of(alloc, &hall, begun) {
                 Ok(crawl) => {
                     drop(hall);
                     return Some(crawl);
                 }
-                Err(NoMemory) => hall.work.crawled(rt, ticket, Err(Refusal::NoMemory)),
+                Err(NoMemory) => {
+                    let _ended = hall.work.crawled(rt, ticket, Err(Refusal::NoMemory));
+                }
             }
         }
         None
@@ -145,34 +140,28 @@ impl<'a, T: ServerDesk, J: Naming, K: Wait + Clock + Copy + Drop> House for Slot
             drop(found);
             return Err(Refusal::NotWatched);
         };
-        let met = hall.take_in(
-            rt,
-            alloc,
-            self.shared.forgetting,
-            &SystemSeconds { rt },
-            found,
-        );
-        self.shared.ring_for(rt, bit_of(root));
+        let met = hall.take_in(rt, alloc, &SystemSeconds { rt }, found);
+        self.shared.notify(rt, bit_of(root));
         drop(hall);
         met
     }
 
     fn crawled<R: Wait>(&self, rt: &R, root: u64, ticket: u64, ended: Result<Progress, Refusal>) {
         if let Some(hall) = self.shared.numbered(rt, root) {
-            hall.work.crawled(rt, ticket, ended);
+            let _ended = hall.work.crawled(rt, ticket, ended);
             drop(hall);
         }
     }
 
     fn run_triggers<R: Wait, P: Programs>(&self, rt: &R, alloc: Global, root: u64, programs: &P) {
         if let Some(hall) = self.shared.numbered(rt, root) {
-            trigger_for(rt, alloc, &hall, programs);
+            run_triggers(rt, alloc, &hall, programs);
             drop(hall);
         }
     }
 
-    fn close_door<R: Wait>(&self, rt: &R) {
-        self.shared.door.close(rt);
+    fn close_slots<R: Wait>(&self, rt: &R) {
+        self.shared.waiting.close(rt);
     }
 
     fn close<R: Wait>(&self, rt: &R) -> Result<(), Refusal> {

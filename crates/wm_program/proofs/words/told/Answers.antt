@@ -1,7 +1,7 @@
 use Rattle.std.proofs.Common.{◌≡◌, ◌∙◌, sym, ap, subst, Option, List, ℕ, Some}
 use Rattle.std.specs.Borrow.{Bor}
 use Rattle.std.proofs.lemmas.Result.{IfOk-weaker}
-use Rattle.wm_serve.specs.declared.serving.Settings.{Settings}
+use Rattle.wm_serve.specs.declared.server.Settings.{Settings}
 use Rattle.wm_program.specs.ProgramWords.{ServesBy, word_text, program_wanted}
 use Rattle.wm_program.proofs.Wanting.{no_file, no_settings, no_socket}
 use Rattle.wm_program.proofs.words.told.Goals as goal

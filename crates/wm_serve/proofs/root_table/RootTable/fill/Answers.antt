@@ -13,8 +13,8 @@ invariant_of-self g c =
     let lt = subst (λ l. place < length l) (sym (ap (λ w. w.roots) c.self.view_is)) c.in-Some.ensures.0 in
     let whole = parted_at roots roots place old refl lt c.index_mut.ensures.value in (
       search rules,
-      subst (λ xs. RiseFrom 0 xs c.self.inside.last) (sym (replaced roots place new lt))
-          (rise_with 0 (take place roots) old new (drop (place + 1) roots) c.self.inside.last refl (subst (λ xs. RiseFrom 0 xs c.self.inside.last) whole c.self.invariant.1)),
+      subst (λ xs. RiseFrom 0 xs c.self.inside.next) (sym (replaced roots place new lt))
+          (rise_with 0 (take place roots) old new (drop (place + 1) roots) c.self.inside.next refl (subst (λ xs. RiseFrom 0 xs c.self.inside.next) whole c.self.invariant.1)),
     )
 
 pub returns : goal.returns
@@ -36,5 +36,5 @@ returns g c =
         ap (lacks_hall c.args.number) (c.index_mut.ensures.value ∙ ap (λ l. get_or l place old) same) ∙ found.2 old,
         replaced roots place new lt ∙ ap (λ l. take place l ++ new ∷ drop (place + 1) l) same,
       ),
-      ap (λ w. w.last) c.self.view_is,
+      ap (λ w. w.next) c.self.view_is,
     )

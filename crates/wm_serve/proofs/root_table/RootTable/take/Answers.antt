@@ -12,8 +12,8 @@ invariant_of-self g c =
     let lt = subst (λ l. place < length l) (sym (ap (λ w. w.roots) c.self.view_is)) c.in_ok-place.ensures.0 in
     let whole = parted_at roots roots place c.remove.result refl lt c.remove.ensures.value in (
       search rules,
-      subst (λ xs. RiseFrom 0 xs c.self.inside.last) (sym (c.remove.ensures.items ∙ removed roots place))
-          (rise_without 0 (take place roots) c.remove.result (drop (place + 1) roots) c.self.inside.last (subst (λ xs. RiseFrom 0 xs c.self.inside.last) whole c.self.invariant.1)),
+      subst (λ xs. RiseFrom 0 xs c.self.inside.next) (sym (c.remove.ensures.items ∙ removed roots place))
+          (rise_without 0 (take place roots) c.remove.result (drop (place + 1) roots) c.self.inside.next (subst (λ xs. RiseFrom 0 xs c.self.inside.next) whole c.self.invariant.1)),
     )
 
 pub returns : goal.returns
@@ -29,5 +29,5 @@ returns g c =
         ap (has_path c.args.path.now) (c.remove.ensures.value ∙ ap (λ l. get_or l place c.remove.result) same) ∙ c.in_ok-place.ensures.2 c.remove.result,
         c.remove.ensures.items ∙ ap (λ l. remove l place) same ∙ removed c.args.self.now.roots place,
       ),
-      ap (λ w. w.last) c.self.view_is,
+      ap (λ w. w.next) c.self.view_is,
     )

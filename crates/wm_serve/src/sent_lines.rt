@@ -1,0 +1,78 @@
+//! What is sent to a session: the reply to each line, with what is due behind it, and what is due unasked.
+//! Definitions: specs/SentLines.antt. Tests: serve_tests/src/sessions.rt.
+ghost use Rattle.std.specs.Prelude.{◌≡◌, IfOk, OnOk, MatchResult};
+ghost use Rattle.std.specs.Io.KnownBytes.{Appends};
+ghost use Rattle.wm_lines.specs.Replies.{reply_bytes};
+ghost use Rattle.wm_serve.specs.SentLines.{SendsDue, SendsReply, crawl_reply, no_memory_bytes};
+
+use std::alloc::Global;
+use std::io;
+use std::io::Write;
+use wm_disk::{NoMemory, Refusal};
+use wm_lines::Progress;
+use wm_lines::reply::{PROGRESS_ROOM, REFUSAL_ROOM, put_clock, put_refusal};
+use wm_session::run::NO_MEMORY;
+use wm_session::{Front, Session};
+
+/// Makes the reply to a request for a crawl. `NoMemory`.
+pub fn crawl_line(alloc: Global, ended: Result<Progress, Refusal>) -> Result<Vec<u8>, NoMemory>
+    ensures { IfOk result (λ line. line.items ≡ reply_bytes (crawl_reply ended)) }
+{
+    let mut line = Vec::new(alloc);
+    line.try_reserve(PROGRESS_ROOM.max(REFUSAL_ROOM))?;
+    match ended {
+        Ok(progress) => put_clock(progress.clock, &mut line),
+        Err(refusal) => put_refusal(refusal, &mut line),
+    }
+    Ok(line)
+}
+
+/// Sends that memory ran out for a line.
+pub fn send_no_memory<W: Write>(writer: &mut W) -> io::Result<()>
+    ensures { OnOk result (Appends (W.contents writer.old) (W.contents writer.new) no_memory_bytes) }
+{
+    writer.write_all(NO_MEMORY.as_bytes())
+}
+
+/// Sends a line, or that memory ran out for it.
+pub fn send<W: Write>(line: Result<&[u8], NoMemory>, writer: &mut W) -> io::Result<()>
+    ensures { OnOk result (MatchResult line.entry (λ bytes. Appends (W.contents writer.old) (W.contents writer.new) bytes.now) (λ _. Appends (W.contents writer.old) (W.contents writer.new) no_memory_bytes)) }
+{
+    match line {
+        Ok(bytes) => writer.write_all(bytes),
+        Err(NoMemory) => send_no_memory(writer),
+    }
+}
+
+/// Answers a line, and sends the reply with what is due behind it. If memory runs out for the reply that is sent, and the session is as
+/// it was. An `Err` means that the writer failed: then a part may be sent.
+pub fn answer_line<F: Front, W: Write>(
+    alloc: Global,
+    session: &mut Session<F>,
+    moment: u64,
+    line: &[u8],
+    page: &mut Vec<u8>,
+    writer: &mut W,
+) -> io::Result<()>
+    ensures { OnOk result (SendsReply F.met session.old.front session.old.subscriptions moment line.now (W.contents writer.old) (W.contents writer.new) session.new.front session.new.subscriptions) }
+{
+    page.clear();
+    match session.line(alloc, moment, line, page) {
+        Ok(_) => writer.write_all(page),
+        Err(NoMemory) => send_no_memory(writer),
+    }
+}
+
+/// Sends what is due to a session's subscriptions. An `Err` means that the writer failed: then a part may be sent.
+pub fn send_due<F: Front, W: Write>(
+    alloc: Global,
+    session: &mut Session<F>,
+    page: &mut Vec<u8>,
+    writer: &mut W,
+) -> io::Result<()>
+    ensures { OnOk result (SendsDue F.met session.old.front session.old.subscriptions (W.contents writer.old) (W.contents writer.new) session.new.front session.new.subscriptions) }
+{
+    page.clear();
+    let _whole = session.tell_due(alloc, page);
+    writer.write_all(page)
+}

@@ -1,0 +1,194 @@
+//! `serve`: the whole server, from its state file and its socket to the close of the file.
+//! Tests: serve_tests/src/restarts.rt.
+ghost use Rattle.std.specs.Prelude.{◌≡◌, true};
+ghost use Rattle.wm_lines.specs.KeptExpressions.{have_expressions as have_expressions_lem};
+
+use crate::admission::Acceptor;
+use crate::registrar::ServerDesk;
+use crate::server_threads::{Service, serve_on};
+use crate::shared::Shared;
+use crate::slots::Slots;
+use crate::socket::{identity_of, listen, remove};
+use std::alloc::Global;
+use std::fs::{File, Files};
+use std::io::Write;
+use std::marker::Brand;
+use std::net::Net;
+use std::sync::Wait;
+use std::thread::Threads;
+use std::time::Clock;
+use wm_crawler::{Folders, Turnstile};
+use wm_disk::{Disk, NoMemory, Refusal};
+use wm_file::{FileDisk, Unknown};
+use wm_groupcommit::Desk;
+use wm_hall::{CrawlTools, Retention};
+use wm_session::open_file;
+use wm_share::{Naming, Opened, Shares};
+use wm_store::Store;
+use wm_triggers::Programs;
+
+/// How a server is to serve.
+#[derive(Clone, Copy)]
+pub struct Settings {
+    /// The threads of a crawl, 1 to 16.
+    pub workers: usize,
+    /// The age of what is forgotten, in seconds.
+    pub gc_age: u64,
+    /// The seconds between two age-outs of a root.
+    pub gc_interval: u64,
+    /// After so many sessions it ends.
+    pub sessions: u64,
+}
+
+/// Where a server stands.
+#[derive(Clone, Copy)]
+pub struct ServerPaths<'a> {
+    /// Its state file.
+    pub file: &'a str,
+    /// Its socket.
+    pub socket: &'a str,
+}
+
+/// What a server crawls the roots by, and what starts their triggers' programs.
+#[derive(Drop)]
+pub struct Tools<'a, F, G, P> {
+    pub folders: &'a F,
+    pub turnstile: &'a G,
+    pub programs: &'a P,
+}
+
+/// Serves a state file on a socket until so many sessions have ended. The socket is removed then, unless another file
+/// stands at its path by now.
+///
+/// Refused before anybody is admitted: `DeviceFailed` if the file can't be opened, has another owner or fails, if a server listens on
+/// the socket, something else stands there or it can't be made, and if the writer fails; `Damaged` if the file
+/// means nothing, or a trigger in it has a text that is no expression; `Retired` and `Exhausted` as `Store::open` is; and `NoMemory`.
+/// Behind the last session it is refused as the close of the store is. The file keeps what was accepted in each case.
+pub fn serve<
+    R: Threads + Wait + Clock + Net + Files<File = File> + Sync,
+    F: Folders + Sync,
+    G: Turnstile + Sync,
+    P: Programs + Sync,
+    W: Write,
+>(
+    rt: &R,
+    alloc: Global,
+    paths: ServerPaths<'_>,
+    tools: &Tools<'_, F, G, P>,
+    settings: Settings,
+    writer: &mut W,
+) -> Result<(), Refusal> {
+    let store = open_file(rt, alloc, paths.file)?;
+    let Ok(listener) = listen(rt, paths.socket) else {
+        drop(store);
+        return Err(Refusal::DeviceFailed);
+    };
+    let own = identity_of(rt, paths.socket);
+    let service = Service {
+        acceptor: Acceptor {
+            listener: &listener,
+            sessions: settings.sessions,
+        },
+        crawls: CrawlTools {
+            folders: tools.folders,
+            turnstile: tools.turnstile,
+            workers: settings.workers,
+        },
+        programs: tools.programs,
+        retention: Retention {
+            age_seconds: settings.gc_age,
+            interval_seconds: settings.gc_interval,
+        },
+    };
+    let served = serve_over::<FileDisk<Unknown>, Brand, R, F, G, P, W>(
+        rt,
+        alloc,
+        store,
+        Opened::new(),
+        &service,
+        writer,
+    );
+    drop(listener);
+    remove(rt, paths.socket, own);
+    served
+}
+
+/// A desk over the store, which is dropped if memory runs out.
+fn desk_over<D: Disk + Drop>(alloc: Global, store: Store<D>) -> Result<Desk<D>, Refusal> {
+    match Desk::new(alloc, store) {
+        Ok(desk) => Ok(desk),
+        Err((refusal, store)) => {
+            drop(store);
+            Err(refusal)
+        }
+    }
+}
+
+/// What all threads share, over the desk, which is dropped if memory runs out.
+fn shared_over<D: Disk + Drop, J: Naming, K: Wait + Clock + Copy + Drop>(
+    alloc: Global,
+    keeping: K,
+    desk: Desk<D>,
+    shares: Shares<J>,
+    retention: Retention,
+) -> Result<Shared<Desk<D>, J, K>, NoMemory> {
+    match Shared::new(alloc, keeping, desk, shares, retention) {
+        Ok(shared) => Ok(shared),
+        Err((NoMemory, desk)) => {
+            drop(desk.into_store());
+            Err(NoMemory)
+        }
+    }
+}
+
+/// Serves with the views' book that was opened.
+fn serve_over<
+    D: Disk + Drop + Send,
+    J: Naming + Send + Sync,
+    R: Threads + Wait + Clock + Net + Files<File = File> + Sync,
+    F: Folders + Sync,
+    G: Turnstile + Sync,
+    P: Programs + Sync,
+    W: Write,
+>(
+    rt: &R,
+    alloc: Global,
+    store: Store<D>,
+    opened: Opened,
+    service: &Service<'_, F, G, P>,
+    writer: &mut W,
+) -> Result<(), Refusal>
+    requires expressions { have_expressions_lem store.registry ≡ true }
+    requires book { opened.seen.book ≡ J.book }
+{
+    let desk = desk_over(alloc, store)?;
+    let shares: Shares<J> = Shares::new(opened);
+    let shared = shared_over(alloc, rt, desk, shares, service.retention)?;
+    let served = serve_shared(rt, alloc, &shared, service, writer);
+    drop(shared.into_desk().into_store());
+    served
+}
+
+/// Makes a hall for each root, and serves the socket.
+fn serve_shared<
+    T: ServerDesk + Sync,
+    J: Naming + Send + Sync,
+    K: Wait + Clock + Copy + Drop + Send + Sync,
+    R: Threads + Wait + Clock + Net + Files<File = File> + Sync,
+    F: Folders + Sync,
+    G: Turnstile + Sync,
+    P: Programs + Sync,
+    W: Write,
+>(
+    rt: &R,
+    alloc: Global,
+    shared: &Shared<T, J, K>,
+    service: &Service<'_, F, G, P>,
+    writer: &mut W,
+) -> Result<(), Refusal> {
+    shared.begin(rt, alloc)?;
+    let slots = Slots::new(alloc, shared)?;
+    let served = serve_on(rt, alloc, &slots, service, writer);
+    drop(slots);
+    served
+}

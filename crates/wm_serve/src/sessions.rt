@@ -1,0 +1,197 @@
+//! The sessions of a slot, one after the other: their lines and their replies.
+//! Tests: serve_tests/src/sessions.rt.
+use crate::connection::{Connection, Slot};
+use crate::registrar::ServerDesk;
+use crate::requests::crawl_asked;
+use crate::sent_lines::crawl_line;
+use crate::shared::Shared;
+use std::alloc::Global;
+use std::io;
+use std::io::BufReader;
+use std::net::Shutdown;
+use std::os::unix::net::UnixStream;
+use std::sync::{Arc, Wait};
+use std::time::{Clock, Duration};
+use wm_disk::{NoMemory, Refusal};
+use wm_lines::Progress;
+use wm_names::{RootPath, Subtree};
+use wm_session::input::{LineRead, read_line};
+use wm_session::{Input, Session};
+use wm_share::{Naming, Viewer};
+use wm_shared::{Place, SharedFront, Viewers};
+
+/// How long a client may leave a reply unread before its session ends.
+const WRITE_SECONDS: u64 = 10;
+
+/// Waits for the end of a crawl. The session's viewer learns of it.
+fn crawl<R: Wait, T: ServerDesk, J: Naming, K: Wait + Clock + Copy + Drop>(
+    rt: &R,
+    alloc: Global,
+    shared: &Shared<T, J, K>,
+    slot: &Slot<'_, T, J, K>,
+    root: &RootPath,
+    subtree: Subtree,
+) -> Result<Progress, Refusal> {
+    let hall = shared.hall(rt, alloc, root)?;
+    let ended = match hall.work.crawl(rt, subtree) {
+        Ok(crawled) => crawled.into_result(),
+        Err(refusal) => Err(refusal),
+    };
+    slot.learn(rt, &hall);
+    drop(hall);
+    ended
+}
+
+/// Sends the reply to a request for a crawl.
+fn send_ended<R: Wait, T: ServerDesk, J: Naming, K: Wait + Clock + Copy + Drop>(
+    rt: &R,
+    alloc: Global,
+    slot: &Slot<'_, T, J, K>,
+    ended: Result<Progress, Refusal>,
+) -> io::Result<()> {
+    match crawl_line(alloc, ended) {
+        Ok(line) => slot.send(rt, Ok(&line)),
+        Err(NoMemory) => slot.send(rt, Err(NoMemory)),
+    }
+}
+
+/// Answers a line that was read. A crawl is awaited without the session, so that what is due is sent meanwhile.
+fn serve_line<R: Wait, T: ServerDesk, J: Naming, K: Wait + Clock + Copy + Drop>(
+    rt: &R,
+    alloc: Global,
+    shared: &Shared<T, J, K>,
+    slot: &Slot<'_, T, J, K>,
+    line: &[u8],
+) -> io::Result<()> {
+    match crawl_asked(alloc, line) {
+        Some(Ok((root, subtree))) => {
+            let ended = crawl(rt, alloc, shared, slot, &root, subtree);
+            send_ended(rt, alloc, slot, ended)
+        }
+        Some(Err(refusal)) => send_ended(rt, alloc, slot, Err(refusal)),
+        None => slot.answer(rt, alloc, shared, line),
+    }
+}
+
+/// Reads the next line of a session.
+fn next_line(reader: &mut BufReader<&UnixStream>, line: &mut Vec<u8>) -> io::Result<LineRead> {
+    read_line(&mut Input::new(reader), line)
+}
+
+/// Answers the lines of a reader until they end or its socket fails.
+fn serve_lines_of<R: Wait, T: ServerDesk, J: Naming, K: Wait + Clock + Copy + Drop>(
+    rt: &R,
+    alloc: Global,
+    shared: &Shared<T, J, K>,
+    slot: &Slot<'_, T, J, K>,
+    reader: &mut BufReader<&UnixStream>,
+    line: &mut Vec<u8>,
+) -> io::Result<()> {
+    for _ in rt.forever() {
+        match next_line(reader, line)? {
+            LineRead::End => return Ok(()),
+            LineRead::Lost => slot.send(rt, Err(NoMemory))?,
+            LineRead::Kept => serve_line(rt, alloc, shared, slot, line)?,
+        }
+    }
+    Ok(())
+}
+
+/// Answers a session's lines until it ends or its socket fails.
+fn serve_lines<R: Wait, T: ServerDesk, J: Naming, K: Wait + Clock + Copy + Drop>(
+    rt: &R,
+    alloc: Global,
+    shared: &Shared<T, J, K>,
+    slot: &Slot<'_, T, J, K>,
+    stream: &UnixStream,
+) -> io::Result<()> {
+    let mut reader = BufReader::new(alloc, stream)?;
+    let mut line = Vec::new(alloc);
+    let served = serve_lines_of(rt, alloc, shared, slot, &mut reader, &mut line);
+    drop(line);
+    drop(reader);
+    served
+}
+
+/// Gives a viewer back to its root, if that is there still.
+fn give_back<R: Wait, T: ServerDesk, J: Naming, K: Wait + Clock + Copy + Drop>(
+    rt: &R,
+    shared: &Shared<T, J, K>,
+    viewer: Viewer<J>,
+) {
+    match shared.numbered(rt, viewer.share().root) {
+        Some(hall) => {
+            hall.take_back(rt, viewer);
+            drop(hall);
+        }
+        None => drop(viewer),
+    }
+}
+
+/// Gives the viewers of a session back.
+fn give_all_back<R: Wait, T: ServerDesk, J: Naming, K: Wait + Clock + Copy + Drop>(
+    rt: &R,
+    shared: &Shared<T, J, K>,
+    viewers: Viewers<J>,
+) {
+    for viewer in viewers.into_vec() {
+        give_back(rt, shared, viewer);
+    }
+}
+
+/// The socket for both threads of a session. `None` if memory runs out.
+fn both_ends(alloc: Global, stream: UnixStream) -> Option<(Arc<UnixStream>, Arc<UnixStream>)> {
+    let stream = Arc::new(alloc, stream).ok()?;
+    let other = Arc::try_clone(&stream).ok()?;
+    Some((stream, other))
+}
+
+/// One session in a slot. The place at the desk comes back.
+fn serve_session<'a, R: Wait, T: ServerDesk, J: Naming, K: Wait + Clock + Copy + Drop>(
+    rt: &R,
+    alloc: Global,
+    shared: &'a Shared<T, J, K>,
+    slot: &Slot<'a, T, J, K>,
+    place: Place<'a, T>,
+    stream: UnixStream,
+) -> Place<'a, T> {
+    let _timed = stream.set_write_timeout(Some(Duration::from_secs(WRITE_SECONDS)));
+    let Some((stream, other)) = both_ends(alloc, stream) else {
+        return place;
+    };
+    let front = SharedFront::new(shared.keeping, alloc, place, shared);
+    slot.open(
+        rt,
+        Connection::new(alloc, Session::new(alloc, front), other),
+    );
+    let _ended = serve_lines(rt, alloc, shared, slot, &stream);
+    let _ = stream.shutdown(Shutdown::Both);
+    drop(stream);
+    shared.note(rt, slot.number, 0);
+    match slot.close(rt) {
+        Some(connection) => {
+            let (place, viewers) = connection.into_session().into_front().into_parts();
+            give_all_back(rt, shared, viewers);
+            place
+        }
+        None => Place::new(&shared.desk),
+    }
+}
+
+/// Answers the lines of one session after the other, until no session comes any longer.
+pub fn serve_sessions<'a, R: Wait, T: ServerDesk, J: Naming, K: Wait + Clock + Copy + Drop>(
+    rt: &R,
+    alloc: Global,
+    shared: &'a Shared<T, J, K>,
+    slot: &Slot<'a, T, J, K>,
+) {
+    let mut place = Place::new(&shared.desk);
+    for _ in rt.forever() {
+        let Some(stream) = shared.waiting.next(rt) else {
+            drop(place);
+            return;
+        };
+        place = serve_session(rt, alloc, shared, slot, place, stream);
+        shared.waiting.leave(rt);
+    }
+}

@@ -1,0 +1,85 @@
+//! The socket.
+//! Tests: serve_tests/src/sockets.rt.
+ghost use Rattle.std.specs.Prelude.{◌≡◌, ◌&&◌};
+
+use std::fs::{File, Files, Permissions};
+use std::io::ErrorKind;
+use std::net::Net;
+use std::os::unix::fs::{FileTypeExt, MetadataExt, PermissionsExt};
+use std::os::unix::net::{UnixListener, UnixStream};
+use std::{fs, io};
+
+/// Whether a socket stands at a path.
+fn is_socket<R: Files<File = File>>(rt: &R, path: &str) -> bool {
+    match fs::symlink_metadata(rt, path) {
+        Ok(found) => found.file_type().is_socket(),
+        Err(_) => false,
+    }
+}
+
+/// Whether a connection to a path is refused: nobody listens there.
+fn is_refused<R: Net>(rt: &R, path: &str) -> bool {
+    match UnixStream::connect(rt, path) {
+        Ok(stream) => {
+            drop(stream);
+            false
+        }
+        Err(e) => e.kind() == ErrorKind::ConnectionRefused,
+    }
+}
+
+/// Whether what stands at a server's path is replaced: it is a socket, and nobody serves it any longer. A plain file refuses a
+/// connection too, and isn't ours to remove.
+fn takes_over(is_refused: bool, is_socket: bool) -> bool
+    ensures { result ≡ (is_refused && is_socket) }
+{
+    is_refused && is_socket
+}
+
+/// Binds a path. A socket that nobody serves any longer is replaced.
+fn bind<R: Net + Files<File = File>>(rt: &R, path: &str) -> io::Result<UnixListener> {
+    match UnixListener::bind(rt, path) {
+        Ok(listener) => Ok(listener),
+        Err(e) => {
+            if e.kind() != ErrorKind::AddrInUse
+                || !takes_over(is_refused(rt, path), is_socket(rt, path))
+            {
+                return Err(e);
+            }
+            fs::remove_file(rt, path)?;
+            UnixListener::bind(rt, path)
+        }
+    }
+}
+
+/// The socket of a server: where it stands, and which one it is.
+#[derive(Clone, Copy, Debug, PartialEq, Eq)]
+pub struct Identity {
+    device: u64,
+    inode: u64,
+}
+
+/// Which file stands at a path, if one does.
+pub fn identity_of<R: Files<File = File>>(rt: &R, path: &str) -> Option<Identity> {
+    let found = fs::symlink_metadata(rt, path).ok()?;
+    Some(Identity {
+        device: found.dev(),
+        inode: found.ino(),
+    })
+}
+
+/// Removes the socket of a server that ends, unless another file stands at its path by now.
+pub fn remove<R: Files<File = File>>(rt: &R, path: &str, own: Option<Identity>) {
+    if own.is_some() && identity_of(rt, path) == own {
+        let _gone = fs::remove_file(rt, path);
+    }
+}
+
+/// Makes the socket, for this user alone. A socket that nobody serves any longer is replaced. An `Err` if a server
+/// listens there, something else stands there, or the socket can't be made; and if its rights can't be set: then it stays,
+/// and nobody serves it.
+pub fn listen<R: Net + Files<File = File>>(rt: &R, path: &str) -> io::Result<UnixListener> {
+    let listener = bind(rt, path)?;
+    fs::set_permissions(rt, path, Permissions::from_mode(0o600))?;
+    Ok(listener)
+}

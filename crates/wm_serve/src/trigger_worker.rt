@@ -1,0 +1,205 @@
+//! The worker that runs the triggers of a root: which of them stand, which run is due, and that none is started once it was deleted, is decided
+//! by the machines of wm_triggers.
+//! Definitions: specs/TriggerWork.antt. Tests: serve_tests/src/triggers.rt.
+ghost use Rattle.std.specs.Prelude.{◌≡◌, ◌⊎◌, ◌<◌, false, length, map, IfErr, IfOk, OnErr, OnOk};
+ghost use Rattle.wm_share.specs.PublishedLists.{Begins, disconnected, history};
+ghost use Rattle.wm_view.specs.Histories.{is_ready};
+ghost use Rattle.wm_triggers.specs.KeptRuns.{kept_for};
+ghost use Rattle.wm_serve.specs.TriggerWork.{EachInTurn, FailsAt, RunsAt, RunsIfDue, RunsOrStays, due_for};
+
+use std::alloc::Global;
+use std::sync::{Mutex, Wait};
+use wm_disk::Refusal;
+use wm_hall::{RootHall, StartPermit};
+use wm_share::{Naming, Viewer};
+use wm_triggers::{
+    DefinedTrigger, DefinedTriggers, DefinitionRuns, Permit, Programs, Run, TriggerRuns,
+};
+
+/// A root, and what starts the programs of its triggers.
+#[derive(Drop)]
+struct RootPrograms<'a, J: Naming, K: Wait + Drop, P> {
+    hall: &'a RootHall<J, K>,
+    programs: &'a P,
+}
+
+/// The permit to start a definition of a trigger, which the root gives while the definition stands.
+#[derive(Drop)]
+struct StandingPermit<'a, R: Wait, J: Naming, K: Wait + Drop> {
+    rt: &'a R,
+    hall: &'a RootHall<J, K>,
+    one: DefinedTrigger,
+    /// The permit, while the start is under way.
+    given: Mutex<Option<StartPermit>>,
+}
+
+impl<R: Wait, J: Naming, K: Wait + Drop> Permit for StandingPermit<'_, R, J, K> {
+    fn begin(&self) -> bool {
+        let Ok(one) = self.one.copy() else {
+            return false;
+        };
+        let permit = self.hall.begin_start(self.rt, one);
+        let is_given = permit.is_given();
+        *self.given.lock(self.rt) = Some(permit);
+        is_given
+    }
+
+    fn end(&self) {
+        if let Some(permit) = self.given.lock(self.rt).take() {
+            let _none = self.hall.end_start(self.rt, permit);
+        }
+    }
+}
+
+/// The run of a definition that is due, as the viewer sees the root: its files are those that changed since the last run that was
+/// started. `NotReady` before the first whole listing, `NoPlace` if the root is gone, and `NoMemory`.
+fn due_run<J: Naming>(
+    alloc: Global,
+    viewer: &mut Viewer<J>,
+    one: &DefinitionRuns,
+) -> Result<Option<Run>, Refusal>
+    ensures seen { Begins viewer.old.list viewer.new.list }
+    ensures due { IfOk result (λ run. run ≡ due_for one.now (history viewer.new.list)) }
+    ensures refused { IfErr result (λ e. (e ≡ Refusal.NoMemory) ⊎ ((e ≡ Refusal.NoPlace) × (viewer.new ≡ disconnected viewer.old)) ⊎ ((e ≡ Refusal.NotReady) × (is_ready (history viewer.new.list) ≡ false))) }
+{
+    let query = one.runs().ask(alloc)?;
+    let answer = viewer.answer(alloc, &query);
+    drop(query);
+    Ok(one.runs().run_of(answer?))
+}
+
+/// Starts the program of a run that is due, and waits for its end, however it ends. `DeviceFailed` if it couldn't be started, or
+/// its definition doesn't stand any longer, and `NoMemory`.
+fn start<R: Wait, J: Naming, K: Wait + Drop, P: Programs>(
+    rt: &R,
+    alloc: Global,
+    root: &RootPrograms<'_, J, K, P>,
+    one: &DefinitionRuns,
+    run: &Run,
+) -> Result<(), Refusal>
+    ensures ran { OnOk result (P.has_run root.now.programs.now root.now.hall.now.path one.now.trigger run.now) }
+    ensures failed { IfErr result (λ e. (e ≡ Refusal.NoMemory) ⊎ ((e ≡ Refusal.DeviceFailed) × P.has_failed root.now.programs.now root.now.hall.now.path one.now.trigger run.now)) }
+{
+    let definition = one.definition()?;
+    let permit = StandingPermit {
+        rt,
+        hall: root.hall,
+        one: definition,
+        given: Mutex::new(None),
+    };
+    root.programs
+        .run(alloc, &root.hall.path, one.trigger(), run, permit)
+}
+
+/// Runs the definition at a place if a run of it is due. It is refused as `due_run` and `start` are: its next run then lists the
+/// same files again.
+fn run_at<R: Wait, J: Naming, K: Wait + Drop, P: Programs>(
+    rt: &R,
+    alloc: Global,
+    root: &RootPrograms<'_, J, K, P>,
+    viewer: &mut Viewer<J>,
+    runs: &mut TriggerRuns,
+    place: usize,
+) -> Result<(), Refusal>
+    requires { place < length runs.old }
+    ensures seen { Begins viewer.old.list viewer.new.list }
+    ensures ran { OnOk result (RunsAt (P.has_run root.now.programs.now) root.now.hall.now.path (history viewer.new.list) place runs.old runs.new) }
+    ensures same { OnErr result (runs.new ≡ runs.old) }
+    ensures refused { IfErr result (λ e. (e ≡ Refusal.NoMemory) ⊎ ((e ≡ Refusal.NoPlace) × (viewer.new ≡ disconnected viewer.old)) ⊎ ((e ≡ Refusal.NotReady) × (is_ready (history viewer.new.list) ≡ false)) ⊎ ((e ≡ Refusal.DeviceFailed) × FailsAt (P.has_failed root.now.programs.now) root.now.hall.now.path (history viewer.new.list) place runs.old)) }
+{
+    let one = runs.at(place);
+    let Some(run) = due_run(alloc, viewer, one)? else {
+        return Ok(());
+    };
+    start(rt, alloc, root, one, &run)?;
+    runs.started(place, &run);
+    Ok(())
+}
+
+/// Runs each definition of which a run is due, one after another, whether or not others are refused: the last refusal, if there is one.
+fn run_each<R: Wait, J: Naming, K: Wait + Drop, P: Programs>(
+    rt: &R,
+    alloc: Global,
+    root: &RootPrograms<'_, J, K, P>,
+    viewer: &mut Viewer<J>,
+    runs: &mut TriggerRuns,
+) -> Result<(), Refusal>
+    ensures each { EachInTurn (RunsOrStays (P.has_run root.now.programs.now) root.now.hall.now.path) viewer.old.list runs.old runs.new viewer.new.list }
+    ensures ok { OnOk result (EachInTurn (RunsIfDue (P.has_run root.now.programs.now) root.now.hall.now.path) viewer.old.list runs.old runs.new viewer.new.list) }
+{
+    let mut met = Ok(());
+    for place in 0..runs.len() {
+        if let Err(refusal) = run_at(rt, alloc, root, viewer, runs, place) {
+            met = Err(refusal);
+        }
+    }
+    met
+}
+
+/// A round: the runs of just these definitions are kept, and each of which a run is due is run, in their order. One that is refused is
+/// tried again with the next change.
+fn run_round<R: Wait, J: Naming, K: Wait + Drop, P: Programs>(
+    rt: &R,
+    alloc: Global,
+    root: &RootPrograms<'_, J, K, P>,
+    viewer: &mut Viewer<J>,
+    defined: &DefinedTriggers,
+    runs: &mut TriggerRuns,
+) -> Result<(), Refusal>
+    ensures each { (runs.new ≡ runs.old) ⊎ EachInTurn (RunsOrStays (P.has_run root.now.programs.now) root.now.hall.now.path) viewer.old.list (map (kept_for runs.old) defined.now) runs.new viewer.new.list }
+    ensures ok { OnOk result (EachInTurn (RunsIfDue (P.has_run root.now.programs.now) root.now.hall.now.path) viewer.old.list (map (kept_for runs.old) defined.now) runs.new viewer.new.list) }
+{
+    runs.keep(alloc, defined)?;
+    run_each(rt, alloc, root, viewer, runs)
+}
+
+/// A round of the triggers that are defined now.
+fn run_all<R: Wait, J: Naming, K: Wait + Drop, P: Programs>(
+    rt: &R,
+    alloc: Global,
+    root: &RootPrograms<'_, J, K, P>,
+    viewer: &mut Viewer<J>,
+    runs: &mut TriggerRuns,
+) -> Result<(), Refusal> {
+    let defined = root.hall.defined(rt, alloc)?;
+    let met = run_round(rt, alloc, root, viewer, defined.definitions(), runs);
+    drop(defined);
+    met
+}
+
+/// Runs the triggers with each change, until the root isn't watched any longer. Without a viewer it runs none.
+fn run_on_changes<R: Wait, J: Naming, K: Wait + Drop, P: Programs>(
+    rt: &R,
+    alloc: Global,
+    root: &RootPrograms<'_, J, K, P>,
+    viewer: &mut Option<Viewer<J>>,
+    runs: &mut TriggerRuns,
+) {
+    let mut seen = None;
+    for _ in rt.forever() {
+        let Ok(changes) = root.hall.work.next_change(rt, seen) else {
+            return;
+        };
+        seen = Some(changes);
+        let Some(viewer) = viewer else {
+            continue;
+        };
+        root.hall.teach(rt, viewer);
+        let _round = run_all(rt, alloc, root, viewer, runs);
+    }
+}
+
+/// The worker that runs the triggers of a root, with a viewer of its own from its start on. If none is left then, it runs none.
+pub fn run_triggers<R: Wait, J: Naming, K: Wait + Drop, P: Programs>(
+    rt: &R,
+    alloc: Global,
+    hall: &RootHall<J, K>,
+    programs: &P,
+) {
+    let mut viewer = hall.lend(rt).ok();
+    let mut runs = TriggerRuns::new(alloc);
+    let root = RootPrograms { hall, programs };
+    run_on_changes(rt, alloc, &root, &mut viewer, &mut runs);
+    drop(runs);
+    drop(viewer);
+}
