@@ -1,0 +1,3 @@
+pub mod CauseLines
+pub mod Causes
+pub mod Shown

@@ -1,0 +1,15 @@
+//! What the system shows of a file or a socket after a program was refused, and the line that explains it (`wm_explain`).
+//!
+//! Nothing here changes a file. [`found_file`] opens a file, and [`found_socket`] connects to a socket, to see whether that can be done.
+//!
+//! Tests: tools/quick_messages.py, of the built programs.
+#![tactic(auto)]
+
+mod explained;
+mod findings;
+mod locks;
+mod noted;
+
+pub use explained::{file_line, is_wanted, socket_line};
+pub use findings::{found_file, found_socket};
+pub use noted::Noted;
