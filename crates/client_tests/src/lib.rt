@@ -1,4 +1,5 @@
-//! Tests of the clients' words, and of `wmctl`: its talk with a server that a test itself serves, and its syncs.
+//! Tests of the clients' words, and of `wmctl`: its talk with a server that a test itself serves, its syncs, and the part of a request
+//! that it names.
 //!
 //! They stand in a crate of their own beside `serve_tests`, which waits for the proof of `wm_serve`.
 #![tactic(auto)]
@@ -7,5 +8,7 @@
 mod checks;
 #[cfg(test)]
 mod feed_words;
+#[cfg(test)]
+mod parts;
 #[cfg(test)]
 mod wmctl;

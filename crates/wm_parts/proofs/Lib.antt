@@ -1,0 +1,2 @@
+mod KeyCounts
+mod TermParts

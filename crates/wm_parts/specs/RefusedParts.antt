@@ -1,0 +1,104 @@
+-- The part of a request that is the cause of its refusal.
+use Rattle.std.specs.Prelude.{◌||◌, ◌&&◌, ℕ, Bool, List, Option, None, Some, codes, is_some, option_and_then, option_map, if◌then◌else◌}
+use Rattle.std.specs.Str.{bytes_eq}
+use Rattle.serde_json.specs.Data.{Data, Items, Members, item, member, no_items, no_members}
+use Rattle.serde_json.specs.Find.{as_array, as_object, as_str, at, get}
+use Rattle.serde_json.specs.View.{view}
+use Rattle.wm_disk.specs.declared.refusal.Refusal.{Refusal}
+use Rattle.wm_disk.specs.declared.refusal.Refusal.TheVariants.{BadCommand, BadArguments, BadPath, BadExpression, BadField, BadTrigger}
+use Rattle.wm_lines.specs.Arguments.{text_at}
+use Rattle.wm_lines.specs.QueryLines.{has_query_keys}
+use Rattle.wm_lines.specs.TriggerLines.{has_known_keys}
+use Rattle.wm_names.specs.Paths.{is_root_path}
+use Rattle.wm_since.specs.Fields.{field_of}
+use Rattle.wm_parts.specs.RefusedTerms.{refused_term_in}
+use Rattle.wm_parts.specs.declared.keys.Asking.{Asking}
+use Rattle.wm_parts.specs.declared.keys.Asking.TheVariants.{Query, Trigger}
+use Rattle.wm_parts.specs.declared.parts.Part.{Part}
+use Rattle.wm_parts.specs.declared.parts.Part.TheVariants as parts
+
+-- a part of a request, as clauses see it
+pub data PartSeen : Type 0 where
+  command_seen : List ℕ → PartSeen
+  root_seen : List ℕ → PartSeen
+  key_seen : List ℕ → PartSeen
+  term_seen : Data → PartSeen
+  field_seen : Data → PartSeen
+
+abbrev pub part_seen : Part → PartSeen
+part_seen (parts.Command name) = command_seen name.now
+part_seen (parts.Root path) = root_seen path.now
+part_seen (parts.Key key) = key_seen key.now
+part_seen (parts.Term value) = term_seen (view value.now)
+part_seen (parts.Field value) = field_seen (view value.now)
+
+-- ---- fields and keys
+
+abbrev pub is_field : Data → Bool
+is_field d = is_some (option_and_then field_of (as_str d))
+
+-- the first of some values that names no field
+abbrev pub first_unknown : Items → Option Data
+first_unknown no_items = None
+first_unknown (item d ds) = if is_field d then first_unknown ds else Some d
+
+abbrev pub is_query_key : List ℕ → Bool
+is_query_key k = bytes_eq k (codes "since") || (bytes_eq k (codes "expression") || (bytes_eq k (codes "fields") || (bytes_eq k (codes "empty_on_fresh_instance") || bytes_eq k (codes "sync_timeout"))))
+
+abbrev pub is_trigger_key : List ℕ → Bool
+is_trigger_key k = bytes_eq k (codes "name") || (bytes_eq k (codes "command") || (bytes_eq k (codes "expression") || (bytes_eq k (codes "append_files") || (bytes_eq k (codes "stdin") || bytes_eq k (codes "max_files_stdin")))))
+
+abbrev pub is_key : Asking → List ℕ → Bool
+is_key Query k = is_query_key k
+is_key Trigger k = is_trigger_key k
+
+-- the first key that the object of such a request may not have
+abbrev pub unknown_key : Asking → Members → Option (List ℕ)
+unknown_key asking no_members = None
+unknown_key asking (member k d ms) = if is_key asking k then unknown_key asking ms else Some k
+
+abbrev pub unknown_key_in : Asking → Data → Option (List ℕ)
+unknown_key_in asking d = option_and_then (unknown_key asking) (as_object d)
+
+-- the reader takes the keys of such an object
+abbrev pub takes_keys : Asking → Data → Bool
+takes_keys Query d = has_query_keys d
+takes_keys Trigger d = has_known_keys d && (is_some (get (codes "name") d) && is_some (get (codes "command") d))
+
+-- ---- requests
+
+-- whose object a request of this name has, and at which place
+abbrev pub asking_of : List ℕ → Option (Asking × ℕ)
+asking_of name =
+    if bytes_eq name (codes "query") then Some (Query, 2)
+    else (if bytes_eq name (codes "subscribe") then Some (Query, 3)
+    else (if bytes_eq name (codes "trigger") then Some (Trigger, 2)
+    else None))
+
+abbrev pub object_of : Data → Option (Asking × Data)
+object_of d = option_and_then (λ asked. option_map (λ o. (asked.0, o)) (at asked.1 d)) (option_and_then asking_of (text_at 0 d))
+
+abbrev pub command_part : Data → Option PartSeen
+command_part d = option_map command_seen (text_at 0 d)
+
+abbrev pub root_part : Data → Option PartSeen
+root_part d = option_and_then (λ root. if is_root_path root then None else Some (root_seen root)) (text_at 1 d)
+
+abbrev pub key_part : Data → Option PartSeen
+key_part d = option_map key_seen (option_and_then (λ o. unknown_key_in o.0 o.1) (object_of d))
+
+abbrev pub term_part : Data → Option PartSeen
+term_part d = option_map term_seen (option_and_then refused_term_in (option_and_then (λ o. get (codes "expression") o.1) (object_of d)))
+
+abbrev pub field_part : Data → Option PartSeen
+field_part d = option_map field_seen (option_and_then first_unknown (option_and_then as_array (option_and_then (λ o. get (codes "fields") o.1) (object_of d))))
+
+-- the part for which a request is refused so
+abbrev pub refusing_part : Refusal → Data → Option PartSeen
+refusing_part BadCommand d = command_part d
+refusing_part BadPath d = root_part d
+refusing_part BadArguments d = key_part d
+refusing_part BadTrigger d = key_part d
+refusing_part BadExpression d = term_part d
+refusing_part BadField d = field_part d
+refusing_part refusal d = None

@@ -1,0 +1,41 @@
+-- The first term of an expression that is refused, in the first of the terms around it that is.
+use Rattle.std.specs.Prelude.{◌||◌, ℕ, Bool, List, Option, None, Some, codes, is_some, unwrap_or, if◌then◌else◌}
+use Rattle.std.specs.Str.{bytes_eq}
+use Rattle.serde_json.specs.Data.{Data, Items, array, item, no_items, string}
+use Rattle.wm_expr.specs.Readings.{expression_of}
+
+-- the words behind which terms stand
+abbrev pub holds_terms : List ℕ → Bool
+holds_terms word = bytes_eq word (codes "not") || (bytes_eq word (codes "allof") || bytes_eq word (codes "anyof"))
+
+abbrev pub behind_word : Items → Items
+behind_word (item (string word) ds) = if holds_terms word then ds else no_items
+behind_word ds = no_items
+
+-- the terms that stand in a value
+abbrev pub terms_in : Data → Items
+terms_in (array ds) = behind_word ds
+terms_in d = no_items
+
+-- the first of some values that is no expression
+abbrev pub first_refused : Items → Option Data
+first_refused no_items = None
+first_refused (item d ds) = if is_some (expression_of d) then first_refused ds else Some d
+
+abbrev mutual
+  -- the term in a value for which it is refused: that in the first of its parts that is refused, or the value if its parts are taken
+  pub refused_term : Data → Data
+  refused_term (array ds) = refused_list ds
+  refused_term d = d
+
+  pub refused_list : Items → Data
+  refused_list (item (string word) ds) = if holds_terms word then unwrap_or (refused_part ds) (array (item (string word) ds)) else array (item (string word) ds)
+  refused_list ds = array ds
+
+  pub refused_part : Items → Option Data
+  refused_part no_items = None
+  refused_part (item d ds) = if is_some (expression_of d) then refused_part ds else Some (refused_term d)
+
+-- the term for which a value is refused, if it is no expression
+abbrev pub refused_term_in : Data → Option Data
+refused_term_in d = if is_some (expression_of d) then None else Some (refused_term d)

@@ -1,0 +1,23 @@
+//! Which part of a refused request is the cause: a command's name, a root's path, a key, a term of an expression, or a field.
+//!
+//! [`part_in`] finds it in the request's JSON value, by the refusal and by the readers that a server takes (`wm_lines`, `wm_expr`,
+//! `wm_since`). [`explanation`] reads a request as a server does, and says its part in a line.
+//!
+//! | Of | Definitions |
+//! |---|---|
+//! | the first term that is refused | specs/RefusedTerms.antt |
+//! | the first field and the first key that are refused, and the part of a request | specs/RefusedParts.antt |
+//! | the line of a part | specs/PartLines.antt |
+//!
+//! Tests: client_tests/src/parts.rt.
+#![tactic(auto)]
+
+mod fields;
+mod keys;
+mod lines;
+mod parts;
+mod terms;
+
+pub use lines::explanation;
+pub use parts::{Part, part_in};
+pub use terms::refused_term;
