@@ -1,4 +1,5 @@
-//! Tests of disks, spellings, names and clocks, by the public functions of `wm_disk`, `wm_wire`, `wm_names` and `wm_clock`.
+//! Tests of disks, spellings, names, clocks, explanations and logs, by the public functions of `wm_disk`, `wm_wire`, `wm_names`,
+//! `wm_clock`, `wm_explain` and `wm_log`.
 //!
 //! They stand in a crate of their own, since a crate with tests is proved twice.
 #![tactic(auto)]
@@ -9,6 +10,10 @@ mod checks;
 mod clocks;
 #[cfg(test)]
 mod disks;
+#[cfg(test)]
+mod explanations;
+#[cfg(test)]
+mod logs;
 #[cfg(test)]
 mod names;
 #[cfg(test)]
