@@ -18,7 +18,7 @@ PAGES := GUIDE.md QUERIES.md FORMATS.md PROMISES.md DEFINITIONS.md ARCHITECTURE.
 EXAMPLES := build.sh compile_trigger.sh follow.py test_runner.sh
 SOURCES := crates.txt $(shell find crates -name out -prune -o -type f \( -name '*.rt' -o -name '*.antt' \) -print)
 
-.PHONY: help clean uninstall test lint edits build run lines serve-use quick-use feed-use wm-use install bench bench-commands bench-crawl bench-view bench-share bench-match bench-peer bench-feed bench-plots clients crawl-tree session examples examples-use dist dist-use kill faults growths sweep fuzz hostile desk-memory state-file file-calls
+.PHONY: help clean uninstall test lint edits build run lines serve-use quick-use feed-use wm-use messages-use install bench bench-commands bench-crawl bench-view bench-share bench-match bench-peer bench-feed bench-plots clients crawl-tree session examples examples-use dist dist-use kill faults growths sweep fuzz hostile desk-memory state-file file-calls
 
 help:
 	@echo "make test          the whole gate: each proof from nothing, edits that must be refused, tests, programs, and each growth of"
@@ -45,6 +45,7 @@ help:
 	@echo "make feed-use      a feed beside a server, in some seventy cases: its views against what stands in the folders, questions about now, its"
 	@echo "                   ends (python3, git, inotify-tools, setpriv; strace, rsync, vim, unshare for what needs them; some ten minutes)"
 	@echo "make wm-use        what a person does with wm, from nothing to a killed server, line by line (inotify-tools; a minute)"
+	@echo "make messages-use  what the programs say at common mistakes, byte for byte (seconds)"
 	@echo "make kill          kills the built program again and again, a migration too, and looks for what it answered (python3); make faults:"
 	@echo "                   each call that it makes of its state file, or of a migration's two, fails once (python3, strace); make growths: each growth of memory in three"
 	@echo "                   sessions is refused once (python3, cc)"
@@ -108,6 +109,10 @@ feed-use: $(PROGRAM) $(CLIENT) $(FEED)
 # What a person does with wm, from nothing to a killed server.
 wm-use: $(COMMANDS) $(PROGRAM) $(FEED)
 	tools/wm_use.sh $(COMMANDS) $(PROGRAM) $(FEED)
+
+# What the programs say at common mistakes, byte for byte.
+messages-use: $(PROGRAM) $(CLIENT) $(COMMANDS)
+	tools/quick_messages.py $(PROGRAM) $(CLIENT) $(COMMANDS)
 
 install: $(PROGRAM) $(CLIENT) $(FEED) $(COMMANDS)
 	install -d $(DESTDIR)$(PREFIX)/bin $(DESTDIR)$(PREFIX)/share/man/man1 $(DESTDIR)$(PREFIX)/share/bash-completion/completions $(DESTDIR)$(PREFIX)/share/zsh/site-functions

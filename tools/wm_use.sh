@@ -41,7 +41,7 @@ says 3 "wm: $socket: no server answers (no such file); 'wm up' starts one" wm li
 says 0 "a server was started at $socket
 a feed was started" wm up
 says 0 "a server answers at $socket" wm up
-says 1 "wm: watchmand: 13 DeviceFailed: another server has the file 'state' beside the log, or there is no right to it; \
+says 1 "wm: FOLDER/home/state/watchmand/state: another watchmand has it (pid $(cat "$folder/home/state/watchmand/watchmand.pid")); \
 FOLDER/home/state/watchmand/log has all that it said" wm up --socket "$folder/other/socket"
 says 3 "wm: FOLDER/other/$(printf '%0100d' 0): the path is too long: at most 107 bytes; --socket or WATCHMAND_SOCKET names another socket" \
     wm list --socket "$folder/other/$(printf '%0100d' 0)"

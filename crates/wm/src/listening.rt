@@ -66,15 +66,18 @@ pub fn await_change(
 ) -> Result<(), Failure> {
     let alloc = server.rt.alloc();
     let expression = expression_of(server, place, order)?;
-    let mut request = subscribe_line(alloc, &place.root, since, expression, false)?;
-    request.push_str("\n")?;
+    let json = subscribe_line(alloc, &place.root, since, expression, false)?;
+    let request = format!(in alloc; "{json}\n")?;
     let stream = server.connected()?;
     let mut sender = &stream;
     if sender.write_all(request.as_bytes()).is_err() {
         return Err(server.lost("it takes no request"));
     }
     let mut lines = BufReader::new(alloc, &stream)?;
-    read_changes(server, place, order, &stream, &mut lines)
+    match read_changes(server, place, order, &stream, &mut lines) {
+        Err(failure) => Err(server.explained(failure, &json)),
+        Ok(()) => Ok(()),
+    }
 }
 
 /// Reads the lines of a subscription until a change has settled. Before the first change nothing is looked at meanwhile.

@@ -3,13 +3,15 @@
 use crate::failure::{Failure, cause_of, failed};
 use serde_json::Value;
 use std::alloc::Global;
-use std::io::{BufReader, ErrorKind};
+use std::io::{BufReader, ErrorKind, IsTerminal};
 use std::os::unix::net::UnixStream;
 use std::time::{Duration, Instant};
 use std::{io, process, thread};
 use wm_client::{Request, Sync, SyncEnd, SyncFiles, TalkEnd, refusal_of, synced_talk};
 use wm_commands::{advice_of, root_line};
 use wm_disk::Refusal;
+use wm_findings::is_wanted;
+use wm_parts::explanation;
 
 /// The server at a socket.
 #[derive(Clone, Copy)]
@@ -186,11 +188,34 @@ impl Server<'_> {
         }
     }
 
+    /// The failure of a request that was refused, with a line behind it that says which part is the cause, if that is wanted and found.
+    pub fn explained(&self, failure: Failure, json: &str) -> Failure {
+        if !is_wanted(self.rt, self.rt.stderr().is_terminal()) {
+            return failure;
+        }
+        let Failure::Told { status, text } = failure else {
+            return failure;
+        };
+        match explanation(self.rt.alloc(), json) {
+            Ok(Some(line)) => {
+                let line = line.trim_end();
+                match format!(in self.rt.alloc(); "{text}\n{line}") {
+                    Ok(text) => failed(status, text),
+                    Err(_) => Failure::NoMemory,
+                }
+            }
+            _ => failed(status, text),
+        }
+    }
+
     /// The line of the reply to a request about a folder; a refusal is a failure.
     pub fn line(&self, about: &str, json: String) -> Result<String, Failure> {
+        let asked = json.clone()?;
         match self.ask(json, None)? {
             Reply::Line(line) => Ok(line),
-            Reply::Refused(refusal, line) => Err(self.refused(about, refusal, &line)),
+            Reply::Refused(refusal, line) => {
+                Err(self.explained(self.refused(about, refusal, &line), &asked))
+            }
             Reply::NoFeed => Err(self.lost("no feed")),
         }
     }

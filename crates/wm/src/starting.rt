@@ -177,16 +177,17 @@ fn last_line(text: &str) -> &str {
     }
 }
 
-/// What to do if this was the last that a program said when it was started.
+/// What to do if this was the last that a program said when it was started. A line that doesn't begin with the program's name says it
+/// itself.
 fn advice_at_start(last: &str) -> &'static str {
     if last.contains("inotifywait") {
         ": install inotify-tools"
     } else if last.contains("13 DeviceFailed") {
-        ": another server has the file 'state' beside the log, or there is no right to it"
-    } else if last.contains("14 Damaged") {
-        ": the file 'state' beside the log is damaged, or no state file: GUIDE.md has what to do"
-    } else {
+        ": look at the disk, and at the rights of the file 'state' beside the log"
+    } else if last.is_empty() || last.starts_with("watchmand: ") || last.starts_with("wmfeed: ") {
         "; it didn't start"
+    } else {
+        ""
     }
 }
 

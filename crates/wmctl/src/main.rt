@@ -1,17 +1,17 @@
 //! The client of the file watch server: sends one request and prints the reply.
 #![tactic(auto)]
 
-use std::io::ErrorKind;
+mod explaining;
+
+use std::io::{ErrorKind, IsTerminal};
 use std::process::ExitCode;
 use std::time::Instant;
 use std::{env, io, process};
 use wm_client::{SyncFiles, wmctl};
+use wm_findings::is_wanted;
 
-/// Handles the words. An error is that of memory, or of a word that isn't UTF-8.
-fn run(rt: &HostRuntime) -> io::Result<u8> {
-    let alloc = rt.alloc();
-    let args: Vec<String> = env::args(rt)?.skip(1).collect(alloc)?;
-    let words: Vec<&str> = args.iter().map(|word| word.as_str()).collect(alloc)?;
+/// Handles the words. An error is that of memory.
+fn run(rt: &HostRuntime, words: &[&str]) -> io::Result<u8> {
     let mut printer = io::writer(rt);
     let errors = rt.stderr();
     let mut faults = io::writer(&errors);
@@ -20,11 +20,26 @@ fn run(rt: &HostRuntime) -> io::Result<u8> {
         process: process::id(rt.process()),
         begun: Instant::now(rt)?,
     };
-    Ok(wmctl(alloc, rt, &system, &words, &mut printer, &mut faults))
+    Ok(wmctl(rt.alloc(), rt, &system, words, &mut printer, &mut faults))
+}
+
+/// Handles the words, and explains a failure if that is wanted. An error is that of memory, or of a word that isn't UTF-8.
+fn run_explained(rt: &HostRuntime) -> io::Result<u8> {
+    let alloc = rt.alloc();
+    let args: Vec<String> = env::args(rt)?.skip(1).collect(alloc)?;
+    let words: Vec<&str> = args.iter().map(|word| word.as_str()).collect(alloc)?;
+    let status = run(rt, &words)?;
+    if is_wanted(rt, rt.stderr().is_terminal()) {
+        if let Ok(Some(line)) = explaining::line_of(rt, alloc, status, &words) {
+            // If it can't be written, the status says what happened.
+            let _written = rt.eprint(line.as_str());
+        }
+    }
+    Ok(status)
 }
 
 fn main(rt: HostRuntime) -> io::Result<ExitCode> {
-    let (status, told) = match run(&rt) {
+    let (status, told) = match run_explained(&rt) {
         Ok(status) => return Ok(ExitCode::from(status)),
         Err(error) if error.kind() == ErrorKind::OutOfMemory => (1, "wmctl: 16 NoMemory"),
         Err(_) => (2, "wmctl: a word isn't UTF-8"),

@@ -1,0 +1,225 @@
+#!/usr/bin/env python3
+"""quick_messages.py WATCHMAND WMCTL [WM]: the messages of the built programs at common mistakes, byte for byte.
+
+Each case is run without a terminal, with WATCHMAND_EXPLAIN=1, and (for some) with a terminal as standard error. The first must print the specified text
+alone, and the others that text and then the further line. Exit status: 0 if all are as here, else 1.
+"""
+import fcntl
+import os
+import pty
+import shutil
+import socket
+import subprocess
+import sys
+import tempfile
+
+NOBODY = 65534
+REFUSED = {13: "13 DeviceFailed", 14: "14 Damaged", 20: "20 Retired"}
+LONG = "d" * 60 + "/" + "e" * 63 + "/socket"
+
+
+class Place:
+    """A folder with what the cases need, and a server on `sock` over `state`."""
+
+    def __init__(self, watchmand):
+        self.watchmand = watchmand
+        self.dir = tempfile.mkdtemp(prefix="messages.", dir="/tmp")
+        os.chmod(self.dir, 0o755)
+        for name in ("folder", "shut", "root"):
+            os.mkdir(self.path(name))
+        os.makedirs(self.path(os.path.dirname(LONG)))
+        shutil.copy("/etc/passwd", self.path("passwd"))
+        for name in ("plain", "empty", "secret"):
+            self.write(name, b"" if name == "empty" else b"plain text\n" * 9)
+        os.mkfifo(self.path("fifo"))
+        for name in ("state", "free", "taken", "cut"):
+            subprocess.run([watchmand, "format", name], cwd=self.dir, check=True, stdout=subprocess.DEVNULL)
+        with open(self.path("cut"), "r+b") as cut:
+            cut.seek(8)
+            cut.write(b"\0\0\0\x09")
+        with socket.socket(socket.AF_UNIX) as dead:
+            dead.bind(self.path("dead"))
+        self.lock = open(self.path("taken"), "r+b")
+        fcntl.flock(self.lock, fcntl.LOCK_EX)
+        self.server = subprocess.Popen([watchmand, "serve", "state", "sock"], cwd=self.dir, stdout=subprocess.PIPE)
+        assert self.server.stdout.readline() == b"ready\n"
+        subprocess.run([sys.argv[2], "sock", '["watch","%s"]' % self.path("root")], cwd=self.dir, check=True, stdout=subprocess.DEVNULL)
+        with socket.socket(socket.AF_UNIX) as kept:
+            kept.bind(self.path("kept"))
+        os.chmod(self.path("kept"), 0o000)
+        os.chmod(self.path("secret"), 0o000)
+        os.chmod(self.path("shut"), 0o555)
+
+    def path(self, name):
+        return os.path.join(self.dir, name)
+
+    def write(self, name, content):
+        with open(self.path(name), "wb") as file:
+            file.write(content)
+
+    def close(self):
+        self.server.kill()
+        self.server.wait()
+        self.lock.close()
+        shutil.rmtree(self.dir)
+
+
+def watchmand_cases(place):
+    """Words, the refusal's number, the further line, and whether the case is run without root's rights."""
+    holder = place.server.pid
+    damaged = "cut: this state file is damaged; put a copy back, or move it away and 'watchmand format cut' makes a new one"
+    yield ["lines", "nofile"], 13, "nofile: no such file; 'watchmand format nofile' makes it", False
+    yield ["serve", "nofile", "s2"], 13, "nofile: no such file; 'watchmand format nofile' makes it", False
+    yield ["serve", "state", "s2"], 13, f"state: another watchmand has it (pid {holder})", False
+    yield ["lines", "state"], 13, f"state: another watchmand has it (pid {holder})", False
+    yield ["lines", "taken"], 13, f"taken: another program has it (pid {os.getpid()})", False
+    yield ["lines", "secret"], 13, "secret: there is no right to it", True
+    yield ["lines", "folder"], 13, "folder: this is a folder", False
+    yield ["lines", "fifo"], 13, "fifo: this is no regular file", False
+    yield ["lines", "nofolder/state"], 13, "nofolder/state: its folder isn't there", False
+    yield ["lines", "plain/state"], 13, "plain/state: its folder isn't there", False
+    yield ["lines", "a\n\x1bb"], 13, "a\\x0a\\x1bb: no such file; 'watchmand format a\\x0a\\x1bb' makes it", False
+    yield ["format", "state"], 13, "state: is there already", False
+    yield ["format", "folder"], 13, "folder: is there already", False
+    yield ["format", "nofolder/state"], 13, "nofolder/state: its folder isn't there", False
+    yield ["format", "shut/state"], 13, "shut/state: can't be made: look at the rights of its folder and at the disk", True
+    yield ["serve", "free", LONG], 13, f"socket: the path has {len(LONG)} bytes, at most 107", False
+    yield ["serve", "free", "sock"], 13, "sock: a server listens there", False
+    yield ["serve", "free", "plain"], 13, "plain: this is no socket", False
+    yield ["serve", "free", "folder"], 13, "folder: this is no socket", False
+    yield ["serve", "free", "nofolder/sock"], 13, "nofolder/sock: its folder isn't there", False
+    yield ["serve", "sock", "free"], 13, "sock: this is no regular file", False
+    yield ["serve", "plain", "free"], 14, "plain: this is no state file of watchmand", False
+    yield ["lines", "passwd"], 14, "passwd: this is no state file of watchmand", False
+    yield ["lines", "empty"], 14, "empty: this is no state file of watchmand", False
+    yield ["lines", "cut"], 14, damaged, False
+    yield ["migrate", "nofile", "new"], 13, "nofile: no such file", False
+    yield ["migrate", "plain", "new1"], 14, "plain: this is no state file of watchmand", False
+    yield ["migrate", "free", "new2"], 14, "free: this state file has version 2 already", False
+
+
+def socket_cases():
+    """A socket at which no server answers, the further line, and whether the case is run without root's rights."""
+    yield "nosock", "nosock: no such file (is the server running?)", False
+    yield "nofolder/sock", "nofolder/sock: its folder isn't there", False
+    yield "plain", "plain: this is no socket", False
+    yield "folder", "folder: this is no socket", False
+    yield "dead", "dead: nobody listens there (is the server running?)", False
+    yield "kept", "kept: there is no right to it", True
+    yield LONG, f"socket: the path has {len(LONG)} bytes, at most 107", False
+
+
+def request_cases(root):
+    """A request, the refusal that the server prints, and the further line, if there is one."""
+    asked = '["query","%s",%%s]' % root
+    no_root = "is no root's path: it begins with / and has no part that is empty, . or .."
+    yield asked % '{"expression":["sufix","c"]}', "8 BadExpression", '["sufix","c"] is no term of an expression'
+    yield asked % '{"expression":["allof",["suffix","c"],["imatch","x"]]}', "8 BadExpression", '["imatch","x"] is no term of an expression'
+    yield asked % '{"expression":["not",["anyof","exists",["type","b"]]]}', "8 BadExpression", '["type","b"] is no term of an expression'
+    yield asked % '{"expression":["not"]}', "8 BadExpression", '["not"] is no term of an expression'
+    yield asked % '{"fields":["name","mtime"]}', "9 BadField", '"mtime" is no field'
+    yield asked % '{"fields":["name",7]}', "9 BadField", "7 is no field"
+    yield asked % '{"expresion":"exists"}', "3 BadArguments", "'expresion' is no key of such a request"
+    yield '["subscribe","%s","n",{"defer":[]}]' % root, "3 BadArguments", "'defer' is no key of such a request"
+    yield '["trigger","%s",{"name":"n","command":["true"],"chdir":"/"}]' % root, "10 BadTrigger", "'chdir' is no key of such a request"
+    yield '["trigger","%s",{"name":"n","command":"make"}]' % root, "10 BadTrigger", ""
+    yield '["wach","/x"]', "2 BadCommand", "'wach' is no command"
+    yield '["watch","proj"]', "4 BadPath", f"'proj' {no_root}"
+    yield '["watch","~/proj"]', "4 BadPath", f"'~/proj' {no_root}"
+    yield '["watch","/proj/"]', "4 BadPath", f"'/proj/' {no_root}"
+    yield "[watch", "1 BadLine", 'the request is no JSON text, as ["watch-list"] is'
+    yield "watch-list", "1 BadLine", 'the request is no JSON text, as ["watch-list"] is'
+    yield '["query","%s"]' % root, "3 BadArguments", ""
+    yield '["clock","/not/watched"]', "5 NotWatched", ""
+
+
+def run(place, words, explain, no_rights):
+    """The status, the output and the errors of a program."""
+    env = {key: value for key, value in os.environ.items() if key != "WATCHMAND_EXPLAIN"}
+    if explain:
+        env["WATCHMAND_EXPLAIN"] = "1"
+    rights = dict(user=NOBODY, group=NOBODY, extra_groups=[]) if no_rights and os.geteuid() == 0 else {}
+    ended = subprocess.run(words, cwd=place.dir, env=env, stdin=subprocess.DEVNULL, capture_output=True, timeout=60, **rights)
+    return ended.returncode, ended.stdout.decode(), ended.stderr.decode()
+
+
+def run_on_terminal(place, words):
+    """The errors of a program whose standard error is a terminal."""
+    ours, theirs = pty.openpty()
+    env = {key: value for key, value in os.environ.items() if key != "WATCHMAND_EXPLAIN"}
+    child = subprocess.Popen(words, cwd=place.dir, env=env, stdin=subprocess.DEVNULL, stdout=subprocess.DEVNULL, stderr=theirs)
+    child.wait(timeout=60)
+    os.close(theirs)
+    shown = b""
+    try:
+        while part := os.read(ours, 4096):
+            shown += part
+    except OSError:
+        pass
+    os.close(ours)
+    return shown.decode().replace("\r\n", "\n")
+
+
+class Checks:
+    def __init__(self):
+        self.count = 0
+        self.failed = 0
+
+    def same(self, what, got, wanted):
+        self.count += 1
+        if got != wanted:
+            self.failed += 1
+            print(f"failed: {what}\n  wanted {wanted!r}\n  got    {got!r}")
+
+
+def check(checks, place, words, status, output, errors, further, no_rights):
+    further = further + "\n" if further else ""
+    shown = " ".join(words)
+    checks.same(shown, run(place, words, False, no_rights), (status, output, errors))
+    checks.same(f"{shown} (explained)", run(place, words, True, no_rights), (status, output, errors + further))
+
+
+def check_all(checks, place, watchmand, wmctl):
+    for words, number, further, no_rights in watchmand_cases(place):
+        check(checks, place, [watchmand, *words], 1, "", f"watchmand: {REFUSED[number]}\n", further, no_rights)
+    for path, further, no_rights in socket_cases():
+        check(checks, place, [wmctl, path, '["watch-list"]'], 3, "", "wmctl: no reply\n", further, no_rights)
+    for request, refusal, further in request_cases(place.path("root")):
+        reply = '{"error":"%s","version":"w1"}\n' % refusal
+        check(checks, place, [wmctl, "sock", request], 1, reply, "", further, False)
+    nofile = "watchmand: 13 DeviceFailed\nnofile: no such file; 'watchmand format nofile' makes it\n"
+    checks.same("lines nofile (terminal)", run_on_terminal(place, [watchmand, "lines", "nofile"]), nofile)
+    nosock = "wmctl: no reply\nnosock: no such file (is the server running?)\n"
+    checks.same("nosock (terminal)", run_on_terminal(place, [wmctl, "nosock", "[]"]), nosock)
+    checks.same("wach (terminal)", run_on_terminal(place, [wmctl, "sock", '["wach"]']), "'wach' is no command\n")
+    usage = run(place, [watchmand, "serv"], False, False)
+    checks.same("serv (explained)", run(place, [watchmand, "serv"], True, False), usage)
+
+
+def check_wm(checks, place, wm):
+    """A refused expression of `wm`: the further line stands behind its own."""
+    words = [wm, "files", "root", "--no-sync", "--expr", '["sufix","c"]', "--socket", place.path("sock")]
+    status, output, errors = run(place, words, False, False)
+    checks.same("wm files --expr", (status, output, "8 BadExpression" in errors), (1, "", True))
+    further = errors + '["sufix","c"] is no term of an expression\n'
+    checks.same("wm files --expr (explained)", run(place, words, True, False), (1, "", further))
+
+
+def main():
+    if len(sys.argv) not in (3, 4):
+        sys.exit(__doc__)
+    programs = [os.path.abspath(program) for program in sys.argv[1:]]
+    sys.argv[1:] = programs
+    checks = Checks()
+    place = Place(programs[0])
+    try:
+        check_all(checks, place, programs[0], programs[1])
+        if len(programs) == 3:
+            check_wm(checks, place, programs[2])
+    finally:
+        place.close()
+    print(f"messages: {checks.count} checks, {checks.failed} failed")
+    sys.exit(1 if checks.failed else 0)
+
+
+main()
