@@ -1,5 +1,5 @@
 //! Tests of disks, spellings, names, clocks, explanations and logs, by the public functions of `wm_disk`, `wm_wire`, `wm_names`,
-//! `wm_clock`, `wm_explain` and `wm_log`.
+//! `wm_clock`, `wm_explain`, `wm_findings` and `wm_log`.
 //!
 //! They stand in a crate of their own, since a crate with tests is proved twice.
 #![tactic(auto)]
@@ -12,6 +12,8 @@ mod clocks;
 mod disks;
 #[cfg(test)]
 mod explanations;
+#[cfg(test)]
+mod heads;
 #[cfg(test)]
 mod logs;
 #[cfg(test)]

@@ -1,5 +1,6 @@
 //! What is at a path. Tests: tools/quick_messages.py.
 
+use crate::heads::head_in;
 use crate::locks::lock_of;
 use std::alloc::Global;
 use std::fs::{File, Files, Metadata, OpenOptions};
@@ -37,36 +38,12 @@ fn unseen<R: Files<File = File>>(rt: &R, path: &str, error: &io::Error) -> Found
     }
 }
 
-/// As what a file begins: a gate, `WMSTATE`, the version in four bytes, and the gate of a file that was migrated.
+/// As what a file begins. One of fewer bytes is none of `watchmand`.
 fn head_of(file: &File) -> Head {
     let mut bytes = [0; 13];
-    if file.read_exact_at(&mut bytes, 0).is_err() {
-        return Head::Foreign;
-    }
-    match bytes {
-        [
-            _,
-            b'W',
-            b'M',
-            b'S',
-            b'T',
-            b'A',
-            b'T',
-            b'E',
-            0,
-            0,
-            0,
-            1,
-            retired,
-        ] => {
-            if retired == 0 {
-                Head::VersionOne
-            } else {
-                Head::Retired
-            }
-        }
-        [_, b'W', b'M', b'S', b'T', b'A', b'T', b'E', ..] => Head::VersionTwo,
-        _ => Head::Foreign,
+    match file.read_exact_at(&mut bytes, 0) {
+        Ok(()) => head_in(&bytes),
+        Err(_) => Head::Foreign,
     }
 }
 
