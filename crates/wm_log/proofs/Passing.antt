@@ -8,7 +8,7 @@ use Rattle.std.proofs.lemmas.Bool.Decides.{nat_tests}
 use Rattle.std.proofs.lemmas.List.Folds.{list_any-append}
 use Rattle.std.proofs.lemmas.Slice.Eq.{bytes_eq-Decides}
 use Rattle.wm_log.specs.LogLaws.{GoesOn, NoneTwice, OneLineASecond, are_alike, let_through}
-use Rattle.wm_log.specs.LogLimits.{CauseSeen, LimitState, after_cause, after_logging, at_second, cause_of, cause_seen, has_logged, is_same, passes_at, passes_limit}
+use Rattle.wm_log.specs.LogLimits.{CauseSeen, LimitState, after_logging, at_second, cause_of, cause_seen, has_logged, is_same, passes_at, passes_limit}
 use Rattle.wm_log.specs.LogLines.{kind_place}
 use Rattle.wm_log.specs.declared.event.Event.{Event}
 use Rattle.wm_log.specs.declared.event.Kind.{Kind}

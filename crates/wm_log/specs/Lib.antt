@@ -1,3 +1,4 @@
+pub mod EventQueues
 pub mod LogLaws
 pub mod LogLimits
 pub mod LogLines

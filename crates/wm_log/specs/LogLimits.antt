@@ -1,8 +1,8 @@
 -- Which lines of a log are let through: of one cause at most one a second.
-use Rattle.std.specs.Prelude.{◌&&◌, ◌++◌, ◌∷◌, ◌==◌, ℕ, Bool, not, List, [], option_map, string_bytes, unwrap_or, if◌then◌else◌}
+use Rattle.std.specs.Prelude.{◌&&◌, ◌++◌, ◌∷◌, ◌==◌, ℕ, Bool, not, List, [], string_bytes, if◌then◌else◌}
 use Rattle.std.specs.List.{list_any}
 use Rattle.std.specs.Str.{bytes_eq}
-use Rattle.wm_log.specs.LogLines.{event_kind, same_event_kind}
+use Rattle.wm_log.specs.LogLines.{event_kind, event_root, same_event_kind}
 use Rattle.wm_log.specs.declared.event.Event.{Event}
 use Rattle.wm_log.specs.declared.event.Kind.{Kind}
 use Rattle.wm_log.specs.declared.limiter.Logged.{Logged}
@@ -19,7 +19,7 @@ abbrev pub logged_seen : Logged → CauseSeen
 logged_seen logged = cause_seen logged.kind (string_bytes logged.root)
 
 abbrev pub cause_of : Event → CauseSeen
-cause_of event = cause_seen (event_kind event.what) (unwrap_or (option_map (λ p. p.now) event.root) [])
+cause_of event = cause_seen (event_kind event.what) (event_root event)
 
 abbrev pub is_same : CauseSeen → CauseSeen → Bool
 is_same a b = same_event_kind a.kind b.kind && bytes_eq a.root b.root

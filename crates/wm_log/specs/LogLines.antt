@@ -1,9 +1,10 @@
 -- What happened in a server, and the line of it.
-use Rattle.std.specs.Prelude.{◌≡◌, ◌⊎◌, ◌≤◌, ◌*ℤ◌, ◌++◌, ◌==◌, ℕ, pos, Bool, List, Option, None, Some, codes, decimal, option_map}
+use Rattle.std.specs.Prelude.{◌≡◌, ◌⊎◌, ◌≤◌, ◌*ℤ◌, ◌++◌, ◌==◌, ℕ, pos, Bool, List, [], Option, None, Some, codes, decimal, option_map, string_bytes, unwrap_or}
 use Rattle.jiff.specs.Names.{iso_datetime_text}
 use Rattle.jiff_core.specs.DateTime.{civil_nanos}
 use Rattle.jiff_core.specs.declared.civil.datetime.DateTime.{DateTime}
 use Rattle.wm_disk.specs.Refusals.{refusal_text}
+use Rattle.wm_disk.specs.declared.refusal.Refusal.{Refusal}
 use Rattle.wm_explain.specs.Shown.{shown_text}
 use Rattle.wm_log.specs.declared.event.Event.{Event}
 use Rattle.wm_log.specs.declared.event.Kind.{Kind}
@@ -13,7 +14,7 @@ use Rattle.wm_log.specs.declared.event.What.TheVariants.{TookSocket, CrawlFailed
 
 abbrev pub event_kind : What → Kind
 event_kind (TookSocket path) = kinds.TookSocket
-event_kind (CrawlFailed folder) = kinds.CrawlFailed
+event_kind (CrawlFailed refusal folder) = kinds.CrawlFailed
 event_kind (NotStarted name) = kinds.NotStarted
 event_kind (Exited name status) = kinds.Exited
 event_kind (Killed name signal) = kinds.Killed
@@ -36,6 +37,10 @@ kind_place kinds.StoreFailed = 8
 
 abbrev pub same_event_kind : Kind → Kind → Bool
 same_event_kind a b = kind_place a == kind_place b
+
+-- the path of the root that an event is about; empty if it is about none
+abbrev pub event_root : Event → List ℕ
+event_root event = unwrap_or (option_map string_bytes event.root) []
 
 -- ---- the line
 
@@ -60,13 +65,20 @@ of_trigger name text = spaced (codes "the trigger") (spaced name text)
 abbrev pub number_text : (number : ℕ) → (text : List ℕ) → List ℕ
 number_text number text = decimal number ++ codes " " ++ text
 
+abbrev pub refused_text : (text : List ℕ) → Refusal → List ℕ
+refused_text text refusal = text ++ codes ": " ++ refusal_text refusal
+
+abbrev pub crawl_text : Refusal → (folder : Option (List ℕ)) → List ℕ
+crawl_text refusal None = refused_text (codes "a crawl failed") refusal
+crawl_text refusal (Some folder) = refused_text (spaced (codes "a crawl failed at") (shown_text folder)) refusal
+
 abbrev pub what_text : What → List ℕ
-what_text (TookSocket path) = spaced (codes "took over the socket") (shown_text path.now)
-what_text (CrawlFailed folder) = spaced (codes "a crawl failed at") (shown_text folder.now)
-what_text (NotStarted name) = spaced (codes "couldn't start the trigger") (shown_text name.now)
-what_text (Exited name status) = of_trigger (shown_text name.now) (text_number (codes "ended with status") status)
-what_text (Killed name signal) = of_trigger (shown_text name.now) (text_number (codes "was ended by signal") signal)
-what_text (SessionRefused refusal) = spaced (codes "refused a session:") (shown_text (refusal_text refusal))
+what_text (TookSocket path) = spaced (codes "took over the socket") (shown_text (string_bytes path))
+what_text (CrawlFailed refusal folder) = crawl_text refusal (option_map string_bytes folder)
+what_text (NotStarted name) = spaced (codes "couldn't start the trigger") (shown_text (string_bytes name))
+what_text (Exited name status) = of_trigger (shown_text (string_bytes name)) (text_number (codes "ended with status") status)
+what_text (Killed name signal) = of_trigger (shown_text (string_bytes name)) (text_number (codes "was ended by signal") signal)
+what_text (SessionRefused refusal) = refused_text (codes "refused a session") refusal
 what_text CutOff = codes "cut off a client that didn't read"
 what_text (Forgot count) = number_text count (codes "deleted paths were forgotten")
 what_text StoreFailed = codes "the state file failed; commands that change it are refused until a restart"
@@ -78,4 +90,4 @@ about (Some root) text = root ++ codes ": " ++ text
 
 -- the time, the root and what happened
 abbrev pub IsLogLine : Event → List ℕ → Type 0
-IsLogLine event line = (time : List ℕ) × IsTimeText event.time time × (line ≡ time ++ codes " " ++ about (option_map (λ p. shown_text p.now) event.root) (what_text event.what) ++ codes "\n")
+IsLogLine event line = (time : List ℕ) × IsTimeText event.time time × (line ≡ time ++ codes " " ++ about (option_map (λ p. shown_text (string_bytes p)) event.root) (what_text event.what) ++ codes "\n")

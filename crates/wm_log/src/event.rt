@@ -1,22 +1,22 @@
 //! What happened in a server. Definitions: specs/LogLines. Tests: leaf_tests/src/logs.rt.
 ghost use Rattle.std.specs.Prelude.{◌≡◌};
-ghost use Rattle.wm_log.specs.LogLines.{event_kind, kind_place, same_event_kind};
+ghost use Rattle.wm_log.specs.LogLines.{event_kind, event_root, kind_place, same_event_kind};
 
 use wm_disk::Refusal;
 
 /// What happened.
-#[derive(Clone, Copy)]
-pub enum What<'a> {
+#[derive(Drop)]
+pub enum What {
     /// The socket of this path, which nobody served, was taken over.
-    TookSocket(&'a str),
-    /// A crawl failed, since this folder below the root can't be read.
-    CrawlFailed(&'a str),
-    /// The trigger of this name couldn't be started.
-    NotStarted(&'a str),
-    /// The trigger of this name ended with this status.
-    Exited(&'a str, u8),
-    /// The trigger of this name was ended by this signal.
-    Killed(&'a str, u8),
+    TookSocket(String),
+    /// A crawl was refused so; at this folder, if it is one that can't be read.
+    CrawlFailed(Refusal, Option<String>),
+    /// The program of the trigger of this name couldn't be started.
+    NotStarted(String),
+    /// The program of the trigger of this name ended with this status.
+    Exited(String, u8),
+    /// The program of the trigger of this name was ended by this signal.
+    Killed(String, u8),
     /// A session was refused so.
     SessionRefused(Refusal),
     /// A client that didn't read was cut off.
@@ -42,13 +42,13 @@ pub enum Kind {
 }
 
 /// One thing that happened.
-#[derive(Clone, Copy)]
-pub struct Event<'a> {
+#[derive(Drop)]
+pub struct Event {
     /// When, in unix seconds.
     pub time: u64,
     /// The path of the root that it is about, if it is about one.
-    pub root: Option<&'a str>,
-    pub what: What<'a>,
+    pub root: Option<String>,
+    pub what: What,
 }
 
 impl Kind {
@@ -77,14 +77,14 @@ impl Kind {
     }
 }
 
-impl What<'_> {
+impl What {
     /// Its kind.
     pub fn kind(&self) -> Kind
         ensures { result ≡ event_kind self.now }
     {
         match self {
             What::TookSocket(_) => Kind::TookSocket,
-            What::CrawlFailed(_) => Kind::CrawlFailed,
+            What::CrawlFailed(_, _) => Kind::CrawlFailed,
             What::NotStarted(_) => Kind::NotStarted,
             What::Exited(_, _) => Kind::Exited,
             What::Killed(_, _) => Kind::Killed,
@@ -92,6 +92,18 @@ impl What<'_> {
             What::CutOff => Kind::CutOff,
             What::Forgot(_) => Kind::Forgot,
             What::StoreFailed => Kind::StoreFailed,
+        }
+    }
+}
+
+impl Event {
+    /// The path of the root that it is about; empty if it is about none.
+    pub(crate) fn root_text(&self) -> &str
+        ensures { result.now ≡ event_root self.now }
+    {
+        match &self.root {
+            Some(root) => root.as_str(),
+            None => "",
         }
     }
 }

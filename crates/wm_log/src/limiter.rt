@@ -75,14 +75,14 @@ impl LogLimiter {
 
     /// Whether the line of an event is let through: if no line of its cause was in the same second. An `Err` means that memory ran out;
     /// then it isn't counted as let through.
-    pub fn passes(&mut self, alloc: Global, event: &Event<'_>) -> Result<bool, NoMemory>
+    pub fn passes(&mut self, alloc: Global, event: &Event) -> Result<bool, NoMemory>
         ensures passes { IfOk result (λ b. b ≡ passes_limit event.now self.old) }
         ensures logged { OnOk result (self.new ≡ after_logging event.now self.old) }
         ensures err { OnErr result (self.new ≡ at_second event.now.time self.old) }
     {
         self.go_to(event.time);
         let kind = event.what.kind();
-        let root = event.root.unwrap_or("");
+        let root = event.root_text();
         if has_logged(&self.logged, kind, root) {
             return Ok(false);
         }

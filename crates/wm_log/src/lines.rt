@@ -1,12 +1,13 @@
 //! The line of an event. Definitions: specs/LogLines. Tests: leaf_tests/src/logs.rt.
 ghost use Rattle.std.specs.Prelude.{◌≡◌, IfOk, option_map, string_bytes};
 ghost use Rattle.wm_explain.specs.Shown.{shown_text};
-ghost use Rattle.wm_log.specs.LogLines.{IsLogLine, about, spaced, number_text, of_trigger, what_text, text_number};
+ghost use Rattle.wm_disk.specs.Refusals.{refusal_text};
+ghost use Rattle.wm_log.specs.LogLines.{IsLogLine, about, crawl_text, refused_text, spaced, number_text, of_trigger, what_text, text_number};
 
 use crate::event::{Event, What};
 use crate::time::time_text;
 use std::alloc::Global;
-use wm_disk::NoMemory;
+use wm_disk::{NoMemory, Refusal};
 use wm_explain::shown;
 
 /// One text behind another.
@@ -41,6 +42,27 @@ fn ended_text(alloc: Global, name: &str, how: &str, number: u8) -> Result<String
     joined(alloc, "the trigger", &said)
 }
 
+/// A text, and why something was refused.
+fn refused_text(alloc: Global, text: &str, refusal: Refusal) -> Result<String, NoMemory>
+    ensures { IfOk result (λ r. string_bytes r ≡ refused_text text.now refusal) }
+{
+    let refusal = refusal.text();
+    Ok(format!(in alloc; "{text}: {refusal}")?)
+}
+
+/// Why a crawl failed, and at which folder if there is one.
+fn crawl_text(alloc: Global, refusal: Refusal, folder: &Option<String>) -> Result<String, NoMemory>
+    ensures { IfOk result (λ r. string_bytes r ≡ crawl_text refusal (option_map string_bytes folder.now)) }
+{
+    match folder {
+        Some(folder) => {
+            let text = named_text(alloc, "a crawl failed at", folder)?;
+            refused_text(alloc, &text, refusal)
+        }
+        None => refused_text(alloc, "a crawl failed", refusal),
+    }
+}
+
 /// A number, and what it counts.
 fn number_text(alloc: Global, number: u64, text: &str) -> Result<String, NoMemory>
     ensures { IfOk result (λ r. string_bytes r ≡ number_text number text.now) }
@@ -49,16 +71,16 @@ fn number_text(alloc: Global, number: u64, text: &str) -> Result<String, NoMemor
 }
 
 /// What is said of what happened.
-fn what_text(alloc: Global, what: &What<'_>) -> Result<String, NoMemory>
+fn what_text(alloc: Global, what: &What) -> Result<String, NoMemory>
     ensures { IfOk result (λ r. string_bytes r ≡ what_text what.now) }
 {
     match what {
         What::TookSocket(path) => named_text(alloc, "took over the socket", path),
-        What::CrawlFailed(folder) => named_text(alloc, "a crawl failed at", folder),
+        What::CrawlFailed(refusal, folder) => crawl_text(alloc, *refusal, folder),
         What::NotStarted(name) => named_text(alloc, "couldn't start the trigger", name),
         What::Exited(name, status) => ended_text(alloc, name, "ended with status", *status),
         What::Killed(name, signal) => ended_text(alloc, name, "was ended by signal", *signal),
-        What::SessionRefused(refusal) => { named_text(alloc, "refused a session:", refusal.text()) }
+        What::SessionRefused(refusal) => refused_text(alloc, "refused a session", *refusal),
         What::CutOff => Ok(String::from_str(alloc, "cut off a client that didn't read")?),
         What::Forgot(count) => number_text(alloc, *count, "deleted paths were forgotten"),
         What::StoreFailed => Ok(String::from_str(
@@ -69,8 +91,8 @@ fn what_text(alloc: Global, what: &What<'_>) -> Result<String, NoMemory>
 }
 
 /// A text, behind the path of a root if there is one.
-fn about(alloc: Global, root: Option<&str>, text: String) -> Result<String, NoMemory>
-    ensures { IfOk result (λ r. string_bytes r ≡ about (option_map (λ p. shown_text p.now) root.entry) (string_bytes text)) }
+fn about(alloc: Global, root: &Option<String>, text: String) -> Result<String, NoMemory>
+    ensures { IfOk result (λ r. string_bytes r ≡ about (option_map (λ p. shown_text (string_bytes p)) root.now) (string_bytes text)) }
 {
     match root {
         Some(root) => {
@@ -82,11 +104,11 @@ fn about(alloc: Global, root: Option<&str>, text: String) -> Result<String, NoMe
 }
 
 /// The line of an event, with its newline: its time, its root if it has one, and what happened.
-pub fn line_of(alloc: Global, event: &Event<'_>) -> Result<String, NoMemory>
+pub fn line_of(alloc: Global, event: &Event) -> Result<String, NoMemory>
     ensures { IfOk result (λ line. IsLogLine event.now (string_bytes line)) }
 {
     let time = time_text(alloc, event.time)?;
     let text = what_text(alloc, &event.what)?;
-    let text = about(alloc, event.root, text)?;
+    let text = about(alloc, &event.root, text)?;
     Ok(format!(in alloc; "{time} {text}\n")?)
 }
