@@ -2,6 +2,7 @@ pub mod Applying
 pub mod Definitions
 pub mod Due
 pub mod KeptRuns
+pub mod ProgramEnds
 pub mod Starters
 pub mod Starting
 pub mod Tables

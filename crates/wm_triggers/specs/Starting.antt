@@ -82,7 +82,7 @@ launch_by command input = record {
 
 -- The count of failures at a start: it doesn't fall, it stands where the run was started, it rose where the start failed (`13`), and stands where
 -- memory ran out (`16`), which is the only other refusal.
-pub record CountsStart (before now : ℕ) (result : Result (Unit {0}) Refusal) : Type 0 where
+pub record CountsStart {A : Type 0} (before now : ℕ) (result : Result A Refusal) : Type 0 where
   pub later : before ≤ now
   pub started : OnOk result (now ≡ before)
   pub failed : IsErrOf result DeviceFailed → Rose before now

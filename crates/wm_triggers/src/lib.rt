@@ -4,7 +4,8 @@
 //! that clock, where it lists a file (specs/Due.antt); [`TriggerRun::due`] says so of every history
 //! of the root. A [`Starter`] starts the program of a run and waits for its end: [`ProgramStarter`]
 //! by a [`Launcher`], as that of the system, with the words and the input that specs/Starting.antt
-//! has, and [`MemStarter`] in memory, for tests. [`Programs`] are what many threads start.
+//! has, and [`MemStarter`] in memory, for tests. Each gives how the program ended, a [`ProgramEnd`]
+//! (specs/ProgramEnds.antt). [`Programs`] are what many threads start.
 //!
 //! A [`TriggerTable`] has the definitions of a root, each with its command's number, and says which
 //! of them may begin ([`every_table`]); a [`Permit`] asks it right before a start. [`TriggerRuns`]
@@ -20,6 +21,7 @@ mod launcher;
 mod laws;
 mod mem_starter;
 mod permit;
+mod program_end;
 mod program_starter;
 mod programs;
 mod run;
@@ -36,6 +38,7 @@ pub use launcher::{Launcher, ProgramSystem, SystemLauncher};
 pub use laws::every_table;
 pub use mem_starter::{MemStarter, StartedRun};
 pub use permit::{Permit, Unasked};
+pub use program_end::ProgramEnd;
 pub use program_starter::ProgramStarter;
 pub use programs::{Programs, SystemPrograms};
 pub use run::Run;

@@ -1,9 +1,11 @@
 //! A starter in memory: it starts nothing, keeps what was to be started, and fails when told to.
 //! Definitions: specs/Starters.antt, specs/Starting.antt. Tests: registry_tests/src/trigger_runs/starters.rt.
-ghost use Rattle.std.specs.Prelude.{◌≡◌, ◌↔◌, ◌<◌, ◌-◌, ◌++◌, ◌∷◌, [], OnOk, OnErr, IsErrOf};
+ghost use Rattle.std.specs.Prelude.{◌≡◌, ◌↔◌, ◌<◌, ◌-◌, ◌++◌, ◌∷◌, [], IfOk, OnErr, IsErrOf};
+ghost use Rattle.wm_triggers.specs.declared.program_end.ProgramEnd.TheVariants.{Exited};
 ghost use Rattle.wm_triggers.specs.Starters.{failed_starts, started_runs, starts_to_fail};
 ghost use Rattle.wm_triggers.specs.Starting.{CountsStart};
 
+use crate::program_end::ProgramEnd;
 use crate::run::Run;
 use crate::starter::Starter;
 use std::alloc::Global;
@@ -19,7 +21,7 @@ pub struct StartedRun {
     pub run: Run,
 }
 
-/// A starter for tests, which keeps each run as if it had started its program, and fails when told
+/// A starter for tests, which keeps each run as if it had started its program and that had ended with 0, and fails when told
 /// to.
 #[derive(Drop)]
 pub struct MemStarter {
@@ -70,7 +72,7 @@ impl MemStarter {
 impl Starter for MemStarter {
     ghost failures = { failed_starts };
 
-    ghost has_run = { λ old root trigger run new. started_runs new ≡ started_runs old ++ (record { root = root; trigger = trigger; run = run }) ∷ [] };
+    ghost has_run = { λ old root trigger run end new. (end ≡ Exited 0) × (started_runs new ≡ started_runs old ++ (record { root = root; trigger = trigger; run = run }) ∷ []) };
 
     ghost stays = { λ old new. started_runs new ≡ started_runs old };
 
@@ -82,8 +84,8 @@ impl Starter for MemStarter {
         root: &RootPath,
         trigger: &Trigger,
         run: &Run,
-    ) -> Result<(), Refusal>
-        ensures ran { OnOk result (started_runs self.new ≡ started_runs self.old ++ (record { root = root.now; trigger = trigger.now; run = run.now }) ∷ []) }
+    ) -> Result<ProgramEnd, Refusal>
+        ensures ran { IfOk result (λ end. (end ≡ Exited 0) × (started_runs self.new ≡ started_runs self.old ++ (record { root = root.now; trigger = trigger.now; run = run.now }) ∷ [])) }
         ensures count { CountsStart (failed_starts self.old) (failed_starts self.new) result }
         ensures same { OnErr result (started_runs self.new ≡ started_runs self.old) }
         ensures plan { IsErrOf result Refusal.DeviceFailed ↔ 0 < starts_to_fail self.old }
@@ -100,6 +102,6 @@ impl Starter for MemStarter {
         let trigger = trigger.copy()?;
         let run = run.copy(alloc)?;
         self.runs.push(StartedRun { root, trigger, run })?;
-        Ok(())
+        Ok(ProgramEnd::Exited(0))
     }
 }

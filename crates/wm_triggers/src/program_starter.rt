@@ -5,6 +5,7 @@ ghost use Rattle.wm_triggers.specs.Starters.{failed_programs, launcher_of};
 ghost use Rattle.wm_triggers.specs.Starting.{launch_for};
 
 use crate::launcher::Launcher;
+use crate::program_end::ProgramEnd;
 use crate::run::Run;
 use crate::starter::Starter;
 use crate::starting::{run_command, run_input};
@@ -57,7 +58,7 @@ impl<L: Launcher> ProgramStarter<L> {
 impl<L: Launcher> Starter for ProgramStarter<L> {
     ghost failures = { failed_programs };
 
-    ghost has_run = { λ old root trigger run new. L.has_ended (launcher_of old) (launch_for root trigger run) (launcher_of new) };
+    ghost has_run = { λ old root trigger run end new. L.has_ended (launcher_of old) (launch_for root trigger run) end (launcher_of new) };
 
     ghost stays = { λ old new. launcher_of new ≡ launcher_of old };
 
@@ -69,11 +70,11 @@ impl<L: Launcher> Starter for ProgramStarter<L> {
         root: &RootPath,
         trigger: &Trigger,
         run: &Run,
-    ) -> Result<(), Refusal> {
+    ) -> Result<ProgramEnd, Refusal> {
         let command = run_command(alloc, root, trigger, run)?;
         let input = run_input(alloc, trigger, run)?;
         match self.launcher.launch(command, input) {
-            Ok(()) => Ok(()),
+            Ok(end) => Ok(end),
             Err(error) if is_memory(&error) => Err(Refusal::NoMemory),
             Err(_) => {
                 if self.failures < MAX_COUNTER {

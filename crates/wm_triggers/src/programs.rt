@@ -1,15 +1,17 @@
 //! The programs that many threads may start, in place of the runtime's `Processes`.
 //! Definitions: specs/Starting.antt, specs/Starters.antt. Tests: serve_tests/src/sessions.rt.
-ghost use Rattle.std.specs.Prelude.{◌≡◌, ◌≢◌, IfErr, IsErrOf, OnOk};
+ghost use Rattle.std.specs.Prelude.{◌≡◌, ◌≢◌, IfErr, IfOk, IsErrOf};
 ghost use Rattle.wm_disk.specs.declared.refusal.Refusal.TheVariants.{DeviceFailed as device_failed, NoMemory as no_memory};
 ghost use Rattle.wm_names.specs.Paths.{Path};
 ghost use Rattle.wm_registry.specs.Triggers.{Definition};
 ghost use Rattle.wm_since.specs.declared.query.Answer.{Answer};
+ghost use Rattle.wm_triggers.specs.declared.program_end.ProgramEnd.{ProgramEnd};
 ghost use Rattle.wm_triggers.specs.Starters.{system_behind};
 ghost use Rattle.wm_triggers.specs.Starting.{launch_for};
 
 use crate::launcher::{ProgramSystem, SystemLauncher};
 use crate::permit::Permit;
+use crate::program_end::ProgramEnd;
 use crate::program_starter::ProgramStarter;
 use crate::run::Run;
 use crate::starter::Starter;
@@ -21,8 +23,8 @@ use wm_registry::Trigger;
 /// The programs of triggers.
 pub trait Programs {
     /// The program of such a run of the trigger of a root was started, with just the words, the working folder and the
-    /// input of the run and the environment of this process, and has ended.
-    ghost has_run: { Self → Path → Definition → Answer → Type 0 };
+    /// input of the run and the environment of this process, and has ended so.
+    ghost has_run: { Self → Path → Definition → Answer → ProgramEnd → Type 0 };
 
     /// The program of such a run could not be started, or its permit refused the start.
     ghost has_failed: { Self → Path → Definition → Answer → Type 0 };
@@ -36,8 +38,8 @@ pub trait Programs {
         trigger: &Trigger,
         run: &Run,
         permit: P,
-    ) -> Result<(), Refusal>
-        ensures ran { OnOk result (has_run self.now root.now trigger.now run.now) }
+    ) -> Result<ProgramEnd, Refusal>
+        ensures ran { IfOk result (has_run self.now root.now trigger.now run.now) }
         ensures failed { IsErrOf result device_failed → has_failed self.now root.now trigger.now run.now }
         ensures refused { IfErr result (λ e. e ≢ device_failed → e ≡ no_memory) };
 }
@@ -58,7 +60,7 @@ impl<S: ProgramSystem> SystemPrograms<S> {
 }
 
 impl<S: ProgramSystem> Programs for SystemPrograms<S> {
-    ghost has_run = { λ programs root trigger run. S.has_ended (system_behind programs) (launch_for root trigger run) };
+    ghost has_run = { λ programs root trigger run end. S.has_ended (system_behind programs) (launch_for root trigger run) end };
 
     ghost has_failed = { λ programs root trigger run. S.has_failed (system_behind programs) (launch_for root trigger run) };
 
@@ -69,7 +71,7 @@ impl<S: ProgramSystem> Programs for SystemPrograms<S> {
         trigger: &Trigger,
         run: &Run,
         permit: P,
-    ) -> Result<(), Refusal> {
+    ) -> Result<ProgramEnd, Refusal> {
         let launcher = SystemLauncher::permitted(&self.system, permit);
         let mut starter = ProgramStarter::new(launcher);
         let met = starter.run(alloc, root, trigger, run);

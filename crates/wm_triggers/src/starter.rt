@@ -1,12 +1,14 @@
 //! What starts the programs of runs.
 //! Definitions: specs/Starting.antt. Tests: registry_tests/src/trigger_runs/starters.rt.
-ghost use Rattle.std.specs.Prelude.{◌⊎◌, ℕ, IsErrOf, OnOk};
+ghost use Rattle.std.specs.Prelude.{◌⊎◌, ℕ, IfOk, IsErrOf};
 ghost use Rattle.wm_disk.specs.declared.refusal.Refusal.TheVariants.{DeviceFailed, NoMemory};
 ghost use Rattle.wm_names.specs.Paths.{Path};
 ghost use Rattle.wm_registry.specs.Triggers.{Definition};
 ghost use Rattle.wm_since.specs.declared.query.Answer.{Answer};
+ghost use Rattle.wm_triggers.specs.declared.program_end.ProgramEnd.{ProgramEnd};
 ghost use Rattle.wm_triggers.specs.Starting.{CountsStart};
 
+use crate::program_end::ProgramEnd;
 use crate::run::Run;
 use std::alloc::Global;
 use wm_disk::Refusal;
@@ -18,8 +20,8 @@ pub trait Starter {
     /// How often a start has failed.
     ghost failures: { Self → ℕ };
 
-    /// A run of this trigger of the root led from one state of the starter to the other.
-    ghost has_run: { Self → Path → Definition → Answer → Self → Type 0 };
+    /// A run of this trigger of the root, whose program ended so, led from one state of the starter to the other.
+    ghost has_run: { Self → Path → Definition → Answer → ProgramEnd → Self → Type 0 };
 
     /// No start was tried from one state of the starter to the other.
     ghost stays: { Self → Self → Type 0 };
@@ -36,8 +38,8 @@ pub trait Starter {
         root: &RootPath,
         trigger: &Trigger,
         run: &Run,
-    ) -> Result<(), Refusal>
-        ensures ran { OnOk result (has_run self.old root.now trigger.now run.now self.new) }
+    ) -> Result<ProgramEnd, Refusal>
+        ensures ran { IfOk result (λ end. has_run self.old root.now trigger.now run.now end self.new) }
         ensures failed { IsErrOf result DeviceFailed → has_failed self.old root.now trigger.now run.now self.new }
         ensures short { IsErrOf result NoMemory → stays self.old self.new ⊎ has_failed self.old root.now trigger.now run.now self.new }
         ensures count { CountsStart (failures self.old) (failures self.new) result };

@@ -7,7 +7,9 @@ use std::{env, fs};
 use wm_disk::Refusal;
 use wm_names::RootPath;
 use wm_registry::{Stdin, Trigger};
-use wm_triggers::{ProgramStarter, Run, Starter, SystemLauncher};
+use wm_triggers::{ProgramEnd, ProgramStarter, Run, Starter, SystemLauncher};
+
+const WELL: Result<ProgramEnd, Refusal> = Ok(ProgramEnd::Exited(0));
 
 /// A program's words, whether the files are appended, and what it reads.
 #[derive(Drop)]
@@ -17,20 +19,23 @@ struct Program<'a> {
     stdin: Stdin,
 }
 
-/// Starts the trigger's program for the run: how often the start failed, and its refusal.
+/// How often a start failed, and how the program ended.
+type Ran = (u64, Result<ProgramEnd, Refusal>);
+
+/// Starts the trigger's program for the run.
 fn started<R: Processes>(
     alloc: Global,
     processes: &R,
     root: &RootPath,
     trigger: &Trigger,
     run: &Run,
-) -> (u64, Option<Refusal>) {
+) -> Ran {
     let mut starter = ProgramStarter::new(SystemLauncher::new(processes));
-    let refused = starter.run(alloc, root, trigger, run).err();
-    (starter.failures(), refused)
+    let ended = starter.run(alloc, root, trigger, run);
+    (starter.failures(), ended)
 }
 
-/// Runs the program in a folder for these files: how often the start failed, and its refusal.
+/// Runs the program in a folder for these files.
 fn ran<R: Processes>(
     host: &impl Abort,
     alloc: Global,
@@ -38,7 +43,7 @@ fn ran<R: Processes>(
     folder: &str,
     program: &Program<'_>,
     files: &[&str],
-) -> (u64, Option<Refusal>) {
+) -> Ran {
     let trigger = trigger(
         host,
         alloc,
@@ -64,12 +69,7 @@ fn here(rt: &HostRuntime, host: &impl Abort) -> String {
 }
 
 /// Runs the program in the folder of the tests.
-fn ran_here(
-    rt: &HostRuntime,
-    host: &impl Abort,
-    program: &Program<'_>,
-    files: &[&str],
-) -> (u64, Option<Refusal>) {
+fn ran_here(rt: &HostRuntime, host: &impl Abort, program: &Program<'_>, files: &[&str]) -> Ran {
     let folder = here(rt, host);
     let ran = ran(host, rt.alloc(), rt, &folder, program, files);
     drop(folder);
@@ -93,10 +93,10 @@ fn leaves(
     wanted: &str,
 ) -> bool {
     let _ = fs::remove_file(rt, path);
-    let (failures, refused) = ran_here(rt, host, program, &["d/b.c", "a.c"]);
+    let (failures, ended) = ran_here(rt, host, program, &["d/b.c", "a.c"]);
     let written = has_text(rt, host, path, wanted);
     fs::remove_file(rt, path).expect(host, "a file");
-    failures == 0 && refused.is_none() && written
+    failures == 0 && ended == WELL && written
 }
 
 /// A script with two words behind it, whether files are appended, its input, its file, the text there.
@@ -175,7 +175,7 @@ fn programs_get_their_words_and_input(rt: HostRuntime) {
 }
 
 /// Starts `cat` for `x.c` and `y.c`, which is to read one name at most.
-fn ran_for_one_name(rt: &HostRuntime, host: &impl Abort) -> (u64, Option<Refusal>) {
+fn ran_for_one_name(rt: &HostRuntime, host: &impl Abort) -> Ran {
     let alloc = rt.alloc();
     let trigger = trigger_of_most(
         host,
@@ -197,8 +197,8 @@ fn ran_for_one_name(rt: &HostRuntime, host: &impl Abort) -> (u64, Option<Refusal
 
 #[test]
 fn a_program_reads_the_first_name_alone(rt: HostRuntime) {
-    let (failures, refused) = ran_for_one_name(&rt, &rt);
-    check!(rt; failures == 0 && refused.is_none());
+    let (failures, ended) = ran_for_one_name(&rt, &rt);
+    check!(rt; failures == 0 && ended == WELL);
     check!(rt; has_text(&rt, &rt, "trigger_first", "x.c\n"));
     fs::remove_file(&rt, "trigger_first").expect(&rt, "a file");
 }
@@ -245,10 +245,10 @@ fn runs_in(rt: &HostRuntime, host: &impl Abort, folder: &str) -> bool {
         append_files: false,
         stdin: Stdin::DevNull,
     };
-    let (failures, refused) = ran(host, rt.alloc(), rt, folder, &program, &["a.c"]);
+    let (failures, ended) = ran(host, rt.alloc(), rt, folder, &program, &["a.c"]);
     let told = has_line(rt, host, "trigger_root/here", folder);
     fs::remove_file(rt, "trigger_root/here").expect(host, "a file");
-    failures == 0 && refused.is_none() && told
+    failures == 0 && ended == WELL && told
 }
 
 #[test]
@@ -283,7 +283,7 @@ fn is_refused(rt: &HostRuntime, host: &impl Abort, bad: &Bad, stdin: Stdin) -> b
         stdin,
     };
     let ended = ran(host, rt.alloc(), rt, bad.1, &program, &["a.c"]);
-    ended.0 == 1 && ended.1 == Some(Refusal::DeviceFailed)
+    ended == (1, Err(Refusal::DeviceFailed))
 }
 
 #[test]
@@ -294,14 +294,15 @@ fn starts_that_fail_are_counted(rt: HostRuntime) {
     }
 }
 
-/// How a program ends that was started: by itself, with a fault, by a signal, and without having
-/// read.
-const ENDS: &[&[&str]] = &[
-    &["true"],
-    &["false"],
-    &["sh", "-c", "exit 7"],
-    &["sh", "-c", "kill -9 $$"],
-    &["sh", "-c", "exec 0<&-; exit 0"],
+/// A program's words, and how it ends: by itself, with a fault, by a signal, and without having read.
+const ENDS: &[(&[&str], ProgramEnd)] = &[
+    (&["true"], ProgramEnd::Exited(0)),
+    (&["false"], ProgramEnd::Exited(1)),
+    (&["sh", "-c", "exit 7"], ProgramEnd::Exited(7)),
+    (&["sh", "-c", "exit 255"], ProgramEnd::Exited(255)),
+    (&["sh", "-c", "kill -9 $$"], ProgramEnd::Killed(9)),
+    (&["sh", "-c", "kill -TERM $$"], ProgramEnd::Killed(15)),
+    (&["sh", "-c", "exec 0<&-; exit 0"], ProgramEnd::Exited(0)),
 ];
 
 /// So many paths of six digits.
@@ -315,12 +316,7 @@ fn numbered(rt: &impl Abort, alloc: Global, count: u32) -> Vec<String> {
 }
 
 /// How the program ends in the folder of the tests, for many files.
-fn ran_for(
-    rt: &HostRuntime,
-    host: &impl Abort,
-    program: &Program<'_>,
-    paths: &[String],
-) -> (u64, Option<Refusal>) {
+fn ran_for(rt: &HostRuntime, host: &impl Abort, program: &Program<'_>, paths: &[String]) -> Ran {
     let paths: Vec<&str> = paths
         .iter()
         .map(|path| path.as_str())
@@ -334,14 +330,14 @@ fn ran_for(
 #[test]
 fn a_program_may_end_as_it_likes(rt: HostRuntime) {
     let paths = numbered(&rt, rt.alloc(), 65536);
-    for (i, words) in ENDS.iter().enumerate() {
+    for (i, (words, wanted)) in ENDS.iter().enumerate() {
         let program = Program {
             words: *words,
             append_files: false,
             stdin: Stdin::NamePerLine,
         };
-        let (failures, refused) = ran_for(&rt, &rt, &program, &paths);
-        check!(rt; failures == 0 && refused.is_none(), i);
+        let (failures, ended) = ran_for(&rt, &rt, &program, &paths);
+        check!(rt; failures == 0 && ended == Ok(*wanted), i);
     }
     drop(paths);
 }
@@ -365,9 +361,9 @@ fn reads_more_than_a_pipe_holds(rt: HostRuntime) {
         stdin: Stdin::NamePerLine,
     };
     let paths = numbered(&rt, rt.alloc(), 65536);
-    let (failures, refused) = ran_for(&rt, &rt, &program, &paths);
+    let (failures, ended) = ran_for(&rt, &rt, &program, &paths);
     drop(paths);
-    check!(rt; failures == 0 && refused.is_none());
+    check!(rt; failures == 0 && ended == WELL);
     check!(rt; has_numbers(&rt, &rt, "trigger_many"));
     fs::remove_file(&rt, "trigger_many").expect(&rt, "a file");
 }
@@ -393,8 +389,8 @@ fn words_beyond_the_limit_of_the_system_are_refused(rt: HostRuntime) {
     // to
     let long = format!(in alloc; "{:01000}", 0).expect(&rt, "memory");
     let paths = repeated(&rt, alloc, &long, 8192);
-    let (failures, refused) = ran_here(&rt, &rt, &program, &paths);
+    let (failures, ended) = ran_here(&rt, &rt, &program, &paths);
     drop(paths);
     drop(long);
-    check!(rt; failures == 1 && refused == Some(Refusal::DeviceFailed));
+    check!(rt; failures == 1 && ended == Err(Refusal::DeviceFailed));
 }

@@ -6,7 +6,7 @@ use std::io;
 use std::io::ErrorKind;
 use std::process::{Abort, Command};
 use wm_disk::Refusal;
-use wm_triggers::{Launcher, MemStarter, ProgramStarter, StartedRun, Starter};
+use wm_triggers::{Launcher, MemStarter, ProgramEnd, ProgramStarter, StartedRun, Starter};
 
 /// Has the starter run a trigger of this root for this file.
 fn run<S: Starter>(
@@ -78,11 +78,11 @@ struct Full {
 }
 
 impl Launcher for Full {
-    ghost has_ended = { λ old launch new. Unit {0} };
+    ghost has_ended = { λ old launch end new. Unit {0} };
 
     ghost has_failed = { λ old launch new. Unit {0} };
 
-    fn launch(&mut self, command: Command, input: Option<Vec<u8>>) -> io::Result<()> {
+    fn launch(&mut self, command: Command, input: Option<Vec<u8>>) -> io::Result<ProgramEnd> {
         drop(command);
         drop(input);
         if self.is_system {

@@ -6,7 +6,7 @@ use Rattle.wm_triggers.proofs.program_starter.ProgramStarterStarter.run.Goals as
 pub returns-in-Ok-clause-ran : goal.returns-in-Ok-clause-ran
 returns-in-Ok-clause-ran g c =
     let made = c.in_ok-command.ensures in
-    subst (λ l. g.L.Launcher.has_ended (launcher_of c.args.self.now) l c.launch.new.self)
+    subst (λ l. g.L.Launcher.has_ended (launcher_of c.args.self.now) l c.in-Ok.end c.launch.new.self)
     (same_launch c.in_ok-command.command _ c.args.root.now c.args.trigger.now c.args.run.now made.program made.words made.folder made.environment c.in_ok-input.ensures)
     c.in-Ok.ensures.ended
 
