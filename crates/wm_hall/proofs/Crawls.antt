@@ -6,7 +6,7 @@ use Rattle.std.specs.Prelude.{IfSome, MatchBool}
 use Rattle.std.specs.List.{find, list_any, position_from, remove}
 use Rattle.wm_disk.specs.declared.refusal.Refusal.{Refusal}
 use Rattle.wm_lines.specs.declared.progress.Progress.{Progress}
-use Rattle.wm_hall.specs.AskedCrawls.{AskedState, TicketsRise, collected, end_stage, ended_crawl, more_waiters, running, with_first}
+use Rattle.wm_hall.specs.AskedCrawls.{AskedState, TicketsRise, collected, end_stage, ended_crawl, one_more_waits, running, with_first}
 use Rattle.wm_hall.specs.declared.asked_crawl.Stage.TheVariants.{Running}
 use Rattle.wm_hall.specs.declared.asked_crawl.AskedCrawl.{AskedCrawl}
 
@@ -98,6 +98,14 @@ unfound test (x ∷ crawls) h =
     let first : test x ≡ false = both.0 in
     rw first (unfound test crawls both.1)
 
+pub none_found : (test : AskedCrawl → Bool) (crawls : List AskedCrawl) → find test crawls ≡ None → list_any test crawls ≡ false
+none_found test [] e = refl
+none_found test (x ∷ crawls) e = by (test x) e (none_found test crawls)
+  where
+    by : (b : Bool) → cond b (Some x) (find test crawls) ≡ None → (find test crawls ≡ None → list_any test crawls ≡ false) → (b || list_any test crawls) ≡ false
+    by true f rest = absurd cc
+    by false f rest = rest f
+
 pub same-none : (test : AskedCrawl → Bool) (change : AskedCrawl → List AskedCrawl) (crawls : List AskedCrawl) → position test crawls ≡ None → with_first test change crawls ≡ crawls
 same-none test change crawls e = unchanged test change crawls (any_none test crawls e)
 
@@ -131,8 +139,8 @@ rise-more before (x ∷ crawls) last c h lt = (h.0, rise-more x.ticket crawls la
 
 -- ---- each change keeps the ticket
 
-pub more-keeps : (waiters : ℕ) → KeepsTickets (more_waiters waiters)
-more-keeps waiters c = inr (record c { waiters = min (c.waiters + waiters) (2 ^ 64 - 1) }, refl, refl)
+pub more-keeps : KeepsTickets one_more_waits
+more-keeps c = inr (record c { waiters = min (c.waiters + 1) (2 ^ 64 - 1) }, refl, refl)
 
 pub running-keeps : KeepsTickets running
 running-keeps c = inr (record c { stage = Running }, refl, refl)

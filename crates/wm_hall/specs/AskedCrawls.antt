@@ -16,6 +16,11 @@ pub record AskedState : Type 0 where
   pub changes : ℕ  -- how often the view or the triggers may have changed
   pub has_ended : Bool  -- the root isn't watched any longer, or the server closes
 
+-- the crawl of a ticket has ended so
+pub record CrawlEnd : Type 0 where
+  pub ticket : ℕ
+  pub ended : Result Progress Refusal
+
 -- each ticket is above the ones before it, and none is above the last
 abbrev pub TicketsRise : ℕ → List AskedCrawl → ℕ → Type 0
 TicketsRise before [] last = before ≤ last
@@ -62,9 +67,9 @@ serves part crawl = is_waiting crawl && is_same_part crawl.subtree part
 abbrev pub new_crawl : ℕ → Subtree → ℕ → AskedCrawl
 new_crawl ticket part waiters = record { ticket = ticket; subtree = part; stage = Waiting; waiters = waiters }
 
--- so many more wait for it
-abbrev pub more_waiters : ℕ → AskedCrawl → List AskedCrawl
-more_waiters waiters crawl = record crawl { waiters = min (crawl.waiters + waiters) (2 ^ 64 - 1) } ∷ []
+-- one more waits for it
+abbrev pub one_more_waits : AskedCrawl → List AskedCrawl
+one_more_waits crawl = record crawl { waiters = min (crawl.waiters + 1) (2 ^ 64 - 1) } ∷ []
 
 abbrev pub running : AskedCrawl → List AskedCrawl
 running crawl = record crawl { stage = Running } ∷ []

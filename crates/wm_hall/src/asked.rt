@@ -3,7 +3,7 @@
 ghost use Rattle.std.specs.Prelude.{◌≡◌, ◌⊎◌, ◌+◌, ◌++◌, ◌∷◌, ◌^◌, ◌-◌, ◌%◌, ◌<◌, ◌==◌, [], true, false, cond, not, None, length, position, IfOk, IfErr, IfSome, MatchBool, MatchOption, MatchResult};
 ghost use Rattle.std.specs.List.{find, list_any, remove};
 ghost use Rattle.wm_names.specs.declared.subtree.Subtree.TheVariants.{Whole};
-ghost use Rattle.wm_hall.specs.AskedCrawls.{collected, ended_crawl, has_ticket, is_pending, is_waiting, more_waiters, new_crawl, running, serves, crawl_told, with_first};
+ghost use Rattle.wm_hall.specs.AskedCrawls.{collected, ended_crawl, has_ticket, is_pending, is_waiting, new_crawl, one_more_waits, running, serves, crawl_told, with_first};
 
 use crate::asked_crawl::AskedCrawl;
 use std::alloc::Global;
@@ -47,10 +47,18 @@ pub struct ChangeCount {
     count: u64,
 }
 
-/// There is nothing to do for a worker: the root isn't watched any longer, or the server closes. The root alone says so.
+/// There is nothing to do for a worker. The root alone says so. Contracts see whether it isn't watched any longer, or the server closes.
 #[derive(Drop)]
 pub struct NoWork {
     has_ended: bool,
+}
+
+impl Model for NoWork {
+    ghost use Rattle.std.specs.Prelude.{Bool};
+
+    ghost Value = { Bool };
+
+    ghost view = { λ n. n.has_ended };
 }
 
 /// A crawl that has begun, as it was asked for: the root alone makes it.
@@ -76,18 +84,19 @@ impl BegunCrawl {
     }
 }
 
-/// A crawl of a ticket has ended: the root alone makes it.
+/// A crawl of a ticket has ended so: the root alone makes it, when it has noted that.
 #[derive(Drop)]
 pub struct CrawlEnded {
     ticket: u64,
+    ended: Result<Progress, Refusal>,
 }
 
 impl Model for CrawlEnded {
-    ghost use Rattle.std.specs.Prelude.{ℕ};
+    ghost use Rattle.wm_hall.specs.AskedCrawls.{CrawlEnd};
 
-    ghost Value = { ℕ };
+    ghost Value = { CrawlEnd };
 
-    ghost view = { λ e. e.ticket };
+    ghost view = { λ e. record { ticket = e.ticket; ended = e.ended } };
 }
 
 /// What a crawl came to, for one who waited for it: the root alone says so.
@@ -163,7 +172,7 @@ impl Asked {
 
     /// How often the view or the triggers may have changed, counted modulo 2^64; unless the root has ended.
     pub(crate) fn next_change(&self) -> Result<ChangeCount, NoWork>
-        ensures { MatchResult result (λ count. (self.now.has_ended ≡ false) × (count.count ≡ self.now.changes)) (λ none. (self.now.has_ended ≡ true) × (none.has_ended ≡ true)) }
+        ensures { MatchResult result (λ count. (self.now.has_ended ≡ false) × (count.count ≡ self.now.changes)) (λ none. (self.now.has_ended ≡ true) × (none ≡ true)) }
     {
         if self.has_ended {
             return Err(NoWork { has_ended: true });
@@ -193,7 +202,7 @@ impl Asked {
 
     /// The root isn't watched any longer, or the server closes.
     pub(crate) fn end_root(&mut self) -> NoWork
-        ensures told { result.has_ended ≡ true }
+        ensures told { result ≡ true }
         ensures ended { self.new ≡ record self.old { has_ended = true } }
     {
         self.has_ended = true;
@@ -214,29 +223,29 @@ impl Asked {
         self.crawls.iter().any(|crawl| crawl.stage.is_at_rest())
     }
 
-    /// Asks for a crawl of a part, and tells its ticket: so many wait for its end. One that hasn't begun yet serves all who ask for
+    /// Asks for a crawl of a part, and tells its ticket: one more waits for its end. One that hasn't begun yet serves all who ask for
     /// the same part, and else there is a new one. `NoMemory`, and `Exhausted` after 2^64 - 1 tickets; nothing changes then.
-    pub(crate) fn ask(&mut self, subtree: &Subtree, waiters: u64) -> Result<u64, Refusal>
-        ensures joined { IfSome (find (serves subtree.now) self.old.crawls) (λ crawl. (result ≡ Ok crawl.ticket) × (self.new ≡ record self.old { crawls = with_first (serves subtree.now) (more_waiters waiters) self.old.crawls })) }
-        ensures added { find (serves subtree.now) self.old.crawls ≡ None → IfOk result (λ ticket. (ticket ≡ self.old.last_ticket + 1) × (self.new ≡ record self.old { crawls = self.old.crawls ++ new_crawl ticket subtree.now waiters ∷ []; last_ticket = ticket })) }
+    pub(crate) fn ask(&mut self, subtree: &Subtree) -> Result<u64, Refusal>
+        ensures joined { IfSome (find (serves subtree.now) self.old.crawls) (λ crawl. (result ≡ Ok crawl.ticket) × (self.new ≡ record self.old { crawls = with_first (serves subtree.now) one_more_waits self.old.crawls })) }
+        ensures added { find (serves subtree.now) self.old.crawls ≡ None → IfOk result (λ ticket. (ticket ≡ self.old.last_ticket + 1) × (self.new ≡ record self.old { crawls = self.old.crawls ++ new_crawl ticket subtree.now 1 ∷ []; last_ticket = ticket })) }
         ensures refused { IfErr result (λ e. (self.new ≡ self.old) × ((e ≡ Refusal.NoMemory) ⊎ ((e ≡ Refusal.Exhausted) × (self.old.last_ticket ≡ 2 ^ 64 - 1)))) }
     {
         match place_to_join(&self.crawls, subtree) {
-            Some(place) => Ok(self.crawls[place].join(waiters)),
-            None => self.add(subtree, waiters),
+            Some(place) => Ok(self.crawls[place].join()),
+            None => self.add(subtree),
         }
     }
 
-    /// A new crawl of a part, for which so many wait, and its ticket. It is refused as `ask` is.
-    fn add(&mut self, subtree: &Subtree, waiters: u64) -> Result<u64, Refusal>
-        ensures added { IfOk result (λ ticket. (ticket ≡ self.old.last_ticket + 1) × (self.new ≡ record self.old { crawls = self.old.crawls ++ new_crawl ticket subtree.now waiters ∷ []; last_ticket = ticket })) }
+    /// A new crawl of a part, for which one waits, and its ticket. It is refused as `ask` is.
+    fn add(&mut self, subtree: &Subtree) -> Result<u64, Refusal>
+        ensures added { IfOk result (λ ticket. (ticket ≡ self.old.last_ticket + 1) × (self.new ≡ record self.old { crawls = self.old.crawls ++ new_crawl ticket subtree.now 1 ∷ []; last_ticket = ticket })) }
         ensures refused { IfErr result (λ e. (self.new ≡ self.old) × ((e ≡ Refusal.NoMemory) ⊎ ((e ≡ Refusal.Exhausted) × (self.old.last_ticket ≡ 2 ^ 64 - 1)))) }
     {
         let Some(ticket) = self.last_ticket.checked_add(1) else {
             return Err(Refusal::Exhausted);
         };
         let subtree = subtree.copy()?;
-        self.crawls.push(AskedCrawl::new(ticket, subtree, waiters))?;
+        self.crawls.push(AskedCrawl::new(ticket, subtree, 1))?;
         self.last_ticket = ticket;
         Ok(ticket)
     }
@@ -257,7 +266,7 @@ impl Asked {
     pub(crate) fn next_crawl(&mut self) -> Result<BegunCrawl, NoWork>
         ensures begun { IfOk result (λ begun. (self.old.has_ended ≡ false) × IfSome (find is_waiting self.old.crawls) (λ crawl. (begun.ticket ≡ crawl.ticket) × IfOk begun.subtree (λ part. part ≡ crawl.subtree))) }
         ensures runs { self.new ≡ record self.old { crawls = cond self.old.has_ended self.old.crawls (with_first is_waiting running self.old.crawls) } }
-        ensures none { IfErr result (λ none. (none.has_ended ≡ self.old.has_ended) × ((self.old.has_ended ≡ true) ⊎ (find is_waiting self.old.crawls ≡ None))) }
+        ensures none { IfErr result (λ none. (none ≡ self.old.has_ended) × ((self.old.has_ended ≡ true) ⊎ (list_any is_waiting self.old.crawls ≡ false))) }
     {
         if self.has_ended {
             return Err(NoWork { has_ended: true });
@@ -303,15 +312,16 @@ impl Asked {
 
     /// As `end`, for the crawler.
     pub(crate) fn crawled(&mut self, ticket: u64, ended: Result<Progress, Refusal>) -> CrawlEnded
-        ensures told { result ≡ ticket }
+        ensures told { result ≡ record { ticket = ticket; ended = ended } }
         ensures ended { self.new ≡ record self.old { crawls = with_first (has_ticket ticket) (ended_crawl ended) self.old.crawls } }
     {
         self.end(ticket, ended);
-        CrawlEnded { ticket }
+        CrawlEnded { ticket, ended }
     }
 
-    /// As `collect`, for who waited.
+    /// As `collect`, for who waited until the crawl ended, or the root.
     pub(crate) fn collected(&mut self, ticket: u64) -> Crawled
+        requires { (list_any (is_pending ticket) self.old.crawls ≡ false) ⊎ (self.old.has_ended ≡ true) }
         ensures told { result ≡ crawl_told (find (has_ticket ticket) self.old.crawls) }
         ensures left { self.new ≡ record self.old { crawls = with_first (has_ticket ticket) collected self.old.crawls } }
     {

@@ -1,6 +1,6 @@
 //! A crawl of a root that was asked for. Definitions: specs/AskedCrawls.antt. Tests: serve_tests/src/crawls.rt.
 ghost use Rattle.std.specs.Prelude.{◌≡◌, ◌∷◌, [], IfOk, MatchBool};
-ghost use Rattle.wm_hall.specs.AskedCrawls.{collected, ended_crawl, end_stage, is_at_rest, is_open, is_pending, is_same_part, more_waiters, new_crawl, running, serves, stage_told};
+ghost use Rattle.wm_hall.specs.AskedCrawls.{collected, ended_crawl, end_stage, is_at_rest, is_open, is_pending, is_same_part, new_crawl, one_more_waits, running, serves, stage_told};
 
 use wm_disk::{NoMemory, Refusal};
 use wm_lines::Progress;
@@ -103,12 +103,12 @@ impl AskedCrawl {
         self.ticket == ticket && self.stage.is_open()
     }
 
-    /// So many more wait for it. Its ticket.
-    pub(crate) fn join(&mut self, waiters: u64) -> u64
+    /// One more waits for it. Its ticket.
+    pub(crate) fn join(&mut self) -> u64
         ensures told { result ≡ self.old.ticket }
-        ensures joined { more_waiters waiters self.old ≡ self.new ∷ [] }
+        ensures joined { one_more_waits self.old ≡ self.new ∷ [] }
     {
-        self.waiters = self.waiters.saturating_add(waiters);
+        self.waiters = self.waiters.saturating_add(1);
         self.ticket
     }
 

@@ -14,11 +14,13 @@ ghost use Rattle.wm_hall.specs.Starts.{names_cursor};
 use crate::asked::NoWork;
 use crate::asking::{CursorClock, Question, clock, cursor_clock, inquire_of, tell_by};
 use crate::change::{Change, Seconds};
-use crate::locked_root::{LastPublished, Learnt, LockedRoot};
-use crate::reading::{Begun, Reading};
+use crate::locked_root::{Changed, HandedIn, LastPublished, Learnt, LockedRoot};
+use crate::reading::{Begun, GivenUp, Reading};
 use crate::retention::Retention;
 use crate::starts::start_of;
-use crate::triggers::{Defined, LockedTriggers, StandingTriggers, StartPermit};
+use crate::triggers::{
+    Defined, LockedTriggers, StandingTriggers, StartPermit, StartsOver, TriggersEnded,
+};
 use crate::viewer_pool::{PoolEmpty, ViewerPool};
 use crate::work::Work;
 use std::alloc::Global;
@@ -31,6 +33,13 @@ use wm_registry::Trigger;
 use wm_share::{Naming, Pool, RootKeeper, Shown, Viewer};
 use wm_since::{Cursors, Query};
 use wm_triggers::DefinedTrigger;
+
+/// A root has ended: its workers have nothing more to do, and none of its triggers begins any more.
+#[derive(Drop)]
+pub struct HallEnded {
+    pub work: NoWork,
+    pub triggers: TriggersEnded,
+}
 
 /// One watched root.
 #[derive(Drop)]
@@ -99,20 +108,25 @@ impl<J: Naming, K: Wait + Drop> RootHall<J, K> {
     }
 
     /// The root isn't watched any longer, or the server closes: no trigger is started from now on, and its workers end.
-    pub fn end<R: Wait>(&self, rt: &R) -> NoWork {
-        self.triggers.lock(rt).end_root();
-        self.work.end(rt)
+    pub fn end<R: Wait>(&self, rt: &R) -> HallEnded
+        ensures { (result.work ≡ true) × (result.triggers ≡ true) }
+    {
+        let triggers = self.triggers.lock(rt).end_root();
+        let work = self.work.end(rt);
+        HallEnded { work, triggers }
     }
 
     /// Waits until no start is under way of a trigger that was deleted or replaced, or whose root has ended. No such trigger is
     /// started after that.
-    pub fn await_starts<R: Wait>(&self, rt: &R) {
-        let waited = self.started.wait_while(
+    pub fn await_starts<R: Wait>(&self, rt: &R) -> StartsOver
+        ensures { result ≡ true }
+    {
+        let triggers = self.started.wait_while(
             rt,
             self.triggers.lock(rt),
             |triggers| !triggers.may_reply(),
         );
-        drop(waited);
+        triggers.starts_over()
     }
 
     /// The triggers as they are defined now. `NoMemory`.
@@ -145,8 +159,8 @@ impl<J: Naming, K: Wait + Drop> RootHall<J, K> {
     }
 
     /// Gives up the reading that is under way.
-    pub fn give_up_reading<R: Wait>(&self, rt: &R) {
-        self.root.lock(rt).give_up_reading();
+    pub fn give_up_reading<R: Wait>(&self, rt: &R) -> GivenUp {
+        self.root.lock(rt).give_up_reading()
     }
 
     /// Hands in what a reading found, publishes it, and reports where the view stands then. Of each path that was observed since the
@@ -157,19 +171,19 @@ impl<J: Naming, K: Wait + Drop> RootHall<J, K> {
         alloc: Global,
         seconds: &S,
         found: Reading,
-    ) -> Result<Progress, Refusal>
+    ) -> HandedIn
         ensures { IfOk result (IsReadingReported (S.may_read seconds.now) found.begun_at) }
     {
         let mut root = self.root.lock(rt);
         let performed = root.take_in(alloc, seconds.second(), found);
-        let ended = self.last.lock(rt).keep(performed);
+        let handed_in = self.last.lock(rt).keep_reading(performed);
         drop(root);
         let _count = self.work.notify(rt);
-        ended
+        handed_in
     }
 
     /// Performs a change of a session at its moment, which is read once the root is held, publishes it, and reports where the view
-    /// stands then. The session's viewer has learnt of it before that. What the view refuses, `Exhausted`, and `NoMemory`, after which it
+    /// stands then; and that it was changed. The session's viewer has learnt of it before that. What the view refuses, `Exhausted`, and `NoMemory`, after which it
     /// may still be published before the next one.
     pub fn change<R: Wait, S: Seconds>(
         &self,
@@ -178,20 +192,21 @@ impl<J: Naming, K: Wait + Drop> RootHall<J, K> {
         seconds: &S,
         viewer: &mut Viewer<J>,
         change: Change,
-    ) -> Result<Progress, Refusal>
-        ensures { IsChangeSeen viewer.old (S.may_read seconds.now) change result viewer.new }
+    ) -> (Result<Progress, Refusal>, Changed)
+        ensures seen { IsChangeSeen viewer.old (S.may_read seconds.now) change result.0 viewer.new }
+        ensures changed { result.1 ≡ self.now.number }
     {
         let mut root = self.root.lock(rt);
         let performed = root.change(alloc, seconds.second(), change);
         let learnt = performed.teach(viewer);
-        let ended = self.last.lock(rt).keep(performed);
+        let (ended, changed) = self.last.lock(rt).keep_change(performed, self.number);
         drop(root);
         let _count = self.work.notify(rt);
         // each viewer of a root is of its share
         if learnt.is_complete() {
-            ended
+            (ended, changed)
         } else {
-            Err(Refusal::NoMemory)
+            (Err(Refusal::NoMemory), changed)
         }
     }
 

@@ -1,7 +1,7 @@
 //! A watched root as it lies under its lock, and what was published of it last.
 //! Definitions: specs/RootStates.antt, specs/Performed.antt, specs/ChangeSeen.antt. Tests: serve_tests/src/halls.rt,
 //! serve_tests/src/moments.rt, shared_tests/src/fronts.rt.
-ghost use Rattle.std.specs.Prelude.{◌≡◌, ◌⊎◌, None, Some, Err, IfOk, MatchResult, true, false};
+ghost use Rattle.std.specs.Prelude.{◌≡◌, ◌⊎◌, None, Some, Err, IfOk, MatchOption, MatchResult, true, false};
 ghost use Rattle.std.specs.Option.{option_or};
 ghost use Rattle.wm_view.specs.Listings.{Found};
 ghost use Rattle.wm_view.specs.declared.op.Op.TheVariants.{Recrawl};
@@ -43,12 +43,52 @@ pub(crate) struct LastPublished<J: Naming> {
     told: Option<Told<J>>,
 }
 
-/// How an operation ended: what was published last, if anything was, and where the view stands then. Only [`LastPublished::keep`] reports
+/// How an operation ended: what was published last, if anything was, and where the view stands then. Only [`LastPublished`] reports
 /// it.
 #[derive(Drop)]
 pub(crate) struct Performed<J: Naming> {
     last: Option<Told<J>>,
     ended: Result<Progress, Refusal>,
+}
+
+/// How a reading ended that was handed in: what was published last makes it, when it has kept what that published.
+#[derive(Drop)]
+pub struct HandedIn {
+    ended: Result<Progress, Refusal>,
+}
+
+impl Model for HandedIn {
+    ghost use Rattle.std.specs.Prelude.{Result};
+    ghost use Rattle.wm_disk.specs.declared.refusal.Refusal.{Refusal};
+    ghost use Rattle.wm_lines.specs.declared.progress.Progress.{Progress};
+
+    ghost Value = { Result Progress Refusal };
+
+    ghost view = { λ h. h.ended };
+}
+
+impl HandedIn {
+    /// How it ended.
+    pub fn ended(&self) -> Result<Progress, Refusal>
+        ensures { result ≡ self.now }
+    {
+        self.ended
+    }
+}
+
+/// A change of a root was performed or refused, and what it published has been kept: what was published last makes it. Contracts see
+/// the root's number.
+#[derive(Drop)]
+pub struct Changed {
+    number: u64,
+}
+
+impl Model for Changed {
+    ghost use Rattle.std.specs.Prelude.{ℕ};
+
+    ghost Value = { ℕ };
+
+    ghost view = { λ c. c.number };
 }
 
 /// A viewer has learnt what was published last of a root: only what was published makes it. Contracts see whether it is known to have seen
@@ -223,6 +263,7 @@ impl Learnt {
 fn teach<J: Naming>(last: &Option<Told<J>>, viewer: &mut Viewer<J>) -> Learnt
     ensures seen { Begins viewer.old.list viewer.new.list }
     ensures learnt { (told : PublishedList) → last.now ≡ Some told → (result ≡ true) ⊎ (told.share ≡ viewer.old.list.share) → Begins told viewer.new.list }
+    ensures complete { MatchOption last.now (result ≡ true) (λ told. told.share ≡ viewer.old.list.share → result ≡ true) }
     ensures one { (viewer.new.list ≡ viewer.old.list) ⊎ (last.now ≡ Some viewer.new.list) }
     ensures connection { viewer.new.is_disconnected ≡ viewer.old.is_disconnected }
 {
@@ -239,6 +280,7 @@ impl<J: Naming> Performed<J> {
     pub(crate) fn teach(&self, viewer: &mut Viewer<J>) -> Learnt
         ensures seen { Begins viewer.old.list viewer.new.list }
         ensures learnt { (told : PublishedList) → self.now.last ≡ Some told → (result ≡ true) ⊎ (told.share ≡ viewer.old.list.share) → Begins told viewer.new.list }
+        ensures complete { MatchOption self.now.last (result ≡ true) (λ told. told.share ≡ viewer.old.list.share → result ≡ true) }
         ensures one { (viewer.new.list ≡ viewer.old.list) ⊎ (self.now.last ≡ Some viewer.new.list) }
         ensures connection { viewer.new.is_disconnected ≡ viewer.old.is_disconnected }
     {
@@ -248,7 +290,7 @@ impl<J: Naming> Performed<J> {
 
 impl<J: Naming> LastPublished<J> {
     /// Keeps what an operation published last, if it published anything, and reports how it ended.
-    pub(crate) fn keep(&mut self, performed: Performed<J>) -> Result<Progress, Refusal>
+    fn keep(&mut self, performed: Performed<J>) -> Result<Progress, Refusal>
         ensures kept { self.new.told ≡ option_or performed.last self.old.told }
         ensures ended { result ≡ performed.ended }
     {
@@ -258,10 +300,34 @@ impl<J: Naming> LastPublished<J> {
         ended
     }
 
+    /// As `keep`, of a change of the root of a number.
+    pub(crate) fn keep_change(
+        &mut self,
+        performed: Performed<J>,
+        number: u64,
+    ) -> (Result<Progress, Refusal>, Changed)
+        ensures kept { self.new.told ≡ option_or performed.last self.old.told }
+        ensures ended { result.0 ≡ performed.ended }
+        ensures changed { result.1 ≡ number }
+    {
+        (self.keep(performed), Changed { number })
+    }
+
+    /// As `keep`, of a reading that was handed in.
+    pub(crate) fn keep_reading(&mut self, performed: Performed<J>) -> HandedIn
+        ensures kept { self.new.told ≡ option_or performed.last self.old.told }
+        ensures ended { result ≡ performed.ended }
+    {
+        HandedIn {
+            ended: self.keep(performed),
+        }
+    }
+
     /// A viewer learns what was published last.
     pub(crate) fn teach(&self, viewer: &mut Viewer<J>) -> Learnt
         ensures seen { Begins viewer.old.list viewer.new.list }
         ensures learnt { (told : PublishedList) → self.now.told ≡ Some told → (result ≡ true) ⊎ (told.share ≡ viewer.old.list.share) → Begins told viewer.new.list }
+        ensures complete { MatchOption self.now.told (result ≡ true) (λ told. told.share ≡ viewer.old.list.share → result ≡ true) }
         ensures one { (viewer.new.list ≡ viewer.old.list) ⊎ (self.now.told ≡ Some viewer.new.list) }
         ensures connection { viewer.new.is_disconnected ≡ viewer.old.is_disconnected }
     {

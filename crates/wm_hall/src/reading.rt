@@ -1,6 +1,6 @@
 //! A reading of the root by its crawler: what is observed meanwhile, and what is handed in at its end.
 //! Definitions: specs/Readings.antt; `IsOverlaid` of wm_reading. Tests: serve_tests/src/crawls.rt, serve_tests/src/readings.rt.
-ghost use Rattle.std.specs.Prelude.{◌≡◌, ◌≢◌, [], None, Some, IsSome, IfOk, IfErr, MatchResult, OnErr, true, false};
+ghost use Rattle.std.specs.Prelude.{◌≡◌, ◌≢◌, [], None, Some, IsSome, IfOk, IfErr, MatchOption, MatchResult, OnErr, true, false};
 ghost use Rattle.wm_view.specs.Listings.{Found};
 ghost use Rattle.wm_view.specs.declared.op.Op.TheVariants.{Recrawl};
 ghost use Rattle.wm_crawler.specs.Crawls.{FailsIn, IsCrawl, IsReadable};
@@ -44,6 +44,20 @@ impl Model for Begun {
     ghost view = { λ b. b.tick };
 }
 
+/// The reading of a root that was under way, if one was, is given up: the root alone makes it. Contracts see whether one was under way.
+#[derive(Drop)]
+pub struct GivenUp {
+    was_under_way: bool,
+}
+
+impl Model for GivenUp {
+    ghost use Rattle.std.specs.Prelude.{Bool};
+
+    ghost Value = { Bool };
+
+    ghost view = { λ g. g.was_under_way };
+}
+
 /// What a reading found, all of it since the reading began: it is made of a [`Begun`] by a crawl alone.
 #[derive(Drop)]
 pub struct Reading {
@@ -72,10 +86,13 @@ impl<J: Naming, T: Listed<J> + Drop, R: Wait + Drop> LockedRoot<RootKeeper<J, T,
     }
 
     /// Gives up the reading that is under way.
-    pub(crate) fn give_up_reading(&mut self)
-        ensures { self.new ≡ record self.old { reading = None } }
+    pub(crate) fn give_up_reading(&mut self) -> GivenUp
+        ensures told { MatchOption self.old.reading (result ≡ false) (λ _. result ≡ true) }
+        ensures given_up { self.new ≡ record self.old { reading = None } }
     {
+        let was_under_way = self.reading.is_some();
         self.reading = None;
+        GivenUp { was_under_way }
     }
 }
 

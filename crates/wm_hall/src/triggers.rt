@@ -1,6 +1,6 @@
 //! The triggers of a root, as they lie under their lock: what changes them, and what may be started.
 //! Definitions: specs/Tables.antt of wm_triggers. Tests: serve_tests/src/triggers.rt.
-ghost use Rattle.std.specs.Prelude.{◌≡◌, ◌≤◌, false, Some, None, cond, length, IfOk, MatchResult};
+ghost use Rattle.std.specs.Prelude.{◌≡◌, ◌≤◌, true, false, Some, None, cond, length, IfOk, MatchResult};
 ghost use Rattle.wm_registry.specs.Limits.{max_triggers};
 ghost use Rattle.wm_triggers.specs.Tables.{empty_table, may_begin, may_reply, table_begun, table_ended, table_idle, table_with, table_without};
 
@@ -61,6 +61,34 @@ impl Model for StartPermit {
     ghost view = { λ p. p.is_given };
 }
 
+/// No trigger of a root begins any more: the table alone makes it. Contracts see that.
+#[derive(Drop)]
+pub struct TriggersEnded {
+    have_ended: bool,
+}
+
+impl Model for TriggersEnded {
+    ghost use Rattle.std.specs.Prelude.{Bool};
+
+    ghost Value = { Bool };
+
+    ghost view = { λ t. t.have_ended };
+}
+
+/// Whether no start is under way of a trigger that may not be started any more: the table alone says so.
+#[derive(Drop)]
+pub struct StartsOver {
+    are_over: bool,
+}
+
+impl Model for StartsOver {
+    ghost use Rattle.std.specs.Prelude.{Bool};
+
+    ghost Value = { Bool };
+
+    ghost view = { λ s. s.are_over };
+}
+
 impl StandingTriggers {
     /// The definitions.
     pub fn definitions(&self) -> &DefinedTriggers
@@ -109,10 +137,12 @@ impl LockedTriggers {
     }
 
     /// The root isn't watched any longer: nothing begins from now on.
-    pub(crate) fn end_root(&mut self)
-        ensures { self.new.table ≡ table_ended self.old.table }
+    pub(crate) fn end_root(&mut self) -> TriggersEnded
+        ensures told { result ≡ true }
+        ensures ended { self.new.table ≡ table_ended self.old.table }
     {
         self.table.end_root();
+        TriggersEnded { have_ended: true }
     }
 
     /// Whether who deleted or replaced a trigger, or ended the root, may reply.
@@ -120,6 +150,15 @@ impl LockedTriggers {
         ensures { result ≡ may_reply self.now.table }
     {
         self.table.may_reply()
+    }
+
+    /// As `may_reply`, for who waited.
+    pub(crate) fn starts_over(&self) -> StartsOver
+        ensures { result ≡ may_reply self.now.table }
+    {
+        StartsOver {
+            are_over: self.may_reply(),
+        }
     }
 
     /// The triggers as they are defined now. `NoMemory`.

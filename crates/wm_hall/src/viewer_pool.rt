@@ -1,5 +1,6 @@
 //! The viewers of a root that no session has. Definitions: specs/Pools.antt of wm_share. Tests: serve_tests/src/halls.rt.
-ghost use Rattle.std.specs.Prelude.{◌≡◌, ◌+◌, Some, MatchResult};
+ghost use Rattle.std.specs.Prelude.{◌≡◌, ◌≢◌, ◌+◌, ◌<◌, ◌≤◌, Some, MatchResult};
+ghost use Rattle.wm_share.specs.Pools.{max_viewers};
 ghost use Rattle.wm_share.specs.PublishedLists.{Begins, PublishedList};
 
 use crate::locked_root::LastPublished;
@@ -63,7 +64,10 @@ impl<J: Naming> ViewerPool<J> {
 
     /// Takes a viewer back, as `Pool::give`.
     pub(crate) fn give(&mut self, viewer: Viewer<J>)
-        ensures { self.new.pool.share ≡ self.old.pool.share }
+        ensures share { self.new.pool.share ≡ self.old.pool.share }
+        ensures given { viewer.list.share ≡ self.old.pool.share → self.old.pool.viewers < max_viewers → self.new.pool.viewers ≡ self.old.pool.viewers + 1 }
+        ensures full { max_viewers ≤ self.old.pool.viewers → self.new.pool.viewers ≡ self.old.pool.viewers }
+        ensures other { viewer.list.share ≢ self.old.pool.share → self.new.pool.viewers ≡ self.old.pool.viewers }
     {
         self.pool.give(viewer);
     }

@@ -1,6 +1,6 @@
 //! What the workers of a root are asked: crawls, and to look whether a trigger is due.
 //! Tests: serve_tests/src/crawls.rt.
-ghost use Rattle.std.specs.Prelude.{◌≡◌, ◌⊎◌, IfErr};
+ghost use Rattle.std.specs.Prelude.{◌≡◌, ◌⊎◌, true, IfErr};
 
 use crate::asked::{Asked, BegunCrawl, ChangeCount, CrawlEnded, Crawled, NoWork};
 use std::alloc::Global;
@@ -36,7 +36,9 @@ impl Work {
     }
 
     /// The root isn't watched any longer, or the server closes.
-    pub fn end<R: Wait>(&self, rt: &R) -> NoWork {
+    pub fn end<R: Wait>(&self, rt: &R) -> NoWork
+        ensures { result ≡ true }
+    {
         let ended = self.asked.lock(rt).end_root();
         self.notified.notify_all();
         ended
@@ -49,7 +51,7 @@ impl Work {
         ensures refused { IfErr result (λ e. (e ≡ Refusal.NoMemory) ⊎ (e ≡ Refusal.Exhausted)) }
     {
         let mut asked = self.asked.lock(rt);
-        let ticket = asked.ask(&subtree, 1)?;
+        let ticket = asked.ask(&subtree)?;
         self.notified.notify_all();
         let mut asked = self.notified.wait_while(rt, asked, |asked| {
             asked.is_pending(ticket) && !asked.has_ended()
@@ -58,7 +60,9 @@ impl Work {
     }
 
     /// Waits until a crawl is asked for, which has begun then; there is none at the end.
-    pub fn next_crawl<R: Wait>(&self, rt: &R) -> Result<BegunCrawl, NoWork> {
+    pub fn next_crawl<R: Wait>(&self, rt: &R) -> Result<BegunCrawl, NoWork>
+        ensures { IfErr result (λ none. none ≡ true) }
+    {
         let mut asked = self.notified.wait_while(rt, self.asked.lock(rt), |asked| {
             !asked.has_waiting() && !asked.has_ended()
         });
@@ -72,7 +76,7 @@ impl Work {
         ticket: u64,
         ended: Result<Progress, Refusal>,
     ) -> CrawlEnded
-        ensures { result ≡ ticket }
+        ensures { result ≡ record { ticket = ticket; ended = ended } }
     {
         let mut asked = self.asked.lock(rt);
         let crawl = asked.crawled(ticket, ended);
@@ -86,7 +90,9 @@ impl Work {
         &self,
         rt: &R,
         seen: Option<ChangeCount>,
-    ) -> Result<ChangeCount, NoWork> {
+    ) -> Result<ChangeCount, NoWork>
+        ensures { IfErr result (λ none. none ≡ true) }
+    {
         let asked = self.notified.wait_while(rt, self.asked.lock(rt), |asked| {
             !asked.has_changed(seen) && !asked.has_ended()
         });
