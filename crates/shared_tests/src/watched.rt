@@ -4,11 +4,11 @@ ghost use Rattle.std.specs.Prelude.{◌≡◌, ◌⊎◌, IfErr};
 use std::alloc::Global;
 use std::sync::{Arc, Mutex, Wait};
 use wm_disk::Refusal;
-use wm_hall::{Retention, RootHall, Seconds};
+use wm_hall::{Changed, Retention, RootHall, Seconds};
 use wm_names::RootPath;
 use wm_registry::Command;
 use wm_share::{Naming, Opened, Shares};
-use wm_shared::Roots;
+use wm_shared::{FollowingRoots, Roots};
 
 /// Nothing is forgotten by itself.
 const RETENTION: Retention = Retention {
@@ -159,10 +159,6 @@ impl<J: Naming, K: Wait + Copy + Drop> Roots<J, K> for Watched<J, K> {
 
     ghost ended = { λ roots number. ⊤ };
 
-    ghost followed = { λ roots count. ⊤ };
-
-    ghost woken = { λ roots number. ⊤ };
-
     fn find<R: Wait>(
         &self,
         rt: &R,
@@ -171,6 +167,30 @@ impl<J: Naming, K: Wait + Copy + Drop> Roots<J, K> for Watched<J, K> {
     ) -> Result<Arc<RootHall<J, K>>, Refusal> {
         hall_at(&self.followed.lock(rt).halls, path)
     }
+
+    fn is_watched<R: Wait>(&self, rt: &R, number: u64) -> bool {
+        has_number(&self.followed.lock(rt).halls, number)
+    }
+
+    fn number_of<R: Wait>(&self, rt: &R, path: &RootPath) -> Option<u64> {
+        number_at(&self.followed.lock(rt).halls, path)
+    }
+}
+
+impl<J: Naming, K: Wait + Copy + Drop> FollowingRoots<J, K> for Watched<J, K> {
+    ghost use Rattle.std.specs.Prelude.{⊤};
+
+    type Followed = ();
+
+    type Count = ();
+
+    type Woken = ();
+
+    ghost shows_followed = { λ roots number command shown. ⊤ };
+
+    ghost shows_count = { λ roots count shown. ⊤ };
+
+    ghost shows_woken = { λ roots number shown. ⊤ };
 
     fn follow<R: Wait>(&self, rt: &R, alloc: Global, _number: u64, command: Command) {
         let mut followed = self.followed.lock(rt);
@@ -185,13 +205,5 @@ impl<J: Naming, K: Wait + Copy + Drop> Roots<J, K> for Watched<J, K> {
 
     fn await_followed<R: Wait>(&self, _rt: &R, _count: u64) {}
 
-    fn wake<R: Wait>(&self, _rt: &R, _hall: &RootHall<J, K>) {}
-
-    fn is_watched<R: Wait>(&self, rt: &R, number: u64) -> bool {
-        has_number(&self.followed.lock(rt).halls, number)
-    }
-
-    fn number_of<R: Wait>(&self, rt: &R, path: &RootPath) -> Option<u64> {
-        number_at(&self.followed.lock(rt).halls, path)
-    }
+    fn wake<R: Wait>(&self, _rt: &R, _hall: &RootHall<J, K>, _changed: Changed) {}
 }

@@ -1,6 +1,6 @@
 -- The viewer of a root at its place among the viewers of a session.
 use Rattle.std.proofs.Common.{◌≡◌, ◌∙◌, ◌⊎◌, inl, inr, ◌<◌, ◌+◌, ℕ, List, [], ◌∷◌, ◌++◌, length, get_or, take, drop, true, false, ap, sym, subst, refl, zero, suc, arith, rules, append_assoc}
-use Rattle.std.specs.Prelude.{Result, Ok}
+use Rattle.std.specs.Prelude.{Result}
 use Rattle.std.specs.List.{list_any}
 use Rattle.std.proofs.Common.{slice_set}
 use Rattle.std.proofs.lemmas.List.{drop_more, take-append-drop}
@@ -74,13 +74,12 @@ set_length : {X : Type 0} (before after : List X) (x y : X) → slice_set (befor
 set_length [] after x y = refl
 set_length (z ∷ before) after x y = ap (λ l. z ∷ l) (set_length before after x y)
 
--- the viewer at the place has seen more, and tells so
-pub told_at : {A : Type 0} (number place : ℕ) (old mid now : ViewerList) (x new : ViewerState) (result : Result A Refusal) (Tells : ViewerState → ViewerState → Type 0) → IsViewerPlaced number place old mid
-    → x ≡ get_or mid place x → now ≡ slice_set mid place new → Begins x.list new.list → Tells x new → IsToldBy number old result now Tells
-told_at number place old mid now x new result Tells p at set sees tells =
+-- the viewer at the place has seen more, and does so
+pub done_at : (number place : ℕ) (old mid now : ViewerList) (x new : ViewerState) (Does : ViewerState → ViewerState → Type 0) → IsViewerPlaced number place old mid
+    → x ≡ get_or mid place x → now ≡ slice_set mid place new → Begins x.list new.list → Does x new → (more : IsSeenMore number old now) × Does more.viewer more.new
+done_at number place old mid now x new Does p at set sees does =
     let here : p.viewer ≡ x =
-    sym (at_length p.before p.after p.viewer x) ∙ ap (λ (l : ViewerList). get_or l (length p.before) x) (sym p.now_is) ∙ ap (λ (n : ℕ). get_or mid n x) (sym p.place_is) ∙ sym at in
-    inr (
+    sym (at_length p.before p.after p.viewer x) ∙ ap (λ (l : ViewerList). get_or l (length p.before) x) (sym p.now_is) ∙ ap (λ (n : ℕ). get_or mid n x) (sym p.place_is) ∙ sym at in (
       record {
         before = p.before;
         after = p.after;
@@ -92,13 +91,14 @@ told_at number place old mid now x new result Tells p at set sees tells =
         own = subst (λ (v : ViewerState). v.list.share.root ≡ number) here p.own;
         sees = sees;
       },
-      tells,
+      does,
     )
+
+-- and tells so
+pub told_at : {A : Type 0} (number place : ℕ) (old mid now : ViewerList) (x new : ViewerState) (result : Result A Refusal) (Tells : ViewerState → ViewerState → Type 0) → IsViewerPlaced number place old mid
+    → x ≡ get_or mid place x → now ≡ slice_set mid place new → Begins x.list new.list → Tells x new → IsToldBy number old result now Tells
+told_at number place old mid now x new result Tells p at set sees tells = inr (done_at number place old mid now x new Tells p at set sees tells)
 
 -- and no more than that is known of it
 pub seen_at : (number place : ℕ) (old now : ViewerList) (x new : ViewerState) → IsViewerPlaced number place old old → x ≡ get_or old place x → now ≡ slice_set old place new → Begins x.list new.list → IsSeenMore number old now
-seen_at number place old now x new p at set sees =
-    elim (told_at {A = Unit {0}} number place old old now x new (Ok tt) (λ before after. Unit {0}) p at set sees tt) [
-      | inl none ↦ absurd cc
-      | inr told ↦ told.0
-    ]
+seen_at number place old now x new p at set sees = (done_at number place old old now x new (λ before after. Unit {0}) p at set sees tt).0

@@ -1,5 +1,5 @@
 -- From what a seat knows of a command to the state at which it was met.
-use Rattle.std.specs.Prelude.{◌≤◌, ◌+◌, Option, Some, None, Result, Ok, Err, IfOk, IfErr, MatchResult, if◌then◌else◌}
+use Rattle.std.specs.Prelude.{◌≤◌, ◌+◌, Option, Some, None, Result, Ok, Err, IfOk, IfErr, MatchResult, if◌then◌else◌, slice_get}
 use Rattle.std.proofs.Common.{◌≡◌, ◌∙◌, ◌⊎◌, inl, inr, ℕ, Bool, true, false, [], refl, sym, ap, subst, true≢false}
 use Rattle.wm_disk.specs.declared.refusal.Refusal.{Refusal}
 use Rattle.wm_disk.specs.declared.refusal.Refusal.TheVariants as refusals
@@ -46,21 +46,22 @@ refusal_or e Replaced = e
 refusal_or e Unchanged = e
 refusal_or e (Refused x) = x
 
-module _ (accepted followed : ℕ → Type 0) where
+module _ (accepted followed : ℕ → Type 0) (applied : ℕ → Command → Type 0) where
   -- a command was found to be met in a way at a state
   record IsFound (old : Seat) (c : Command) (reply : Reply) (new : Seat) : Type 0 where
     pub way : Way
     pub found : SessionState
-    pub by : IsCommandFoundBy accepted followed way (is_change (reply_to_command found c)) old found new
+    pub by : IsCommandFoundBy accepted followed applied way (is_change (reply_to_command found c)) old found new
     pub reply_is : reply ≡ reply_or way (reply_to_command found c)
 
   -- what the roots have followed of a reply with a receipt
-  standing_followed : (b : Bool) (at : ℕ) (c : Command) (reply : Reply) → IsStandingFollowed accepted followed (Some (if b then Stands (at + 1) c else Stays at)) reply → IsReplyFollowed accepted followed b at
-  standing_followed true at c reply goes = goes
-  standing_followed false at c reply goes = inl goes
+  standing_followed : (old new : Seat) (b : Bool) (at : ℕ) (c : Command) (reply : Reply) → (b ≡ true → slice_get (known_list new) at ≡ Some (call_from old c))
+      → IsStandingFollowed accepted followed applied (Some (if b then Stands (at + 1) c else Stays at)) reply → IsReplyFollowed accepted followed applied b at new
+  standing_followed old new true at c reply stands goes = (call_from old c, stands refl, goes)
+  standing_followed old new false at c reply stands goes = inl goes
 
   -- a reply with a receipt
-  answered : (old new : Seat) (c : Command) (reply : Reply) (standing : Option Standing) → is_begin c ≡ false → IsReceipted old c reply standing new → IsStandingFollowed accepted followed standing reply → IsFound old c reply new
+  answered : (old new : Seat) (c : Command) (reply : Reply) (standing : Option Standing) → is_begin c ≡ false → IsReceipted old c reply standing new → IsStandingFollowed accepted followed applied standing reply → IsFound old c reply new
   answered old new c reply standing plain h goes =
       let a = h.answered in
       let r = state_at a.base (known_list new) a.at in
@@ -74,8 +75,8 @@ module _ (accepted followed : ℕ → Type 0) where
             works = refl;
             seen = λ accepts. a.seen ∙ ap mark_of a.standing ∙ ap (λ (b : Bool). mark_of (if b then Stands (a.at + 1) c else Stays a.at)) (sym (ap is_change is) ∙ accepts);
           },
-          inl (subst (λ (b : Bool). IsReplyFollowed accepted followed b a.at) (sym (ap is_change is))
-              (standing_followed (is_change reply) a.at c reply (subst (λ o. IsStandingFollowed accepted followed o reply) (h.standing_is ∙ ap (λ (x : Standing). Some x) a.standing) goes))),
+          inl (subst (λ (b : Bool). IsReplyFollowed accepted followed applied b a.at new) (sym (ap is_change is))
+              (standing_followed old new (is_change reply) a.at c reply a.stands (subst (λ o. IsStandingFollowed accepted followed applied o reply) (h.standing_is ∙ ap (λ (x : Standing). Some x) a.standing) goes))),
         );
         reply_is = sym is;
       }
@@ -93,13 +94,13 @@ module _ (accepted followed : ℕ → Type 0) where
   by_failure old new c e plain turned (inr (inr (inr is))) = record { way = Memory; found = with_registry nothing false; by = (c, subst (λ x. IsTurned old new c x) is turned); reply_is = ap Refused is }
 
   -- what the roots have followed of a refusal
-  refusal_followed : (old new : Seat) (c : Command) (e : Refusal) (at : ℕ) → IsTurned old new c e → IsStandingFollowed accepted followed None (Refused e) → IsReplyFollowed accepted followed false at ⊎ IsTurnedByFailure old new
+  refusal_followed : (old new : Seat) (c : Command) (e : Refusal) (at : ℕ) → IsTurned old new c e → IsStandingFollowed accepted followed applied None (Refused e) → IsReplyFollowed accepted followed applied false at new ⊎ IsTurnedByFailure old new
   unfolding refusal_or
   refusal_followed old new c e at turned (inl (x, is, failure)) = inr (x, failure, (c, subst (λ y. IsTurned old new c y) (ap (refusal_or e) is) turned))
   refusal_followed old new c e at turned (inr caught) = inl (inr caught)
 
   -- a refusal of the registry
-  by_registry : (old new : Seat) (c : Command) (e : Refusal) (a : Answer) (base : State) → is_begin c ≡ false → IsTurned old new c e → IsStandingFollowed accepted followed None (Refused e) → new.replies.base ≡ Some base → a.call ≡ call_from old c → old.seen ≤ a.at → a.reply ≡ Refused e
+  by_registry : (old new : Seat) (c : Command) (e : Refusal) (a : Answer) (base : State) → is_begin c ≡ false → IsTurned old new c e → IsStandingFollowed accepted followed applied None (Refused e) → new.replies.base ≡ Some base → a.call ≡ call_from old c → old.seen ≤ a.at → a.reply ≡ Refused e
       → RightReply base (known_list new) a → IsFound old c (Refused e) new
   by_registry old new c e a base plain turned goes found call later is right =
       let r = state_at base (known_list new) a.at in
@@ -114,12 +115,12 @@ module _ (accepted followed : ℕ → Type 0) where
             works = refl;
             seen = λ accepts. absurd (true≢false (sym accepts ∙ ap is_change met));
           },
-          subst (λ (b : Bool). IsReplyFollowed accepted followed b a.at ⊎ IsTurnedByFailure old new) (sym (ap is_change met)) (refusal_followed old new c e a.at turned goes),
+          subst (λ (b : Bool). IsReplyFollowed accepted followed applied b a.at new ⊎ IsTurnedByFailure old new) (sym (ap is_change met)) (refusal_followed old new c e a.at turned goes),
         );
         reply_is = sym met;
       }
 
-  declined : (old new : Seat) (c : Command) (e : Refusal) → is_begin c ≡ false → IsTurned old new c e → IsStandingFollowed accepted followed None (Refused e) → IsDeclined old new (call_from old c) e → IsFound old c (Refused e) new
+  declined : (old new : Seat) (c : Command) (e : Refusal) → is_begin c ≡ false → IsTurned old new c e → IsStandingFollowed accepted followed applied None (Refused e) → IsDeclined old new (call_from old c) e → IsFound old c (Refused e) new
   unfolding refusal_or
   declined old new c e plain turned goes d =
       elim d.declined [
@@ -130,36 +131,36 @@ module _ (accepted followed : ℕ → Type 0) where
         ]
       ]
 
-  turned_found : (old new : Seat) (c : Command) (e : Refusal) → is_begin c ≡ false → IsTurned old new c e → IsStandingFollowed accepted followed None (Refused e) → IsFound old c (Refused e) new
+  turned_found : (old new : Seat) (c : Command) (e : Refusal) → is_begin c ≡ false → IsTurned old new c e → IsStandingFollowed accepted followed applied None (Refused e) → IsFound old c (Refused e) new
   turned_found old new c e plain turned goes =
       elim turned.why [
         | inl (is, same) ↦ by_failure old new c e plain turned (inr (inr (inr is)))
         | inr d ↦ declined old new c e plain turned goes d
       ]
 
-  replied_found : (old new : Seat) (c : Command) (reply : Reply) (standing : Option Standing) → is_begin c ≡ false → IsStandingFollowed accepted followed standing reply → IsReplied old c reply standing new → IsFound old c reply new
+  replied_found : (old new : Seat) (c : Command) (reply : Reply) (standing : Option Standing) → is_begin c ≡ false → IsStandingFollowed accepted followed applied standing reply → IsReplied old c reply standing new → IsFound old c reply new
   replied_found old new c reply standing plain goes (inl h) = answered old new c reply standing plain h goes
   replied_found old new c reply standing plain goes (inr h) =
-      let refused : IsStandingFollowed accepted followed None (Refused h.refusal) = subst (λ x. IsStandingFollowed accepted followed None x) h.reply_is (subst (λ o. IsStandingFollowed accepted followed o reply) h.standing_is goes) in
+      let refused : IsStandingFollowed accepted followed applied None (Refused h.refusal) = subst (λ x. IsStandingFollowed accepted followed applied None x) h.reply_is (subst (λ o. IsStandingFollowed accepted followed applied o reply) h.standing_is goes) in
       subst (λ x. IsFound old c x new) (sym h.reply_is) (turned_found old new c h.refusal plain h.turned refused)
 
 -- ---- from the session's place
 
-module _ (has : Path → ℕ → Type 0) (woken accepted followed : ℕ → Type 0) where
+module _ (has : Path → ℕ → Type 0) (woken accepted followed : ℕ → Type 0) (applied : ℕ → Command → Type 0) where
   -- a command was met by a session
   pub record IsSubmitted (a : SharedKnown) (c : Command) (reply : Reply) (b : SharedKnown) : Type 0 where
     pub way : Way
     pub found : SessionState
-    pub by : (left : SessionState) → MetShared has woken accepted followed a Commands way (is_change (reply_to_command found c)) found left b
+    pub by : (left : SessionState) → MetShared has woken accepted followed applied a Commands way (is_change (reply_to_command found c)) found left b
     pub reply_is : reply ≡ reply_or way (reply_to_command found c)
 
-  pub submitted : (a b : SharedKnown) (c : Command) (reply : Reply) (standing : Option Standing) → is_begin c ≡ false → IsStandingFollowed accepted followed standing reply → b.viewers ≡ a.viewers
+  pub submitted : (a b : SharedKnown) (c : Command) (reply : Reply) (standing : Option Standing) → is_begin c ≡ false → IsStandingFollowed accepted followed applied standing reply → b.viewers ≡ a.viewers
       → ((b.seat ≡ a.seat) × (reply ≡ Refused refusals.NoMemory))
       ⊎ ((seat : Seat) × (new : Seat) × IsSatOn a.seat seat × (b.seat ≡ Some new) × SeatGoesOn seat new × IsReplied seat c reply standing new)
       → IsSubmitted a c reply b
   submitted a b c reply standing plain follows same (inl (stays, is)) = record { way = Memory; found = no_root; by = λ left. (same, inl (refl, subst (λ o. KeepsSeat a.seat o) (sym stays) (keeps_same a.seat))); reply_is = is }
   submitted a b c reply standing plain follows same (inr (seat, new, sat, now, goes, replied)) =
-      let f = replied_found accepted followed seat new c reply standing plain follows replied in
+      let f = replied_found accepted followed applied seat new c reply standing plain follows replied in
       record { way = f.way; found = f.found; by = λ left. (same, inr (seat, new, sat, now, goes, f.by)); reply_is = f.reply_is }
 
   -- a `Begin` is refused on the registry that the seat was shown

@@ -1,20 +1,16 @@
 -- What a viewer tells, where its keeper may be gone.
 use Rattle.std.proofs.Common.{◌≡◌, ◌⊎◌, inl, inr, ℕ, List, true, false, refl, sym, subst}
-use Rattle.std.specs.Prelude.{Option, Result, Ok, Err, IfOk, IfErr}
+use Rattle.std.specs.Prelude.{Result, Ok, Err, IfOk, IfErr}
 use Rattle.wm_disk.specs.declared.refusal.Refusal.{Refusal}
 use Rattle.wm_disk.specs.declared.refusal.Refusal.TheVariants.{NoMemory, NoPlace, NotReady}
 use Rattle.wm_clock.specs.declared.clock_id.ClockId.{ClockId}
-use Rattle.wm_expr.specs.Meanings.{holds}
-use Rattle.wm_expr.specs.Terms.{Term}
 use Rattle.wm_view.specs.Histories.{is_ready}
 use Rattle.wm_since.specs.Answers.{clock_of}
 use Rattle.wm_since.specs.Cursors.{CursorList}
-use Rattle.wm_since.specs.declared.query.Answer.{Answer}
-use Rattle.wm_subs.specs.Subscribers.{Subscriber, due_answer}
 use Rattle.wm_lines.specs.declared.query.Inquiry.{Inquiry}
 use Rattle.wm_share.specs.PublishedLists.{ViewerState, disconnected, history}
 use Rattle.wm_hall.specs.Inquired.{IsInquired}
-use Rattle.wm_shared.specs.RootsSeen.{IsAnswerSeen, IsClockSeen, IsDueSeen, done_or_refused, unless_gone}
+use Rattle.wm_shared.specs.RootsSeen.{IsAnswerSeen, IsClockSeen, done_or_refused, unless_gone}
 
 pub inquired_still : {A : Type 0} → (q : Inquiry) (cursors : CursorList) (old new : ViewerState) (before after : List ℕ) (result : Result A Refusal)
     → IsInquired q cursors old before result new after → IsAnswerSeen q new before (unless_gone (done_or_refused result)) after
@@ -35,13 +31,4 @@ clock_still old new (Err e) ok refused =
       | inl is ↦ subst (λ x. IsClockSeen new (unless_gone (Err x))) (sym is) (inl refl)
       | inr (inl (is, gone)) ↦ subst (λ x. IsClockSeen new (unless_gone (Err x))) (sym is) (inl refl)
       | inr (inr (is, unready)) ↦ subst (λ x. IsClockSeen new (unless_gone (Err x))) (sym is) (inr (refl, unready))
-    ]
-
-pub due_still : (old new : ViewerState) (s : Subscriber Term) (result : Result (Option Answer) Refusal) → IfOk result (λ o. o ≡ due_answer (holds s.query.test) (history new.list) s)
-    → IfErr result (λ e. (e ≡ NoMemory) ⊎ ((e ≡ NoPlace) × (new ≡ disconnected old))) → IsDueSeen new s (unless_gone result)
-due_still old new s (Ok o) ok refused = ok
-due_still old new s (Err e) ok refused =
-    elim refused [
-      | inl is ↦ subst (λ x. IsDueSeen new s (unless_gone (Err x))) (sym is) refl
-      | inr (is, gone) ↦ subst (λ x. IsDueSeen new s (unless_gone (Err x))) (sym is) refl
     ]

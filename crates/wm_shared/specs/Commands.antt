@@ -1,5 +1,5 @@
 -- How a command of a session was met at the desk, as the session's seat knows it.
-use Rattle.std.specs.Prelude.{◌≡◌, ◌⊎◌, ◌≤◌, ◌+◌, ℕ, Bool, true, false, Option, Some, None, length}
+use Rattle.std.specs.Prelude.{◌≡◌, ◌⊎◌, ◌≤◌, ◌+◌, ℕ, Bool, true, false, Option, Some, None, length, slice_get}
 use Rattle.wm_disk.specs.declared.refusal.Refusal.{Refusal}
 use Rattle.wm_disk.specs.declared.refusal.Refusal.TheVariants.{BadArguments, DeviceFailed, Exhausted, NoMemory, StoreFailed}
 use Rattle.wm_registry.specs.declared.command.Command.{Command}
@@ -8,6 +8,7 @@ use Rattle.wm_registry.specs.declared.reply.Reply.TheVariants.{Refused}
 use Rattle.wm_registry.specs.Roots.{State}
 use Rattle.wm_store.specs.Batches.{is_begin}
 use Rattle.wm_groupcommit.specs.Books.{IsFailed, IsFailure, state_at}
+use Rattle.wm_groupcommit.specs.declared.queued.Call.{Call}
 use Rattle.wm_groupcommit.specs.declared.receipt.Standing.{Standing}
 use Rattle.wm_groupcommit.specs.declared.receipt.Standing.TheVariants.{Stands, Unchanged as Stays}
 use Rattle.wm_groupcommit.specs.declared.seat.Seat.{Seat}
@@ -83,27 +84,34 @@ IsTurnedByFailure old new = (e : Refusal) × IsFailure e × IsTurnedBy old new e
 
 -- ---- what the roots have followed
 
--- `accepted n` says that the desk had accepted so many commands, and `followed n` that the watched roots had followed so many of them.
-module _ (accepted followed : ℕ → Type 0) where
+module _ {A B : Type 0} where
+  -- a value shows it
+  abbrev pub IsWitnessed : (A → B → Type 0) → A → Type 0
+  IsWitnessed Shows a = (value : B) × Shows a value
+
+-- `accepted n` says that the desk had accepted so many commands, `followed n` that the watched roots had followed so many of them, and `applied n command` that
+-- they had followed this command as that of the number.
+module _ (accepted followed : ℕ → Type 0) (applied : ℕ → Command → Type 0) where
   -- the roots have followed all that the desk had accepted
   abbrev pub IsCaughtUp : Type 0
   IsCaughtUp = (count : ℕ) × accepted count × followed count
 
-  -- The roots have followed what a reply by the registry after `at` commands shows: an accepted command itself, and else these commands or all that the desk had accepted.
-  abbrev pub IsReplyFollowed : Bool → ℕ → Type 0
-  IsReplyFollowed true at = followed (at + 1)
-  IsReplyFollowed false at = followed at ⊎ IsCaughtUp
+  -- The roots have followed what a reply by the registry after `at` commands shows: an accepted command itself, which the seat's list has there, and else these
+  -- commands or all that the desk had accepted.
+  abbrev pub IsReplyFollowed : Bool → ℕ → Seat → Type 0
+  IsReplyFollowed true at new = (call : Call) × (slice_get (known_list new) at ≡ Some call) × applied (at + 1) call.command
+  IsReplyFollowed false at new = followed at ⊎ IsCaughtUp
 
   -- the same of a reply, by where its command stands
   abbrev pub IsStandingFollowed : Option Standing → Reply → Type 0
-  IsStandingFollowed (Some (Stands number command)) reply = followed number
+  IsStandingFollowed (Some (Stands number command)) reply = applied number command
   IsStandingFollowed (Some (Stays after)) reply = followed after
   IsStandingFollowed None reply = IsFailed reply ⊎ IsCaughtUp
 
   -- what the seat knows of a command that was met in a way
   abbrev pub IsCommandFoundBy : Way → Bool → Seat → SessionState → Seat → Type 0
   IsCommandFoundBy Defined accepts old s new =
-      ((met : IsMetAfter old new accepts s) × (IsReplyFollowed accepts met.after.at ⊎ IsTurnedByFailure old new)) ⊎ ((s.has_failed ≡ true) × IsTurnedBy old new StoreFailed)
+      ((met : IsMetAfter old new accepts s) × (IsReplyFollowed accepts met.after.at new ⊎ IsTurnedByFailure old new)) ⊎ ((s.has_failed ≡ true) × IsTurnedBy old new StoreFailed)
   IsCommandFoundBy Device accepts old s new = IsTurnedBy old new DeviceFailed
   IsCommandFoundBy Memory accepts old s new = IsTurnedBy old new NoMemory
   IsCommandFoundBy Spent accepts old s new = IsTurnedBy old new Exhausted

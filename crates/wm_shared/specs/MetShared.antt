@@ -2,6 +2,7 @@
 use Rattle.std.specs.Prelude.{◌≡◌, ◌≤◌, ◌⊎◌, ℕ, [], ◌∷◌, Bool, true, false, Option, None}
 use Rattle.wm_names.specs.Paths.{Path}
 use Rattle.wm_registry.specs.Roots.{root_at}
+use Rattle.wm_registry.specs.declared.command.Command.{Command}
 use Rattle.wm_registry.specs.declared.version.Version.TheVariants.{Two}
 use Rattle.wm_since.specs.Cursors.{CursorList}
 use Rattle.wm_share.specs.PublishedLists.{PublishedList, Begins, history}
@@ -90,12 +91,12 @@ abbrev pub AreWoken : (Path → ℕ → Type 0) → (ℕ → Type 0) → Path �
 AreWoken has woken path old new = (new.viewers ≡ old.viewers) ⊎ ((number : ℕ) × has path number × woken number)
 
 -- `has path number` says that the watched root of a path had the number, `woken number` that those who wait for its changes were woken, `accepted n` that the
--- desk had accepted so many commands, and `followed n` that the roots had followed so many.
-module _ (has : Path → ℕ → Type 0) (woken accepted followed : ℕ → Type 0) where
+-- desk had accepted so many commands, `followed n` that the roots had followed so many, and `applied n command` that they had followed this as that of the number.
+module _ (has : Path → ℕ → Type 0) (woken accepted followed : ℕ → Type 0) (applied : ℕ → Command → Type 0) where
   -- What is known of a call on a part. An operation is met at a moment no earlier than it was given.
   abbrev pub MetShared : SharedKnown → Part → Way → Bool → SessionState → SessionState → SharedKnown → Type 0
   MetShared old Nowhere way accepts s t new = IsWithoutDevice way × (t ≡ s) × (new ≡ old)
-  MetShared old Commands way accepts s t new = (new.viewers ≡ old.viewers) × IsSubmittedBy accepted followed way accepts old.seat s new.seat
+  MetShared old Commands way accepts s t new = (new.viewers ≡ old.viewers) × IsSubmittedBy accepted followed applied way accepts old.seat s new.seat
   MetShared old Lists way accepts s t new = (t ≡ s) × (new.viewers ≡ old.viewers) × KeepsSeat old.seat new.seat × IsListedBy followed way old.seat s new.seat
   MetShared old (Changes path given moment) way accepts s t new = (given ≤ moment) × AreWoken has woken path old new × IsMetOnRoot has path false way old s t new
   MetShared old (Asks path) way accepts s t new = IsMetOnRoot has path true way old s t new

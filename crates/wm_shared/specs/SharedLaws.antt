@@ -4,6 +4,7 @@ use Rattle.std.proofs.Common.{◌≡◌, ◌∙◌, inl, inr, ℕ, Bool, true, f
 use Rattle.std.proofs.lemmas.List.{append-nil}
 use Rattle.wm_names.specs.Paths.{Path}
 use Rattle.wm_registry.specs.Roots.{State}
+use Rattle.wm_registry.specs.declared.command.Command.{Command}
 use Rattle.wm_groupcommit.specs.declared.queued.Call.{Call}
 use Rattle.wm_groupcommit.specs.declared.seat.Seat.{Seat}
 use Rattle.wm_groupcommit.specs.ReplyQueues.{KeepsBase, StartsWith}
@@ -50,11 +51,11 @@ keeps_then (Some a) b c x y =
 
 -- ---- laws of a front
 
-module _ (has : Path → ℕ → Type 0) (woken accepted followed : ℕ → Type 0) where
+module _ (has : Path → ℕ → Type 0) (woken accepted followed : ℕ → Type 0) (applied : ℕ → Command → Type 0) where
   memory_on_root : (path : Path) (asks : Bool) (a : SharedKnown) (s : SessionState) → IsMetOnRoot has path asks Memory a s s a
   memory_on_root path asks a s = (tt, keeps_same a.seat, inl (tt, inl refl))
 
-  pub stands_shared : (a : SharedKnown) (part : Part) → IsMetWhenGiven part → (s : SessionState) × ((accepts : Bool) → MetShared has woken accepted followed a part Memory accepts s s a)
+  pub stands_shared : (a : SharedKnown) (part : Part) → IsMetWhenGiven part → (s : SessionState) × ((accepts : Bool) → MetShared has woken accepted followed applied a part Memory accepts s s a)
   stands_shared a Nowhere when = (no_root, λ accepts. (tt, refl, refl))
   stands_shared a Commands when = (no_root, λ accepts. (refl, inl (refl, keeps_same a.seat)))
   stands_shared a Lists when = (no_root, λ accepts. (refl, refl, keeps_same a.seat, tt))
@@ -62,7 +63,7 @@ module _ (has : Path → ℕ → Type 0) (woken accepted followed : ℕ → Type
   stands_shared a (Asks path) when = (no_root, λ accepts. memory_on_root path true a no_root)
   stands_shared a (Looks path) when = (no_root, λ accepts. memory_on_root path true a no_root)
 
-  pub idles_shared : (a : SharedKnown) → (s : SessionState) × MetShared has woken accepted followed a Nowhere Defined false s s a
+  pub idles_shared : (a : SharedKnown) → (s : SessionState) × MetShared has woken accepted followed applied a Nowhere Defined false s s a
   idles_shared a = (no_root, (tt, refl, refl))
 
   -- where memory runs out behind a look
@@ -77,7 +78,7 @@ module _ (has : Path → ℕ → Type 0) (woken accepted followed : ℕ → Type
     ],
   )
 
-  pub runs_out_shared : (a b : SharedKnown) (part : Part) (s : SessionState) → is_look part ≡ true → MetShared has woken accepted followed a part Defined false s s b → (accepts : Bool) → MetShared has woken accepted followed a part Memory accepts s s b
+  pub runs_out_shared : (a b : SharedKnown) (part : Part) (s : SessionState) → is_look part ≡ true → MetShared has woken accepted followed applied a part Defined false s s b → (accepts : Bool) → MetShared has woken accepted followed applied a part Memory accepts s s b
   runs_out_shared a b Nowhere s look met accepts = (tt, met.1, met.2)
   runs_out_shared a b Commands s look met accepts = absurd cc
   runs_out_shared a b Lists s look met accepts = (met.0, met.1, met.2, tt)

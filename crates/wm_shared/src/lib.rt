@@ -5,6 +5,7 @@
 #![tactic(auto)]
 
 mod desk;
+mod due;
 mod ended;
 mod place;
 mod registrar;
@@ -13,9 +14,10 @@ mod seconds;
 mod shared_front;
 mod viewers;
 
+pub use due::DueOnceLearnt;
 pub use ended::end_subscriptions;
 pub use place::Place;
 pub use registrar::Registrar;
-pub use roots::Roots;
+pub use roots::{FollowingRoots, Roots};
 pub use shared_front::SharedFront;
 pub use viewers::Viewers;

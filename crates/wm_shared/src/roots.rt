@@ -3,16 +3,17 @@
 ghost use Rattle.std.specs.Prelude.{◌≡◌, ◌⊎◌, ℕ, IfOk, IfErr, MatchBool, MatchOption};
 ghost use Rattle.std.specs.Arc.{arc_value};
 ghost use Rattle.wm_names.specs.Paths.{Path};
+ghost use Rattle.wm_registry.specs.declared.command.Command.{Command};
 
 use std::alloc::Global;
 use std::sync::{Arc, Wait};
 use wm_disk::Refusal;
-use wm_hall::{RootHall, Seconds};
+use wm_hall::{Changed, RootHall, Seconds};
 use wm_names::RootPath;
 use wm_registry::Command;
 use wm_share::Naming;
 
-/// The watched roots of a server, which follow the accepted commands. They read the moments of operations.
+/// The watched roots of a server. They read the moments of operations.
 pub trait Roots<J: Naming, K: Wait + Drop>: Seconds {
     /// Whether the watched root of the path had the number.
     ghost has: { Self → Path → ℕ → Type 0 };
@@ -22,12 +23,6 @@ pub trait Roots<J: Naming, K: Wait + Drop>: Seconds {
 
     /// Whether no watched root had the number.
     ghost ended: { Self → ℕ → Type 0 };
-
-    /// Whether the roots had followed so many of the accepted commands.
-    ghost followed: { Self → ℕ → Type 0 };
-
-    /// Whether those who wait for changes of the root of a number were woken.
-    ghost woken: { Self → ℕ → Type 0 };
 
     /// The root of a path. `NotWatched` if there is none, after the commands that were followed; and `NoMemory`.
     fn find<R: Wait>(
@@ -39,18 +34,6 @@ pub trait Roots<J: Naming, K: Wait + Drop>: Seconds {
         ensures has { IfOk result (λ hall. has self.now path.now (arc_value hall).number) }
         ensures refused { IfErr result (λ e. (e ≡ Refusal.NotWatched) ⊎ (e ≡ Refusal.NoMemory)) };
 
-    /// Has the roots follow the accepted command of this number, once they have followed all earlier ones.
-    fn follow<R: Wait>(&self, rt: &R, alloc: Global, number: u64, command: Command)
-        ensures { followed self.now number };
-
-    /// Waits until the roots have followed so many commands.
-    fn await_followed<R: Wait>(&self, rt: &R, count: u64)
-        ensures { followed self.now count };
-
-    /// The view of a root may have changed: those who wait for that are woken, since the subscriptions on it may be due.
-    fn wake<R: Wait>(&self, rt: &R, hall: &RootHall<J, K>)
-        ensures { woken self.now hall.now.number };
-
     /// Whether the root of a number is watched.
     fn is_watched<R: Wait>(&self, rt: &R, number: u64) -> bool
         ensures { MatchBool result ((path : Path) × has self.now path number) (ended self.now number) };
@@ -58,4 +41,45 @@ pub trait Roots<J: Naming, K: Wait + Drop>: Seconds {
     /// The number of the watched root of a path, after the commands that were followed; none if there is none.
     fn number_of<R: Wait>(&self, rt: &R, path: &RootPath) -> Option<u64>
         ensures { MatchOption result (lacks self.now path.now) (has self.now path.now) };
+}
+
+/// Watched roots that the session's front has follow the commands, each call shown by a value.
+pub trait FollowingRoots<J: Naming, K: Wait + Drop>: Roots<J, K> {
+    /// What shows that the roots have followed a command.
+    type Followed: Drop;
+
+    /// What shows how many commands the roots had followed.
+    type Count: Drop;
+
+    /// What shows that those who wait for changes of a root were woken.
+    type Woken: Drop;
+
+    /// Whether it shows that the roots have followed this command as that of this number.
+    ghost shows_followed: { Self → ℕ → Command → Self.Followed → Type 0 };
+
+    /// Whether it shows that the roots had followed so many commands.
+    ghost shows_count: { Self → ℕ → Self.Count → Type 0 };
+
+    /// Whether it shows that those who wait for changes of the root of a number were woken.
+    ghost shows_woken: { Self → ℕ → Self.Woken → Type 0 };
+
+    /// Has the roots follow the accepted command of this number, once they have followed all earlier ones.
+    fn follow<R: Wait>(
+        &self,
+        rt: &R,
+        alloc: Global,
+        number: u64,
+        command: Command,
+    ) -> Self::Followed
+        ensures { shows_followed self.now number command result };
+
+    /// Waits until the roots have followed so many commands.
+    fn await_followed<R: Wait>(&self, rt: &R, count: u64) -> Self::Count
+        ensures { shows_count self.now count result };
+
+    /// The view of a root has changed, or its change was refused: those who wait for that are woken, since the subscriptions on it may
+    /// be due.
+    fn wake<R: Wait>(&self, rt: &R, hall: &RootHall<J, K>, changed: Changed) -> Self::Woken
+        requires { changed ≡ hall.now.number }
+        ensures { shows_woken self.now hall.now.number result };
 }

@@ -13,12 +13,13 @@ ghost use Rattle.wm_shared.specs.Ended.{AreWatched};
 ghost use Rattle.wm_shared.specs.RootsSeen.{IsSeenMore, is_viewer_of, unless_unwatched};
 ghost use Rattle.wm_groupcommit.specs.Books.{IsFailed};
 ghost use Rattle.wm_groupcommit.specs.declared.seat.Seat.{Seat as seats};
-ghost use Rattle.wm_shared.specs.Commands.{IsSatOn, IsStandingFollowed, KeepsSeat, SeatGoesOn};
+ghost use Rattle.wm_shared.specs.Commands.{IsSatOn, IsWitnessed, IsStandingFollowed, KeepsSeat, SeatGoesOn};
 ghost use Rattle.wm_shared.specs.Looks.{IsLookedAt, IsUnwatchedAfter};
 
+use crate::due::answer_of;
 use crate::place::Place;
 use crate::registrar::Registrar;
-use crate::roots::Roots;
+use crate::roots::{FollowingRoots, Roots};
 use crate::seconds::SinceGiven;
 use crate::viewers::Viewers;
 use std::alloc::Global;
@@ -113,7 +114,7 @@ fn is_failed(reply: Reply) -> bool
 }
 
 /// Has the roots follow a command that was accepted, or waits until they have followed all that its reply shows.
-fn follow<T: Registrar, H: Roots<J, K>, J: Naming, K: Wait + Copy + Drop>(
+fn follow<T: Registrar, H: FollowingRoots<J, K>, J: Naming, K: Wait + Copy + Drop>(
     rt: &K,
     alloc: Global,
     roots: &H,
@@ -121,37 +122,41 @@ fn follow<T: Registrar, H: Roots<J, K>, J: Naming, K: Wait + Copy + Drop>(
     reply: Reply,
     standing: Option<Standing>,
 )
-    ensures { IsStandingFollowed T.had_accepted (H.followed roots.now) standing reply }
+    ensures { IsStandingFollowed T.had_accepted (IsWitnessed (H.shows_count roots.now)) (λ number. IsWitnessed (H.shows_followed roots.now number)) standing reply }
 {
     match standing {
-        Some(Standing::Stands { number, command }) => roots.follow(rt, alloc, number, command),
-        Some(Standing::Unchanged { after }) => roots.await_followed(rt, after),
+        Some(Standing::Stands { number, command }) => {
+            let _followed = roots.follow(rt, alloc, number, command);
+        }
+        Some(Standing::Unchanged { after }) => {
+            let _count = roots.await_followed(rt, after);
+        }
         None => {
             if !is_failed(reply) {
-                roots.await_followed(rt, place.accepted(rt).count());
+                let _count = roots.await_followed(rt, place.accepted(rt).count());
             }
         }
     }
 }
 
 /// Looks at the registry, and waits until the roots have followed the commands after which it stands so. `NoMemory`.
-fn look_followed<T: Registrar, H: Roots<J, K>, J: Naming, K: Wait + Copy + Drop>(
+fn look_followed<T: Registrar, H: FollowingRoots<J, K>, J: Naming, K: Wait + Copy + Drop>(
     rt: &K,
     roots: &H,
     place: &mut Place<'_, T>,
 ) -> Result<(Registry, u64), Refusal>
     ensures keeps { KeepsSeat place.old place.new }
-    ensures looked { IfOk result (λ r. ((seat : seats) × (new : seats) × IsSatOn place.old seat × (place.new ≡ Some new) × SeatGoesOn seat new × IsLookedAt seat r.0 r.1 new) × H.followed roots.now r.1) }
+    ensures looked { IfOk result (λ r. ((seat : seats) × (new : seats) × IsSatOn place.old seat × (place.new ≡ Some new) × SeatGoesOn seat new × IsLookedAt seat r.0 r.1 new) × IsWitnessed (H.shows_count roots.now) r.1) }
     ensures refused { IfErr result (λ e. e ≡ Refusal.NoMemory) }
 {
     let (registry, count) = place.look(rt)?;
-    roots.await_followed(rt, count);
+    let _followed = roots.await_followed(rt, count);
     Ok((registry, count))
 }
 
 /// Asks the desk whether a root that the server hasn't found is watched, and has the roots follow. `NotWatched` if it isn't; and
 /// `NoMemory`.
-fn confirm<T: Registrar, H: Roots<J, K>, J: Naming, K: Wait + Copy + Drop>(
+fn confirm<T: Registrar, H: FollowingRoots<J, K>, J: Naming, K: Wait + Copy + Drop>(
     rt: &K,
     roots: &H,
     place: &mut Place<'_, T>,
@@ -171,7 +176,7 @@ fn confirm<T: Registrar, H: Roots<J, K>, J: Naming, K: Wait + Copy + Drop>(
 const FINDS: u32 = 64;
 
 /// The watched root of a path. `NotWatched` if there is none, after all that the session has seen; and `NoMemory`.
-fn find_root<T: Registrar, H: Roots<J, K>, J: Naming, K: Wait + Copy + Drop>(
+fn find_root<T: Registrar, H: FollowingRoots<J, K>, J: Naming, K: Wait + Copy + Drop>(
     rt: &K,
     alloc: Global,
     roots: &H,
@@ -255,13 +260,13 @@ fn begin_refused(looked: Result<(Registry, u64), Refusal>) -> Reply
     }
 }
 
-impl<'a, T: Registrar, H: Roots<J, K>, J: Naming, K: Wait + Copy + Drop> Front
+impl<'a, T: Registrar, H: FollowingRoots<J, K>, J: Naming, K: Wait + Copy + Drop> Front
     for SharedFront<'a, T, H, J, K> {
     ghost use Rattle.wm_shared.specs.MetShared.{MetShared};
     ghost use Rattle.wm_shared.specs.SharedLaws.{idles_shared, keeps_same, keeps_then, runs_out_shared, stands_shared};
-    ghost use Rattle.wm_shared.specs.Commands.{KeepsSeat};
+    ghost use Rattle.wm_shared.specs.Commands.{IsWitnessed, KeepsSeat};
 
-    ghost met = { λ a part way accepts s t b. MetShared (H.has a.roots.now) (H.woken a.roots.now) T.had_accepted (H.followed a.roots.now) (record { seat = a.place; viewers = a.viewers }) part way accepts s t (record { seat = b.place; viewers = b.viewers }) };
+    ghost met = { λ a part way accepts s t b. MetShared (H.has a.roots.now) (IsWitnessed (H.shows_woken a.roots.now)) T.had_accepted (IsWitnessed (H.shows_count a.roots.now)) (λ number. IsWitnessed (H.shows_followed a.roots.now number)) (record { seat = a.place; viewers = a.viewers }) part way accepts s t (record { seat = b.place; viewers = b.viewers }) };
 
     ghost leads_to = { λ a asked b. KeepsSeat a.place b.place };
 
@@ -291,10 +296,17 @@ impl<'a, T: Registrar, H: Roots<J, K>, J: Naming, K: Wait + Copy + Drop> Front
             seconds: self.roots,
             given,
         };
-        let met = self
+        let (met, changed) = match self
             .viewers
-            .change(&self.rt, alloc, &hall, &seconds, change);
-        self.roots.wake(&self.rt, &hall);
+            .change(&self.rt, alloc, &hall, &seconds, change)
+        {
+            Ok(done) => done,
+            Err(refusal) => {
+                drop(hall);
+                return Err(refusal);
+            }
+        };
+        let _woken = self.roots.wake(&self.rt, &hall, changed);
         drop(hall);
         met
     }
@@ -356,9 +368,9 @@ impl<'a, T: Registrar, H: Roots<J, K>, J: Naming, K: Wait + Copy + Drop> Front
             Ok(hall) => hall,
             Err(refusal) => return due_unless(refusal),
         };
-        let met = self.viewers.due(&self.rt, alloc, &hall, subscription);
+        let due = self.viewers.due(&self.rt, alloc, &hall, subscription);
         drop(hall);
-        met
+        answer_of(due)
     }
 
     fn look(&mut self, _alloc: Global) -> Result<(), Refusal> {
@@ -374,11 +386,11 @@ impl<'a, T: Registrar, H: Roots<J, K>, J: Naming, K: Wait + Copy + Drop> Front
         &self.registry
     }
 
-    ghost stands = { λ a part when. stands_shared (H.has a.roots.now) (H.woken a.roots.now) T.had_accepted (H.followed a.roots.now) (record { seat = a.place; viewers = a.viewers }) part when };
+    ghost stands = { λ a part when. stands_shared (H.has a.roots.now) (IsWitnessed (H.shows_woken a.roots.now)) T.had_accepted (IsWitnessed (H.shows_count a.roots.now)) (λ number. IsWitnessed (H.shows_followed a.roots.now number)) (record { seat = a.place; viewers = a.viewers }) part when };
 
-    ghost runs_out = { λ a b part s. runs_out_shared (H.has a.roots.now) (H.woken a.roots.now) T.had_accepted (H.followed a.roots.now) (record { seat = a.place; viewers = a.viewers }) (record { seat = b.place; viewers = b.viewers }) part s };
+    ghost runs_out = { λ a b part s. runs_out_shared (H.has a.roots.now) (IsWitnessed (H.shows_woken a.roots.now)) T.had_accepted (IsWitnessed (H.shows_count a.roots.now)) (λ number. IsWitnessed (H.shows_followed a.roots.now number)) (record { seat = a.place; viewers = a.viewers }) (record { seat = b.place; viewers = b.viewers }) part s };
 
-    ghost idles = { λ a. idles_shared (H.has a.roots.now) (H.woken a.roots.now) T.had_accepted (H.followed a.roots.now) (record { seat = a.place; viewers = a.viewers }) };
+    ghost idles = { λ a. idles_shared (H.has a.roots.now) (IsWitnessed (H.shows_woken a.roots.now)) T.had_accepted (IsWitnessed (H.shows_count a.roots.now)) (λ number. IsWitnessed (H.shows_followed a.roots.now number)) (record { seat = a.place; viewers = a.viewers }) };
 
     ghost stays = { λ a asked. keeps_same a.place };
 

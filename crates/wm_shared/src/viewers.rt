@@ -6,18 +6,18 @@ ghost use Rattle.wm_share.specs.PublishedLists.{ViewerState};
 ghost use Rattle.wm_hall.specs.ChangeSeen.{IsChangeSeen};
 ghost use Rattle.wm_names.specs.Paths.{Path};
 ghost use Rattle.wm_shared.specs.Ended.{AreWatched};
-ghost use Rattle.wm_shared.specs.RootsSeen.{IsAnswerSeen, IsClockSeen, IsSeenMore, IsDueSeen, IsViewerPlaced, IsToldBy, done_or_refused as answered_lem, is_viewer_of, unless_gone as unless_gone_lem};
+ghost use Rattle.wm_shared.specs.RootsSeen.{IsAnswerSeen, IsClockSeen, IsSeenMore, IsDueSeen, IsViewerPlaced, IsToldBy, done_or_refused as answered_lem, is_viewer_of};
 
+use crate::due::{DueOnceLearnt, due_once_learnt, unless_gone};
 use crate::roots::Roots;
 use std::alloc::Global;
 use std::marker::Model;
 use std::sync::Wait;
 use wm_clock::ClockId;
 use wm_disk::Refusal;
-use wm_hall::{Change, Learnt, RootHall, Seconds};
+use wm_hall::{Change, Changed, Learnt, RootHall, Seconds};
 use wm_lines::{Expression, Inquiry, Progress};
 use wm_share::{Naming, Viewer};
-use wm_since::Answer;
 use wm_subs::Subscription;
 
 /// The viewers of a session. One is taken from its root's pool at the first question, and given back at the session's end. Contracts
@@ -35,16 +35,6 @@ impl<J: Naming> Model for Viewers<J> {
     ghost Value = { ViewerList };
 
     ghost view = { λ v. v.all.items };
-}
-
-/// A keeper that is gone, which no run reaches while the root is had, and an empty pool: a pool has a viewer for each session.
-fn unless_gone<A>(told: Result<A, Refusal>) -> Result<A, Refusal>
-    ensures { result ≡ unless_gone_lem told }
-{
-    match told {
-        Err(Refusal::NoPlace) => Err(Refusal::NoMemory),
-        told => told,
-    }
 }
 
 /// Whether a question was answered.
@@ -172,17 +162,17 @@ impl<J: Naming> Viewers<J> {
         alloc: Global,
         hall: &RootHall<J, K>,
         subscription: &Subscription<Expression>,
-    ) -> Result<Option<Answer>, Refusal>
+    ) -> Result<DueOnceLearnt, Refusal>
         ensures { IsToldBy hall.now.number self.old result self.new (λ old new. IsDueSeen new subscription.now result) }
     {
         let place = self.place(rt, hall)?;
         let viewer = &mut self.all[place];
-        hall.teach(rt, viewer);
-        let told = subscription.due_of(alloc, viewer);
-        unless_gone(told)
+        let learnt = hall.teach(rt, viewer);
+        due_once_learnt(alloc, learnt, viewer, subscription)
     }
 
-    /// Performs a change of a root, which the viewer has then learnt of. What the view refuses, `Exhausted`, and `NoMemory`.
+    /// Performs a change of a root, which the viewer has then learnt of: how it ended, and that the root was changed. Without a viewer,
+    /// `NoMemory` changes nothing.
     pub fn change<R: Wait, K: Wait + Drop, S: Seconds>(
         &mut self,
         rt: &R,
@@ -190,8 +180,10 @@ impl<J: Naming> Viewers<J> {
         hall: &RootHall<J, K>,
         seconds: &S,
         change: Change,
-    ) -> Result<Progress, Refusal>
-        ensures { IsToldBy hall.now.number self.old result self.new (λ old new. IsChangeSeen old (S.may_read seconds.now) change result new) }
+    ) -> Result<(Result<Progress, Refusal>, Changed), Refusal>
+        ensures seen { IfOk result (λ done. (more : IsSeenMore hall.now.number self.old self.new) × IsChangeSeen more.viewer (S.may_read seconds.now) change done.0 more.new) }
+        ensures changed { IfOk result (λ done. done.1 ≡ hall.now.number) }
+        ensures refused { IfErr result (λ e. (e ≡ Refusal.NoMemory) × (self.new ≡ self.old)) }
     {
         let place = match self.place(rt, hall) {
             Ok(place) => place,
@@ -201,7 +193,7 @@ impl<J: Naming> Viewers<J> {
             }
         };
         let viewer = &mut self.all[place];
-        hall.change(rt, alloc, seconds, viewer, change)
+        Ok(hall.change(rt, alloc, seconds, viewer, change))
     }
 
     /// The viewer of a root, if there is one, learns what was published last.

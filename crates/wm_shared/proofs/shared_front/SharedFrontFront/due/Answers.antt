@@ -18,12 +18,12 @@ returns-in-Err-clause-later g c = c.find_root.ensures.keeps
 pub returns-clause-met : goal.returns-clause-met
 returns-clause-met g c =
     let a : SharedKnown = record { seat = c.args.self.now.place; viewers = c.args.self.now.viewers } in
-    let b : SharedKnown = record { seat = c.find_root.new.place; viewers = c.due-met.new.self } in
+    let b : SharedKnown = record { seat = c.find_root.new.place; viewers = c.due-due.new.self } in
     let has = g.H.Roots.has c.args.self.now.roots.now in
     let number = c.deref.result.now.number in
     let root : has c.args.root.now number = rw c.deref.ensures c.in-Ok.ensures.has in
-    let w = due_found has c.args.root.now number a b c.args.subscription.now c.due-met.result c.every_line.ensures.due root c.find_root.ensures.keeps c.due-met.ensures in
-    record { way = w.way; found = w.found; at = w.by; is = w.is }
+    let w = due_found has c.args.root.now number a b c.args.subscription.now c.due-due.result c.every_line.ensures.due root c.find_root.ensures.keeps c.due-due.ensures in
+    record { way = w.way; found = w.found; at = w.by; is = c.answer_of.ensures ∙ w.is }
 
 pub returns-clause-later : goal.returns-clause-later
 returns-clause-later g c = c.find_root.ensures.keeps

@@ -1,5 +1,6 @@
 use Rattle.std.proofs.Common.{refl, sym, ap, subst, false}
 use Rattle.wm_session.specs.session.Faults.{Defined, Memory}
+use Rattle.wm_shared.specs.Commands.{IsWitnessed}
 use Rattle.wm_shared.specs.MetShared.{no_root}
 use Rattle.std.specs.Prelude.{Err}
 use Rattle.wm_shared.proofs.Looking.{shown_at, shown_to}
@@ -17,7 +18,7 @@ pub returns-clause-met : goal.returns-clause-met
 returns-clause-met g c =
     let s = with_registry c.in-Ok.looked.0 false in
     let looked = c.in-Ok.ensures.looked in
-    let followed = g.H.Roots.followed c.args.self.now.roots.now in
+    let followed = IsWitnessed (g.H.FollowingRoots.shows_count c.args.self.now.roots.now) in
     let shown = shown_to c.args.self.now.place c.look_followed.new.place c.in-Ok.looked.0 c.in-Ok.looked.1 looked.0 in
     let at = shown_at c.args.self.now.place c.look_followed.new.place c.in-Ok.looked.0 c.in-Ok.looked.1 looked.0 in
     record {

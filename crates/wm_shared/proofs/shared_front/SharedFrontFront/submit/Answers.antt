@@ -3,7 +3,7 @@ use Rattle.wm_shared.specs.MetShared.{SharedKnown}
 use Rattle.wm_shared.specs.SharedLaws.{keeps_same}
 use Rattle.wm_session.specs.session.Faults.{state_or}
 use Rattle.wm_session.specs.session.Sessions.{state_after_command}
-use Rattle.wm_shared.specs.Commands.{KeepsSeat}
+use Rattle.wm_shared.specs.Commands.{IsWitnessed, KeepsSeat}
 use Rattle.wm_shared.proofs.Looking.{sat_keeps}
 use Rattle.wm_shared.proofs.Submitting.{begin_met, is_plain, submitted}
 use Rattle.wm_shared.proofs.shared_front.SharedFrontFront.submit.Goals as goal
@@ -13,7 +13,7 @@ returns-in-Begin-clause-met g c =
     let a : SharedKnown = record { seat = c.args.self.now.place; viewers = c.args.self.now.viewers } in
     let b : SharedKnown = record { seat = c.look_followed-looked.new.place; viewers = c.args.self.now.viewers } in
     let has = g.H.Roots.has c.args.self.now.roots.now in
-    let w = begin_met has (g.H.Roots.woken c.args.self.now.roots.now) g.T.Registrar.had_accepted (g.H.Roots.followed c.args.self.now.roots.now) a b c.args.command c.look_followed-looked.result c.begin_refused.result c.in-Begin.is refl c.look_followed-looked.ensures.keeps c.look_followed-looked.ensures.looked c.look_followed-looked.ensures.refused c.begin_refused.ensures in
+    let w = begin_met has (IsWitnessed (g.H.FollowingRoots.shows_woken c.args.self.now.roots.now)) g.T.Registrar.had_accepted (IsWitnessed (g.H.FollowingRoots.shows_count c.args.self.now.roots.now)) (λ number. IsWitnessed (g.H.FollowingRoots.shows_followed c.args.self.now.roots.now number)) a b c.args.command c.look_followed-looked.result c.begin_refused.result c.in-Begin.is refl c.look_followed-looked.ensures.keeps c.look_followed-looked.ensures.looked c.look_followed-looked.ensures.refused c.begin_refused.ensures in
     record { way = w.way; found = w.found; at = w.by (state_or w.way (state_after_command w.found c.args.command) w.found); reply_is = w.reply_is }
 
 pub returns-in-Begin-clause-later : goal.returns-in-Begin-clause-later
@@ -24,7 +24,7 @@ returns-clause-met g c =
     let a : SharedKnown = record { seat = c.args.self.now.place; viewers = c.args.self.now.viewers } in
     let b : SharedKnown = record { seat = c.submit-reply.new.self; viewers = c.args.self.now.viewers } in
     let has = g.H.Roots.has c.args.self.now.roots.now in
-    let w = submitted has (g.H.Roots.woken c.args.self.now.roots.now) g.T.Registrar.had_accepted (g.H.Roots.followed c.args.self.now.roots.now) a b c.args.command c.submit-reply.result.0 c.submit-reply.result.1 (is_plain c.args.command c.in_default.not-Begin) c.follow.ensures refl c.submit-reply.ensures in
+    let w = submitted has (IsWitnessed (g.H.FollowingRoots.shows_woken c.args.self.now.roots.now)) g.T.Registrar.had_accepted (IsWitnessed (g.H.FollowingRoots.shows_count c.args.self.now.roots.now)) (λ number. IsWitnessed (g.H.FollowingRoots.shows_followed c.args.self.now.roots.now number)) a b c.args.command c.submit-reply.result.0 c.submit-reply.result.1 (is_plain c.args.command c.in_default.not-Begin) c.follow.ensures refl c.submit-reply.ensures in
     record { way = w.way; found = w.found; at = w.by (state_or w.way (state_after_command w.found c.args.command) w.found); reply_is = w.reply_is }
 
 pub returns-clause-later : goal.returns-clause-later

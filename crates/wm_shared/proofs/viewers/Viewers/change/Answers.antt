@@ -2,7 +2,7 @@ use Rattle.std.proofs.Common.{arith, ◌∙◌, ◌<◌, length, get_or, ap, sym
 use Rattle.std.proofs.Common.{slice_set}
 use Rattle.wm_hall.specs.ChangeSeen.{IsChangeSeen}
 use Rattle.wm_shared.specs.RootsSeen.{ViewerList}
-use Rattle.wm_shared.proofs.Placing.{told_at}
+use Rattle.wm_shared.proofs.Placing.{done_at}
 use Rattle.wm_shared.proofs.viewers.Viewers.change.Goals as goal
 
 pub index_mut-viewer-requires : goal.index_mut-viewer-requires
@@ -10,12 +10,12 @@ index_mut-viewer-requires g c =
     let lt : c.in-Ok.place < length c.self.inside.all.items = subst (λ (l : ViewerList). c.in-Ok.place < length l) (sym c.self.view_is) c.in-Ok.ensures.placed.within in
     omega (arith, lt, c.self.inside.all.ok)
 
-pub returns : goal.returns
-returns g c =
+pub returns-clause-seen : goal.returns-clause-seen
+returns-clause-seen g c =
     let x = c.index_mut-viewer.result.now in
     let new = c.change.new.viewer in
-    told_at c.args.hall.now.number c.in-Ok.place c.args.self.now c.place.new.self (slice_set c.self.inside.all.items c.in-Ok.place new) x new c.change.result (λ old seen. IsChangeSeen old (g.S.Seconds.may_read c.args.seconds.now) c.args.change c.change.result seen) c.in-Ok.ensures.placed
+    done_at c.args.hall.now.number c.in-Ok.place c.args.self.now c.place.new.self (slice_set c.self.inside.all.items c.in-Ok.place new) x new (λ old seen. IsChangeSeen old (g.S.Seconds.may_read c.args.seconds.now) c.args.change c.change.result.0 seen) c.in-Ok.ensures.placed
     (c.index_mut-viewer.ensures.value ∙ ap (λ (l : ViewerList). get_or l c.in-Ok.place x) c.self.view_is)
     (ap (λ (l : ViewerList). slice_set l c.in-Ok.place new) c.self.view_is)
-    c.change.ensures.0
-    c.change.ensures
+    c.change.ensures.seen.0
+    c.change.ensures.seen

@@ -2,7 +2,6 @@ use Rattle.std.proofs.Common.{arith, ◌∙◌, ◌<◌, length, get_or, ap, sym
 use Rattle.std.proofs.Common.{slice_set}
 use Rattle.wm_shared.specs.RootsSeen.{IsDueSeen, ViewerList}
 use Rattle.wm_shared.proofs.Placing.{begins_then, told_at}
-use Rattle.wm_shared.proofs.Telling.{due_still}
 use Rattle.wm_shared.proofs.viewers.Viewers.due.Goals as goal
 
 pub index_mut-viewer-requires : goal.index_mut-viewer-requires
@@ -13,9 +12,9 @@ index_mut-viewer-requires g c =
 pub returns : goal.returns
 returns g c =
     let x = c.index_mut-viewer.result.now in
-    let new = c.due_of-told.new.viewer in
-    told_at c.args.hall.now.number c.in_ok-place.place c.args.self.now c.place.new.self (slice_set c.self.inside.all.items c.in_ok-place.place new) x new c.unless_gone.result (λ old seen. IsDueSeen seen c.args.subscription.now c.unless_gone.result) c.in_ok-place.ensures.placed
+    let new = c.due_once_learnt.new.viewer in
+    told_at c.args.hall.now.number c.in_ok-place.place c.args.self.now c.place.new.self (slice_set c.self.inside.all.items c.in_ok-place.place new) x new c.due_once_learnt.result (λ old seen. IsDueSeen seen c.args.subscription.now c.due_once_learnt.result) c.in_ok-place.ensures.placed
     (c.index_mut-viewer.ensures.value ∙ ap (λ (l : ViewerList). get_or l c.in_ok-place.place x) c.self.view_is)
     (ap (λ (l : ViewerList). slice_set l c.in_ok-place.place new) c.self.view_is)
-    (begins_then x.list c.teach.new.viewer.list new.list c.teach.ensures.seen c.due_of-told.ensures.seen)
-    (subst (λ r. IsDueSeen new c.args.subscription.now r) (sym c.unless_gone.ensures) (due_still c.teach.new.viewer new c.args.subscription.now c.due_of-told.result c.due_of-told.ensures.due c.due_of-told.ensures.refused))
+    (begins_then x.list c.teach-learnt.new.viewer.list new.list c.teach-learnt.ensures.seen c.due_once_learnt.ensures.seen)
+    c.due_once_learnt.ensures.due
