@@ -118,7 +118,9 @@ fn operate<J: Naming, R: Wait + Abort, K: Wait + Drop>(
 ) -> Result<(), Refusal> {
     out.try_reserve(reply::PROGRESS_ROOM).expect(rt, "memory");
     let tells_floor = matches!(change, Change::AgeOut(_));
-    let met = viewers.change(rt, alloc, hall, &at, change)?;
+    let (met, changed) = viewers.change(rt, alloc, hall, &at, change)?;
+    drop(changed);
+    let met = met?;
     if tells_floor {
         reply::put_floor(met.floor, out);
     } else {

@@ -63,8 +63,14 @@ fn make_files<J: Naming, R: Wait + Abort, K: Wait + Drop>(
     let mut viewers = Viewers::new(alloc);
     for number in 0..FILES {
         let change = made(rt, alloc, letter, number);
-        let met = viewers.change(rt, alloc, hall, rising, change);
-        check!(*rt; met.is_ok(), number);
+        let is_made = match viewers.change(rt, alloc, hall, rising, change) {
+            Ok((met, changed)) => {
+                drop(changed);
+                met.is_ok()
+            }
+            Err(_) => false,
+        };
+        check!(*rt; is_made, number);
     }
     drop(viewers);
 }

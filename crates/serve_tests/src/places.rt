@@ -1,12 +1,12 @@
 //! Where a test's server stands: its files, and what it serves them with.
 use std::alloc::Global;
-use std::env;
 use std::fs::{File, Files};
 use std::net::Net;
 use std::process::{Abort, Command};
 use std::sync::Wait;
 use std::thread::Threads;
 use std::time::Clock;
+use std::{env, io};
 use wm_crawler::{SystemFolders, Turnstile};
 use wm_disk::Refusal;
 use wm_file::{FileDisk, Unknown};
@@ -22,6 +22,7 @@ pub struct Place {
     pub root: String,
     folders: SystemFolders<HostRuntime>,
     programs: SystemPrograms<HostRuntime>,
+    log: io::Stderr,
 }
 
 /// A path in the folder where the tests run.
@@ -63,6 +64,7 @@ impl Place {
             root,
             folders: SystemFolders::new(rt.clone().expect(host, "a handle")),
             programs: SystemPrograms::new(rt.clone().expect(host, "a handle")),
+            log: rt.stderr(),
         }
     }
 
@@ -79,6 +81,7 @@ impl Place {
             gc_age: 43_200,
             gc_interval: 86_400,
             sessions,
+            is_quiet: true,
         };
         let mut printed = Vec::new(alloc);
         let paths = ServerPaths {
@@ -89,7 +92,14 @@ impl Place {
             folders: &self.folders,
             turnstile: gate,
             programs: &self.programs,
+            log: &self.log,
         };
-        serve(rt, alloc, paths, &tools, settings, &mut printed)
+        match serve(rt, alloc, paths, &tools, settings, &mut printed) {
+            Ok(served) => {
+                drop(served);
+                Ok(())
+            }
+            Err(refusal) => Err(refusal),
+        }
     }
 }

@@ -7,7 +7,11 @@ use wm_program::Words;
 const ASKED: &[(&[&str], &str)] = &[
     (
         &["serve", "f", "s"],
-        "serve f s 4 43200 86400 18446744073709551615",
+        "serve f s 4 43200 86400 18446744073709551615 false",
+    ),
+    (
+        &["serve", "f", "--quiet", "s"],
+        "serve f s 4 43200 86400 18446744073709551615 true",
     ),
     (
         &[
@@ -22,11 +26,11 @@ const ASKED: &[(&[&str], &str)] = &[
             "--sessions",
             "2",
         ],
-        "serve f s 16 0 4294967295 2",
+        "serve f s 16 0 4294967295 2 false",
     ),
     (
         &["serve", "--workers=1", "--", "-f", "-s"],
-        "serve -f -s 1 43200 86400 18446744073709551615",
+        "serve -f -s 1 43200 86400 18446744073709551615 false",
     ),
     (&["format", "f"], "plain"),
     (&["lines", "f"], "plain"),
@@ -49,6 +53,9 @@ const ASKED: &[(&[&str], &str)] = &[
         &["serve", "f", "s", "--sessions", "1", "--sessions", "2"],
         "shown 2",
     ),
+    (&["serve", "f", "s", "--quiet=true"], "shown 2"),
+    (&["serve", "f", "s", "--quiet", "--quiet"], "shown 2"),
+    (&["lines", "f", "--quiet"], "shown 2"),
     (&["server", "f", "s"], "shown 2"),
     (&["lines", "f", "--sessions", "1"], "shown 2"),
     (&["migrate", "f"], "shown 2"),
@@ -63,7 +70,10 @@ fn asked(alloc: Global, words: &Words) -> Result<String, AllocError> {
         } => {
             let (workers, age) = (settings.workers, settings.gc_age);
             let (interval, sessions) = (settings.gc_interval, settings.sessions);
-            format!(in alloc; "serve {file} {socket} {workers} {age} {interval} {sessions}")
+            let is_quiet = settings.is_quiet;
+            format!(in alloc;
+                "serve {file} {socket} {workers} {age} {interval} {sessions} {is_quiet}"
+            )
         }
         Words::Plain => String::from_str(alloc, "plain"),
         Words::Shown { text: _, status } => format!(in alloc; "shown {status}"),

@@ -44,7 +44,7 @@ use Rattle.wm_shared.specs.declared.registrar.Registrar as Registrar
 use Rattle.wm_serve.proofs.SeatSent.{seat_send}
 use Rattle.wm_serve.specs.contracts.connection.Connection
 use Rattle.wm_serve.specs.contracts.connection.Slot
-use Rattle.wm_serve.specs.contracts.following.Following
+use Rattle.wm_serve.specs.contracts.turn.Following
 use Rattle.wm_serve.specs.contracts.root_table.RootTable
 use Rattle.wm_serve.specs.contracts.shared.Shared
 use Rattle.wm_serve.specs.contracts.slots.Slots
@@ -52,8 +52,9 @@ use Rattle.wm_serve.specs.contracts.unstarted_workers.UnstartedWorkers
 use Rattle.wm_serve.proofs.unstarted_workers.UnstartedWorkers.TheSendSync as UnstartedSent
 use Rattle.wm_serve.proofs.wake_flag.WakeFlag.TheSendSync as WakeSent
 use Rattle.wm_serve.specs.contracts.wake_flag.WakeFlag
+use Rattle.wm_serve.proofs.event_log.EventLog.TheSendSync as LogSent
 use Rattle.wm_serve.proofs.waiting_sessions.WaitingSessions.TheSendSync as WaitingSent
-use Rattle.wm_serve.proofs.following.Following.TheSendSync as FollowingSent
+use Rattle.wm_serve.proofs.turn.Following.TheSendSync as FollowingSent
 use Rattle.wm_serve.proofs.root_table.RootTable.TheSendSync as TableSent
 use Rattle.wm_hall.proofs.retention.Retention.TheSendSync as RetentionSent
 
@@ -106,7 +107,7 @@ shared_sync T J K g desk k k' =
             roots_sync J K g k,
             (
               MutexSent.the_sync Following.the_row FollowingSent.the_send,
-              (CondvarSent.the_sync, (MutexSent.the_sync UnstartedWorkers.the_row UnstartedSent.the_send, (CondvarSent.the_sync, (wakes_sync, (WaitingSent.the_sync, (RetentionSent.the_sync, tt)))))),
+              (CondvarSent.the_sync, (MutexSent.the_sync UnstartedWorkers.the_row UnstartedSent.the_send, (CondvarSent.the_sync, (wakes_sync, (WaitingSent.the_sync, (RetentionSent.the_sync, (LogSent.the_sync, tt))))))),
             ),
           ),
         ),

@@ -1,4 +1,7 @@
+mod Bits
+pub mod Closing
 pub mod Crossing
+mod Begun
 mod DueRuns
 mod Names
 mod Parting

@@ -1,5 +1,7 @@
 -- The sessions that were admitted and wait for a connection slot, and those that have one.
-use Rattle.std.specs.Prelude.{ℕ, ◌+◌, Bool, false, List, [], length}
+use Rattle.std.specs.Prelude.{◌≡◌, ◌⊎◌, ◌<◌, ◌≤◌, ℕ, ◌+◌, ◌-◌, ◌++◌, ◌∷◌, max, Bool, true, false, List, [], length, Result, MatchResult}
+use Rattle.wm_disk.specs.declared.refusal.Refusal.{Refusal}
+use Rattle.wm_disk.specs.declared.refusal.Refusal.TheVariants.{NoMemory, TooMany}
 
 -- the sessions that wait, in the order of their coming, how many have a slot, how many may be there at once, and whether no other comes
 pub record SessionQueue (T : Type 0) : Type 0 where
@@ -15,3 +17,25 @@ empty_queue = record { waiting = []; served = 0; slots = 0; is_closed = false }
 -- how many sessions are there
 abbrev pub sessions_present : {T : Type 0} → SessionQueue T → ℕ
 sessions_present q = length q.waiting + q.served
+
+-- so many may be there at once, if no more might already
+abbrev pub opened_queue : {T : Type 0} → ℕ → SessionQueue T → SessionQueue T
+opened_queue slots q = record q { slots = max q.slots slots }
+
+-- the session waits behind the others; or each slot is taken, or memory ran out: the session comes back then, and nothing changes
+abbrev pub IsAdmitted : {T U : Type 0} → T → SessionQueue T → SessionQueue T → Result U (Refusal × T) → Type 0
+IsAdmitted session old new admitted =
+    MatchResult admitted (λ _. (sessions_present old < old.slots) × (new ≡ record old { waiting = old.waiting ++ session ∷ [] }))
+    (λ e. (e.1 ≡ session) × (new ≡ old) × (((e.0 ≡ TooMany) × (old.slots ≤ sessions_present old)) ⊎ ((e.0 ≡ NoMemory) × (sessions_present old < old.slots))))
+
+-- a slot has the session that came first
+abbrev pub IsFirstSession : {T : Type 0} → T → SessionQueue T → SessionQueue T → Type 0
+IsFirstSession session old new = (old.waiting ≡ session ∷ new.waiting) × (new ≡ record old { waiting = new.waiting; served = old.served + 1 })
+
+-- a session that had a slot has ended
+abbrev pub left_queue : {T : Type 0} → SessionQueue T → SessionQueue T
+left_queue q = record q { served = q.served - 1 }
+
+-- no session comes any longer
+abbrev pub closed_queue : {T : Type 0} → SessionQueue T → SessionQueue T
+closed_queue q = record q { is_closed = true }

@@ -11,6 +11,7 @@ use Rattle.wm_since.specs.declared.query.Answer.{Answer}
 use Rattle.wm_share.specs.PublishedLists.{Begins, PublishedList, history}
 use Rattle.wm_triggers.specs.Due.{run_by, term_for}
 use Rattle.wm_triggers.specs.KeptRuns.{KeptRuns, started_at}
+use Rattle.wm_triggers.specs.declared.program_end.ProgramEnd.{ProgramEnd}
 
 -- ---- one definition
 
@@ -21,6 +22,10 @@ since_last last = record { since = from_clock last; empty_on_fresh = false }
 -- the run of a definition that is due on a history: the files that the trigger is for, of those that changed since its last run
 abbrev pub due_for : KeptRuns → History → Option Answer
 due_for one h = option_and_then (λ term. run_by (answer_to (holds term) h (since_last one.last))) (term_for one.trigger)
+
+-- the program of a run has run, and ended in some way
+abbrev pub RunsToEnd : (has_run : Path → Definition → Answer → ProgramEnd → Type 0) → Path → Definition → Answer → Type 0
+RunsToEnd has_run root trigger run = (end : ProgramEnd) × has_run root trigger run end
 
 -- the run that is due has run, and its clock is kept; if none is due, all stays
 abbrev pub RunsIfDue : (has_run : Path → Definition → Answer → Type 0) → Path → History → KeptRuns → KeptRuns → Type 0

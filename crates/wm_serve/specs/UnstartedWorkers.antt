@@ -37,3 +37,11 @@ is_worker (Triggers a) (Triggers b) = a == b
 abbrev pub without_worker : Worker → List Worker → List Worker
 without_worker worker [] = []
 without_worker worker (first ∷ workers) = if is_worker worker first then workers else first ∷ without_worker worker workers
+
+-- no worker is started any longer
+abbrev pub closed_workers : WorkerList → WorkerList
+closed_workers w = record w { is_closed = true }
+
+-- the worker was started
+abbrev pub workers_after : Worker → WorkerList → WorkerList
+workers_after worker w = record w { workers = without_worker worker w.workers }

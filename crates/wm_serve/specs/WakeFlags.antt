@@ -1,6 +1,10 @@
 -- What wakes the thread that sends a session the lines that are due to it.
-use Rattle.std.specs.Prelude.{ℕ, ◌==◌, not, bit_and, bit_or, Bool, true, false}
+use Rattle.std.specs.Prelude.{◌≡◌, ◌^◌, ◌%◌, ℕ, ◌==◌, not, bit_and, bit_or, Bool, true, false, if◌then◌else◌}
+use Rattle.wm_serve.specs.LockedSteps.{StepState}
+use Rattle.wm_serve.specs.declared.notified.NotifiedFlags.{NotifiedFlags}
 use Rattle.wm_serve.specs.declared.wake_state.Wake.{Wake}
+use Rattle.wm_serve.specs.declared.wake_state.WakeState.{WakeState}
+use Rattle.wm_serve.specs.declared.wake_flag.Woken.{Woken}
 use Rattle.wm_serve.specs.declared.wake_state.Wake.TheVariants.{Clear, Set, Closed}
 
 abbrev pub is_clear : Wake → Bool
@@ -32,3 +36,29 @@ has_common roots others = not (bit_and roots others == 0)
 -- the bit of a root is in the new ones that wasn't in those before
 abbrev pub has_more : ℕ → ℕ → Bool
 has_more before roots = not (bit_or before roots == before)
+
+-- ---- what a flag is after a step
+
+-- the session has subscriptions on these roots, and lines may be due if there are more of them
+abbrev pub noted_flag : ℕ → WakeState → WakeState
+noted_flag roots s = record { wake = if has_more s.roots roots then set_wake s.wake else s.wake; roots = roots }
+
+-- the server closes
+abbrev pub closed_flag : WakeState → WakeState
+closed_flag s = record s { wake = Closed }
+
+-- the thread has looked
+abbrev pub taken_flag : WakeState → WakeState
+taken_flag s = record s { wake = taken_wake s.wake }
+
+-- the flag wasn't clear any longer, the thread has looked, and goes on unless the server closes
+abbrev pub HasWaited : Woken → Type 0
+HasWaited woken = (is_clear woken.step.before.wake ≡ false) × (woken.goes_on ≡ is_not_closed woken.step.before.wake) × (woken.step.after ≡ taken_flag woken.step.before)
+
+-- these roots have changed: lines may be due if the session has a subscription on one of them
+abbrev pub HasNotified : ℕ → StepState WakeState → Type 0
+HasNotified roots step = step.after ≡ (if has_common step.before.roots roots then record step.before { wake = set_wake step.before.wake } else step.before)
+
+-- so many flags were notified of a change of the root of the number
+abbrev pub NotifiesAll : ℕ → ℕ → NotifiedFlags → Type 0
+NotifiesAll flags number notified = (notified.count ≡ flags) × (notified.roots ≡ 2 ^ (number % 64))

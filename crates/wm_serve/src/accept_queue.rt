@@ -1,7 +1,7 @@
 //! The accept queue: the sessions that were admitted and wait for a connection slot. Never are more there than slots.
 //! Definitions: specs/AcceptQueues.antt. Tests: serve_tests/src/sessions.rt.
-ghost use Rattle.std.specs.Prelude.{◌≡◌, ◌⊎◌, ◌<◌, ◌≤◌, ◌+◌, ◌-◌, ◌++◌, ◌∷◌, [], true, max, not, ◌==◌, ◌&&◌, length, MatchOption, MatchResult};
-ghost use Rattle.wm_serve.specs.AcceptQueues.{empty_queue, sessions_present};
+ghost use Rattle.std.specs.Prelude.{◌≡◌, [], not, ◌==◌, ◌&&◌, length, MatchResult};
+ghost use Rattle.wm_serve.specs.AcceptQueues.{IsAdmitted, IsFirstSession, closed_queue, empty_queue, left_queue, opened_queue};
 
 use std::alloc::Global;
 use std::marker::Model;
@@ -27,6 +27,20 @@ impl<T> Model for AcceptQueue<T> {
     ghost invariant = { λ q. length q.waiting.items + q.served ≤ q.slots };
 }
 
+/// No session is there for a slot: the queue alone says so. Contracts see whether none comes any longer.
+#[derive(Drop)]
+pub struct NoSession {
+    is_closed: bool,
+}
+
+impl Model for NoSession {
+    ghost use Rattle.std.specs.Prelude.{Bool};
+
+    ghost Value = { Bool };
+
+    ghost view = { λ n. n.is_closed };
+}
+
 impl<T: Drop> AcceptQueue<T> {
     /// A queue of no slot: nobody is admitted yet.
     pub fn new(alloc: Global) -> AcceptQueue<T>
@@ -42,7 +56,7 @@ impl<T: Drop> AcceptQueue<T> {
 
     /// So many sessions may be there at once, if no more might already.
     pub fn open(&mut self, slots: u64)
-        ensures { self.new ≡ record self.old { slots = max self.old.slots slots } }
+        ensures { self.new ≡ opened_queue slots self.old }
     {
         self.slots = self.slots.max(slots);
     }
@@ -50,8 +64,7 @@ impl<T: Drop> AcceptQueue<T> {
     /// Admits a session, behind those that wait. `TooMany` exactly if each slot is taken, and `NoMemory`: the session comes back
     /// then, and nothing changes.
     pub fn admit(&mut self, session: T) -> Result<(), (Refusal, T)>
-        ensures admitted { MatchResult result (λ _. (sessions_present self.old < self.old.slots) × (self.new ≡ record self.old { waiting = self.old.waiting ++ session ∷ [] }))
-            (λ e. (e.1 ≡ session) × (self.new ≡ self.old) × (((e.0 ≡ Refusal.TooMany) × (self.old.slots ≤ sessions_present self.old)) ⊎ ((e.0 ≡ Refusal.NoMemory) × (sessions_present self.old < self.old.slots)))) }
+        ensures { IsAdmitted session self.old self.new result }
     {
         if self.waiting.len() as u64 + self.served >= self.slots {
             return Err((Refusal::TooMany, session));
@@ -70,29 +83,30 @@ impl<T: Drop> AcceptQueue<T> {
         self.waiting.is_empty() && !self.is_closed
     }
 
-    /// Gives a slot the session that came first; `None` if none waits.
-    pub fn take(&mut self) -> Option<T>
-        ensures { MatchOption result ((self.old.waiting ≡ []) × (self.new ≡ self.old))
-            (λ session. (self.old.waiting ≡ session ∷ self.new.waiting) × (self.new ≡ record self.old { waiting = self.new.waiting; served = self.old.served + 1 })) }
+    /// Gives a slot the session that came first. Refused if none waits.
+    pub fn take(&mut self) -> Result<T, NoSession>
+        ensures { MatchResult result (λ session. IsFirstSession session self.old self.new) (λ none. (none ≡ self.old.is_closed) × (self.old.waiting ≡ []) × (self.new ≡ self.old)) }
     {
         if self.waiting.is_empty() {
-            return None;
+            return Err(NoSession {
+                is_closed: self.is_closed,
+            });
         }
         let session = self.waiting.remove(0);
         self.served += 1;
-        Some(session)
+        Ok(session)
     }
 
     /// A session that had a slot has ended.
     pub fn leave(&mut self)
-        ensures { self.new ≡ record self.old { served = self.old.served - 1 } }
+        ensures { self.new ≡ left_queue self.old }
     {
         self.served = self.served.saturating_sub(1);
     }
 
     /// No session comes any longer.
     pub fn close(&mut self)
-        ensures { self.new ≡ record self.old { is_closed = true } }
+        ensures { self.new ≡ closed_queue self.old }
     {
         self.is_closed = true;
     }

@@ -1,23 +1,33 @@
 //! A connection slot: the session that two threads share, one of its lines and one of the lines that are due to it.
-//! Tests: serve_tests/src/sessions.rt.
+//! Definitions: specs/SubscribedRoots.antt. Tests: serve_tests/src/sessions.rt.
+ghost use Rattle.std.specs.Prelude.{◌≡◌, ◌≤◌, length, IfOk, IfErr, MatchOption, None, Some};
+ghost use Rattle.wm_serve.specs.SubscribedRoots.{AddsBitsOf};
+
+use crate::log_events::{is_cut_off, reports_store_failure};
 use crate::registrar::ServerDesk;
-use crate::sent_lines::{answer_line, send, send_due};
+use crate::sent_lines::{Answered, answer_line, send, send_due};
 use crate::shared::Shared;
-use crate::wake_state::bit_of;
+use crate::step::Step;
+use crate::wake_state::{WakeState, with_bit};
 use std::alloc::Global;
-use std::io;
 use std::net::Shutdown;
 use std::os::unix::net::UnixStream;
+use std::snapshot::Snapshot;
 use std::sync::{Arc, Mutex, Wait};
 use std::time::Clock;
+use std::{io, mem};
 use wm_disk::NoMemory;
 use wm_hall::{RootHall, Seconds};
+use wm_log::What;
 use wm_session::Session;
 use wm_share::Naming;
 use wm_shared::{SharedFront, end_subscriptions};
 
 /// A session of a server.
 pub type ServerSession<'a, T, J, K> = Session<SharedFront<'a, T, Shared<T, J, K>, J, K>>;
+
+/// That a session of a server answered a line.
+pub type AnsweredHere<'l, 'a, T, J, K> = Answered<'l, SharedFront<'a, T, Shared<T, J, K>, J, K>>;
 
 /// A session with its socket, and the lines on their way.
 #[derive(Drop)]
@@ -59,45 +69,129 @@ impl<'a, T: ServerDesk, J: Naming, K: Wait + Clock + Copy + Drop> Connection<'a,
     }
 
     /// The roots that the session has subscriptions on, as their bits.
-    fn subscribed<R: Wait>(&self, rt: &R, shared: &Shared<T, J, K>) -> u64 {
+    #[tactic(auto, using(crate::proofs::Bits::one_more, crate::proofs::Bits::none_left))]
+    fn subscribed<R: Wait>(&self, rt: &R, shared: &Shared<T, J, K>) -> u64
+        ensures { AddsBitsOf 0 self.now.session.subscriptions result }
+    {
+        let subscriptions = self.session.subscriptions();
         let mut roots = 0u64;
-        for one in self.session.subscriptions() {
-            if let Some(number) = shared.number_of(rt, &one.root) {
-                roots |= bit_of(number);
-            }
+        for place in 0..subscriptions.len() {
+            let number = shared.number_of(rt, &subscriptions[place].root);
+            roots = with_bit(roots, number);
         }
         roots
     }
 
     /// Answers a line, and sends the reply with what is due behind it.
-    fn answer<R: Wait>(
+    fn answer<'l, R: Wait>(
         &mut self,
         rt: &R,
         alloc: Global,
         shared: &Shared<T, J, K>,
-        line: &[u8],
-    ) -> io::Result<()> {
+        line: &'l [u8],
+    ) -> AnsweredHere<'l, 'a, T, J, K>
+        ensures line { result.line.value.now ≡ line.now }
+        ensures session { result.session.after ≡ self.new.session }
+    {
         self.drop_ended(rt, alloc, shared);
         let moment = shared.second();
         let mut writer = &*self.stream;
-        answer_line(
+        let sent = answer_line(
             alloc,
             &mut self.session,
             moment,
             line,
             &mut self.page,
             &mut writer,
-        )
+        );
+        if reports_store_failure(&self.page) {
+            shared.log.note(&shared.keeping, None, What::StoreFailed);
+        }
+        sent
     }
 
     /// Sends what is due. A client that doesn't read it is cut off.
     fn send_updates<R: Wait>(&mut self, rt: &R, alloc: Global, shared: &Shared<T, J, K>) {
         self.drop_ended(rt, alloc, shared);
         let mut writer = &*self.stream;
-        if send_due(alloc, &mut self.session, &mut self.page, &mut writer).is_err() {
+        let sent = send_due(alloc, &mut self.session, &mut self.page, &mut writer);
+        if is_cut_off(&sent) {
+            shared.log.note(&shared.keeping, None, What::CutOff);
+        }
+        if sent.is_err() {
             let _ = self.stream.shutdown(Shutdown::Both);
         }
     }
+}
+
+/// No session is in a slot, as its lock shows.
+#[derive(Drop)]
+pub struct Vacant<'a, T: ServerDesk, J: Naming, K: Wait + Clock + Copy + Drop> {
+    seen: Snapshot<Option<Connection<'a, T, J, K>>>,
+}
+
+/// The connection that a slot had before, with the step by which it came out.
+#[derive(Drop)]
+pub struct Replaced<'a, T: ServerDesk, J: Naming, K: Wait + Clock + Copy + Drop> {
+    pub connection: Option<Connection<'a, T, J, K>>,
+    pub step: Step<Option<Connection<'a, T, J, K>>>,
+}
+
+impl<'a, T: ServerDesk, J: Naming, K: Wait + Clock + Copy + Drop> Replaced<'a, T, J, K> {
+    /// The connection.
+    pub fn into_connection(self) -> Option<Connection<'a, T, J, K>>
+        ensures { result ≡ self.entry.connection }
+    {
+        let Replaced {
+            connection,
+            step: _,
+        } = self;
+        connection
+    }
+}
+
+/// That the session of a slot answered a line, and that the roots which it has subscriptions on were noted, if the slot has a wake flag.
+#[derive(Drop)]
+pub struct SlotAnswer<'l, 'a, T: ServerDesk, J: Naming, K: Wait + Clock + Copy + Drop> {
+    pub answered: AnsweredHere<'l, 'a, T, J, K>,
+    pub noted: Option<Step<WakeState>>,
+}
+
+/// Puts another connection, or none, in the place of what is there.
+fn replace<'a, T: ServerDesk, J: Naming, K: Wait + Clock + Copy + Drop>(
+    place: &mut Option<Connection<'a, T, J, K>>,
+    other: Option<Connection<'a, T, J, K>>,
+) -> Replaced<'a, T, J, K>
+    ensures connection { result.connection ≡ place.old }
+    ensures step { result.step ≡ record { before = place.old; after = other.entry } }
+{
+    let before = Snapshot::of(place);
+    let connection = mem::replace(place, other);
+    Replaced {
+        connection,
+        step: Step::taken(before, place),
+    }
+}
+
+/// The session that is there, if one is, answers a line: with the roots that it has subscriptions on then, as their bits.
+fn answer_in<'l, 'a, R: Wait, T: ServerDesk, J: Naming, K: Wait + Clock + Copy + Drop>(
+    place: &mut Option<Connection<'a, T, J, K>>,
+    rt: &R,
+    alloc: Global,
+    shared: &Shared<T, J, K>,
+    line: &'l [u8],
+) -> Result<(AnsweredHere<'l, 'a, T, J, K>, u64), Vacant<'a, T, J, K>>
+    ensures line { IfOk result (λ answer. answer.0.line.value.now ≡ line.now) }
+    ensures roots { IfOk result (λ answer. AddsBitsOf 0 answer.0.session.after.subscriptions answer.1) }
+    ensures vacant { IfErr result (λ vacant. (vacant.seen.value ≡ None) × (place.old ≡ None)) }
+{
+    let seen = Snapshot::of(place);
+    let Some(one) = place else {
+        return Err(Vacant { seen });
+    };
+    let answered = one.answer(rt, alloc, shared, line);
+    let roots = one.subscribed(rt, shared);
+    Ok((answered, roots))
 }
 
 /// A slot for a session and its two threads.
@@ -116,34 +210,42 @@ impl<'a, T: ServerDesk, J: Naming, K: Wait + Clock + Copy + Drop> Slot<'a, T, J,
         }
     }
 
-    /// A session has come.
-    pub fn open<R: Wait>(&self, rt: &R, connection: Connection<'a, T, J, K>) {
-        let before = self.connection.lock(rt).replace(connection);
-        drop(before);
+    /// A session has come. The connection that was there before comes back.
+    pub fn open<R: Wait>(
+        &self,
+        rt: &R,
+        connection: Connection<'a, T, J, K>,
+    ) -> Replaced<'a, T, J, K>
+        ensures opened { result.step.after ≡ Some connection.entry }
+        ensures before { result.step.before ≡ result.connection }
+    {
+        replace(&mut *self.connection.lock(rt), Some(connection))
     }
 
-    /// The session has ended.
-    pub fn close<R: Wait>(&self, rt: &R) -> Option<Connection<'a, T, J, K>> {
-        self.connection.lock(rt).take()
+    /// The session has ended: its connection comes back.
+    pub fn close<R: Wait>(&self, rt: &R) -> Replaced<'a, T, J, K>
+        ensures closed { result.step.after ≡ None }
+        ensures before { result.step.before ≡ result.connection }
+    {
+        replace(&mut *self.connection.lock(rt), None)
     }
 
-    /// Answers a line, and notes whether lines may be due to the session from now on.
-    pub fn answer<R: Wait>(
+    /// Answers a line, and notes the roots that lines may be due to the session of from now on. Refused if no session is there.
+    pub fn answer<'l, R: Wait>(
         &self,
         rt: &R,
         alloc: Global,
         shared: &Shared<T, J, K>,
-        line: &[u8],
-    ) -> io::Result<()> {
+        line: &'l [u8],
+    ) -> Result<SlotAnswer<'l, 'a, T, J, K>, Vacant<'a, T, J, K>>
+        ensures line { IfOk result (λ answer. answer.answered.line.value.now ≡ line.now) }
+        ensures noted { IfOk result (λ answer. MatchOption answer.noted (length shared.now.wakes.items ≤ self.now.number) (λ step. AddsBitsOf 0 answer.answered.session.after.subscriptions step.after.roots)) }
+    {
         let mut connection = self.connection.lock(rt);
-        let Some(one) = &mut *connection else {
-            return Ok(());
-        };
-        let sent = one.answer(rt, alloc, shared, line);
-        let roots = one.subscribed(rt, shared);
+        let (answered, roots) = answer_in(&mut *connection, rt, alloc, shared, line)?;
         drop(connection);
-        shared.note(rt, self.number, roots);
-        sent
+        let noted = shared.note(rt, self.number, roots);
+        Ok(SlotAnswer { answered, noted })
     }
 
     /// Sends a line alone, or that memory ran out for it.

@@ -1,8 +1,12 @@
 //! The worker that crawls a root when that is asked for.
-//! Tests: serve_tests/src/crawls.rt.
-ghost use Rattle.std.specs.Prelude.{◌≡◌, ◌↔◌, IsTrue, Err};
+//! Definitions: specs/TriedCrawls.antt. Tests: serve_tests/src/crawls.rt.
+ghost use Rattle.std.specs.Prelude.{◌≡◌, ◌↔◌, IsTrue, Err, IfOk};
+ghost use Rattle.wm_serve.specs.TriedCrawls.{IsTriedAgain, IsWithoutCrawl, last_try, try_end};
 
-use crate::server_handle::{Crawl, ServerHandle};
+use crate::crawl::{Crawl, NoCrawl};
+use crate::noted_folders::{LentTurnstile, NotedFolders};
+use crate::server_handle::ServerHandle;
+use crate::tried_crawl::{Tried, TriedCrawl};
 use std::alloc::Global;
 use std::sync::Wait;
 use std::thread::Threads;
@@ -12,29 +16,24 @@ use wm_disk::Refusal;
 use wm_hall::CrawlTools;
 use wm_lines::Progress;
 
-/// Crawls once, and hands in what was found. What is observed while the crawl reads is noted from before it begins.
+/// Crawls once, and hands in what was found. What is observed while the crawl reads is noted from before it begins. If the crawl is
+/// refused, its reading is given up.
 fn crawl_once<
     R: Threads + Wait + Clock + Sync,
     H: ServerHandle,
     F: Folders + Sync,
     G: Turnstile + Sync,
->(
-    rt: &R,
-    alloc: Global,
-    server: &H,
-    tools: &CrawlTools<'_, F, G>,
-    root: u64,
-    asked: &Crawl,
-) -> Result<Progress, Refusal> {
-    let Some(begun) = server.begin_reading(rt, alloc, root) else {
-        return Err(Refusal::NotWatched);
+>(rt: &R, alloc: Global, server: &H, tools: &CrawlTools<'_, F, G>, asked: &Crawl) -> Tried {
+    let begun = match server.begin_reading(rt, alloc, asked.root) {
+        Ok(begun) => begun,
+        Err(none) => return Tried::NotBegun(none),
     };
     match begun.crawl(rt, alloc, tools, &asked.path, &asked.subtree) {
-        Ok(found) => server.take_in(rt, alloc, root, found),
-        Err(refusal) => {
-            server.give_up_reading(rt, root);
-            Err(refusal)
-        }
+        Ok(found) => match server.take_in(rt, alloc, asked.root, found) {
+            Ok(handed_in) => Tried::HandedIn(handed_in),
+            Err(none) => Tried::NotHandedIn(none),
+        },
+        Err(refusal) => Tried::GivenUp(refusal, server.give_up_reading(rt, asked.root)),
     }
 }
 
@@ -45,18 +44,67 @@ fn tries_again(ended: &Result<Progress, Refusal>) -> bool
     matches!(ended, Err(Refusal::BadClock))
 }
 
+/// The second try of a crawl whose first try came to this, if it was overtaken.
+fn try_again<
+    R: Threads + Wait + Clock + Sync,
+    H: ServerHandle,
+    F: Folders + Sync,
+    G: Turnstile + Sync,
+>(
+    rt: &R,
+    alloc: Global,
+    server: &H,
+    tools: &CrawlTools<'_, F, G>,
+    asked: &Crawl,
+    first: &Tried,
+) -> Option<Tried>
+    ensures { IsTriedAgain first.now result }
+{
+    if !tries_again(&first.ended()) {
+        return None;
+    }
+    Some(crawl_once(rt, alloc, server, tools, asked))
+}
+
+/// How the last of one or two tries ended.
+fn last_end(first: &Tried, second: &Option<Tried>) -> Result<Progress, Refusal>
+    ensures { result ≡ try_end (last_try first.now second.now) }
+{
+    match second {
+        Some(second) => second.ended(),
+        None => first.ended(),
+    }
+}
+
 /// Crawls as it is asked, and reports the end. A crawl that was overtaken is tried once more.
 fn run_crawl<
     R: Threads + Wait + Clock + Sync,
     H: ServerHandle,
     F: Folders + Sync,
     G: Turnstile + Sync,
->(rt: &R, alloc: Global, server: &H, tools: &CrawlTools<'_, F, G>, root: u64, asked: &Crawl) {
-    let mut ended = crawl_once(rt, alloc, server, tools, root, asked);
-    if tries_again(&ended) {
-        ended = crawl_once(rt, alloc, server, tools, root, asked);
+>(rt: &R, alloc: Global, server: &H, tools: &CrawlTools<'_, F, G>, asked: &Crawl) -> TriedCrawl
+    ensures again { IsTriedAgain result.first result.second }
+    ensures reported { IfOk result.reported (λ crawl. crawl ≡ record { ticket = asked.now.ticket; ended = try_end (last_try result.first result.second) }) }
+{
+    let folders = NotedFolders::new(rt, tools.folders);
+    let turnstile = LentTurnstile {
+        turnstile: tools.turnstile,
+    };
+    let tools = CrawlTools {
+        folders: &folders,
+        turnstile: &turnstile,
+        workers: tools.workers,
+    };
+    let first = crawl_once(rt, alloc, server, &tools, asked);
+    let second = try_again(rt, alloc, server, &tools, asked, &first);
+    let ended = last_end(&first, &second);
+    folders.log_end(alloc, server.log(), &asked.path, &ended);
+    let reported = server.crawled(rt, asked.root, asked.ticket(), ended);
+    TriedCrawl {
+        first,
+        second,
+        reported,
     }
-    server.crawled(rt, root, asked.ticket, ended);
 }
 
 /// Crawls a root each time that is asked for, until it isn't watched any longer.
@@ -65,11 +113,16 @@ pub fn run_crawls<
     H: ServerHandle,
     F: Folders + Sync,
     G: Turnstile + Sync,
->(rt: &R, alloc: Global, server: &H, tools: &CrawlTools<'_, F, G>, root: u64) {
+>(rt: &R, alloc: Global, server: &H, tools: &CrawlTools<'_, F, G>, root: u64) -> NoCrawl
+    ensures { IsWithoutCrawl root result }
+{
     for _ in rt.forever() {
-        let Some(asked) = server.next_crawl(rt, alloc, root) else {
-            return;
-        };
-        run_crawl(rt, alloc, server, tools, root, &asked);
+        match server.next_crawl(rt, alloc, root) {
+            Ok(asked) => {
+                let _tried = run_crawl(rt, alloc, server, tools, &asked);
+            }
+            Err(none) => return none,
+        }
     }
+    unreachable!()
 }

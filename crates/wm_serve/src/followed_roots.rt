@@ -1,12 +1,14 @@
 //! How the table of the watched roots follows the accepted commands: by path and number it stands as the registry does.
 //! Definitions: specs/FollowedRoots.antt. Tests: serve_tests/src/sessions.rt.
-ghost use Rattle.std.specs.Prelude.{◌≡◌, ◌⊎◌, None, MatchBool, MatchResult, MatchOption};
+ghost use Rattle.std.specs.Prelude.{◌≡◌, ◌⊎◌, None, IfOk, MatchBool, MatchResult, MatchOption};
 ghost use Rattle.wm_serve.specs.FollowedRoots.{FillsRoot, FollowsCommand, HasWorkers, IsStepOf, PutsRoot, TakesRoot, hall_made as hall_made_lem, left_to_halls, numbered_roots, root_ended};
 ghost use Rattle.wm_serve.specs.WatchedRoots.{has_path};
 ghost use Rattle.std.specs.Prelude.{find};
 
 use crate::root_table::{RootTable, WatchedRoot};
+use crate::step::Step;
 use crate::unstarted_workers::UnstartedWorkers;
+use std::snapshot::Snapshot;
 use wm_disk::NoMemory;
 use wm_names::RootPath;
 use wm_registry::{Command, Trigger, TriggerName};
@@ -21,6 +23,20 @@ pub enum Followed<H> {
     Defined(RootPath, Trigger),
     /// The root's trigger of that name is deleted.
     Deleted(RootPath, TriggerName),
+}
+
+/// A step of the table and of the workers that are still to be started, by who has both in hand.
+#[derive(Drop)]
+pub struct TableStep<H> {
+    pub roots: Step<RootTable<H>>,
+    pub unstarted: Step<UnstartedWorkers>,
+}
+
+/// How the table followed a command, and what is still to be done about a hall.
+#[derive(Drop)]
+pub struct FollowedInTable<H> {
+    pub step: TableStep<H>,
+    pub left: Followed<H>,
 }
 
 /// Has both workers of a root started if it has a hall. Without memory for these the root has none.
@@ -155,5 +171,56 @@ pub fn follow_command<H: Drop>(
         Command::WatchDel(path) => unwatch(roots, &path),
         Command::Trigger(path, trigger) => Followed::Defined(path, trigger),
         Command::TriggerDel(path, name) => Followed::Deleted(path, name),
+    }
+}
+
+/// The step from what both were to what they are.
+pub fn stepped<H: Drop>(
+    before: Snapshot<RootTable<H>>,
+    unstarted_before: Snapshot<UnstartedWorkers>,
+    roots: &RootTable<H>,
+    unstarted: &UnstartedWorkers,
+) -> TableStep<H>
+    ensures roots { result.roots ≡ record { before = before.value; after = roots.now } }
+    ensures unstarted { result.unstarted ≡ record { before = unstarted_before.value; after = unstarted.now } }
+{
+    TableStep {
+        roots: Step::taken(before, roots),
+        unstarted: Step::taken(unstarted_before, unstarted),
+    }
+}
+
+/// As [`fill_root`], for who has locked both.
+pub fn fill_root_step<H: Drop>(
+    roots: &mut RootTable<H>,
+    unstarted: &mut UnstartedWorkers,
+    number: u64,
+    hall: H,
+) -> Result<TableStep<H>, NoMemory>
+    ensures { IfOk result (λ step. FillsRoot number hall step.roots.before step.unstarted.before step.roots.after step.unstarted.after) }
+{
+    let before = Snapshot::of(&*roots);
+    let unstarted_before = Snapshot::of(&*unstarted);
+    fill_root(roots, unstarted, number, hall)?;
+    Ok(stepped(before, unstarted_before, roots, unstarted))
+}
+
+/// As [`follow_command`], for who has locked both.
+pub fn follow_command_step<H: Drop>(
+    roots: &mut RootTable<H>,
+    unstarted: &mut UnstartedWorkers,
+    command: Command,
+    made: Option<(u64, H)>,
+) -> FollowedInTable<H>
+    ensures follows { FollowsCommand command made result.step.roots.before result.step.unstarted.before result.step.roots.after result.step.unstarted.after }
+    ensures step { IsStepOf command (numbered_roots result.step.roots.before) (numbered_roots result.step.roots.after) }
+    ensures left { result.left ≡ left_to_halls command result.step.roots.before.roots }
+{
+    let before = Snapshot::of(&*roots);
+    let unstarted_before = Snapshot::of(&*unstarted);
+    let left = follow_command(roots, unstarted, command, made);
+    FollowedInTable {
+        step: stepped(before, unstarted_before, roots, unstarted),
+        left,
     }
 }

@@ -5,115 +5,108 @@
 //! of commands, and a session that has seen more commands than that waits until the table has followed them.
 //!
 //! Tests: serve_tests/src/sessions.rt.
-ghost use Rattle.std.specs.Prelude.{◌≡◌, ◌⊎◌, ◌+◌, max, nat_lt, IfErr};
+ghost use Rattle.std.specs.Prelude.{◌≡◌, ◌≤◌, ◌⊎◌, false, Ok, Some, None, length, IfOk, IfErr, MatchOption};
+ghost use Rattle.std.specs.Arc.{arc_value};
+ghost use Rattle.wm_serve.specs.FollowedCommands.{AppliesCommand, ChangesHall, FollowsInHall, HasFollowed, IsHallEnded, IsMadeFor, awaited_starts, hall_name};
+ghost use Rattle.wm_serve.specs.Turns.{is_out_of_turn};
 
-use crate::followed_roots::Followed;
+use crate::followed_command::{
+    AppliedCommand, ChangedHall, EndedHall, FollowedCommand, FollowedInHall,
+};
+use crate::followed_roots::{Followed, FollowedInTable};
+use crate::found_hall::FoundHall;
+use crate::notified::NotifiedFlags;
 use crate::registrar::ServerDesk;
 use crate::second::SystemSeconds;
 use crate::shared::Shared;
+use crate::turn::{FollowedCount, Following};
 use crate::wake_state::bit_of;
 use std::alloc::Global;
 use std::sync::{Arc, Wait};
 use std::time::Clock;
 use wm_disk::Refusal;
-use wm_hall::{RootHall, Seconds};
+use wm_hall::{Changed, RootHall, Seconds, StartsOver};
 use wm_names::RootPath;
 use wm_registry::{Command, Trigger};
 use wm_share::Naming;
-use wm_shared::Roots;
+use wm_shared::{FollowingRoots, Roots};
 
-/// How far the roots have followed.
-#[derive(Drop)]
-pub struct Following {
-    incarnation: u64,
-    /// How many accepted commands were followed.
-    count: u64,
-}
-
-impl Following {
-    /// Nothing is followed yet.
-    pub fn new() -> Following
-        ensures { (result.incarnation ≡ 0) × (result.count ≡ 0) }
-    {
-        Following {
-            incarnation: 0,
-            count: 0,
-        }
-    }
-
-    /// The roots stand as in a registry.
-    pub fn begin(&mut self, incarnation: u64, count: u64)
-        ensures { (self.new.incarnation ≡ incarnation) × (self.new.count ≡ count) }
-    {
-        self.incarnation = incarnation;
-        self.count = count;
-    }
-
-    /// Whether an earlier command is still to be followed before the one of this number.
-    fn is_before(&self, number: u64) -> bool
-        ensures { result ≡ nat_lt (self.now.count + 1) number }
-    {
-        number > 0 && self.count < number - 1
-    }
-
-    /// Whether fewer commands than these were followed.
-    fn is_short_of(&self, count: u64) -> bool
-        ensures { result ≡ nat_lt self.now.count count }
-    {
-        self.count < count
-    }
-
-    /// The command of this number was followed.
-    fn followed(&mut self, number: u64)
-        ensures { (self.new.count ≡ max self.old.count number) × (self.new.incarnation ≡ self.old.incarnation) }
-    {
-        if self.count < number {
-            self.count = number;
-        }
+/// Waits until the starts are over of the hall whose triggers changed, or that ended; `None` if there is none.
+fn await_starts<R: Wait, J: Naming, K: Wait + Drop>(
+    rt: &R,
+    followed: &FollowedInHall<Arc<RootHall<J, K>>>,
+) -> Option<StartsOver>
+    ensures { result ≡ awaited_starts followed.now }
+{
+    match followed {
+        FollowedInHall::Untouched => None,
+        FollowedInHall::Over(ended) => Some(ended.hall.await_starts(rt)),
+        FollowedInHall::Changed(changed) => match &changed.found.hall {
+            Ok(Some(hall)) => Some(hall.await_starts(rt)),
+            Ok(None) | Err(_) => None,
+        },
     }
 }
 
 impl<T: ServerDesk, J: Naming, K: Wait + Clock + Copy + Drop> Shared<T, J, K> {
     /// Has the roots follow the accepted command of this number, once they have followed all earlier ones. No trigger that it
     /// deleted or replaced, or whose root it ended, is started after that.
-    fn follow_one<R: Wait>(&self, rt: &R, alloc: Global, number: u64, command: Command) {
+    fn follow_one<R: Wait>(
+        &self,
+        rt: &R,
+        alloc: Global,
+        number: u64,
+        command: Command,
+    ) -> FollowedCommand<Arc<RootHall<J, K>>>
+        ensures { HasFollowed arc_value hall_name (length self.now.wakes.items) number command result }
+    {
         let mut following = self.followed.wait_while(
             rt,
             self.following.lock(rt),
             |following| following.is_before(number),
         );
-        let changed = self.apply(rt, alloc, following.incarnation, number, command);
-        following.followed(number);
+        let applied = self.apply(rt, alloc, &following, number, command);
+        let turn = following.follow(number);
         drop(following);
         self.followed.notify_all();
-        if let Some(hall) = changed {
-            hall.await_starts(rt);
-            drop(hall);
+        let starts = await_starts(rt, &applied.hall);
+        FollowedCommand {
+            applied,
+            turn,
+            starts,
         }
     }
 
     /// Waits until the roots have followed so many commands.
-    fn await_all<R: Wait>(&self, rt: &R, count: u64) {
+    fn await_all<R: Wait>(&self, rt: &R, count: u64) -> FollowedCount
+        ensures { count ≤ result }
+    {
         let following = self.followed.wait_while(
             rt,
             self.following.lock(rt),
             |following| following.is_short_of(count),
         );
-        drop(following);
+        following.followed_count()
     }
 
-    /// Does to the roots what a command did to the registry. The hall comes back whose triggers changed, or which has ended.
+    /// Does to the roots what a command did to the registry, in its turn.
     fn apply<R: Wait>(
         &self,
         rt: &R,
         alloc: Global,
-        incarnation: u64,
+        following: &Following,
         number: u64,
         command: Command,
-    ) -> Option<Arc<RootHall<J, K>>> {
-        let made = self.hall_for(rt, alloc, incarnation, &command);
-        let followed = self.follow_in_table(rt, command, made);
-        self.follow_in_hall(rt, number, followed)
+    ) -> AppliedCommand<Arc<RootHall<J, K>>>
+        requires { is_out_of_turn number following.now ≡ false }
+        ensures { AppliesCommand arc_value hall_name (length self.now.wakes.items) number command result }
+    {
+        let made = self.hall_for(rt, alloc, following.incarnation(), &command);
+        let FollowedInTable { step, left } = self.follow_in_table(rt, command, made);
+        AppliedCommand {
+            table: step,
+            hall: self.follow_in_hall(rt, number, left),
+        }
     }
 
     /// A hall for the root that a command adds, with the number that it is made for; `None` if the command adds none, or memory ran
@@ -124,7 +117,9 @@ impl<T: ServerDesk, J: Naming, K: Wait + Clock + Copy + Drop> Shared<T, J, K> {
         alloc: Global,
         incarnation: u64,
         command: &Command,
-    ) -> Option<(u64, Arc<RootHall<J, K>>)> {
+    ) -> Option<(u64, Arc<RootHall<J, K>>)>
+        ensures { MatchOption result (Unit {0}) (IsMadeFor arc_value hall_name command.now) }
+    {
         match command {
             Command::Watch(path) => {
                 let number = self.roots.lock(rt).next();
@@ -142,20 +137,31 @@ impl<T: ServerDesk, J: Naming, K: Wait + Clock + Copy + Drop> Shared<T, J, K> {
         rt: &R,
         number: u64,
         followed: Followed<Arc<RootHall<J, K>>>,
-    ) -> Option<Arc<RootHall<J, K>>> {
+    ) -> FollowedInHall<Arc<RootHall<J, K>>>
+        ensures { FollowsInHall arc_value hall_name (length self.now.wakes.items) number followed result }
+    {
         match followed {
-            Followed::Nothing => None,
-            Followed::Ended(hall) => {
-                let _ended = hall.end(rt);
-                self.notify(rt, bit_of(hall.number));
-                Some(hall)
+            Followed::Nothing => FollowedInHall::Untouched,
+            Followed::Ended(hall) => FollowedInHall::Over(self.end(rt, hall)),
+            Followed::Defined(path, trigger) => {
+                FollowedInHall::Changed(self.define(rt, &path, number, trigger))
             }
-            Followed::Defined(path, trigger) => self.define(rt, &path, number, trigger),
             Followed::Deleted(path, name) => {
-                let hall = self.known_hall(rt, &path).ok()??;
-                let _deleted = hall.delete(rt, name.as_str());
-                Some(hall)
+                FollowedInHall::Changed(self.delete(rt, &path, name.as_str()))
             }
+        }
+    }
+
+    /// Ends a hall: its workers end, none of its triggers begins any more, and who waits for changes of its root is woken.
+    fn end<R: Wait>(&self, rt: &R, hall: Arc<RootHall<J, K>>) -> EndedHall<Arc<RootHall<J, K>>>
+        ensures { IsHallEnded arc_value hall_name (length self.now.wakes.items) hall result }
+    {
+        let ended = hall.end(rt);
+        let notified = self.notify(rt, bit_of(hall.number));
+        EndedHall {
+            hall,
+            ended,
+            notified,
         }
     }
 
@@ -166,17 +172,35 @@ impl<T: ServerDesk, J: Naming, K: Wait + Clock + Copy + Drop> Shared<T, J, K> {
         path: &RootPath,
         number: u64,
         trigger: Trigger,
-    ) -> Option<Arc<RootHall<J, K>>> {
-        match self.known_hall(rt, path) {
-            Ok(Some(hall)) => {
-                let _defined = hall.define(rt, number, trigger);
-                Some(hall)
-            }
+    ) -> ChangedHall<Arc<RootHall<J, K>>>
+        ensures { ChangesHall arc_value path.now (λ defined. IfOk defined (λ by. by ≡ Some number)) result }
+    {
+        let found = self.known_hall(rt, path);
+        let defined = match &found.hall {
+            Ok(Some(hall)) => Some(hall.define(rt, number, trigger)),
             Ok(None) | Err(_) => {
                 drop(trigger);
                 None
             }
-        }
+        };
+        ChangedHall { found, defined }
+    }
+
+    /// Deletes a trigger of a root.
+    fn delete<R: Wait>(
+        &self,
+        rt: &R,
+        path: &RootPath,
+        name: &str,
+    ) -> ChangedHall<Arc<RootHall<J, K>>>
+        ensures { ChangesHall arc_value path.now (λ deleted. deleted ≡ Ok None) result }
+    {
+        let found = self.known_hall(rt, path);
+        let defined = match &found.hall {
+            Ok(Some(hall)) => Some(Ok(hall.delete(rt, name))),
+            Ok(None) | Err(_) => None,
+        };
+        ChangedHall { found, defined }
     }
 
     /// Makes the hall of a root for which memory had run out, unless that was done meanwhile. No command is followed meanwhile.
@@ -185,7 +209,8 @@ impl<T: ServerDesk, J: Naming, K: Wait + Clock + Copy + Drop> Shared<T, J, K> {
         ensures { IfErr result (λ e. (e ≡ Refusal.NotWatched) ⊎ (e ≡ Refusal.NoMemory)) }
     {
         let following = self.following.lock(rt);
-        let made = match self.known_hall(rt, path) {
+        let FoundHall { hall, table: _ } = self.known_hall(rt, path);
+        let made = match hall {
             Ok(Some(hall)) => {
                 drop(hall);
                 Ok(())
@@ -215,11 +240,11 @@ impl<T: ServerDesk, J: Naming, K: Wait + Clock + Copy + Drop> Shared<T, J, K> {
         if number != Some(root.number) {
             return Err(Refusal::NotWatched);
         }
-        let hall = self.new_hall(rt, alloc, path, following.incarnation, root.number)?;
+        let hall = self.new_hall(rt, alloc, path, following.incarnation(), root.number)?;
         for trigger in root.triggers.as_slice() {
-            let _defined = hall.define(rt, following.count, trigger.copy()?)?;
+            let _defined = hall.define(rt, following.count(), trigger.copy()?)?;
         }
-        self.fill(rt, root.number, hall)?;
+        let _filled = self.fill(rt, root.number, hall)?;
         Ok(())
     }
 }
@@ -235,7 +260,6 @@ impl<T: ServerDesk, J: Naming, K: Wait + Clock + Copy + Drop> Seconds for Shared
 }
 
 impl<T: ServerDesk, J: Naming, K: Wait + Clock + Copy + Drop> Roots<J, K> for Shared<T, J, K> {
-    ghost use Rattle.std.specs.Prelude.{⊤};
     ghost use Rattle.wm_serve.specs.WatchedRoots.{MayHaveHad, MayHaveLacked, MayHaveLackedNumber};
 
     ghost has = { λ shared path number. MayHaveHad path number };
@@ -243,10 +267,6 @@ impl<T: ServerDesk, J: Naming, K: Wait + Clock + Copy + Drop> Roots<J, K> for Sh
     ghost lacks = { λ shared path. MayHaveLacked path };
 
     ghost ended = { λ shared number. MayHaveLackedNumber number };
-
-    ghost followed = { λ shared count. ⊤ };
-
-    ghost woken = { λ shared number. ⊤ };
 
     fn find<R: Wait>(
         &self,
@@ -257,23 +277,50 @@ impl<T: ServerDesk, J: Naming, K: Wait + Clock + Copy + Drop> Roots<J, K> for Sh
         self.hall(rt, alloc, path)
     }
 
-    fn follow<R: Wait>(&self, rt: &R, alloc: Global, number: u64, command: Command) {
-        self.follow_one(rt, alloc, number, command);
-    }
-
-    fn await_followed<R: Wait>(&self, rt: &R, count: u64) {
-        self.await_all(rt, count);
-    }
-
-    fn wake<R: Wait>(&self, rt: &R, hall: &RootHall<J, K>) {
-        self.notify(rt, bit_of(hall.number));
-    }
-
     fn is_watched<R: Wait>(&self, rt: &R, number: u64) -> bool {
         self.is_numbered(rt, number)
     }
 
     fn number_of<R: Wait>(&self, rt: &R, path: &RootPath) -> Option<u64> {
         Shared::number_of(self, rt, path)
+    }
+}
+
+impl<T: ServerDesk, J: Naming, K: Wait + Clock + Copy + Drop> FollowingRoots<J, K>
+    for Shared<T, J, K> {
+    ghost use Rattle.std.specs.Prelude.{◌≤◌, length};
+    ghost use Rattle.std.specs.Arc.{arc_value};
+    ghost use Rattle.wm_serve.specs.FollowedCommands.{HasFollowed, hall_name};
+    ghost use Rattle.wm_serve.specs.WakeFlags.{NotifiesAll};
+
+    type Followed = FollowedCommand<Arc<RootHall<J, K>>>;
+
+    type Count = FollowedCount;
+
+    type Woken = NotifiedFlags;
+
+    ghost shows_followed = { λ shared number command followed. HasFollowed arc_value hall_name (length shared.wakes.items) number command followed };
+
+    ghost shows_count = { λ shared count followed. count ≤ followed };
+
+    ghost shows_woken = { λ shared number notified. NotifiesAll (length shared.wakes.items) number notified };
+
+    fn follow<R: Wait>(
+        &self,
+        rt: &R,
+        alloc: Global,
+        number: u64,
+        command: Command,
+    ) -> FollowedCommand<Arc<RootHall<J, K>>> {
+        self.follow_one(rt, alloc, number, command)
+    }
+
+    fn await_followed<R: Wait>(&self, rt: &R, count: u64) -> FollowedCount {
+        self.await_all(rt, count)
+    }
+
+    fn wake<R: Wait>(&self, rt: &R, hall: &RootHall<J, K>, changed: Changed) -> NotifiedFlags {
+        drop(changed);
+        self.notify(rt, bit_of(hall.number))
     }
 }

@@ -2,16 +2,30 @@
 //!
 //! [`serve`] opens a state file and serves a Unix socket. Each thread starts in [`server_threads`] or
 //! [`supervisor`] and sees the server as a [`ServerHandle`](server_handle::ServerHandle). A command goes to the desk, an operation to the keeper of its
-//! root, and a question to the session's own viewer of the root (`wm_hall`), which waits for nobody.
+//! root, and a question to the session's own viewer of the root (`wm_hall`), which waits for nobody. What fails is handed to an
+//! [`EventLog`](event_log::EventLog), which a thread of its own writes.
 #![tactic(auto)]
 
 mod accept_queue;
 mod admission;
 mod admission_lines;
+mod beginning;
+mod begun_roots;
 mod connection;
+mod counts;
+mod crawl;
 mod crawl_worker;
+mod event_log;
+mod followed_command;
 mod followed_roots;
 mod following;
+mod found_hall;
+mod log_events;
+mod log_worker;
+mod logged_programs;
+mod no_hall;
+mod noted_folders;
+mod notified;
 mod registrar;
 mod requests;
 mod root_table;
@@ -24,12 +38,17 @@ mod sessions;
 mod shared;
 mod slots;
 mod socket;
+mod step;
+mod store_closed;
 mod supervisor;
+mod tried_crawl;
 mod trigger_worker;
+mod turn;
 mod unstarted_workers;
 mod updates;
 mod waiting_sessions;
 mod wake_flag;
 mod wake_state;
+mod workers_end;
 
-pub use server::{ServerPaths, Settings, Tools, serve};
+pub use server::{Served, ServerPaths, Settings, Tools, serve};

@@ -8,6 +8,7 @@ ghost use Rattle.wm_serve.specs.WatchedRoots.{FindsNumber, IsFirst, MayHaveHad, 
 
 use std::alloc::Global;
 use std::marker::Model;
+use std::sync::Mutex;
 use wm_disk::NoMemory;
 use wm_names::RootPath;
 use wm_registry::MAX_ROOTS;
@@ -41,8 +42,14 @@ impl<H> Model for RootTable<H> {
 }
 
 impl<H: Drop> RootTable<H> {
+    /// A table of no root under its lock, where it stays. `NoMemory`.
+    pub fn locked(alloc: Global) -> Result<Mutex<RootTable<H>>, NoMemory> {
+        let table = RootTable::new(alloc)?;
+        Ok(Mutex::new(table))
+    }
+
     /// A table of no root, with memory for as many as may be watched. `NoMemory`.
-    pub fn new(alloc: Global) -> Result<RootTable<H>, NoMemory>
+    fn new(alloc: Global) -> Result<RootTable<H>, NoMemory>
         ensures { IfOk result (λ table. table ≡ record { roots = []; next = 1 }) }
     {
         let mut roots = Vec::new(alloc);

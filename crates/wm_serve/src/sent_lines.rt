@@ -5,9 +5,11 @@ ghost use Rattle.std.specs.Io.KnownBytes.{Appends};
 ghost use Rattle.wm_lines.specs.Replies.{reply_bytes};
 ghost use Rattle.wm_serve.specs.SentLines.{SendsDue, SendsReply, crawl_reply, no_memory_bytes};
 
+use crate::step::Step;
 use std::alloc::Global;
 use std::io;
 use std::io::Write;
+use std::snapshot::Snapshot;
 use wm_disk::{NoMemory, Refusal};
 use wm_lines::Progress;
 use wm_lines::reply::{PROGRESS_ROOM, REFUSAL_ROOM, put_clock, put_refusal};
@@ -44,22 +46,53 @@ pub fn send<W: Write>(line: Result<&[u8], NoMemory>, writer: &mut W) -> io::Resu
     }
 }
 
+/// A session has answered a line, and the reply was sent, unless the writer failed: `answer_line` alone makes it. Contracts see the line, and
+/// the session before and after.
+#[derive(Drop)]
+pub struct Answered<'l, F> {
+    sent: io::Result<()>,
+    line: Snapshot<&'l [u8]>,
+    session: Step<Session<F>>,
+}
+
+impl<F> Answered<'_, F> {
+    /// Whether the reply was sent.
+    pub fn into_sent(self) -> io::Result<()>
+        ensures { result ≡ self.entry.sent }
+    {
+        let Answered {
+            sent,
+            line: _,
+            session: _,
+        } = self;
+        sent
+    }
+}
+
 /// Answers a line, and sends the reply with what is due behind it. If memory runs out for the reply that is sent, and the session is as
 /// it was. An `Err` means that the writer failed: then a part may be sent.
-pub fn answer_line<F: Front, W: Write>(
+pub fn answer_line<'l, F: Front, W: Write>(
     alloc: Global,
     session: &mut Session<F>,
     moment: u64,
-    line: &[u8],
+    line: &'l [u8],
     page: &mut Vec<u8>,
     writer: &mut W,
-) -> io::Result<()>
-    ensures { OnOk result (SendsReply F.met session.old.front session.old.subscriptions moment line.now (W.contents writer.old) (W.contents writer.new) session.new.front session.new.subscriptions) }
+) -> Answered<'l, F>
+    ensures line { result.line.value.now ≡ line.now }
+    ensures session { result.session ≡ record { before = session.old; after = session.new } }
+    ensures sent { OnOk result.sent (SendsReply F.met session.old.front session.old.subscriptions moment line.now (W.contents writer.old) (W.contents writer.new) session.new.front session.new.subscriptions) }
 {
+    let before = Snapshot::of(session);
     page.clear();
-    match session.line(alloc, moment, line, page) {
+    let sent = match session.line(alloc, moment, line, page) {
         Ok(_) => writer.write_all(page),
         Err(NoMemory) => send_no_memory(writer),
+    };
+    Answered {
+        sent,
+        line: Snapshot::of(&line),
+        session: Step::taken(before, session),
     }
 }
 

@@ -4,14 +4,15 @@ ghost use Rattle.std.specs.Prelude.{◌≡◌, true};
 ghost use Rattle.wm_lines.specs.KeptExpressions.{have_expressions as have_expressions_lem};
 
 use crate::admission::Acceptor;
+use crate::log_worker::{LogPlace, LoggedService, serve_logged};
 use crate::registrar::ServerDesk;
-use crate::server_threads::{Service, serve_on};
+use crate::server_threads::{ServerClosed, Service, closed};
 use crate::shared::Shared;
 use crate::slots::Slots;
 use crate::socket::{identity_of, listen, remove};
 use std::alloc::Global;
 use std::fs::{File, Files};
-use std::io::Write;
+use std::io::{Print, Write};
 use std::marker::Brand;
 use std::net::Net;
 use std::sync::Wait;
@@ -38,6 +39,8 @@ pub struct Settings {
     pub gc_interval: u64,
     /// After so many sessions it ends.
     pub sessions: u64,
+    /// Whether it writes no log.
+    pub is_quiet: bool,
 }
 
 /// Where a server stands.
@@ -49,16 +52,24 @@ pub struct ServerPaths<'a> {
     pub socket: &'a str,
 }
 
-/// What a server crawls the roots by, and what starts their triggers' programs.
+/// What a server crawls the roots by, what starts their triggers' programs, and where its log is written.
 #[derive(Drop)]
-pub struct Tools<'a, F, G, P> {
+pub struct Tools<'a, F, G, P, L> {
     pub folders: &'a F,
     pub turnstile: &'a G,
     pub programs: &'a P,
+    pub log: &'a L,
+}
+
+/// A server has served so many sessions, its workers were ended, and its store was closed.
+#[derive(Drop)]
+pub struct Served {
+    closed: ServerClosed,
 }
 
 /// Serves a state file on a socket until so many sessions have ended. The socket is removed then, unless another file
-/// stands at its path by now.
+/// stands at its path by now. What happens meanwhile that `wm_log` has a line for is logged, unless it is to be quiet; an output that fails
+/// ends no server.
 ///
 /// Refused before anybody is admitted: `DeviceFailed` if the file can't be opened, has another owner or fails, if a server listens on
 /// the socket, something else stands there or it can't be made, and if the writer fails; `Damaged` if the file
@@ -69,17 +80,18 @@ pub fn serve<
     F: Folders + Sync,
     G: Turnstile + Sync,
     P: Programs + Sync,
+    L: Print + Sync,
     W: Write,
 >(
     rt: &R,
     alloc: Global,
     paths: ServerPaths<'_>,
-    tools: &Tools<'_, F, G, P>,
+    tools: &Tools<'_, F, G, P, L>,
     settings: Settings,
     writer: &mut W,
-) -> Result<(), Refusal> {
+) -> Result<Served, Refusal> {
     let store = open_file(rt, alloc, paths.file)?;
-    let Ok(listener) = listen(rt, paths.socket) else {
+    let Ok((listener, took_over)) = listen(rt, paths.socket) else {
         drop(store);
         return Err(Refusal::DeviceFailed);
     };
@@ -100,7 +112,12 @@ pub fn serve<
             interval_seconds: settings.gc_interval,
         },
     };
-    let served = serve_over::<FileDisk<Unknown>, Brand, R, F, G, P, W>(
+    let log = LogPlace {
+        output: (!settings.is_quiet).then_some(tools.log),
+        taken_socket: took_over.then_some(paths.socket),
+    };
+    let service = LoggedService { service, log };
+    let served = serve_over::<FileDisk<Unknown>, Brand, R, F, G, P, L, W>(
         rt,
         alloc,
         store,
@@ -110,7 +127,10 @@ pub fn serve<
     );
     drop(listener);
     remove(rt, paths.socket, own);
-    served
+    match served {
+        Ok(closed) => Ok(Served { closed }),
+        Err(refusal) => Err(refusal),
+    }
 }
 
 /// A desk over the store, which is dropped if memory runs out.
@@ -149,21 +169,22 @@ fn serve_over<
     F: Folders + Sync,
     G: Turnstile + Sync,
     P: Programs + Sync,
+    L: Print + Sync,
     W: Write,
 >(
     rt: &R,
     alloc: Global,
     store: Store<D>,
     opened: Opened,
-    service: &Service<'_, F, G, P>,
+    service: &LoggedService<'_, '_, F, G, P, L>,
     writer: &mut W,
-) -> Result<(), Refusal>
+) -> Result<ServerClosed, Refusal>
     requires expressions { have_expressions_lem store.registry ≡ true }
     requires book { opened.seen.book ≡ J.book }
 {
     let desk = desk_over(alloc, store)?;
     let shares: Shares<J> = Shares::new(opened);
-    let shared = shared_over(alloc, rt, desk, shares, service.retention)?;
+    let shared = shared_over(alloc, rt, desk, shares, service.service.retention)?;
     let served = serve_shared(rt, alloc, &shared, service, writer);
     drop(shared.into_desk().into_store());
     served
@@ -178,17 +199,18 @@ fn serve_shared<
     F: Folders + Sync,
     G: Turnstile + Sync,
     P: Programs + Sync,
+    L: Print + Sync,
     W: Write,
 >(
     rt: &R,
     alloc: Global,
     shared: &Shared<T, J, K>,
-    service: &Service<'_, F, G, P>,
+    service: &LoggedService<'_, '_, F, G, P, L>,
     writer: &mut W,
-) -> Result<(), Refusal> {
-    shared.begin(rt, alloc)?;
+) -> Result<ServerClosed, Refusal> {
+    let _begun = shared.begin(rt, alloc)?;
     let slots = Slots::new(alloc, shared)?;
-    let served = serve_on(rt, alloc, &slots, service, writer);
+    let served = serve_logged(rt, alloc, &slots, service, writer);
     drop(slots);
-    served
+    closed(served)
 }

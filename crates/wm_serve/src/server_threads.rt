@@ -1,12 +1,15 @@
 //! The threads of a server.
 //! Tests: serve_tests/src/sessions.rt.
-ghost use Rattle.std.specs.Prelude.{◌≡◌, Err, MatchResult};
+ghost use Rattle.std.specs.Prelude.{◌≡◌, Ok, Err, MatchResult};
 
 use crate::admission::{Acceptor, admit};
 use crate::admission_lines::report_ready;
+use crate::counts::SessionsAdmitted;
 use crate::server_handle::ServerHandle;
+use crate::store_closed::{StoreClosed, StoreUnclosed};
 use crate::supervisor::supervise;
 use crate::waiting_sessions::SLOTS;
+use crate::workers_end::WorkersEnded;
 use std::alloc::Global;
 use std::io::Write;
 use std::sync::Wait;
@@ -27,13 +30,56 @@ pub struct Service<'a, F, G, P> {
     pub retention: Retention,
 }
 
-/// How a server ends: by what kept it from serving sessions, and else by the close of its store.
-fn ended(held: Result<(), Refusal>, closed: Result<(), Refusal>) -> Result<(), Refusal>
-    ensures { MatchResult held (λ _. result ≡ closed) (λ e. result ≡ Err e) }
+/// How a server ended: how many sessions it admitted, or what kept it from serving them. Its workers were ended and its store closed in any case, unless
+/// that was refused.
+#[derive(Drop)]
+pub struct ServerEnd {
+    served: Result<SessionsAdmitted, Refusal>,
+    workers: WorkersEnded,
+    closed: Result<StoreClosed, StoreUnclosed>,
+}
+
+/// So many sessions were admitted, then the workers of the server were ended, and its store was closed.
+#[derive(Drop)]
+pub struct ServerClosed {
+    pub sessions: SessionsAdmitted,
+    pub workers: WorkersEnded,
+    pub store: StoreClosed,
+}
+
+/// Ends the workers, and closes the store.
+pub fn end<R: Wait, H: ServerHandle>(
+    rt: &R,
+    server: &H,
+    served: Result<SessionsAdmitted, Refusal>,
+) -> ServerEnd
+    ensures { result.served ≡ served }
 {
-    match held {
-        Ok(()) => closed,
-        Err(refusal) => Err(refusal),
+    let (workers, closed) = server.close(rt);
+    ServerEnd {
+        served,
+        workers,
+        closed,
+    }
+}
+
+/// How a server ended: by what kept it from serving sessions, and else by the close of its store.
+pub fn closed(end: ServerEnd) -> Result<ServerClosed, Refusal>
+    ensures { MatchResult end.served (λ sessions. MatchResult end.closed (λ store. result ≡ Ok (record { sessions = sessions; workers = end.workers; store = store })) (λ unclosed. result ≡ Err unclosed)) (λ e. result ≡ Err e) }
+{
+    let ServerEnd {
+        served,
+        workers,
+        closed,
+    } = end;
+    let sessions = served?;
+    match closed {
+        Ok(store) => Ok(ServerClosed {
+            sessions,
+            workers,
+            store,
+        }),
+        Err(unclosed) => Err(unclosed.refusal()),
     }
 }
 
@@ -45,25 +91,25 @@ fn serve_slots<R: Threads + Wait + Clock + Sync, H: ServerHandle + Sync, W: Writ
     acceptor: &Acceptor<'_>,
     slots: u64,
     writer: &mut W,
-) -> Result<(), Refusal> {
+) -> Result<SessionsAdmitted, Refusal> {
     thread::scope(thread::scope_env(), rt, |scope| {
         let mut open = 0;
         for slot in 0..slots {
-            if scope
-                .spawn(move || server.serve_sessions(rt, alloc, slot as usize))
-                .is_err()
-            {
+            let started = scope.spawn(move || {
+                let _none = server.serve_sessions(rt, alloc, slot as usize);
+            });
+            if started.is_err() {
                 break;
             }
             open = slot + 1;
         }
-        server.open_slots(rt, open);
-        let opened = report_ready(open, writer);
-        if opened.is_ok() {
-            admit(rt, server, acceptor);
-        }
-        server.close_slots(rt);
-        opened
+        let _opened = server.open_slots(rt, open);
+        let served = match report_ready(open, writer) {
+            Ok(()) => Ok(admit(rt, server, acceptor)),
+            Err(refusal) => Err(refusal),
+        };
+        let _closed = server.close_slots(rt);
+        served
     })
 }
 
@@ -77,34 +123,33 @@ pub fn serve_on<
     G: Turnstile + Sync,
     P: Programs + Sync,
     W: Write,
->(
-    rt: &R,
-    alloc: Global,
-    server: &H,
-    service: &Service<'_, F, G, P>,
-    writer: &mut W,
-) -> Result<(), Refusal> {
+>(rt: &R, alloc: Global, server: &H, service: &Service<'_, F, G, P>, writer: &mut W) -> ServerEnd {
     let crawls = &service.crawls;
     let programs = service.programs;
     thread::scope(thread::scope_env(), rt, |scope| {
-        if scope.spawn(move || server.flush(rt)).is_err()
-            || scope
-                .spawn(move || supervise(rt, alloc, server, crawls, programs))
-                .is_err()
-        {
-            return ended(Err(Refusal::NoMemory), server.close(rt));
+        let flusher = scope.spawn(move || {
+            let _left = server.flush(rt);
+        });
+        if flusher.is_err() {
+            return end(rt, server, Err(Refusal::NoMemory));
+        }
+        let supervisor = scope.spawn(move || {
+            let _none = supervise(rt, alloc, server, crawls, programs);
+        });
+        if supervisor.is_err() {
+            return end(rt, server, Err(Refusal::NoMemory));
         }
         let mut slots = 0;
         for slot in 0..SLOTS {
-            if scope
-                .spawn(move || server.send_updates(rt, alloc, slot as usize))
-                .is_err()
-            {
+            let started = scope.spawn(move || {
+                let _woken = server.send_updates(rt, alloc, slot as usize);
+            });
+            if started.is_err() {
                 break;
             }
             slots = slot + 1;
         }
-        let held = serve_slots(rt, alloc, server, &service.acceptor, slots, writer);
-        ended(held, server.close(rt))
+        let served = serve_slots(rt, alloc, server, &service.acceptor, slots, writer);
+        end(rt, server, served)
     })
 }

@@ -1,10 +1,15 @@
 //! The sessions of a slot, one after the other: their lines and their replies.
 //! Tests: serve_tests/src/sessions.rt.
-use crate::connection::{Connection, Slot};
+ghost use Rattle.std.specs.Prelude.{◌≡◌, true};
+
+use crate::accept_queue::NoSession;
+use crate::connection::{Connection, Slot, SlotAnswer};
+use crate::log_events::is_cut_off;
 use crate::registrar::ServerDesk;
 use crate::requests::crawl_asked;
 use crate::sent_lines::crawl_line;
 use crate::shared::Shared;
+use crate::waiting_sessions::NextSession;
 use std::alloc::Global;
 use std::io;
 use std::io::BufReader;
@@ -14,6 +19,7 @@ use std::sync::{Arc, Wait};
 use std::time::{Clock, Duration};
 use wm_disk::{NoMemory, Refusal};
 use wm_lines::Progress;
+use wm_log::What;
 use wm_names::{RootPath, Subtree};
 use wm_session::input::{LineRead, read_line};
 use wm_session::{Input, Session};
@@ -69,7 +75,13 @@ fn serve_line<R: Wait, T: ServerDesk, J: Naming, K: Wait + Clock + Copy + Drop>(
             send_ended(rt, alloc, slot, ended)
         }
         Some(Err(refusal)) => send_ended(rt, alloc, slot, Err(refusal)),
-        None => slot.answer(rt, alloc, shared, line),
+        None => match slot.answer(rt, alloc, shared, line) {
+            Ok(answer) => {
+                let SlotAnswer { answered, noted: _ } = answer;
+                answered.into_sent()
+            }
+            Err(_) => Ok(()),
+        },
     }
 }
 
@@ -160,15 +172,16 @@ fn serve_session<'a, R: Wait, T: ServerDesk, J: Naming, K: Wait + Clock + Copy +
         return place;
     };
     let front = SharedFront::new(shared.keeping, alloc, place, shared);
-    slot.open(
-        rt,
-        Connection::new(alloc, Session::new(alloc, front), other),
-    );
-    let _ended = serve_lines(rt, alloc, shared, slot, &stream);
+    let connection = Connection::new(alloc, Session::new(alloc, front), other);
+    drop(slot.open(rt, connection).into_connection());
+    let ended = serve_lines(rt, alloc, shared, slot, &stream);
+    if is_cut_off(&ended) {
+        shared.log.note(&shared.keeping, None, What::CutOff);
+    }
     let _ = stream.shutdown(Shutdown::Both);
     drop(stream);
-    shared.note(rt, slot.number, 0);
-    match slot.close(rt) {
+    let _noted = shared.note(rt, slot.number, 0);
+    match slot.close(rt).into_connection() {
         Some(connection) => {
             let (place, viewers) = connection.into_session().into_front().into_parts();
             give_all_back(rt, shared, viewers);
@@ -184,14 +197,22 @@ pub fn serve_sessions<'a, R: Wait, T: ServerDesk, J: Naming, K: Wait + Clock + C
     alloc: Global,
     shared: &'a Shared<T, J, K>,
     slot: &Slot<'a, T, J, K>,
-) {
+) -> NoSession
+    ensures { result ≡ true }
+{
     let mut place = Place::new(&shared.desk);
     for _ in rt.forever() {
-        let Some(stream) = shared.waiting.next(rt) else {
-            drop(place);
-            return;
-        };
-        place = serve_session(rt, alloc, shared, slot, place, stream);
-        shared.waiting.leave(rt);
+        match shared.waiting.next(rt) {
+            Ok(next) => {
+                let NextSession { stream, step: _ } = next;
+                place = serve_session(rt, alloc, shared, slot, place, stream);
+                let _left = shared.waiting.leave(rt);
+            }
+            Err(none) => {
+                drop(place);
+                return none;
+            }
+        }
     }
+    unreachable!()
 }

@@ -1,55 +1,35 @@
 //! What all threads of a server share: the desk, the watched roots, a wake flag for each connection slot, and the sessions that
 //! wait for one.
 //! Definitions: specs/WatchedRoots.antt. Tests: serve_tests/src/sessions.rt.
-ghost use Rattle.std.specs.Prelude.{◌≡◌, ◌⊎◌, false, IfOk, IfErr, IfSome, MatchBool, MatchOption};
+ghost use Rattle.std.specs.Prelude.{◌≡◌, ◌⊎◌, ◌≤◌, false, length, IfOk, IfErr, IfSome, MatchBool, MatchOption};
 ghost use Rattle.std.specs.Arc.{arc_value};
 ghost use Rattle.std.specs.List.{list_any};
 ghost use Rattle.wm_names.specs.Paths.{Path};
+ghost use Rattle.wm_serve.specs.FollowedRoots.{FillsRoot, FollowsCommand, IsStepOf, left_to_halls, numbered_roots};
+ghost use Rattle.wm_serve.specs.WakeFlags.{HasWaited, noted_flag};
 ghost use Rattle.wm_serve.specs.WatchedRoots.{FindsHall, MayHaveHad, MayHaveLacked, MayHaveLackedNumber, has_path};
 
-use crate::followed_roots::{Followed, fill_root, follow_command, put_root};
-use crate::following::Following;
+use crate::event_log::EventLog;
+use crate::followed_roots::{FollowedInTable, TableStep, fill_root_step, follow_command_step};
+use crate::found_hall::{FoundHall, find_hall};
+use crate::notified::NotifiedFlags;
 use crate::registrar::ServerDesk;
-use crate::root_table::{RootTable, WatchedRoot};
+use crate::root_table::RootTable;
+use crate::step::Step;
+use crate::turn::Following;
 use crate::unstarted_workers::UnstartedWorkers;
 use crate::waiting_sessions::{SLOTS, WaitingSessions};
-use crate::wake_flag::WakeFlag;
+use crate::wake_flag::{WakeFlag, Woken};
+use crate::wake_state::WakeState;
+use crate::workers_end::{WorkersEnded, close_flags, close_workers, end_halls};
 use std::alloc::Global;
 use std::sync::{Arc, Condvar, Mutex, Wait};
 use std::time::Clock;
 use wm_disk::{NoMemory, Refusal};
 use wm_hall::{Retention, RootHall};
 use wm_names::RootPath;
-use wm_registry::{Command, Registry};
+use wm_registry::Command;
 use wm_share::{Naming, Shares};
-
-/// The hall of the root of a path, as the table has it; `None` if memory ran out for it. `NotWatched` if no root has the path, and
-/// `NoMemory` if the hall has too many owners.
-pub fn hall_at<J: Naming, K: Wait + Drop>(
-    roots: &RootTable<Arc<RootHall<J, K>>>,
-    path: &RootPath,
-) -> Result<Option<Arc<RootHall<J, K>>>, Refusal>
-    ensures found { IfOk result (FindsHall arc_value path.now roots.now.roots) }
-    ensures had { IfOk result (λ found. IfSome found (λ hall. MayHaveHad path.now (arc_value hall).number)) }
-    ensures not_watched { IfErr result (λ e. e ≡ Refusal.NotWatched → list_any (has_path path.now) roots.now.roots ≡ false) }
-    ensures refused { IfErr result (λ e. (e ≡ Refusal.NotWatched) ⊎ (e ≡ Refusal.NoMemory)) }
-{
-    roots.numbers_rise();
-    let Some(root) = roots.find(path) else {
-        return Err(Refusal::NotWatched);
-    };
-    let Some(hall) = &root.hall else {
-        return Ok(None);
-    };
-    // each hall has the number of its root
-    if hall.number != root.number {
-        return Err(Refusal::NoMemory);
-    }
-    match Arc::try_clone(hall) {
-        Ok(hall) => Ok(Some(hall)),
-        Err(_) => Err(Refusal::NoMemory),
-    }
-}
 
 /// What all threads share.
 pub struct Shared<T: ServerDesk, J: Naming, K: Wait + Clock + Copy + Drop> {
@@ -73,6 +53,7 @@ pub struct Shared<T: ServerDesk, J: Naming, K: Wait + Clock + Copy + Drop> {
     pub waiting: WaitingSessions,
     /// When deleted paths of a root are forgotten.
     retention: Retention,
+    pub log: EventLog,
 }
 
 impl<T: ServerDesk, J: Naming, K: Wait + Clock + Copy + Drop> Shared<T, J, K> {
@@ -91,14 +72,15 @@ impl<T: ServerDesk, J: Naming, K: Wait + Clock + Copy + Drop> Shared<T, J, K> {
             keeping,
             desk,
             shares: Mutex::new(shares),
-            roots: Mutex::new(roots),
-            following: Mutex::new(Following::new()),
+            roots,
+            following: Following::locked(),
             followed: Condvar::new(),
-            unstarted: Mutex::new(UnstartedWorkers::new(alloc)),
+            unstarted: UnstartedWorkers::locked(alloc),
             workers_changed: Condvar::new(),
             wakes,
             waiting: WaitingSessions::new(alloc),
             retention,
+            log: EventLog::new(alloc),
         })
     }
 
@@ -116,20 +98,19 @@ impl<T: ServerDesk, J: Naming, K: Wait + Clock + Copy + Drop> Shared<T, J, K> {
             wakes: _,
             waiting: _,
             retention: _,
+            log: _,
         } = self;
         desk
     }
 
-    /// The hall of a root as the table has it now, as of [`hall_at`].
-    pub fn known_hall<R: Wait>(
-        &self,
-        rt: &R,
-        path: &RootPath,
-    ) -> Result<Option<Arc<RootHall<J, K>>>, Refusal>
-        ensures had { IfOk result (λ found. IfSome found (λ hall. MayHaveHad path.now (arc_value hall).number)) }
-        ensures refused { IfErr result (λ e. (e ≡ Refusal.NotWatched) ⊎ (e ≡ Refusal.NoMemory)) }
+    /// The hall of a root as the table has it now, as [`find_hall`].
+    pub fn known_hall<R: Wait>(&self, rt: &R, path: &RootPath) -> FoundHall<Arc<RootHall<J, K>>>
+        ensures found { IfOk result.hall (FindsHall arc_value path.now result.table.value.roots) }
+        ensures had { IfOk result.hall (λ found. IfSome found (λ hall. MayHaveHad path.now (arc_value hall).number)) }
+        ensures not_watched { IfErr result.hall (λ e. e ≡ Refusal.NotWatched → list_any (has_path path.now) result.table.value.roots ≡ false) }
+        ensures refused { IfErr result.hall (λ e. (e ≡ Refusal.NotWatched) ⊎ (e ≡ Refusal.NoMemory)) }
     {
-        hall_at(&self.roots.lock(rt), path)
+        find_hall(&self.roots.lock(rt), path)
     }
 
     /// The hall of a watched root; it is made if memory ran out for it before. `NotWatched` if there is no such root, and
@@ -143,51 +124,34 @@ impl<T: ServerDesk, J: Naming, K: Wait + Clock + Copy + Drop> Shared<T, J, K> {
         ensures had { IfOk result (λ hall. MayHaveHad path.now (arc_value hall).number) }
         ensures refused { IfErr result (λ e. (e ≡ Refusal.NotWatched) ⊎ (e ≡ Refusal.NoMemory)) }
     {
-        if let Some(hall) = self.known_hall(rt, path)? {
+        let FoundHall { hall, table: _ } = self.known_hall(rt, path);
+        if let Some(hall) = hall? {
             return Ok(hall);
         }
         self.make_up(rt, alloc, path)?;
-        match self.known_hall(rt, path)? {
+        let FoundHall { hall, table: _ } = self.known_hall(rt, path);
+        match hall? {
             Some(hall) => Ok(hall),
             None => Err(Refusal::NoMemory),
         }
     }
 
     /// The hall of a root by its number.
-    pub fn numbered<R: Wait>(&self, rt: &R, number: u64) -> Option<Arc<RootHall<J, K>>> {
+    pub fn numbered<R: Wait>(&self, rt: &R, number: u64) -> Option<Arc<RootHall<J, K>>>
+        ensures { IfSome result (λ hall. (arc_value hall).number ≡ number) }
+    {
         let roots = self.roots.lock(rt);
-        match &roots.numbered(number)?.hall {
-            Some(hall) => Arc::try_clone(hall).ok(),
-            None => None,
+        let Some(hall) = &roots.numbered(number)?.hall else {
+            return None;
+        };
+        // each hall has the number of its root
+        if hall.number != number {
+            return None;
         }
-    }
-
-    /// Has the roots of the registry at the start. `NoMemory`, and then some may have no hall.
-    pub fn begin<R: Wait>(&self, rt: &R, alloc: Global) -> Result<(), NoMemory> {
-        let copy = self.desk.registry(rt)?;
-        let count = copy.count();
-        let registry = copy.into_registry();
-        self.following.lock(rt).begin(registry.incarnation(), count);
-        let added = self.add_all(rt, alloc, &registry);
-        self.roots.lock(rt).begin_at(registry.next_root());
-        drop(registry);
-        added
-    }
-
-    fn add_all<R: Wait>(&self, rt: &R, alloc: Global, registry: &Registry) -> Result<(), NoMemory> {
-        for (path, root) in registry.roots() {
-            let hall = self.new_hall(rt, alloc, path, registry.incarnation(), root.number)?;
-            for trigger in root.triggers.as_slice() {
-                let _defined = hall.define(rt, 0, trigger.copy()?)?;
-            }
-            let root = WatchedRoot {
-                path: path.copy(alloc)?,
-                number: root.number,
-                hall: Some(hall),
-            };
-            self.put(rt, root);
+        match Arc::try_clone(hall) {
+            Ok(hall) => Some(hall),
+            Err(_) => None,
         }
-        Ok(())
     }
 
     /// A hall for a root, with no triggers yet.
@@ -198,7 +162,9 @@ impl<T: ServerDesk, J: Naming, K: Wait + Clock + Copy + Drop> Shared<T, J, K> {
         path: &RootPath,
         incarnation: u64,
         number: u64,
-    ) -> Result<Arc<RootHall<J, K>>, NoMemory> {
+    ) -> Result<Arc<RootHall<J, K>>, NoMemory>
+        ensures { IfOk result (λ hall. ((arc_value hall).path ≡ path.now) × ((arc_value hall).number ≡ number)) }
+    {
         let mut shares = self.shares.lock(rt);
         let Ok((keeper, pool)) = shares.share(self.keeping, alloc, incarnation, number) else {
             return Err(NoMemory);
@@ -208,42 +174,38 @@ impl<T: ServerDesk, J: Naming, K: Wait + Clock + Copy + Drop> Shared<T, J, K> {
         Arc::new(alloc, hall).map_err(|_| NoMemory)
     }
 
-    /// As [`put_root`].
-    fn put<R: Wait>(&self, rt: &R, root: WatchedRoot<Arc<RootHall<J, K>>>) {
-        let mut unstarted = self.unstarted.lock(rt);
-        let mut roots = self.roots.lock(rt);
-        put_root(&mut roots, &mut unstarted, root);
-        drop(roots);
-        drop(unstarted);
-        self.workers_changed.notify_all();
-    }
-
-    /// As [`fill_root`].
+    /// As [`fill_root_step`].
     pub fn fill<R: Wait>(
         &self,
         rt: &R,
         number: u64,
         hall: Arc<RootHall<J, K>>,
-    ) -> Result<(), NoMemory> {
+    ) -> Result<TableStep<Arc<RootHall<J, K>>>, NoMemory>
+        ensures { IfOk result (λ step. FillsRoot number hall step.roots.before step.unstarted.before step.roots.after step.unstarted.after) }
+    {
         let mut unstarted = self.unstarted.lock(rt);
         let mut roots = self.roots.lock(rt);
-        let filled = fill_root(&mut roots, &mut unstarted, number, hall);
+        let filled = fill_root_step(&mut roots, &mut unstarted, number, hall);
         drop(roots);
         drop(unstarted);
         self.workers_changed.notify_all();
         filled
     }
 
-    /// As [`follow_command`].
+    /// As [`follow_command_step`].
     pub fn follow_in_table<R: Wait>(
         &self,
         rt: &R,
         command: Command,
         made: Option<(u64, Arc<RootHall<J, K>>)>,
-    ) -> Followed<Arc<RootHall<J, K>>> {
+    ) -> FollowedInTable<Arc<RootHall<J, K>>>
+        ensures follows { FollowsCommand command made result.step.roots.before result.step.unstarted.before result.step.roots.after result.step.unstarted.after }
+        ensures step { IsStepOf command (numbered_roots result.step.roots.before) (numbered_roots result.step.roots.after) }
+        ensures left { result.left ≡ left_to_halls command result.step.roots.before.roots }
+    {
         let mut unstarted = self.unstarted.lock(rt);
         let mut roots = self.roots.lock(rt);
-        let followed = follow_command(&mut roots, &mut unstarted, command, made);
+        let followed = follow_command_step(&mut roots, &mut unstarted, command, made);
         drop(roots);
         drop(unstarted);
         self.workers_changed.notify_all();
@@ -264,49 +226,55 @@ impl<T: ServerDesk, J: Naming, K: Wait + Clock + Copy + Drop> Shared<T, J, K> {
         self.roots.lock(rt).is_numbered(number)
     }
 
-    /// Lines may be due to each session that has a subscription on one of these roots, as their bits.
-    pub fn notify<R: Wait>(&self, rt: &R, roots: u64) {
+    /// Lines may be due to each session that has a subscription on one of these roots, as their bits: each wake flag is notified.
+    pub fn notify<R: Wait>(&self, rt: &R, roots: u64) -> NotifiedFlags
+        ensures { (result.roots ≡ roots) × (result.count ≡ length self.now.wakes.items) }
+    {
+        let mut notified = NotifiedFlags::none(roots);
         for wake in self.wakes.iter() {
-            wake.notify(rt, roots);
+            notified = notified.with(wake.notify(rt, roots));
         }
+        notified
     }
 
-    /// Notes the roots that the session of a slot has subscriptions on, as their bits.
-    pub fn note<R: Wait>(&self, rt: &R, slot: usize, roots: u64) {
-        if let Some(wake) = self.wakes.get(slot) {
-            wake.note(rt, roots);
-        }
-    }
-
-    /// Waits until lines may be due to the session of a slot: `false` if the server closes.
-    pub fn wait<R: Wait>(&self, rt: &R, slot: usize) -> bool {
+    /// Notes the roots that the session of a slot has subscriptions on, as their bits. `None` only if there is no such slot.
+    pub fn note<R: Wait>(&self, rt: &R, slot: usize, roots: u64) -> Option<Step<WakeState>>
+        ensures { MatchOption result (length self.now.wakes.items ≤ slot) (λ step. step.after ≡ noted_flag roots step.before) }
+    {
         match self.wakes.get(slot) {
-            Some(wake) => wake.wait(rt),
-            None => false,
+            Some(wake) => Some(wake.note(rt, roots)),
+            None => None,
+        }
+    }
+
+    /// Waits until lines may be due to the session of a slot, or the server closes. `None` only if there is no such slot.
+    pub fn wait<R: Wait>(&self, rt: &R, slot: usize) -> Option<Woken>
+        ensures { MatchOption result (length self.now.wakes.items ≤ slot) HasWaited }
+    {
+        match self.wakes.get(slot) {
+            Some(wake) => Some(wake.wait(rt)),
+            None => None,
         }
     }
 
     /// Each worker ends, and each thread that sends updates; the flusher ends once the desk is closed.
-    pub fn end_workers<R: Wait>(&self, rt: &R) {
-        self.unstarted.lock(rt).close();
+    pub fn end_workers<R: Wait>(&self, rt: &R) -> WorkersEnded
+        ensures { result.flags ≡ length self.now.wakes.items }
+    {
+        let unstarted = close_workers(&mut *self.unstarted.lock(rt));
         self.workers_changed.notify_all();
-        for root in self.roots.lock(rt).all() {
-            if let Some(hall) = &root.hall {
-                let _ended = hall.end(rt);
-            }
-        }
-        for wake in self.wakes.iter() {
-            wake.close(rt);
-        }
+        let halls = end_halls(rt, self.roots.lock(rt).all());
+        let flags = close_flags(rt, &self.wakes);
+        WorkersEnded::by(unstarted, halls, flags)
     }
 }
 
 /// The flags, and the table of roots.
 fn fittings<J: Naming, K: Wait + Drop>(
     alloc: Global,
-) -> Result<(Vec<WakeFlag>, RootTable<Arc<RootHall<J, K>>>), NoMemory> {
+) -> Result<(Vec<WakeFlag>, Mutex<RootTable<Arc<RootHall<J, K>>>>), NoMemory> {
     let wakes = wakes(alloc)?;
-    let roots = RootTable::new(alloc)?;
+    let roots = RootTable::locked(alloc)?;
     Ok((wakes, roots))
 }
 

@@ -1,40 +1,69 @@
 //! What threads are given of a server.
 //! Tests: serve_tests/src/sessions.rt.
+ghost use Rattle.std.specs.Prelude.{◌≡◌, true, IfErr, MatchResult};
+ghost use Rattle.wm_serve.specs.UnstartedWorkers.{workers_after};
+
+use crate::accept_queue::NoSession;
 use crate::connection::Slot;
-use crate::registrar::ServerDesk;
+use crate::crawl::{Crawl, NoCrawl};
+use crate::event_log::EventLog;
+use crate::logged_programs::LoggedPrograms;
+use crate::no_hall::{NoHall, hall_numbered};
+use crate::registrar::{NothingLeft, ServerDesk};
 use crate::second::SystemSeconds;
-use crate::server_handle::{Crawl, ServerHandle};
+use crate::server_handle::ServerHandle;
 use crate::sessions::serve_sessions;
 use crate::shared::Shared;
+use crate::step::Step;
+use crate::store_closed::{StoreClosed, StoreUnclosed};
 use crate::trigger_worker::run_triggers;
-use crate::unstarted_workers::Worker;
+use crate::unstarted_workers::{NextWorker, NoWorker, UnstartedWorkers};
 use crate::updates::send_updates;
-use crate::waiting_sessions::SLOTS;
+use crate::waiting_sessions::{Admission, QueueStep, SLOTS};
+use crate::wake_flag::Woken;
 use crate::wake_state::bit_of;
+use crate::workers_end::WorkersEnded;
 use std::alloc::Global;
 use std::os::unix::net::UnixStream;
-use std::sync::Wait;
+use std::snapshot::Snapshot;
+use std::sync::{Arc, Wait};
 use std::time::Clock;
 use wm_disk::{NoMemory, Refusal};
-use wm_hall::{Begun, BegunCrawl, Reading, RootHall};
+use wm_groupcommit::NoFlusher;
+use wm_hall::{Begun, CrawlEnded, GivenUp, HandedIn, NoWork, Reading, RootHall};
 use wm_lines::Progress;
 use wm_share::Naming;
 use wm_triggers::Programs;
 
-/// A crawl of a hall's root.
-fn crawl_of<J: Naming, K: Wait + Drop>(
+/// The next crawl of a hall's root, which has this number, once one is asked for. One that memory runs out for is over. Refused if the root has ended.
+fn next_crawl<R: Wait, J: Naming, K: Wait + Drop>(
+    rt: &R,
     alloc: Global,
     hall: &RootHall<J, K>,
-    begun: BegunCrawl,
-) -> Result<Crawl, NoMemory> {
-    let path = hall.path.copy(alloc)?;
-    let ticket = begun.ticket();
-    let subtree = begun.into_subtree()?;
-    Ok(Crawl {
-        path,
-        subtree,
-        ticket,
-    })
+    root: u64,
+) -> Result<Crawl, NoWork>
+    ensures { MatchResult result (λ crawl. (crawl.root ≡ root) × (crawl.path ≡ hall.now.path)) (λ none. none ≡ true) }
+{
+    for _ in rt.forever() {
+        let begun = hall.work.next_crawl(rt)?;
+        let ticket = begun.ticket();
+        match Crawl::of(alloc, root, &hall.path, begun) {
+            Ok(crawl) => return Ok(crawl),
+            Err(NoMemory) => {
+                let _ended = hall.work.crawled(rt, ticket, Err(Refusal::NoMemory));
+            }
+        }
+    }
+    unreachable!()
+}
+
+/// A worker was started, which isn't to be started any longer.
+fn started(unstarted: &mut UnstartedWorkers, worker: NextWorker) -> Step<UnstartedWorkers>
+    ensures { result ≡ record { before = unstarted.old; after = workers_after worker unstarted.old } }
+{
+    let before = Snapshot::of(unstarted);
+    unstarted.started(worker.worker());
+    Step::taken(before, unstarted)
 }
 
 /// A server with its connection slots.
@@ -53,35 +82,49 @@ impl<'a, T: ServerDesk, J: Naming, K: Wait + Clock + Copy + Drop> Slots<'a, T, J
         }
         Ok(Slots { shared, slots })
     }
+
+    /// The hall of the root of a number.
+    fn hall<R: Wait>(&self, rt: &R, root: u64) -> Result<Arc<RootHall<J, K>>, NoHall>
+        ensures { IfErr result (λ none. none ≡ root) }
+    {
+        hall_numbered(&self.shared.roots.lock(rt), root)
+    }
 }
 
 impl<'a, T: ServerDesk, J: Naming, K: Wait + Clock + Copy + Drop> ServerHandle
     for Slots<'a, T, J, K> {
-    fn open_slots<R: Wait>(&self, rt: &R, slots: u64) {
-        self.shared.waiting.open(rt, slots);
+    fn log(&self) -> &EventLog {
+        &self.shared.log
     }
 
-    fn admit<R: Wait>(&self, rt: &R, stream: UnixStream) -> Result<(), (Refusal, UnixStream)> {
+    fn open_slots<R: Wait>(&self, rt: &R, slots: u64) -> QueueStep {
+        self.shared.waiting.open(rt, slots)
+    }
+
+    fn admit<R: Wait>(&self, rt: &R, stream: UnixStream) -> Admission {
         self.shared.waiting.admit(rt, stream)
     }
 
-    fn serve_sessions<R: Wait>(&self, rt: &R, alloc: Global, slot: usize) {
-        if let Some(slot) = self.slots.get(slot) {
-            serve_sessions(rt, alloc, self.shared, slot);
+    fn serve_sessions<R: Wait>(&self, rt: &R, alloc: Global, slot: usize) -> Option<NoSession> {
+        match self.slots.get(slot) {
+            Some(slot) => Some(serve_sessions(rt, alloc, self.shared, slot)),
+            None => None,
         }
     }
 
-    fn send_updates<R: Wait>(&self, rt: &R, alloc: Global, slot: usize) {
-        if let Some(slot) = self.slots.get(slot) {
-            send_updates(rt, alloc, self.shared, slot);
+    fn send_updates<R: Wait>(&self, rt: &R, alloc: Global, slot: usize) -> Option<Woken> {
+        match self.slots.get(slot) {
+            Some(slot) => send_updates(rt, alloc, self.shared, slot),
+            None => None,
         }
     }
 
-    fn flush<R: Wait + Clock>(&self, rt: &R) {
-        self.shared.desk.flush(rt, &self.shared.unstarted);
+    fn flush<R: Wait + Clock>(&self, rt: &R) -> Result<NothingLeft, NoFlusher> {
+        self.shared.desk.flush(rt, &self.shared.unstarted)
     }
 
-    fn next_worker<R: Wait>(&self, rt: &R) -> Option<Worker> {
+    #[tactic(auto, using(crate::proofs::Closing::none_to_start))]
+    fn next_worker<R: Wait>(&self, rt: &R) -> Result<NextWorker, NoWorker> {
         let unstarted = self.shared.workers_changed.wait_while(
             rt,
             self.shared.unstarted.lock(rt),
@@ -90,43 +133,35 @@ impl<'a, T: ServerDesk, J: Naming, K: Wait + Clock + Copy + Drop> ServerHandle
         unstarted.next()
     }
 
-    fn started<R: Wait>(&self, rt: &R, worker: Worker) {
-        self.shared.unstarted.lock(rt).started(worker);
+    fn started<R: Wait>(&self, rt: &R, worker: NextWorker) -> Step<UnstartedWorkers> {
+        started(&mut *self.shared.unstarted.lock(rt), worker)
     }
 
-    fn next_crawl<R: Wait>(&self, rt: &R, alloc: Global, root: u64) -> Option<Crawl> {
-        let hall = self.shared.numbered(rt, root)?;
-        for _ in rt.forever() {
-            let Ok(begun) = hall.work.next_crawl(rt) else {
-                drop(hall);
-                return None;
-            };
-            let ticket = begun.ticket();
-            match crawl_of(alloc, &hall, begun) {
-                Ok(crawl) => {
-                    drop(hall);
-                    return Some(crawl);
-                }
-                Err(NoMemory) => {
-                    let _ended = hall.work.crawled(rt, ticket, Err(Refusal::NoMemory));
-                }
-            }
+    fn next_crawl<R: Wait>(&self, rt: &R, alloc: Global, root: u64) -> Result<Crawl, NoCrawl> {
+        let hall = match self.hall(rt, root) {
+            Ok(hall) => hall,
+            Err(none) => return Err(NoCrawl::NoHall(none)),
+        };
+        let next = next_crawl(rt, alloc, &hall, root);
+        drop(hall);
+        match next {
+            Ok(crawl) => Ok(crawl),
+            Err(none) => Err(NoCrawl::Ended(none)),
         }
-        None
     }
 
-    fn begin_reading<R: Wait>(&self, rt: &R, alloc: Global, root: u64) -> Option<Begun> {
-        let hall = self.shared.numbered(rt, root)?;
+    fn begin_reading<R: Wait>(&self, rt: &R, alloc: Global, root: u64) -> Result<Begun, NoHall> {
+        let hall = self.hall(rt, root)?;
         let begun = hall.begin_reading(rt, alloc);
         drop(hall);
-        Some(begun)
+        Ok(begun)
     }
 
-    fn give_up_reading<R: Wait>(&self, rt: &R, root: u64) {
-        if let Some(hall) = self.shared.numbered(rt, root) {
-            hall.give_up_reading(rt);
-            drop(hall);
-        }
+    fn give_up_reading<R: Wait>(&self, rt: &R, root: u64) -> Result<GivenUp, NoHall> {
+        let hall = self.hall(rt, root)?;
+        let given_up = hall.give_up_reading(rt);
+        drop(hall);
+        Ok(given_up)
     }
 
     fn take_in<R: Wait + Clock>(
@@ -135,37 +170,47 @@ impl<'a, T: ServerDesk, J: Naming, K: Wait + Clock + Copy + Drop> ServerHandle
         alloc: Global,
         root: u64,
         found: Reading,
-    ) -> Result<Progress, Refusal> {
-        let Some(hall) = self.shared.numbered(rt, root) else {
-            drop(found);
-            return Err(Refusal::NotWatched);
-        };
-        let met = hall.take_in(rt, alloc, &SystemSeconds { rt }, found);
-        self.shared.notify(rt, bit_of(root));
+    ) -> Result<HandedIn, NoHall> {
+        let hall = self.hall(rt, root)?;
+        let handed_in = hall.take_in(rt, alloc, &SystemSeconds { rt }, found);
+        let _notified = self.shared.notify(rt, bit_of(root));
         drop(hall);
-        met
+        Ok(handed_in)
     }
 
-    fn crawled<R: Wait>(&self, rt: &R, root: u64, ticket: u64, ended: Result<Progress, Refusal>) {
-        if let Some(hall) = self.shared.numbered(rt, root) {
-            let _ended = hall.work.crawled(rt, ticket, ended);
-            drop(hall);
-        }
+    fn crawled<R: Wait>(
+        &self,
+        rt: &R,
+        root: u64,
+        ticket: u64,
+        ended: Result<Progress, Refusal>,
+    ) -> Result<CrawlEnded, NoHall> {
+        let hall = self.hall(rt, root)?;
+        let crawl = hall.work.crawled(rt, ticket, ended);
+        drop(hall);
+        Ok(crawl)
     }
 
-    fn run_triggers<R: Wait, P: Programs>(&self, rt: &R, alloc: Global, root: u64, programs: &P) {
-        if let Some(hall) = self.shared.numbered(rt, root) {
-            run_triggers(rt, alloc, &hall, programs);
-            drop(hall);
-        }
+    fn run_triggers<R: Wait, P: Programs>(
+        &self,
+        rt: &R,
+        alloc: Global,
+        root: u64,
+        programs: &P,
+    ) -> Result<NoWork, NoHall> {
+        let hall = self.hall(rt, root)?;
+        let programs = LoggedPrograms::new(programs, &self.shared.log, self.shared.keeping);
+        let none = run_triggers(rt, alloc, &hall, &programs);
+        drop(hall);
+        Ok(none)
     }
 
-    fn close_slots<R: Wait>(&self, rt: &R) {
-        self.shared.waiting.close(rt);
+    fn close_slots<R: Wait>(&self, rt: &R) -> QueueStep {
+        self.shared.waiting.close(rt)
     }
 
-    fn close<R: Wait>(&self, rt: &R) -> Result<(), Refusal> {
-        self.shared.end_workers(rt);
-        self.shared.desk.close(rt)
+    fn close<R: Wait>(&self, rt: &R) -> (WorkersEnded, Result<StoreClosed, StoreUnclosed>) {
+        let workers = self.shared.end_workers(rt);
+        (workers, self.shared.desk.close(rt))
     }
 }

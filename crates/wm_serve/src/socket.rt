@@ -36,10 +36,10 @@ fn takes_over(is_refused: bool, is_socket: bool) -> bool
     is_refused && is_socket
 }
 
-/// Binds a path. A socket that nobody serves any longer is replaced.
-fn bind<R: Net + Files<File = File>>(rt: &R, path: &str) -> io::Result<UnixListener> {
+/// Binds a path. A socket that nobody serves any longer is replaced: whether one was.
+fn bind<R: Net + Files<File = File>>(rt: &R, path: &str) -> io::Result<(UnixListener, bool)> {
     match UnixListener::bind(rt, path) {
-        Ok(listener) => Ok(listener),
+        Ok(listener) => Ok((listener, false)),
         Err(e) => {
             if e.kind() != ErrorKind::AddrInUse
                 || !takes_over(is_refused(rt, path), is_socket(rt, path))
@@ -47,7 +47,8 @@ fn bind<R: Net + Files<File = File>>(rt: &R, path: &str) -> io::Result<UnixListe
                 return Err(e);
             }
             fs::remove_file(rt, path)?;
-            UnixListener::bind(rt, path)
+            let listener = UnixListener::bind(rt, path)?;
+            Ok((listener, true))
         }
     }
 }
@@ -75,11 +76,11 @@ pub fn remove<R: Files<File = File>>(rt: &R, path: &str, own: Option<Identity>) 
     }
 }
 
-/// Makes the socket, for this user alone. A socket that nobody serves any longer is replaced. An `Err` if a server
+/// Makes the socket, for this user alone. A socket that nobody serves any longer is replaced: whether one was. An `Err` if a server
 /// listens there, something else stands there, or the socket can't be made; and if its rights can't be set: then it stays,
 /// and nobody serves it.
-pub fn listen<R: Net + Files<File = File>>(rt: &R, path: &str) -> io::Result<UnixListener> {
-    let listener = bind(rt, path)?;
+pub fn listen<R: Net + Files<File = File>>(rt: &R, path: &str) -> io::Result<(UnixListener, bool)> {
+    let (listener, took_over) = bind(rt, path)?;
     fs::set_permissions(rt, path, Permissions::from_mode(0o600))?;
-    Ok(listener)
+    Ok((listener, took_over))
 }

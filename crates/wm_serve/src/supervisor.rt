@@ -1,16 +1,27 @@
 //! The supervisor: it starts the workers of each root.
-//! Tests: serve_tests/src/sessions.rt.
+//! Definitions: specs/TriedCrawls.antt. Tests: serve_tests/src/sessions.rt.
+ghost use Rattle.wm_serve.specs.TriedCrawls.{IsWithout};
+
+use crate::crawl::NoCrawl;
 use crate::crawl_worker::run_crawls;
+use crate::no_hall::NoHall;
 use crate::server_handle::ServerHandle;
-use crate::unstarted_workers::Worker;
+use crate::unstarted_workers::{NoWorker, Worker};
 use std::alloc::Global;
 use std::sync::Wait;
 use std::thread;
 use std::thread::Threads;
 use std::time::{Clock, Duration};
 use wm_crawler::{Folders, Turnstile};
-use wm_hall::CrawlTools;
+use wm_hall::{CrawlTools, NoWork};
 use wm_triggers::Programs;
+
+/// Why a worker ended.
+#[derive(Drop)]
+pub enum WorkerEnd {
+    Crawler(NoCrawl),
+    Triggers(Result<NoWork, NoHall>),
+}
 
 /// What a worker does until its root isn't watched any longer.
 fn run_worker<
@@ -19,10 +30,21 @@ fn run_worker<
     F: Folders + Sync,
     G: Turnstile + Sync,
     P: Programs,
->(rt: &R, alloc: Global, server: &H, crawls: &CrawlTools<'_, F, G>, programs: &P, worker: Worker) {
+>(
+    rt: &R,
+    alloc: Global,
+    server: &H,
+    crawls: &CrawlTools<'_, F, G>,
+    programs: &P,
+    worker: Worker,
+) -> WorkerEnd
+    ensures { IsWithout worker result }
+{
     match worker {
-        Worker::Crawler(root) => run_crawls(rt, alloc, server, crawls, root),
-        Worker::Triggers(root) => server.run_triggers(rt, alloc, root, programs),
+        Worker::Crawler(root) => { WorkerEnd::Crawler(run_crawls(rt, alloc, server, crawls, root)) }
+        Worker::Triggers(root) => {
+            WorkerEnd::Triggers(server.run_triggers(rt, alloc, root, programs))
+        }
     }
 }
 
@@ -33,20 +55,23 @@ pub fn supervise<
     F: Folders + Sync,
     G: Turnstile + Sync,
     P: Programs + Sync,
->(rt: &R, alloc: Global, server: &H, crawls: &CrawlTools<'_, F, G>, programs: &P) {
+>(rt: &R, alloc: Global, server: &H, crawls: &CrawlTools<'_, F, G>, programs: &P) -> NoWorker {
     thread::scope(thread::scope_env(), rt, |scope| {
         for _ in rt.forever() {
-            let Some(worker) = server.next_worker(rt) else {
-                return;
+            let next = match server.next_worker(rt) {
+                Ok(next) => next,
+                Err(none) => return none,
             };
-            let started = scope.spawn(move || run_worker(
-                rt, alloc, server, crawls, programs, worker,
-            ));
+            let worker = next.worker();
+            let started = scope.spawn(move || {
+                let _ended = run_worker(rt, alloc, server, crawls, programs, worker);
+            });
             if started.is_ok() {
-                server.started(rt, worker);
+                let _step = server.started(rt, next);
             } else {
                 thread::sleep(rt, Duration::from_millis(20));
             }
         }
-    });
+        unreachable!()
+    })
 }

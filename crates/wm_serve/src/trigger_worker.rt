@@ -1,16 +1,16 @@
 //! The worker that runs the triggers of a root: which of them stand, which run is due, and that none is started once it was deleted, is decided
 //! by the machines of wm_triggers.
 //! Definitions: specs/TriggerWork.antt. Tests: serve_tests/src/triggers.rt.
-ghost use Rattle.std.specs.Prelude.{◌≡◌, ◌⊎◌, ◌<◌, false, length, map, IfErr, IfOk, OnErr, OnOk};
+ghost use Rattle.std.specs.Prelude.{◌≡◌, ◌⊎◌, ◌<◌, true, false, length, map, IfErr, IfOk, OnErr, OnOk};
 ghost use Rattle.wm_share.specs.PublishedLists.{Begins, disconnected, history};
 ghost use Rattle.wm_view.specs.Histories.{is_ready};
 ghost use Rattle.wm_triggers.specs.KeptRuns.{kept_for};
-ghost use Rattle.wm_serve.specs.TriggerWork.{EachInTurn, FailsAt, RunsAt, RunsIfDue, RunsOrStays, due_for};
+ghost use Rattle.wm_serve.specs.TriggerWork.{EachInTurn, FailsAt, RunsAt, RunsIfDue, RunsOrStays, RunsToEnd, due_for};
 
 use std::alloc::Global;
 use std::sync::{Mutex, Wait};
 use wm_disk::Refusal;
-use wm_hall::{RootHall, StartPermit};
+use wm_hall::{Learnt, NoWork, RootHall, StartPermit};
 use wm_share::{Naming, Viewer};
 use wm_triggers::{
     DefinedTrigger, DefinedTriggers, DefinitionRuns, Permit, Programs, Run, TriggerRuns,
@@ -77,7 +77,7 @@ fn start<R: Wait, J: Naming, K: Wait + Drop, P: Programs>(
     one: &DefinitionRuns,
     run: &Run,
 ) -> Result<(), Refusal>
-    ensures ran { OnOk result (P.has_run root.now.programs.now root.now.hall.now.path one.now.trigger run.now) }
+    ensures ran { OnOk result (RunsToEnd (P.has_run root.now.programs.now) root.now.hall.now.path one.now.trigger run.now) }
     ensures failed { IfErr result (λ e. (e ≡ Refusal.NoMemory) ⊎ ((e ≡ Refusal.DeviceFailed) × P.has_failed root.now.programs.now root.now.hall.now.path one.now.trigger run.now)) }
 {
     let definition = one.definition()?;
@@ -87,8 +87,10 @@ fn start<R: Wait, J: Naming, K: Wait + Drop, P: Programs>(
         one: definition,
         given: Mutex::new(None),
     };
-    root.programs
-        .run(alloc, &root.hall.path, one.trigger(), run, permit)
+    let _end = root
+        .programs
+        .run(alloc, &root.hall.path, one.trigger(), run, permit)?;
+    Ok(())
 }
 
 /// Runs the definition at a place if a run of it is due. It is refused as `due_run` and `start` are: its next run then lists the
@@ -103,7 +105,7 @@ fn run_at<R: Wait, J: Naming, K: Wait + Drop, P: Programs>(
 ) -> Result<(), Refusal>
     requires { place < length runs.old }
     ensures seen { Begins viewer.old.list viewer.new.list }
-    ensures ran { OnOk result (RunsAt (P.has_run root.now.programs.now) root.now.hall.now.path (history viewer.new.list) place runs.old runs.new) }
+    ensures ran { OnOk result (RunsAt (RunsToEnd (P.has_run root.now.programs.now)) root.now.hall.now.path (history viewer.new.list) place runs.old runs.new) }
     ensures same { OnErr result (runs.new ≡ runs.old) }
     ensures refused { IfErr result (λ e. (e ≡ Refusal.NoMemory) ⊎ ((e ≡ Refusal.NoPlace) × (viewer.new ≡ disconnected viewer.old)) ⊎ ((e ≡ Refusal.NotReady) × (is_ready (history viewer.new.list) ≡ false)) ⊎ ((e ≡ Refusal.DeviceFailed) × FailsAt (P.has_failed root.now.programs.now) root.now.hall.now.path (history viewer.new.list) place runs.old)) }
 {
@@ -124,8 +126,8 @@ fn run_each<R: Wait, J: Naming, K: Wait + Drop, P: Programs>(
     viewer: &mut Viewer<J>,
     runs: &mut TriggerRuns,
 ) -> Result<(), Refusal>
-    ensures each { EachInTurn (RunsOrStays (P.has_run root.now.programs.now) root.now.hall.now.path) viewer.old.list runs.old runs.new viewer.new.list }
-    ensures ok { OnOk result (EachInTurn (RunsIfDue (P.has_run root.now.programs.now) root.now.hall.now.path) viewer.old.list runs.old runs.new viewer.new.list) }
+    ensures each { EachInTurn (RunsOrStays (RunsToEnd (P.has_run root.now.programs.now)) root.now.hall.now.path) viewer.old.list runs.old runs.new viewer.new.list }
+    ensures ok { OnOk result (EachInTurn (RunsIfDue (RunsToEnd (P.has_run root.now.programs.now)) root.now.hall.now.path) viewer.old.list runs.old runs.new viewer.new.list) }
 {
     let mut met = Ok(());
     for place in 0..runs.len() {
@@ -146,21 +148,23 @@ fn run_round<R: Wait, J: Naming, K: Wait + Drop, P: Programs>(
     defined: &DefinedTriggers,
     runs: &mut TriggerRuns,
 ) -> Result<(), Refusal>
-    ensures each { (runs.new ≡ runs.old) ⊎ EachInTurn (RunsOrStays (P.has_run root.now.programs.now) root.now.hall.now.path) viewer.old.list (map (kept_for runs.old) defined.now) runs.new viewer.new.list }
-    ensures ok { OnOk result (EachInTurn (RunsIfDue (P.has_run root.now.programs.now) root.now.hall.now.path) viewer.old.list (map (kept_for runs.old) defined.now) runs.new viewer.new.list) }
+    ensures each { (runs.new ≡ runs.old) ⊎ EachInTurn (RunsOrStays (RunsToEnd (P.has_run root.now.programs.now)) root.now.hall.now.path) viewer.old.list (map (kept_for runs.old) defined.now) runs.new viewer.new.list }
+    ensures ok { OnOk result (EachInTurn (RunsIfDue (RunsToEnd (P.has_run root.now.programs.now)) root.now.hall.now.path) viewer.old.list (map (kept_for runs.old) defined.now) runs.new viewer.new.list) }
 {
     runs.keep(alloc, defined)?;
     run_each(rt, alloc, root, viewer, runs)
 }
 
-/// A round of the triggers that are defined now.
+/// A round of the triggers that are defined now, once the viewer has learnt what was published last.
 fn run_all<R: Wait, J: Naming, K: Wait + Drop, P: Programs>(
     rt: &R,
     alloc: Global,
     root: &RootPrograms<'_, J, K, P>,
+    learnt: Learnt,
     viewer: &mut Viewer<J>,
     runs: &mut TriggerRuns,
 ) -> Result<(), Refusal> {
+    drop(learnt);
     let defined = root.hall.defined(rt, alloc)?;
     let met = run_round(rt, alloc, root, viewer, defined.definitions(), runs);
     drop(defined);
@@ -174,19 +178,22 @@ fn run_on_changes<R: Wait, J: Naming, K: Wait + Drop, P: Programs>(
     root: &RootPrograms<'_, J, K, P>,
     viewer: &mut Option<Viewer<J>>,
     runs: &mut TriggerRuns,
-) {
+) -> NoWork
+    ensures { result ≡ true }
+{
     let mut seen = None;
     for _ in rt.forever() {
-        let Ok(changes) = root.hall.work.next_change(rt, seen) else {
-            return;
-        };
-        seen = Some(changes);
+        match root.hall.work.next_change(rt, seen) {
+            Ok(changes) => seen = Some(changes),
+            Err(none) => return none,
+        }
         let Some(viewer) = viewer else {
             continue;
         };
-        root.hall.teach(rt, viewer);
-        let _round = run_all(rt, alloc, root, viewer, runs);
+        let learnt = root.hall.teach(rt, viewer);
+        let _round = run_all(rt, alloc, root, learnt, viewer, runs);
     }
+    unreachable!()
 }
 
 /// The worker that runs the triggers of a root, with a viewer of its own from its start on. If none is left then, it runs none.
@@ -195,11 +202,14 @@ pub fn run_triggers<R: Wait, J: Naming, K: Wait + Drop, P: Programs>(
     alloc: Global,
     hall: &RootHall<J, K>,
     programs: &P,
-) {
+) -> NoWork
+    ensures { result ≡ true }
+{
     let mut viewer = hall.lend(rt).ok();
     let mut runs = TriggerRuns::new(alloc);
     let root = RootPrograms { hall, programs };
-    run_on_changes(rt, alloc, &root, &mut viewer, &mut runs);
+    let none = run_on_changes(rt, alloc, &root, &mut viewer, &mut runs);
     drop(runs);
     drop(viewer);
+    none
 }

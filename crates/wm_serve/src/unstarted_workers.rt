@@ -1,11 +1,12 @@
 //! The workers of roots that are still to be started: two of each root, in the order in which the roots came.
 //! Definitions: specs/UnstartedWorkers.antt. Tests: serve_tests/src/sessions.rt.
-ghost use Rattle.std.specs.Prelude.{◌≡◌, ◌&&◌, ◌==◌, ◌<◌, true, false, not, get_or, length, take, MatchOption, MatchResult};
+ghost use Rattle.std.specs.Prelude.{◌≡◌, ◌&&◌, ◌==◌, ◌<◌, true, false, not, None, Some, get_or, length, take, MatchOption, MatchResult};
 ghost use Rattle.std.specs.List.{list_any};
-ghost use Rattle.wm_serve.specs.UnstartedWorkers.{is_worker as is_worker_lem, next_worker, no_workers, with_workers, without_worker};
+ghost use Rattle.wm_serve.specs.UnstartedWorkers.{closed_workers, is_worker as is_worker_lem, next_worker, no_workers, with_workers, workers_after};
 
 use std::alloc::Global;
 use std::marker::Model;
+use std::sync::Mutex;
 use wm_disk::NoMemory;
 
 /// A worker of the root of a number.
@@ -29,6 +30,43 @@ fn is_worker(worker: Worker, other: Worker) -> bool
     }
 }
 
+/// The worker that is to be started next: the list alone makes it.
+#[derive(Drop)]
+pub struct NextWorker {
+    worker: Worker,
+}
+
+impl Model for NextWorker {
+    ghost use Rattle.wm_serve.specs.declared.unstarted_workers.Worker.{Worker};
+
+    ghost Value = { Worker };
+
+    ghost view = { λ n. n.worker };
+}
+
+impl NextWorker {
+    /// The worker.
+    pub fn worker(&self) -> Worker
+        ensures { result ≡ self.now }
+    {
+        self.worker
+    }
+}
+
+/// There is no worker to start: the list alone says so. Contracts see whether none is started any longer.
+#[derive(Drop)]
+pub struct NoWorker {
+    is_closed: bool,
+}
+
+impl Model for NoWorker {
+    ghost use Rattle.std.specs.Prelude.{Bool};
+
+    ghost Value = { Bool };
+
+    ghost view = { λ n. n.is_closed };
+}
+
 /// The workers that are still to be started, and whether none is started any longer.
 #[derive(Drop)]
 pub struct UnstartedWorkers {
@@ -45,8 +83,13 @@ impl Model for UnstartedWorkers {
 }
 
 impl UnstartedWorkers {
+    /// No worker is to be started yet, under its lock, where they stay.
+    pub fn locked(alloc: Global) -> Mutex<UnstartedWorkers> {
+        Mutex::new(UnstartedWorkers::new(alloc))
+    }
+
     /// No worker is to be started yet.
-    pub fn new(alloc: Global) -> UnstartedWorkers
+    fn new(alloc: Global) -> UnstartedWorkers
         ensures { result ≡ no_workers }
     {
         UnstartedWorkers {
@@ -72,14 +115,18 @@ impl UnstartedWorkers {
         self.workers.is_empty() && !self.is_closed
     }
 
-    /// The worker that is to be started next; `None` if there is none, or the server closes.
-    pub fn next(&self) -> Option<Worker>
-        ensures { result ≡ next_worker self.now }
+    /// The worker that is to be started next. Refused if there is none, or the server closes.
+    pub fn next(&self) -> Result<NextWorker, NoWorker>
+        ensures { MatchResult result (λ next. next_worker self.now ≡ Some next) (λ none. (next_worker self.now ≡ None) × (none ≡ self.now.is_closed)) }
     {
         if self.is_closed || self.workers.is_empty() {
-            return None;
+            return Err(NoWorker {
+                is_closed: self.is_closed,
+            });
         }
-        Some(self.workers[0])
+        Ok(NextWorker {
+            worker: self.workers[0],
+        })
     }
 
     /// The place of a worker, if it is still to be started.
@@ -97,7 +144,7 @@ impl UnstartedWorkers {
 
     /// A worker was started: it alone isn't to be started any longer.
     pub fn started(&mut self, worker: Worker)
-        ensures { self.new ≡ record self.old { workers = without_worker worker self.old.workers } }
+        ensures { self.new ≡ workers_after worker self.old }
     {
         if let Some(place) = self.place(worker) {
             self.workers.remove(place);
@@ -106,15 +153,18 @@ impl UnstartedWorkers {
 
     /// No worker is started any longer.
     pub fn close(&mut self)
-        ensures { self.new ≡ record self.old { is_closed = true } }
+        ensures { self.new ≡ closed_workers self.old }
     {
         self.is_closed = true;
     }
 
-    /// Whether the server closes.
-    pub fn is_closed(&self) -> bool
-        ensures { result ≡ self.now.is_closed }
+    /// That no worker is started any longer, if the server closes.
+    pub fn closed(&self) -> Option<NoWorker>
+        ensures { MatchOption result (self.now.is_closed ≡ false) (λ none. (self.now.is_closed ≡ true) × (none ≡ true)) }
     {
-        self.is_closed
+        if !self.is_closed {
+            return None;
+        }
+        Some(NoWorker { is_closed: true })
     }
 }

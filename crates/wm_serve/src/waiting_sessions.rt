@@ -1,15 +1,60 @@
 //! Where sessions wait for a slot: the accept queue under its lock.
-//! Tests: serve_tests/src/sessions.rt.
-ghost use Rattle.std.specs.Prelude.{◌≡◌, ◌⊎◌, IfErr};
+//! Definitions: specs/AcceptQueues.antt. Tests: serve_tests/src/sessions.rt.
+ghost use Rattle.std.specs.Prelude.{◌≡◌, [], true, MatchResult};
+ghost use Rattle.wm_serve.specs.AcceptQueues.{IsAdmitted, IsFirstSession, closed_queue, left_queue, opened_queue};
 
-use crate::accept_queue::AcceptQueue;
+use crate::accept_queue::{AcceptQueue, NoSession};
+use crate::step::Step;
 use std::alloc::Global;
 use std::os::unix::net::UnixStream;
+use std::snapshot::Snapshot;
 use std::sync::{Condvar, Mutex, Wait};
 use wm_disk::Refusal;
 
 /// The most sessions at once.
 pub const SLOTS: u64 = 31;
+
+/// What the accept queue did.
+pub type QueueStep = Step<AcceptQueue<UnixStream>>;
+
+/// Whether a session was admitted: it comes back with the cause if it wasn't. With what the queue did.
+#[derive(Drop)]
+pub struct Admission {
+    pub admitted: Result<(), (Refusal, UnixStream)>,
+    pub step: QueueStep,
+}
+
+/// A session that has a slot from now on, with what the queue did.
+#[derive(Drop)]
+pub struct NextSession {
+    pub stream: UnixStream,
+    pub step: QueueStep,
+}
+
+/// Admits a session, as of [`AcceptQueue::admit`].
+fn admit(queue: &mut AcceptQueue<UnixStream>, stream: UnixStream) -> Admission
+    ensures step { (result.step.before ≡ queue.old) × (result.step.after ≡ queue.new) }
+    ensures admitted { IsAdmitted stream queue.old queue.new result.admitted }
+{
+    let before = Snapshot::of(queue);
+    let admitted = queue.admit(stream);
+    Admission {
+        admitted,
+        step: Step::taken(before, queue),
+    }
+}
+
+/// Gives a slot the next session, as of [`AcceptQueue::take`].
+fn take(queue: &mut AcceptQueue<UnixStream>) -> Result<NextSession, NoSession>
+    ensures { MatchResult result (λ next. (next.step.before ≡ queue.old) × IsFirstSession next.stream queue.old next.step.after) (λ none. (none ≡ queue.old.is_closed) × (queue.old.waiting ≡ [])) }
+{
+    let before = Snapshot::of(queue);
+    let stream = queue.take()?;
+    Ok(NextSession {
+        stream,
+        step: Step::taken(before, queue),
+    })
+}
 
 /// Sessions on their way from the socket to a slot.
 #[derive(Drop)]
@@ -28,37 +73,59 @@ impl WaitingSessions {
     }
 
     /// So many sessions may be there at once.
-    pub fn open<R: Wait>(&self, rt: &R, slots: u64) {
-        self.queue.lock(rt).open(slots);
+    pub fn open<R: Wait>(&self, rt: &R, slots: u64) -> QueueStep
+        ensures { result.after ≡ opened_queue slots result.before }
+    {
+        let mut queue = self.queue.lock(rt);
+        let before = Snapshot::of(&*queue);
+        queue.open(slots);
+        Step::taken(before, &*queue)
     }
 
     /// Admits a session; it comes back with the cause, as of [`AcceptQueue::admit`].
-    pub fn admit<R: Wait>(&self, rt: &R, stream: UnixStream) -> Result<(), (Refusal, UnixStream)>
-        ensures { IfErr result (λ e. (e.0 ≡ Refusal.TooMany) ⊎ (e.0 ≡ Refusal.NoMemory)) }
+    pub fn admit<R: Wait>(&self, rt: &R, stream: UnixStream) -> Admission
+        ensures { IsAdmitted stream result.step.before result.step.after result.admitted }
     {
         let mut queue = self.queue.lock(rt);
-        queue.admit(stream)?;
+        let admission = admit(&mut *queue, stream);
         drop(queue);
-        self.came.notify_one();
-        Ok(())
+        if admission.admitted.is_ok() {
+            self.came.notify_one();
+        }
+        admission
     }
 
-    /// Waits for a session; `None` if no session comes any longer, and none waits.
-    pub fn next<R: Wait>(&self, rt: &R) -> Option<UnixStream> {
+    /// Waits for a session. Refused if no session comes any longer, and none waits.
+    #[tactic(auto, using(crate::proofs::Closing::none_waiting))]
+    pub fn next<R: Wait>(&self, rt: &R) -> Result<NextSession, NoSession>
+        ensures { MatchResult result (λ next. IsFirstSession next.stream next.step.before next.step.after) (λ none. none ≡ true) }
+    {
         let mut queue = self
             .came
             .wait_while(rt, self.queue.lock(rt), |queue| queue.must_wait());
-        queue.take()
+        take(&mut *queue)
     }
 
     /// A session has ended.
-    pub fn leave<R: Wait>(&self, rt: &R) {
-        self.queue.lock(rt).leave();
+    pub fn leave<R: Wait>(&self, rt: &R) -> QueueStep
+        ensures { result.after ≡ left_queue result.before }
+    {
+        let mut queue = self.queue.lock(rt);
+        let before = Snapshot::of(&*queue);
+        queue.leave();
+        Step::taken(before, &*queue)
     }
 
     /// No session comes any longer.
-    pub fn close<R: Wait>(&self, rt: &R) {
-        self.queue.lock(rt).close();
+    pub fn close<R: Wait>(&self, rt: &R) -> QueueStep
+        ensures { result.after ≡ closed_queue result.before }
+    {
+        let mut queue = self.queue.lock(rt);
+        let before = Snapshot::of(&*queue);
+        queue.close();
+        let step = Step::taken(before, &*queue);
+        drop(queue);
         self.came.notify_all();
+        step
     }
 }

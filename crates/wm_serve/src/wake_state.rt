@@ -1,7 +1,10 @@
 //! Whether the thread that sends a session the lines that are due is to be woken.
 //! Definitions: specs/WakeFlags.antt. Tests: serve_tests/src/sessions.rt.
 ghost use Rattle.std.specs.Prelude.{◌≡◌, ◌&&◌, ◌^◌, ◌%◌, if◌then◌else◌};
-ghost use Rattle.wm_serve.specs.WakeFlags.{has_common as has_common_lem, has_more as has_more_lem, is_clear as is_clear_lem, is_not_closed, set_wake, taken_wake};
+ghost use Rattle.wm_serve.specs.SubscribedRoots.{with_bit as with_bit_lem};
+ghost use Rattle.wm_serve.specs.WakeFlags.{closed_flag, has_common as has_common_lem, has_more as has_more_lem, is_clear as is_clear_lem, is_not_closed, noted_flag, set_wake, taken_flag};
+
+use std::sync::Mutex;
 
 /// What the thread finds when it wakes.
 #[derive(Clone, Copy, Debug, PartialEq, Eq)]
@@ -15,7 +18,7 @@ pub enum Wake {
 }
 
 /// What the thread finds, and the roots that its session has subscriptions on, as [`bit_of`] each: no line of another root is ever due.
-#[derive(Clone, Copy, Debug, PartialEq, Eq)]
+#[derive(Drop)]
 pub struct WakeState {
     wake: Wake,
     roots: u64,
@@ -26,6 +29,16 @@ pub fn bit_of(number: u64) -> u64
     ensures { result ≡ 2 ^ (number % 64) }
 {
     1u64 << (number % 64)
+}
+
+/// Beside these bits that of the root of a number, if it has one.
+pub fn with_bit(roots: u64, number: Option<u64>) -> u64
+    ensures { result ≡ with_bit_lem roots number }
+{
+    match number {
+        Some(number) => roots | bit_of(number),
+        None => roots,
+    }
 }
 
 /// Whether the bit of a root is in both.
@@ -43,8 +56,13 @@ fn has_more(before: u64, roots: u64) -> bool
 }
 
 impl WakeState {
+    /// Of a session without subscriptions, under its lock, where it stays.
+    pub fn locked() -> Mutex<WakeState> {
+        Mutex::new(WakeState::new())
+    }
+
     /// Of a session without subscriptions.
-    pub fn new() -> WakeState
+    fn new() -> WakeState
         ensures { result ≡ record { wake = Wake.Clear; roots = 0 } }
     {
         WakeState {
@@ -84,7 +102,7 @@ impl WakeState {
     /// subscription stood here may be due to that.
     pub fn note(&mut self, roots: u64) -> bool
         ensures wakes { result ≡ (has_more_lem self.old.roots roots && is_clear_lem self.old.wake) }
-        ensures new { self.new ≡ record { wake = if has_more_lem self.old.roots roots then set_wake self.old.wake else self.old.wake; roots = roots } }
+        ensures new { self.new ≡ noted_flag roots self.old }
     {
         let is_more = has_more(self.roots, roots);
         self.roots = roots;
@@ -93,7 +111,7 @@ impl WakeState {
 
     /// The server closes.
     pub fn close(&mut self)
-        ensures { self.new ≡ record self.old { wake = Wake.Closed } }
+        ensures { self.new ≡ closed_flag self.old }
     {
         self.wake = Wake::Closed;
     }
@@ -101,7 +119,7 @@ impl WakeState {
     /// The thread looks: whether it goes on, since the server doesn't close.
     pub fn take(&mut self) -> bool
         ensures goes_on { result ≡ is_not_closed self.old.wake }
-        ensures new { self.new ≡ record self.old { wake = taken_wake self.old.wake } }
+        ensures new { self.new ≡ taken_flag self.old }
     {
         if matches!(self.wake, Wake::Closed) {
             return false;

@@ -1,13 +1,13 @@
-use Rattle.std.proofs.Common.{◌<◌, ◌+◌, length, OnOk, arith, subst, sym}
+use Rattle.std.proofs.Common.{◌≡◌, ◌<◌, ◌+◌, length, OnOk, arith, subst, sym}
 use Rattle.wm_share.specs.PublishedLists.{history}
-use Rattle.wm_serve.specs.TriggerWork.{RunsIfDue, RunsOrStays}
-use Rattle.wm_serve.proofs.Rounds.{IsPartDone, next_done, none_done, on_ok, refused_ok, turn_ran, turn_ran_or, turn_stays}
+use Rattle.wm_serve.specs.TriggerWork.{RunsIfDue, RunsOrStays, RunsToEnd}
+use Rattle.wm_serve.proofs.Rounds.{IsPartDone, all_done, next_done, none_done, on_ok, refused_ok, turn_ran, turn_ran_or, turn_stays}
 use Rattle.wm_serve.proofs.trigger_worker.run_each.Goals.{in-Err, in_default}
 use Rattle.wm_serve.proofs.trigger_worker.run_each.Goals as goal
 
 pub loop-place-init : goal.loop-place-init
 loop-place-init g c =
-    let has_run = g.P.Programs.has_run c.args.root.now.programs.now in
+    let has_run = RunsToEnd (g.P.Programs.has_run c.args.root.now.programs.now) in
     let root = c.args.root.now.hall.now.path in
     record {
       each = none_done (RunsOrStays has_run root) c.args.viewer.now.list c.args.runs.now;
@@ -16,7 +16,7 @@ loop-place-init g c =
 
 pub loop-place-preserved : goal.loop-place-preserved
 loop-place-preserved g c =
-    let has_run = g.P.Programs.has_run c.args.root.now.programs.now in
+    let has_run = RunsToEnd (g.P.Programs.has_run c.args.root.now.programs.now) in
     let root = c.args.root.now.hall.now.path in
     let h = history c.run_at.new.viewer.list in
     let place = c.loop-place.place in
@@ -37,3 +37,10 @@ loop-place-preserved g c =
             (on_ok c.loop-place.met c.loop-place.invariant.ok (λ d. ok d within c.run_at.ensures.seen (turn_ran has_run root h place now new w.in_default.ensures.ran)));
       }
     ]
+
+pub returns-clause-ok : goal.returns-clause-ok
+returns-clause-ok g c =
+    let has_run = RunsToEnd (g.P.Programs.has_run c.args.root.now.programs.now) in
+    let all : c.loop-place.place ≡ length c.args.runs.now = omega (arith, c.loop-place-test.false, c.loop-place.auto.place-end, c.len-place-end.ensures) in
+    on_ok c.loop-place.met c.loop-place.invariant.ok
+    (λ d. all_done (RunsIfDue has_run c.args.root.now.hall.now.path) c.args.viewer.now.list c.loop-place.viewer.list c.args.runs.now c.loop-place.place c.loop-place.runs d all)

@@ -2,7 +2,7 @@ use Rattle.std.proofs.Common.{◌∙◌, ap, sym}
 use Rattle.std.specs.Arc.{arc_value}
 use Rattle.wm_hall.specs.declared.hall.RootHall.{RootHall}
 use Rattle.wm_serve.proofs.Names.{had_at}
-use Rattle.wm_serve.proofs.shared.hall_at.Goals as goal
+use Rattle.wm_serve.proofs.found_hall.hall_at.Goals as goal
 
 pub returns-in-Ok-clause-had : goal.returns-in-Ok-clause-had
 returns-in-Ok-clause-had g c =

@@ -1,0 +1,53 @@
+//! The log of a server, under its lock: the threads of a server hand events to it, and one thread takes them out and writes them.
+//! Tests: tools/quick_log.py.
+use crate::second::SystemSeconds;
+use std::alloc::Global;
+use std::sync::{Condvar, Mutex, Wait};
+use std::time::Clock;
+use wm_hall::Seconds;
+use wm_log::{Event, EventQueue, What};
+
+/// The events that wait to be written. It keeps none before it is opened.
+#[derive(Drop)]
+pub struct EventLog {
+    queue: Mutex<EventQueue>,
+    changed: Condvar,
+}
+
+impl EventLog {
+    /// A log that keeps no events yet.
+    pub fn new(alloc: Global) -> EventLog {
+        EventLog {
+            queue: Mutex::new(EventQueue::new(alloc)),
+            changed: Condvar::new(),
+        }
+    }
+
+    /// Keeps events from now on.
+    pub fn open<R: Wait>(&self, rt: &R) {
+        self.queue.lock(rt).open();
+    }
+
+    /// Keeps no more events. What waits is still written.
+    pub fn close<R: Wait>(&self, rt: &R) {
+        self.queue.lock(rt).close();
+        self.changed.notify_all();
+    }
+
+    /// Keeps what happened now, as of [`EventQueue::push`]. One for which memory runs out is left out.
+    pub fn note<R: Wait + Clock>(&self, rt: &R, root: Option<String>, what: What) {
+        let mut queue = self.queue.lock(rt);
+        let time = SystemSeconds { rt }.second();
+        let _kept = queue.push(Event { time, root, what });
+        drop(queue);
+        self.changed.notify_one();
+    }
+
+    /// Waits for an event; `None` once the log is closed and nothing waits.
+    pub fn next<R: Wait>(&self, rt: &R) -> Option<Event> {
+        let mut queue = self
+            .changed
+            .wait_while(rt, self.queue.lock(rt), |queue| queue.must_wait());
+        queue.take()
+    }
+}

@@ -1,0 +1,71 @@
+//! Which results are logged, and as what.
+//! Definitions: specs/LogEvents.antt. Tests: tools/quick_log.py.
+ghost use Rattle.std.specs.Prelude.{◌≡◌, ◌==◌, ◌⊎◌, ◌↔◌, IsTrue, IfOk, MatchResult, false};
+ghost use Rattle.std.specs.IoError.{error_kind};
+ghost use Rattle.std.specs.List.{starts_with};
+ghost use Rattle.wm_serve.specs.LogEvents.{IsLoggedCrawl, IsLoggedRun, store_failure_line};
+
+use std::alloc::Global;
+use std::io;
+use std::io::ErrorKind;
+use wm_disk::{NoMemory, Refusal};
+use wm_lines::Progress;
+use wm_log::What;
+use wm_triggers::ProgramEnd;
+
+/// What is logged of a run of the trigger of a name: that its program wasn't started, or ended other than with 0.
+pub fn run_event(
+    alloc: Global,
+    name: &str,
+    ended: &Result<ProgramEnd, Refusal>,
+) -> Result<Option<What>, NoMemory>
+    ensures { IfOk result (IsLoggedRun name.now ended.now) }
+{
+    match ended {
+        Ok(ProgramEnd::Exited(0)) => Ok(None),
+        Ok(ProgramEnd::Exited(status)) => {
+            let name = String::from_str(alloc, name)?;
+            Ok(Some(What::Exited(name, *status)))
+        }
+        Ok(ProgramEnd::Killed(signal)) => {
+            let name = String::from_str(alloc, name)?;
+            Ok(Some(What::Killed(name, *signal)))
+        }
+        Ok(ProgramEnd::Unknown) => Ok(None),
+        Err(_) => {
+            let name = String::from_str(alloc, name)?;
+            Ok(Some(What::NotStarted(name)))
+        }
+    }
+}
+
+/// Why a crawl failed, if that is logged: not if its root isn't watched any longer, nor if it was of a part and no whole one came before.
+pub fn crawl_failure(ended: &Result<Progress, Refusal>) -> Option<Refusal>
+    ensures { IsLoggedCrawl ended.now result }
+{
+    match ended {
+        Ok(_) => None,
+        Err(Refusal::NotWatched) => None,
+        Err(Refusal::NotReady) => None,
+        Err(refusal) => Some(*refusal),
+    }
+}
+
+/// Whether a client was cut off, since it didn't read: what was sent to it failed since it took too long.
+pub fn is_cut_off(sent: &io::Result<()>) -> bool
+    ensures { MatchResult sent.now (λ _. result ≡ false) (λ e. IsTrue result ↔ ((error_kind e ≡ ErrorKind.WouldBlock) ⊎ (error_kind e ≡ ErrorKind.TimedOut))) }
+{
+    match sent {
+        Ok(()) => false,
+        Err(error) => matches!(error.kind(), ErrorKind::WouldBlock | ErrorKind::TimedOut),
+    }
+}
+
+const STORE_FAILURE: &str = "{\"error\":\"13 DeviceFailed\",\"version\":\"w1\"}\n";
+
+/// Whether a session's page begins with the reply that the disk failed, which only a command to the state file has.
+pub fn reports_store_failure(page: &[u8]) -> bool
+    ensures { result ≡ starts_with (λ a b. a == b) page.now store_failure_line }
+{
+    page.starts_with(STORE_FAILURE.as_bytes())
+}
