@@ -23,7 +23,7 @@ _watchmand() {
         return
     elif [[ $word == -* ]]; then
         case ${COMP_WORDS[1]} in
-            serve) _watchmand_words '--workers --gc-age --gc-interval --sessions --help' ;;
+            serve) _watchmand_words '--workers --gc-age --gc-interval --sessions --quiet --help' ;;
             *) _watchmand_words '--help' ;;
         esac
     else

@@ -45,6 +45,7 @@ fn run<H: Threads + Wait + Clock + Net + Files<File = File> + Sync>(
         folders: &folders,
         turnstile: &Open,
         programs: &programs,
+        log: &errors,
     };
     let mut ready = Noted::new(io::writer(rt));
     let status = {
@@ -55,7 +56,13 @@ fn run<H: Threads + Wait + Clock + Net + Files<File = File> + Sync>(
                     file: &file,
                     socket: &socket,
                 };
-                serve(host, alloc, paths, &tools, settings, &mut ready)
+                match serve(host, alloc, paths, &tools, settings, &mut ready) {
+                    Ok(served) => {
+                        drop(served);
+                        Ok(())
+                    }
+                    Err(refusal) => Err(refusal),
+                }
             },
         };
         let mut told = Output::new(&mut faults);

@@ -57,24 +57,26 @@ by_settings tells None file_word socket_word (shown_status status) none serves =
 by_settings tells (Some x) file_word socket_word (shown_status status) told serves = (serves.0, λ f k s f_is k_is t. serves.1 f k x f_is k_is refl)
 
 -- what clap's matches give for the words is what was found
-pub found_served : (m : ArgMatches) (w a i n f k : Option Text) (wanted : ProgramWanted)
+pub found_served : (m : ArgMatches) (w a i n q f k : Option Text) (wanted : ProgramWanted)
     → w ≡ first_value (found_of m) (codes "workers") → a ≡ first_value (found_of m) (codes "gc-age") → i ≡ first_value (found_of m) (codes "gc-interval")
-    → n ≡ first_value (found_of m) (codes "sessions") → f ≡ first_value (found_of m) (codes "FILE") → k ≡ first_value (found_of m) (codes "SOCKET")
-    → ServesBy (TellsSettings w a i n) f k wanted → FindsServe (rows_of (found_of m)) wanted
-found_served m w a i n f k wanted w_is a_is i_is n_is f_is k_is serves =
+    → n ≡ first_value (found_of m) (codes "sessions") → q ≡ first_value (found_of m) (codes "quiet") → f ≡ first_value (found_of m) (codes "FILE") → k ≡ first_value (found_of m) (codes "SOCKET")
+    → ServesBy (TellsSettings w a i n q) f k wanted → FindsServe (rows_of (found_of m)) wanted
+found_served m w a i n q f k wanted w_is a_is i_is n_is q_is f_is k_is serves =
     let rows : List Row = rows_of (found_of m) in
     let found : (id : Text) → first_value (found_of m) id ≡ first_of id (rows_of (found_of m)) = first_value-rows (found_of m) in
     let w' : Option Text = first_of (codes "workers") rows in
     let a' : Option Text = first_of (codes "gc-age") rows in
     let i' : Option Text = first_of (codes "gc-interval") rows in
     let n' : Option Text = first_of (codes "sessions") rows in
+    let q' : Option Text = first_of (codes "quiet") rows in
     let f' : Option Text = first_of (codes "FILE") rows in
-    subst (λ (o : Option Text). ServesBy (TellsSettings w' a' i' n') f' o wanted) (k_is ∙ found (codes "SOCKET"))
-    (subst (λ (o : Option Text). ServesBy (TellsSettings w' a' i' n') o k wanted) (f_is ∙ found (codes "FILE"))
-    (subst (λ (o : Option Text). ServesBy (TellsSettings w' a' i' o) f k wanted) (n_is ∙ found (codes "sessions"))
-    (subst (λ (o : Option Text). ServesBy (TellsSettings w' a' o n) f k wanted) (i_is ∙ found (codes "gc-interval"))
-    (subst (λ (o : Option Text). ServesBy (TellsSettings w' o i n) f k wanted) (a_is ∙ found (codes "gc-age"))
-    (subst (λ (o : Option Text). ServesBy (TellsSettings o a i n) f k wanted) (w_is ∙ found (codes "workers")) serves)))))
+    subst (λ (o : Option Text). ServesBy (TellsSettings w' a' i' n' q') f' o wanted) (k_is ∙ found (codes "SOCKET"))
+    (subst (λ (o : Option Text). ServesBy (TellsSettings w' a' i' n' q') o k wanted) (f_is ∙ found (codes "FILE"))
+    (subst (λ (o : Option Text). ServesBy (TellsSettings w' a' i' n' o) f k wanted) (q_is ∙ found (codes "quiet"))
+    (subst (λ (o : Option Text). ServesBy (TellsSettings w' a' i' o q) f k wanted) (n_is ∙ found (codes "sessions"))
+    (subst (λ (o : Option Text). ServesBy (TellsSettings w' a' o n q) f k wanted) (i_is ∙ found (codes "gc-interval"))
+    (subst (λ (o : Option Text). ServesBy (TellsSettings w' o i n q) f k wanted) (a_is ∙ found (codes "gc-age"))
+    (subst (λ (o : Option Text). ServesBy (TellsSettings o a i n q) f k wanted) (w_is ∙ found (codes "workers")) serves))))))
 
 -- ---- the subcommand of the matches
 

@@ -5,7 +5,7 @@ use Rattle.std.specs.Str.{bytes_eq}
 use Rattle.std.specs.Str.Parse.{IsNumeral, digits_value, without_leading_plus}
 use Rattle.std.specs.String.{string_bytes}
 use Rattle.clap.specs.Words.{App, IsAmong, Row, Rule, Text, fault_of, first_of, new_app, new_rule, subcommand_of, with_rule, with_subcommand}
-use Rattle.clap.specs.declared.builder.ArgAction.TheVariants.{Set}
+use Rattle.clap.specs.declared.builder.ArgAction.TheVariants.{Set, SetTrue}
 use Rattle.clap.specs.declared.error.ErrorKind.{ErrorKind}
 use Rattle.clap.specs.declared.error.ErrorKind.TheVariants as kind
 use Rattle.wm_crawler.specs.Crawls.{max_workers}
@@ -44,12 +44,16 @@ place_rule id = record (new_rule id) { action = Some Set; required = true }
 abbrev pub number_rule : Text → Rule
 number_rule name = record (new_rule name) { long = Some name; action = Some Set; value_names = 1 }
 
+-- `--NAME`
+abbrev pub flag_rule : Text → Rule
+flag_rule name = record (new_rule name) { long = Some name; action = Some SetTrue }
+
 abbrev pub file_and_socket : App
 file_and_socket = with_rule (with_rule (new_app (codes "serve")) (place_rule (codes "FILE"))) (place_rule (codes "SOCKET"))
 
 abbrev pub serve_app : App
-serve_app = with_rule (with_rule (with_rule (with_rule file_and_socket
-    (number_rule (codes "workers"))) (number_rule (codes "gc-age"))) (number_rule (codes "gc-interval"))) (number_rule (codes "sessions"))
+serve_app = with_rule (with_rule (with_rule (with_rule (with_rule file_and_socket
+    (number_rule (codes "workers"))) (number_rule (codes "gc-age"))) (number_rule (codes "gc-interval"))) (number_rule (codes "sessions"))) (flag_rule (codes "quiet"))
 
 -- `format`, `lines`, `migrate` and `serve`
 abbrev pub program_app : App
@@ -66,13 +70,19 @@ TellsNumber default (Some text) n = IsNumeral 10 (without_leading_plus text) × 
 abbrev pub endless : ℕ
 endless = 2 ^ 64 - 1
 
+-- a flag is set if clap finds the text "true" for it
+abbrev pub is_flag_set : Option Text → Bool
+is_flag_set None = false
+is_flag_set (Some text) = bytes_eq text (codes "true")
+
 -- these words are there for the options, and tell this
-pub record TellsSettings (workers_word age_word interval_word sessions_word : Option Text) (s : Settings) : Type 0 where
+pub record TellsSettings (workers_word age_word interval_word sessions_word quiet_word : Option Text) (s : Settings) : Type 0 where
   pub workers : TellsNumber 4 workers_word s.workers
   pub allowed : (1 ≤ s.workers) × (s.workers ≤ max_workers)
   pub age : TellsNumber 43200 age_word s.gc_age
   pub interval : TellsNumber 86400 interval_word s.gc_interval
   pub sessions : TellsNumber endless sessions_word s.sessions
+  pub quiet : s.is_quiet ≡ is_flag_set quiet_word
 
 -- what is wanted where the options tell settings with this property; where none of them does, it is a fault
 abbrev pub ServesBy : (Settings → Type 0) → (file_word socket_word : Option Text) → ProgramWanted → Type 0
@@ -84,7 +94,7 @@ ServesBy tells file_word socket_word (shown_status status) =
 -- what was found behind `serve` is wanted
 abbrev pub FindsServe : List Row → ProgramWanted → Type 0
 FindsServe rows wanted = ServesBy
-    (TellsSettings (first_of (codes "workers") rows) (first_of (codes "gc-age") rows) (first_of (codes "gc-interval") rows) (first_of (codes "sessions") rows))
+    (TellsSettings (first_of (codes "workers") rows) (first_of (codes "gc-age") rows) (first_of (codes "gc-interval") rows) (first_of (codes "sessions") rows) (first_of (codes "quiet") rows))
     (first_of (codes "FILE") rows) (first_of (codes "SOCKET") rows) wanted
 
 -- by whether the command is `serve`

@@ -8,7 +8,7 @@ ghost use Rattle.clap.specs.Words.{app_of, found_of, new_app, rows_of, rule_of, 
 ghost use Rattle.clap.specs.declared.builder.Command.TheViews.{out-Command};
 ghost use Rattle.wm_crawler.specs.Crawls.{max_workers};
 ghost use Rattle.wm_serve.specs.declared.server.Settings.{Settings as settings_lem};
-ghost use Rattle.wm_program.specs.ProgramWords.{AsksProgram, FindsServe, MeetsFor, NamedFor, ServesBy, TellsNumber, TellsSettings, place_rule, number_rule, program_app, serve_app, told_for_kind, shown_status, word_text, program_wanted};
+ghost use Rattle.wm_program.specs.ProgramWords.{AsksProgram, FindsServe, MeetsFor, NamedFor, ServesBy, TellsNumber, TellsSettings, flag_rule, is_flag_set as is_flag_set_lem, place_rule, number_rule, program_app, serve_app, told_for_kind, shown_status, word_text, program_wanted};
 
 use clap::error::ErrorKind;
 use clap::{Arg, ArgAction, ArgMatches, Command, Error};
@@ -41,7 +41,7 @@ impl Words {
     /// What the words ask for; the program's own name is not among them.
     ///
     /// The words are `format FILE`, `lines FILE`, `migrate OLD NEW`, or `serve FILE SOCKET [--workers N]
-    /// [--gc-age S] [--gc-interval S] [--sessions N]`. `workers` is 1 to 16 and 4 where it isn't told, `gc-age` 43200 and
+    /// [--gc-age S] [--gc-interval S] [--sessions N] [--quiet]`. `workers` is 1 to 16 and 4 where it isn't told, `gc-age` 43200 and
     /// `gc-interval` 86400 seconds, and without `sessions` no number of them is the last; each is at most
     /// 2^32 - 1. `Err` comes only where memory runs out.
     pub fn read<'a>(alloc: Global, words: &'a [&'a str]) -> Result<Words, NoMemory>
@@ -110,7 +110,8 @@ fn serve_command<'a>(alloc: Global) -> Result<Command<'a>, NoMemory>
             "sessions",
             "N",
             "After how many sessions the server ends [default: never]",
-        ))?;
+        ))?
+        .arg(flag(alloc, "quiet", "Writes no log to standard error"))?;
     Ok(command)
 }
 
@@ -135,6 +136,17 @@ fn number<'a>(alloc: Global, name: &'a str, value: &'a str, help: &'a str) -> Ar
         .value_name(value)
         .help(help)
         .action(ArgAction::Set)
+}
+
+// `--NAME`.
+fn flag<'a>(alloc: Global, name: &'a str, help: &'a str) -> Arg<'a>
+    ensures rule { rule_of result ≡ flag_rule name.entry.now }
+    ensures local { result.global ≡ false }
+{
+    Arg::new(alloc, name)
+        .long(name)
+        .help(help)
+        .action(ArgAction::SetTrue)
 }
 
 // What the matches of the program's command ask for.
@@ -167,6 +179,7 @@ fn served(alloc: Global, matches: &ArgMatches<'_>) -> Result<Words, NoMemory>
         matches.get_str("gc-age"),
         matches.get_str("gc-interval"),
         matches.get_str("sessions"),
+        matches.get_str("quiet"),
     );
     told(
         alloc,
@@ -212,9 +225,10 @@ fn settings_of(
     age: Option<&str>,
     interval: Option<&str>,
     sessions: Option<&str>,
+    quiet: Option<&str>,
 ) -> Option<Settings>
-    ensures { MatchOption result ((s : settings_lem) → TellsSettings (word_text workers.entry) (word_text age.entry) (word_text interval.entry) (word_text sessions.entry) s → ⊥)
-        (λ s. TellsSettings (word_text workers.entry) (word_text age.entry) (word_text interval.entry) (word_text sessions.entry) s) }
+    ensures { MatchOption result ((s : settings_lem) → TellsSettings (word_text workers.entry) (word_text age.entry) (word_text interval.entry) (word_text sessions.entry) (word_text quiet.entry) s → ⊥)
+        (λ s. TellsSettings (word_text workers.entry) (word_text age.entry) (word_text interval.entry) (word_text sessions.entry) (word_text quiet.entry) s) }
 {
     let workers = workers_of(workers)?;
     let gc_age = number_of(age, 43_200)?;
@@ -225,7 +239,18 @@ fn settings_of(
         gc_age,
         gc_interval,
         sessions,
+        is_quiet: is_flag_set(quiet),
     })
+}
+
+// Whether a flag is set, by what clap found for it.
+fn is_flag_set(told: Option<&str>) -> bool
+    ensures { result ≡ is_flag_set_lem (word_text told.entry) }
+{
+    match told {
+        Some(text) => text == "true",
+        None => false,
+    }
 }
 
 // How many threads are to crawl a root: 1 to `MAX_WORKERS`.
