@@ -1,28 +1,43 @@
 //! The feeder of the file watch server: tells it what changes in a folder.
 #![tactic(auto)]
 
-use std::io::ErrorKind;
+mod explaining;
+
+use std::io::{ErrorKind, IsTerminal};
 use std::process::ExitCode;
 use std::time::Instant;
 use std::{env, io};
 use wm_client::wmfeed;
 use wm_feeder::Inotify;
+use wm_findings::is_wanted;
 
-/// Meets the words. An error is that of memory, or of a word that isn't UTF-8.
-fn run(rt: &HostRuntime) -> io::Result<u8> {
-    let alloc = rt.alloc();
-    let args: Vec<String> = env::args(rt)?.skip(1).collect(alloc)?;
-    let words: Vec<&str> = args.iter().map(|word| word.as_str()).collect(alloc)?;
+/// Handles the words. An error is that of memory.
+fn run(rt: &HostRuntime, words: &[&str]) -> io::Result<u8> {
     let mut printer = io::writer(rt);
     let errors = rt.stderr();
     let mut faults = io::writer(&errors);
     let begun = Instant::now(rt)?;
     let feeder = Inotify { rt, begun };
-    Ok(wmfeed(alloc, &feeder, &words, &mut printer, &mut faults))
+    Ok(wmfeed(rt.alloc(), &feeder, words, &mut printer, &mut faults))
+}
+
+/// Handles the words, and explains a failure if that is wanted. An error is that of memory, or of a word that isn't UTF-8.
+fn run_explained(rt: &HostRuntime) -> io::Result<u8> {
+    let alloc = rt.alloc();
+    let args: Vec<String> = env::args(rt)?.skip(1).collect(alloc)?;
+    let words: Vec<&str> = args.iter().map(|word| word.as_str()).collect(alloc)?;
+    let status = run(rt, &words)?;
+    if is_wanted(rt, rt.stderr().is_terminal()) {
+        if let Ok(Some(line)) = explaining::line_of(rt, alloc, status, &words) {
+            // If it can't be written, the status says what happened.
+            let _written = rt.eprint(line.as_str());
+        }
+    }
+    Ok(status)
 }
 
 fn main(rt: HostRuntime) -> io::Result<ExitCode> {
-    let (status, told) = match run(&rt) {
+    let (status, told) = match run_explained(&rt) {
         Ok(status) => return Ok(ExitCode::from(status)),
         Err(error) if error.kind() == ErrorKind::OutOfMemory => (1, "wmfeed: 16 NoMemory"),
         Err(_) => (2, "wmfeed: a word isn't UTF-8"),
