@@ -111,8 +111,8 @@ wm-use: $(COMMANDS) $(PROGRAM) $(FEED)
 	tools/wm_use.sh $(COMMANDS) $(PROGRAM) $(FEED)
 
 # What the programs say at common mistakes, byte for byte.
-messages-use: $(PROGRAM) $(CLIENT) $(COMMANDS)
-	tools/quick_messages.py $(PROGRAM) $(CLIENT) $(COMMANDS)
+messages-use: $(PROGRAM) $(CLIENT) $(FEED) $(COMMANDS)
+	tools/quick_messages.py $(PROGRAM) $(CLIENT) $(FEED) $(COMMANDS)
 
 install: $(PROGRAM) $(CLIENT) $(FEED) $(COMMANDS)
 	install -d $(DESTDIR)$(PREFIX)/bin $(DESTDIR)$(PREFIX)/share/man/man1 $(DESTDIR)$(PREFIX)/share/bash-completion/completions $(DESTDIR)$(PREFIX)/share/zsh/site-functions

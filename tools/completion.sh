@@ -31,7 +31,7 @@ offers 'state' watchmand format st
 offers 'migrate' watchmand m
 offers 'socket state' watchmand migrate state ''
 offers '--help' watchmand migrate state --
-offers '--gc-age --gc-interval --help --sessions --workers' watchmand serve state socket --
+offers '--gc-age --gc-interval --help --quiet --sessions --workers' watchmand serve state socket --
 offers '--gc-age --gc-interval' watchmand serve state socket --gc
 offers '1 16' watchmand serve state socket --workers 1
 offers '' watchmand serve state socket --sessions ''

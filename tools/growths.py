@@ -14,6 +14,7 @@ HERE = os.path.dirname(os.path.abspath(__file__))
 REFUSED = b'{"error":"16 NoMemory","version":"w1"}\n'
 TOO_MANY = b'{"error":"17 TooMany","version":"w1"}\n'
 ENDED = (1, "watchmand: 16 NoMemory\n")
+LOGGED = re.compile(r"^\d{4}-\d\d-\d\dT\d\d:\d\d:\d\dZ .*\n", re.MULTILINE)  # a line of the log of `serve`
 SLOT_B = {1: 1314816, 2: 4460544}  # its gate is open once a checkpoint came (docs/FORMATS.md)
 META = {"mtime_ms": 0, "size": 3, "type": "f"}
 ASKED = {"expression": ["anyof", ["suffix", "c"], ["match", "b*", "basename"]], "fields": ["name", "exists", "size"], "since": "n:build"}
@@ -122,7 +123,7 @@ class Session:
             raise Wrong(f"refused again: {by!r}")
 
     def is_ended(self):
-        told = self.process.communicate(timeout=20)[1]
+        told = LOGGED.sub("", self.process.communicate(timeout=20)[1])
         self.refused(told)
         if (self.process.returncode, told) != ENDED:
             raise Wrong(f"ended with {self.process.returncode}: {told!r}")

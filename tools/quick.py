@@ -1,7 +1,7 @@
 #!/usr/bin/env python3
 """The quick part of what tries the built programs: tools/quick.py WATCHMAND WMCTL WMFEED
 
-It runs the messages at common mistakes (quick_messages.py), what rough use of a server has found wrong (quick_use.py), the quick cases of rough_use.py, 50 kills and 10 of a migration, the state file's calls that fail, if
+It runs the messages at common mistakes (quick_messages.py), the log of a server (quick_log.py), what rough use of a server has found wrong (quick_use.py), the quick cases of rough_use.py, 50 kills and 10 of a migration, the state file's calls that fail, if
 strace is there, and the quick cases of a feed, if inotifywait is there. It prints how long each took; the status is 1 if one of them fails twice. Some
 three minutes on two processors."""
 import os, shutil, subprocess, sys, time
@@ -15,7 +15,7 @@ FEED = ["--rounds", "3", "--seed", "1", "--only", "create", "rename_folders", "r
 
 def parts(watchmand, wmctl, wmfeed):
     """What is run: the words of each."""
-    found = [["quick_messages.py", watchmand, wmctl], ["quick_use.py", watchmand, wmctl, wmfeed], ["rough_use.py", watchmand, *ROUGH], ["kill_loop.py", watchmand, "40"]]
+    found = [["quick_messages.py", watchmand, wmctl, wmfeed], ["quick_log.py", watchmand], ["quick_use.py", watchmand, wmctl, wmfeed], ["rough_use.py", watchmand, *ROUGH], ["kill_loop.py", watchmand, "40"]]
     if shutil.which("strace"):
         found.append(["faults.py", watchmand])
     else:

@@ -1,5 +1,5 @@
 #!/usr/bin/env python3
-"""quick_messages.py WATCHMAND WMCTL [WM]: the messages of the built programs at common mistakes, byte for byte.
+"""quick_messages.py WATCHMAND WMCTL [WMFEED [WM]]: the messages of the built programs at common mistakes, byte for byte.
 
 Each case is run without a terminal, with WATCHMAND_EXPLAIN=1, and (for some) with a terminal as standard error. The first must print the specified text
 alone, and the others that text and then the further line. Exit status: 0 if all are as here, else 1.
@@ -196,6 +196,12 @@ def check_all(checks, place, watchmand, wmctl):
     checks.same("serv (explained)", run(place, [watchmand, "serv"], True, False), usage)
 
 
+def check_feed(checks, place, wmfeed):
+    for path, further, no_rights in socket_cases():
+        check(checks, place, [wmfeed, path, place.path("root")], 3, "", "wmfeed: the server ended\n", further, no_rights)
+    check(checks, place, [wmfeed, "sock", "root"], 2, "", "wmfeed: ROOT is no root's path (4 BadPath)\n", "", False)
+
+
 def check_wm(checks, place, wm):
     """A refused expression of `wm`: the further line stands behind its own."""
     words = [wm, "files", "root", "--no-sync", "--expr", '["sufix","c"]', "--socket", place.path("sock")]
@@ -206,7 +212,7 @@ def check_wm(checks, place, wm):
 
 
 def main():
-    if len(sys.argv) not in (3, 4):
+    if len(sys.argv) not in (3, 4, 5):
         sys.exit(__doc__)
     programs = [os.path.abspath(program) for program in sys.argv[1:]]
     sys.argv[1:] = programs
@@ -214,8 +220,10 @@ def main():
     place = Place(programs[0])
     try:
         check_all(checks, place, programs[0], programs[1])
-        if len(programs) == 3:
-            check_wm(checks, place, programs[2])
+        if len(programs) > 2:
+            check_feed(checks, place, programs[2])
+        if len(programs) > 3:
+            check_wm(checks, place, programs[3])
     finally:
         place.close()
     print(f"messages: {checks.count} checks, {checks.failed} failed")

@@ -1,0 +1,294 @@
+#!/usr/bin/env python3
+"""What a server writes to its log, line by line: tools/quick_log.py WATCHMAND [--only CASE ..]
+
+Each case starts a server of its own under a temporary folder, has something happen to it, and compares the lines of its standard error with lines that are written
+here by hand, but for their times. The status is 1 if something doesn't hold. Some 30 seconds."""
+import argparse, contextlib, os, re, resource, shutil, signal, socket, subprocess, sys, tempfile, time
+
+sys.dont_write_bytecode = True
+from served import Client, check, failed, names, new_state, tree, until
+
+NOBODY = 65534
+TIME = re.compile(rb"\d{4}-\d\d-\d\dT\d\d:\d\d:\d\dZ ")
+FILE = {"mtime_ms": 0, "size": 1, "type": "f"}
+SLOTS = 31
+
+
+class Logged:
+    """A server whose standard error goes to a file."""
+
+    def __init__(self, program, folder, *words, before=()):
+        self.path, self.errors = f"{folder}/socket", f"{folder}/errors"
+        self.folder = folder
+        if not os.path.exists(f"{folder}/state"):
+            subprocess.run([*before, program, "format", f"{folder}/state"], check=True, stdout=subprocess.DEVNULL)
+        with open(self.errors, "wb") as errors:
+            self.process = subprocess.Popen([*before, program, "serve", f"{folder}/state", self.path, *words], stdout=subprocess.PIPE, stderr=errors)
+        self.ready = self.process.stdout.readline()
+
+    def client(self):
+        return Client(self.path)
+
+    def whole(self):
+        with open(self.errors, "rb") as errors:
+            return errors.read().splitlines()
+
+    def lines(self):
+        """The lines without their times; one without a time is None."""
+        return [line[21:].decode() if TIME.match(line) else None for line in self.whole()]
+
+    def has(self, *wanted, seconds=20):
+        return until(lambda: self.lines() == list(wanted), seconds)
+
+    def says(self, what, *wanted, seconds=20):
+        check(what, self.has(*wanted, seconds=seconds), self.whole())
+
+
+@contextlib.contextmanager
+def logged(program, *words, before=(), prepare=lambda folder: None):
+    folder = tempfile.mkdtemp(prefix="watchmand-log.", dir="/tmp")
+    os.chmod(folder, 0o777)
+    prepare(folder)
+    server = Logged(program, folder, *words, before=before)
+    try:
+        yield server
+    finally:
+        server.process.kill()
+        server.process.wait()
+        shutil.rmtree(folder, ignore_errors=True)
+
+
+def dead_socket(folder):
+    with socket.socket(socket.AF_UNIX) as dead:
+        dead.bind(f"{folder}/socket")
+
+
+def socket_taken_over(program):
+    with logged(program, prepare=dead_socket) as server:
+        server.says("a dead socket that is taken over", f"took over the socket {server.path}")
+        check("the server is ready as ever", server.ready == b"ready\n", server.ready)
+    with logged(program) as server:
+        server.client().ask(["version"])
+        server.says("no line without a dead socket")
+
+
+def shut_folder(program):
+    before = () if os.getuid() else ("setpriv", f"--reuid={NOBODY}", f"--regid={NOBODY}", "--clear-groups")
+    with logged(program, before=before) as server:
+        top = tree(f"{server.folder}/T")
+        os.makedirs(f"{top}/d/shut")
+        os.chmod(f"{top}/d/shut", 0o000)
+        client = server.client()
+        client.ask(["watch", top])
+        wanted = f"{top}: a crawl failed at {top}/d/shut: 13 DeviceFailed"
+        server.says("the folder that a crawl can't read", wanted)
+        before = len(server.lines())
+        os.chmod(f"{top}/d/shut", 0o755)
+        client.ask(["recrawl", top])
+        check("none of a crawl that succeeds", len(server.lines()) == before and names(client, top)["files"], server.whole())
+        os.chmod(top, 0o000)
+        time.sleep(1.1)  # another second, or the line would be left out
+        client.ask(["recrawl", top])
+        server.says("a root that a crawl can't read", wanted, f"{top}: a crawl failed at {top}: 13 DeviceFailed")
+        os.chmod(top, 0o755)
+        os.rename(top, top + ".away")
+        client.ask(["watch-del", top])
+        client.ask(["recrawl", top])
+        check("none of a root that isn't watched", len(server.lines()) == 2, server.whole())
+
+
+@contextlib.contextmanager
+def triggered(program, *words):
+    with logged(program, *words) as server:
+        top = tree(f"{server.folder}/T")
+        client = server.client()
+        client.ask(["watch", top])
+        names(client, top)
+        yield server, top, client
+
+
+def define(client, top, name, *command):
+    client.tell(["trigger", top, {"name": name, "command": list(command), "expression": ["suffix", "go"]}])
+
+
+def trigger_ends(program):
+    for command, line in [
+        (["./none"], "couldn't start the trigger t"),
+        (["sh", "-c", "exit 3"], "the trigger t ended with status 3"),
+        (["sh", "-c", "exit 255"], "the trigger t ended with status 255"),
+        (["sh", "-c", "kill -9 $$"], "the trigger t was ended by signal 9"),
+        (["sh", "-c", "kill -TERM $$"], "the trigger t was ended by signal 15"),
+    ]:
+        with triggered(program) as (server, top, client):
+            define(client, top, "t", *command)
+            client.ask(["observe", top, [["x.go", FILE]]])
+            server.says(f"a trigger by {' '.join(command)}", f"{top}: {line}")
+    with triggered(program) as (server, top, client):
+        define(client, top, "well", "sh", "-c", f"echo > {server.folder}/ran")
+        client.ask(["observe", top, [["x.go", FILE]]])
+        ran = until(lambda: os.path.exists(f"{server.folder}/ran"))
+        time.sleep(0.3)
+        check("none of a trigger that ends with 0", ran and server.lines() == [], server.whole())
+
+
+def deleted_trigger(program):
+    """One that is deleted while it is due isn't said to have failed."""
+    with triggered(program) as (server, top, client):
+        define(client, top, "slow", "sh", "-c", f"echo > {server.folder}/began; while [ ! -e {server.folder}/go ]; do sleep 0.02; done; echo > {server.folder}/over")
+        define(client, top, "b", "./none")
+        client.ask(["observe", top, [["x.go", FILE]]])
+        until(lambda: os.path.exists(f"{server.folder}/began"))
+        client.ask(["trigger-del", top, "b"])
+        open(f"{server.folder}/go", "w").close()
+        over = until(lambda: os.path.exists(f"{server.folder}/over"))
+        time.sleep(0.5)
+        check("none of a trigger that was deleted before its start", over and server.lines() == [], server.whole())
+
+
+def session_refused(program):
+    with logged(program) as server:
+        kept = [server.client() for _ in range(SLOTS)]
+        answered = [client.ask(["version"]) for client in kept]
+        reply = server.client().line()
+        server.says("a session that finds no slot", "refused a session: 17 TooMany")
+        check("which is told so as ever", all(answered) and reply == b'{"error":"17 TooMany","version":"w1"}\n', reply)
+
+
+def one_a_second(program):
+    """Many sessions are refused within some seconds: no two lines are of one second, and those of another cause aren't held back."""
+    with logged(program) as server:
+        kept = [server.client() for _ in range(SLOTS)]
+        for client in kept:
+            client.ask(["version"])
+        end = time.time() + 3.5
+        refused = 0
+        while time.time() < end:
+            server.client().line()
+            refused += 1
+        lines = server.whole()
+        check("many are refused, and some lines come", refused > 20 and 3 <= len(lines) <= 5, (refused, lines))
+        check("no two of one second", len({line[:20] for line in lines}) == len(lines), lines)
+
+
+def client_cut_off(program):
+    """A client that doesn't read is cut off after ten seconds, and the line says so once."""
+    with logged(program) as server:
+        top = tree(f"{server.folder}/T", **{f"d/{'n' * 200}{i}": "" for i in range(400)})
+        lazy, other = server.client(), server.client()
+        lazy.ask(["watch", top])
+        names(other, top)
+        asked = b'["query","%s",{"fields":["name"]}]\n' % top.encode()
+        with contextlib.suppress(OSError):
+            lazy.socket.settimeout(30)
+            for _ in range(2000):
+                lazy.socket.sendall(asked)
+                if server.lines():
+                    break
+        server.says("a client that doesn't read its replies", "cut off a client that didn't read", seconds=30)
+        time.sleep(1)
+        server.says("is told of once", "cut off a client that didn't read")
+        check("others are served on", names(other, top)["files"], "")
+
+
+def subscriber_cut_off(program):
+    with logged(program) as server:
+        top = tree(f"{server.folder}/T")
+        lazy, other = server.client(), server.client()
+        other.ask(["watch", top])
+        names(other, top)
+        lazy.ask(["subscribe", top, "s", {"fields": ["name"]}])
+        pairs = [[f"{'n' * 200}{i}", FILE] for i in range(200)]
+
+        def changed():
+            other.ask(["observe", top, [[name, {**FILE, "size": time.monotonic_ns() % 1000000}] for name, _ in pairs]])
+            return server.lines()
+        until(changed, 40)
+        server.says("a subscriber that doesn't read", "cut off a client that didn't read", seconds=30)
+
+
+def client_that_goes(program):
+    """A client that closes its end isn't cut off."""
+    with logged(program) as server:
+        top = tree(f"{server.folder}/T", **{f"d/{'n' * 200}{i}": "" for i in range(400)})
+        client = server.client()
+        client.ask(["watch", top])
+        names(client, top)
+        for _ in range(20):
+            gone = server.client()
+            gone.send(["query", top, {"fields": ["name"]}])
+            gone.close()
+        client.ask(["version"])
+        time.sleep(0.3)
+        server.says("none of clients that go")
+
+
+def state_file_fails(program):
+    """A state file that can't be written fails a command; a later one is refused without a line."""
+    folder = tempfile.mkdtemp(prefix="watchmand-log.", dir="/tmp")
+    new_state(program, f"{folder}/state")
+    process = subprocess.Popen([program, "serve", f"{folder}/state", f"{folder}/socket"], stdout=subprocess.PIPE, stderr=subprocess.PIPE,
+                               preexec_fn=lambda: signal.signal(signal.SIGXFSZ, signal.SIG_IGN))
+    process.stdout.readline()
+    # from now on no file takes a byte
+    resource.prlimit(process.pid, resource.RLIMIT_FSIZE, (0, 0))
+    client = Client(f"{folder}/socket")
+    first = client.tell(["watch", folder])
+    time.sleep(1.1)
+    later = client.tell(["watch", folder])
+    time.sleep(0.3)
+    process.kill()
+    lines = process.stderr.read().splitlines()
+    process.wait()
+    check("a command that the disk refuses, and a later one", first.get("error") == "13 DeviceFailed" and later.get("error") == "12 StoreFailed", (first, later))
+    check("a state file that fails, told once", [line[21:] for line in lines] == [b"the state file failed; commands that change it are refused until a restart"], lines)
+    shutil.rmtree(folder)
+
+
+def quiet(program):
+    with logged(program, "--quiet", prepare=dead_socket) as server:
+        kept = [server.client() for _ in range(SLOTS)]
+        for client in kept:
+            client.ask(["version"])
+        server.client().line()
+        check("a server that is quiet is ready as ever", server.ready == b"ready\n", server.ready)
+        time.sleep(0.3)
+        server.says("and writes nothing")
+
+
+def drained_at_the_end(program):
+    """What was logged right before the end is written, and a server ends though its standard error is closed."""
+    with logged(program, "--sessions", "1", prepare=dead_socket) as server:
+        server.client().close()
+        status = server.process.wait(20)
+        check("a server that ends", status == 0 and server.lines() == [f"took over the socket {server.path}"], (status, server.whole()))
+    folder = tempfile.mkdtemp(prefix="watchmand-log.", dir="/tmp")
+    new_state(program, f"{folder}/state")
+    dead_socket(folder)
+    reader, writer = os.pipe()
+    os.close(reader)
+    process = subprocess.Popen([program, "serve", f"{folder}/state", f"{folder}/socket", "--sessions", "1"], stdout=subprocess.PIPE, stderr=writer)
+    os.close(writer)
+    ready = process.stdout.readline()
+    reply = Client(f"{folder}/socket").ask(["version"])
+    check("a log that nobody reads ends no server", ready == b"ready\n" and reply and process.wait(20) == 0, (ready, reply))
+    shutil.rmtree(folder)
+
+
+CASES = [socket_taken_over, shut_folder, trigger_ends, deleted_trigger, session_refused, one_a_second, client_cut_off, subscriber_cut_off, client_that_goes, state_file_fails, quiet,
+         drained_at_the_end]
+NAMED = {case.__name__: case for case in CASES}
+
+
+def main():
+    reader = argparse.ArgumentParser(description="Compares the log of servers with lines that are expected.")
+    reader.add_argument("watchmand")
+    reader.add_argument("--only", nargs="+", choices=NAMED, metavar="CASE", default=list(NAMED), help="these cases alone")
+    asked = reader.parse_args()
+    for name in asked.only:
+        print("--", name, flush=True)
+        NAMED[name](os.path.abspath(asked.watchmand))
+    print(f"{len(failed)} failed")
+    return 1 if failed else 0
+
+
+sys.exit(main())
