@@ -75,7 +75,7 @@ const LINES: &[(u64, Option<&str>, Case, &str)] = &[
         86_400,
         Some("/r"),
         Case::Forgot(12),
-        "1970-01-02T00:00:00Z /r: 12 deleted paths were forgotten\n",
+        "1970-01-02T00:00:00Z /r: forgot paths that were deleted up to tick 12\n",
     ),
     (
         253_402_207_200,
@@ -97,27 +97,22 @@ const LINES: &[(u64, Option<&str>, Case, &str)] = &[
     ),
 ];
 
-/// Events in turn, and whether the line of each is let through.
-const TURNS: &[(u64, Option<&str>, Case, bool)] = &[
-    (5, Some("/r"), Case::Forgot(1), true),
-    (5, Some("/r"), Case::Forgot(2), false),
-    (5, Some("/q"), Case::Forgot(2), true),
-    (5, None, Case::Forgot(2), true),
-    (
-        5,
-        Some("/r"),
-        Case::CrawlFailed(Refusal::DeviceFailed, Some("a")),
-        true,
-    ),
-    (
-        5,
-        Some("/r"),
-        Case::CrawlFailed(Refusal::NoMemory, None),
-        false,
-    ),
-    (6, Some("/r"), Case::Forgot(3), true),
-    (6, Some("/r"), Case::Forgot(4), false),
-    (4, Some("/r"), Case::Forgot(5), true),
+/// Texts in turn, each with its second, and whether each is let through.
+const TURNS: &[(u64, &str, bool)] = &[
+    (5, "/r: couldn't start the trigger a", true),
+    (5, "/r: couldn't start the trigger a", false),
+    (5, "/r: couldn't start the trigger b", true),
+    (5, "/q: couldn't start the trigger a", true),
+    (5, "/r: a crawl failed at /r/d: 13 DeviceFailed", true),
+    (5, "/r: a crawl failed at /r/e: 13 DeviceFailed", true),
+    (5, "/r: a crawl failed: 16 NoMemory", true),
+    (5, "/r: a crawl failed at /r/d: 13 DeviceFailed", false),
+    (5, "/r: couldn't start the trigger b", false),
+    (5, "", true),
+    (5, "", false),
+    (6, "/r: couldn't start the trigger a", true),
+    (6, "/r: couldn't start the trigger a", false),
+    (4, "/r: couldn't start the trigger a", true),
 ];
 
 fn text(rt: &impl Abort, alloc: Global, text: &str) -> String {
@@ -135,7 +130,7 @@ fn what(rt: &impl Abort, alloc: Global, case: Case) -> What {
         Case::Killed(name, signal) => What::Killed(text(rt, alloc, name), signal),
         Case::SessionRefused(refusal) => What::SessionRefused(refusal),
         Case::CutOff => What::CutOff,
-        Case::Forgot(count) => What::Forgot(count),
+        Case::Forgot(tick) => What::Forgot(tick),
         Case::StoreFailed => What::StoreFailed,
     }
 }
@@ -167,17 +162,12 @@ fn lines_of_the_table(rt: HostRuntime) {
     }
 }
 
-fn passes(rt: &impl Abort, alloc: Global, limiter: &mut LogLimiter, event: Event) -> bool {
-    limiter.passes(alloc, &event).expect(rt, "memory")
-}
-
 #[test]
-fn lets_one_line_a_second_through(rt: HostRuntime) {
-    let alloc = rt.alloc();
-    let mut limiter = LogLimiter::new(alloc);
-    for (time, root, case, wanted) in TURNS {
-        let event = event(&rt, alloc, *time, *root, *case);
-        check!(rt; passes(&rt, alloc, &mut limiter, event) == *wanted, time);
+fn lets_equal_texts_through_once_a_second(rt: HostRuntime) {
+    let mut limiter = LogLimiter::new(rt.alloc());
+    for (second, text, wanted) in TURNS {
+        let passes = limiter.passes(rt.alloc(), *second, text);
+        check!(rt; passes == Ok(*wanted), (second, text));
     }
 }
 
@@ -195,16 +185,22 @@ impl Write for Closed {
     }
 }
 
-/// Writes a line of each second twice, and one to a writer that fails between them.
+/// Events in turn, without a root.
+const WRITTEN: &[(u64, Case)] = &[
+    (0, Case::NotStarted("a")),
+    (0, Case::NotStarted("b")),
+    (0, Case::NotStarted("a")),
+    (0, Case::Exited("a", 1)),
+    (0, Case::Exited("a", 2)),
+    (0, Case::NotStarted("b")),
+    (2, Case::NotStarted("b")),
+];
+
+/// Writes those events, one to a writer that fails, and a later one.
 fn write_turns(rt: &impl Abort, alloc: Global, written: &mut Vec<u8>) {
     let mut limiter = LogLimiter::new(alloc);
-    for (time, case) in [
-        (0, Case::CutOff),
-        (0, Case::CutOff),
-        (0, Case::StoreFailed),
-        (2, Case::CutOff),
-    ] {
-        let event = event(rt, alloc, time, None, case);
+    for (time, case) in WRITTEN {
+        let event = event(rt, alloc, *time, None, *case);
         check!(rt; write_event(alloc, &mut limiter, &event, written).is_ok(), time);
     }
     let lost = event(rt, alloc, 3, None, Case::CutOff);
@@ -218,9 +214,11 @@ fn write_turns(rt: &impl Abort, alloc: Global, written: &mut Vec<u8>) {
 fn writes_what_is_let_through(rt: HostRuntime) {
     let mut written = Vec::new(rt.alloc());
     write_turns(&rt, rt.alloc(), &mut written);
-    let wanted = "1970-01-01T00:00:00Z cut off a client that didn't read\n\
-        1970-01-01T00:00:00Z the state file failed; commands that change it are refused until a restart\n\
-        1970-01-01T00:00:02Z cut off a client that didn't read\n\
+    let wanted = "1970-01-01T00:00:00Z couldn't start the trigger a\n\
+        1970-01-01T00:00:00Z couldn't start the trigger b\n\
+        1970-01-01T00:00:00Z the trigger a ended with status 1\n\
+        1970-01-01T00:00:00Z the trigger a ended with status 2\n\
+        1970-01-01T00:00:02Z couldn't start the trigger b\n\
         1970-01-01T00:00:04Z cut off a client that didn't read\n";
     check!(rt; written.as_slice() == wanted.as_bytes());
 }

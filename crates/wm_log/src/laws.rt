@@ -2,7 +2,7 @@
 //! Definitions: specs/LogLaws.
 ghost use Rattle.wm_log.specs.LogLaws.{OneLineASecond};
 
-/// Of the lines that a limiter lets through, as long as the time doesn't go back, no two are of one second and one cause.
+/// Of the texts that a limiter lets through, as long as the time doesn't go back, no two are equal and of one second.
 pub fn one_line_a_second()
     ensures { OneLineASecond }
 {}

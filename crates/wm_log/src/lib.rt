@@ -1,7 +1,7 @@
 //! The log of a server, as values: what happened, the line of it, which lines are let through, and which events wait to be written.
 //!
-//! An [`Event`] is one thing that happened, with its time and its root. [`line_of`] is its line, and a [`LogLimiter`] lets at most one
-//! line a second through for one cause, which is the kind of an event with its root. An [`EventQueue`] has the events that wait, and
+//! An [`Event`] is one thing that happened, with its time and its root. [`line_of`] is its line, and a [`LogLimiter`] lets equal texts
+//! through once a second. An [`EventQueue`] has the events that wait, and
 //! [`write_event`] writes the line of one. Nothing here waits.
 //!
 //! | Of | Definitions |
@@ -21,7 +21,7 @@ mod lines;
 mod time;
 mod writing;
 
-pub use event::{Event, Kind, What};
+pub use event::{Event, What};
 pub use event_queue::EventQueue;
 pub use laws::one_line_a_second;
 pub use limiter::LogLimiter;

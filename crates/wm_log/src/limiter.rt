@@ -1,51 +1,33 @@
-//! Which lines of a log are let through. Definitions: specs/LogLimits. Tests: leaf_tests/src/logs.rt.
-ghost use Rattle.std.specs.Prelude.{◌≡◌, [], IfOk, OnErr, OnOk, map};
-ghost use Rattle.wm_log.specs.LogLimits.{after_logging, at_second, cause_seen, has_logged, is_same, logged_seen, passes_limit};
+//! Which texts of a log are let through. Definitions: specs/LogLimits. Tests: leaf_tests/src/logs.rt.
+ghost use Rattle.std.specs.Prelude.{◌≡◌, [], IfOk, OnErr, OnOk, map, string_bytes};
+ghost use Rattle.wm_log.specs.LogLimits.{after_logging, at_second, has_text, passes_limit};
 
-use crate::event::{Event, Kind};
 use std::alloc::Global;
 use std::marker::Model;
 use wm_disk::NoMemory;
 
-/// The cause of a line that was let through.
-#[derive(Drop)]
-pub struct Logged {
-    kind: Kind,
-    /// The path of its root; empty if it is about none.
-    root: String,
-}
-
-/// The causes whose lines were let through in one second.
+/// The texts that were let through in one second.
 #[derive(Drop)]
 pub struct LogLimiter {
     second: u64,
-    logged: Vec<Logged>,
+    texts: Vec<String>,
 }
 
 impl Model for LogLimiter {
-    ghost use Rattle.std.specs.Prelude.{map};
-    ghost use Rattle.wm_log.specs.LogLimits.{LimitState, logged_seen};
+    ghost use Rattle.std.specs.Prelude.{map, string_bytes};
+    ghost use Rattle.wm_log.specs.LogLimits.{LimitState};
 
     ghost Value = { LimitState };
 
-    ghost view = { λ l. record { second = l.second; causes = map logged_seen l.logged.items } };
+    ghost view = { λ l. record { second = l.second; texts = map string_bytes l.texts.items } };
 }
 
-impl Logged {
-    /// Whether it is the cause of this kind and root.
-    fn is(&self, kind: Kind, root: &str) -> bool
-        ensures { result ≡ is_same (cause_seen kind root.now) (logged_seen self.now) }
-    {
-        kind.same(self.kind) && root == self.root.as_str()
-    }
-}
-
-/// Whether a cause is among some.
-fn has_logged(logged: &[Logged], kind: Kind, root: &str) -> bool
-    ensures { result ≡ has_logged (cause_seen kind root.now) (map logged_seen logged.now) }
+/// Whether a text is among some.
+fn has_text(texts: &[String], text: &str) -> bool
+    ensures { result ≡ has_text text.now (map string_bytes texts.now) }
 {
-    for cause in logged {
-        if cause.is(kind, root) {
+    for one in texts {
+        if text == one.as_str() {
             return true;
         }
     }
@@ -53,13 +35,13 @@ fn has_logged(logged: &[Logged], kind: Kind, root: &str) -> bool
 }
 
 impl LogLimiter {
-    /// No line was let through yet.
+    /// No text was let through yet.
     pub fn new(alloc: Global) -> LogLimiter
-        ensures { result ≡ record { second = 0; causes = [] } }
+        ensures { result ≡ record { second = 0; texts = [] } }
     {
         LogLimiter {
             second: 0,
-            logged: Vec::new(alloc),
+            texts: Vec::new(alloc),
         }
     }
 
@@ -69,25 +51,23 @@ impl LogLimiter {
     {
         if self.second != second {
             self.second = second;
-            self.logged.clear();
+            self.texts.clear();
         }
     }
 
-    /// Whether the line of an event is let through: if no line of its cause was in the same second. An `Err` means that memory ran out;
+    /// Whether a text is let through in a second: if it isn't among those that were let through in it. An `Err` means that memory ran out;
     /// then it isn't counted as let through.
-    pub fn passes(&mut self, alloc: Global, event: &Event) -> Result<bool, NoMemory>
-        ensures passes { IfOk result (λ b. b ≡ passes_limit event.now self.old) }
-        ensures logged { OnOk result (self.new ≡ after_logging event.now self.old) }
-        ensures err { OnErr result (self.new ≡ at_second event.now.time self.old) }
+    pub fn passes(&mut self, alloc: Global, second: u64, text: &str) -> Result<bool, NoMemory>
+        ensures passes { IfOk result (λ b. b ≡ passes_limit second text.now self.old) }
+        ensures logged { OnOk result (self.new ≡ after_logging second text.now self.old) }
+        ensures err { OnErr result (self.new ≡ at_second second self.old) }
     {
-        self.go_to(event.time);
-        let kind = event.what.kind();
-        let root = event.root_text();
-        if has_logged(&self.logged, kind, root) {
+        self.go_to(second);
+        if has_text(&self.texts, text) {
             return Ok(false);
         }
-        let root = String::from_str(alloc, root)?;
-        self.logged.push(Logged { kind, root })?;
+        let text = String::from_str(alloc, text)?;
+        self.texts.push(text)?;
         Ok(true)
     }
 }

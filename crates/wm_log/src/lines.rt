@@ -2,7 +2,7 @@
 ghost use Rattle.std.specs.Prelude.{◌≡◌, IfOk, option_map, string_bytes};
 ghost use Rattle.wm_explain.specs.Shown.{shown_text};
 ghost use Rattle.wm_disk.specs.Refusals.{refusal_text};
-ghost use Rattle.wm_log.specs.LogLines.{IsLogLine, about, crawl_text, refused_text, spaced, number_text, of_trigger, what_text, text_number};
+ghost use Rattle.wm_log.specs.LogLines.{IsLogLine, about, crawl_text, log_text, refused_text, spaced, of_trigger, what_text, text_number};
 
 use crate::event::{Event, What};
 use crate::time::time_text;
@@ -63,11 +63,11 @@ fn crawl_text(alloc: Global, refusal: Refusal, folder: &Option<String>) -> Resul
     }
 }
 
-/// A number, and what it counts.
-fn number_text(alloc: Global, number: u64, text: &str) -> Result<String, NoMemory>
-    ensures { IfOk result (λ r. string_bytes r ≡ number_text number text.now) }
+/// A text, and the tick of a root.
+fn with_tick(alloc: Global, text: &str, tick: u64) -> Result<String, NoMemory>
+    ensures { IfOk result (λ r. string_bytes r ≡ text_number text.now tick) }
 {
-    Ok(format!(in alloc; "{number} {text}")?)
+    Ok(format!(in alloc; "{text} {tick}")?)
 }
 
 /// What is said of what happened.
@@ -82,7 +82,7 @@ fn what_text(alloc: Global, what: &What) -> Result<String, NoMemory>
         What::Killed(name, signal) => ended_text(alloc, name, "was ended by signal", *signal),
         What::SessionRefused(refusal) => refused_text(alloc, "refused a session", *refusal),
         What::CutOff => Ok(String::from_str(alloc, "cut off a client that didn't read")?),
-        What::Forgot(count) => number_text(alloc, *count, "deleted paths were forgotten"),
+        What::Forgot(tick) => with_tick(alloc, "forgot paths that were deleted up to tick", *tick),
         What::StoreFailed => Ok(String::from_str(
             alloc,
             "the state file failed; commands that change it are refused until a restart",
@@ -103,12 +103,27 @@ fn about(alloc: Global, root: &Option<String>, text: String) -> Result<String, N
     }
 }
 
+/// What is said of an event: its root if it has one, and what happened.
+pub(crate) fn text_of(alloc: Global, event: &Event) -> Result<String, NoMemory>
+    ensures { IfOk result (λ text. string_bytes text ≡ log_text event.now) }
+{
+    let text = what_text(alloc, &event.what)?;
+    about(alloc, &event.root, text)
+}
+
+/// The line of an event of which this is said.
+pub(crate) fn line_by(alloc: Global, event: &Event, text: &str) -> Result<String, NoMemory>
+    requires { text.now ≡ log_text event.now }
+    ensures { IfOk result (λ line. IsLogLine event.now (string_bytes line)) }
+{
+    let time = time_text(alloc, event.time)?;
+    Ok(format!(in alloc; "{time} {text}\n")?)
+}
+
 /// The line of an event, with its newline: its time, its root if it has one, and what happened.
 pub fn line_of(alloc: Global, event: &Event) -> Result<String, NoMemory>
     ensures { IfOk result (λ line. IsLogLine event.now (string_bytes line)) }
 {
-    let time = time_text(alloc, event.time)?;
-    let text = what_text(alloc, &event.what)?;
-    let text = about(alloc, &event.root, text)?;
-    Ok(format!(in alloc; "{time} {text}\n")?)
+    let text = text_of(alloc, event)?;
+    line_by(alloc, event, &text)
 }

@@ -2,11 +2,11 @@
 ghost use Rattle.std.specs.Prelude.{◌≡◌, ◌⊎◌, ℕ, List, true, IfErr, MatchBool, OnOk};
 ghost use Rattle.std.specs.Io.KnownBytes.{Appends};
 ghost use Rattle.wm_log.specs.LogLimits.{after_logging, passes_limit};
-ghost use Rattle.wm_log.specs.LogLines.{IsLogLine};
+ghost use Rattle.wm_log.specs.LogLines.{IsLogLine, log_text};
 
 use crate::event::Event;
 use crate::limiter::LogLimiter;
-use crate::lines::line_of;
+use crate::lines::{line_by, text_of};
 use std::alloc::Global;
 use std::io::Write;
 use wm_disk::Refusal;
@@ -22,7 +22,7 @@ fn write_text<W: Write>(text: &str, writer: &mut W) -> Result<(), Refusal>
     }
 }
 
-/// Writes the line of an event, if the limiter lets it through, and else nothing. `NoMemory`, and `DeviceFailed` if the writer fails: then
+/// Writes the line of an event, if the limiter lets what it says through, and else nothing. `NoMemory`, and `DeviceFailed` if the writer fails: then
 /// a part of the line may be written.
 pub fn write_event<W: Write>(
     alloc: Global,
@@ -30,13 +30,14 @@ pub fn write_event<W: Write>(
     event: &Event,
     writer: &mut W,
 ) -> Result<(), Refusal>
-    ensures written { OnOk result (MatchBool (passes_limit event.now limiter.old)
+    ensures written { OnOk result (MatchBool (passes_limit event.now.time (log_text event.now) limiter.old)
         ((line : List ℕ) × IsLogLine event.now line × Appends (W.contents writer.old) (W.contents writer.new) line) (writer.new ≡ writer.old)) }
-    ensures counted { OnOk result (limiter.new ≡ after_logging event.now limiter.old) }
-    ensures refused { IfErr result (λ e. (e ≡ Refusal.NoMemory) ⊎ ((e ≡ Refusal.DeviceFailed) × (passes_limit event.now limiter.old ≡ true))) }
+    ensures counted { OnOk result (limiter.new ≡ after_logging event.now.time (log_text event.now) limiter.old) }
+    ensures refused { IfErr result (λ e. (e ≡ Refusal.NoMemory) ⊎ ((e ≡ Refusal.DeviceFailed) × (passes_limit event.now.time (log_text event.now) limiter.old ≡ true))) }
 {
-    if limiter.passes(alloc, event)? {
-        let line = line_of(alloc, event)?;
+    let text = text_of(alloc, event)?;
+    let line = line_by(alloc, event, &text)?;
+    if limiter.passes(alloc, event.time, &text)? {
         write_text(&line, writer)?;
     }
     Ok(())
