@@ -27,7 +27,7 @@ abbrev pub launcher_of : {L : Type 0} → ProgramStarter L → L
 launcher_of starter = starter.launcher
 
 -- the system that a launcher starts programs of
-abbrev pub system_of : {S P : Type 0} → SystemLauncher S P → S
+abbrev pub system_of : {S : Type 0} → SystemLauncher S → S
 system_of launcher = launcher.system.now
 
 -- the system that programs are of

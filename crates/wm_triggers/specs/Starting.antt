@@ -4,14 +4,14 @@ use Rattle.std.specs.List.{flat_map}
 use Rattle.std.specs.Process.{clears_env, command_args, command_dir, command_program, command_var}
 use Rattle.std.specs.declared.process.command.Command.{Command}
 use Rattle.wm_disk.specs.Contents.{Rose}
-use Rattle.wm_disk.specs.declared.refusal.Refusal.{Refusal}
-use Rattle.wm_disk.specs.declared.refusal.Refusal.TheVariants.{DeviceFailed, NoMemory}
 use Rattle.wm_names.specs.Paths.{Path}
 use Rattle.wm_registry.specs.declared.stdin.Stdin.{Stdin}
 use Rattle.wm_registry.specs.declared.stdin.Stdin.TheVariants.{DevNull, NamePerLine}
 use Rattle.wm_registry.specs.Triggers.{Definition}
 use Rattle.wm_since.specs.declared.listed.Listed.{Listed}
 use Rattle.wm_since.specs.declared.query.Answer.{Answer}
+use Rattle.wm_triggers.specs.declared.not_run.NotRun.{NotRun}
+use Rattle.wm_triggers.specs.declared.not_run.NotRun.TheVariants.{DeviceFailed}
 
 -- ---- what is started
 
@@ -80,10 +80,10 @@ launch_by command input = record {
 
 -- ---- how starts are counted
 
--- The count of failures at a start: it doesn't fall, it stands where the run was started, it rose where the start failed (`13`), and stands where
--- memory ran out (`16`), which is the only other refusal.
-pub record CountsStart {A : Type 0} (before now : ℕ) (result : Result A Refusal) : Type 0 where
+-- The count of failures at a start: it doesn't fall, it stands where the run was started, it rose where the start failed, and stands where none
+-- was tried.
+pub record CountsStart {A : Type 0} (before now : ℕ) (result : Result A NotRun) : Type 0 where
   pub later : before ≤ now
   pub started : OnOk result (now ≡ before)
   pub failed : IsErrOf result DeviceFailed → Rose before now
-  pub short : IfErr result (λ e. e ≢ DeviceFailed → (e ≡ NoMemory) × (now ≡ before))
+  pub untried : IfErr result (λ e. e ≢ DeviceFailed → now ≡ before)

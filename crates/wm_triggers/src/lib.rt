@@ -5,7 +5,7 @@
 //! of the root. A [`Starter`] starts the program of a run and waits for its end: [`ProgramStarter`]
 //! by a [`Launcher`], as that of the system, with the words and the input that specs/Starting.antt
 //! has, and [`MemStarter`] in memory, for tests. Each gives how the program ended, a [`ProgramEnd`]
-//! (specs/ProgramEnds.antt). [`Programs`] are what many threads start.
+//! (specs/ProgramEnds.antt), or why none ran, a [`NotRun`]. [`Programs`] are what many threads start.
 //!
 //! A [`TriggerTable`] has the definitions of a root, each with its command's number, and says which
 //! of them may begin ([`every_table`]); a [`Permit`] asks it right before a start. [`TriggerRuns`]
@@ -20,6 +20,7 @@ mod definition_runs;
 mod launcher;
 mod laws;
 mod mem_starter;
+mod not_run;
 mod permit;
 mod program_end;
 mod program_starter;
@@ -37,6 +38,7 @@ pub use definition_runs::DefinitionRuns;
 pub use launcher::{Launcher, ProgramSystem, SystemLauncher};
 pub use laws::every_table;
 pub use mem_starter::{MemStarter, StartedRun};
+pub use not_run::NotRun;
 pub use permit::{Permit, Unasked};
 pub use program_end::ProgramEnd;
 pub use program_starter::ProgramStarter;

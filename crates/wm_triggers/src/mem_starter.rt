@@ -5,11 +5,12 @@ ghost use Rattle.wm_triggers.specs.declared.program_end.ProgramEnd.TheVariants.{
 ghost use Rattle.wm_triggers.specs.Starters.{failed_starts, started_runs, starts_to_fail};
 ghost use Rattle.wm_triggers.specs.Starting.{CountsStart};
 
+use crate::not_run::NotRun;
 use crate::program_end::ProgramEnd;
 use crate::run::Run;
 use crate::starter::Starter;
 use std::alloc::Global;
-use wm_disk::{MAX_COUNTER, Refusal};
+use wm_disk::MAX_COUNTER;
 use wm_names::RootPath;
 use wm_registry::Trigger;
 
@@ -84,11 +85,11 @@ impl Starter for MemStarter {
         root: &RootPath,
         trigger: &Trigger,
         run: &Run,
-    ) -> Result<ProgramEnd, Refusal>
+    ) -> Result<ProgramEnd, NotRun>
         ensures ran { IfOk result (λ end. (end ≡ Exited 0) × (started_runs self.new ≡ started_runs self.old ++ (record { root = root.now; trigger = trigger.now; run = run.now }) ∷ [])) }
         ensures count { CountsStart (failed_starts self.old) (failed_starts self.new) result }
         ensures same { OnErr result (started_runs self.new ≡ started_runs self.old) }
-        ensures plan { IsErrOf result Refusal.DeviceFailed ↔ 0 < starts_to_fail self.old }
+        ensures plan { IsErrOf result NotRun.DeviceFailed ↔ 0 < starts_to_fail self.old }
         ensures left { starts_to_fail self.new ≡ starts_to_fail self.old - 1 }
     {
         if self.to_fail > 0 {
@@ -96,7 +97,7 @@ impl Starter for MemStarter {
             if self.failures < MAX_COUNTER {
                 self.failures += 1;
             }
-            return Err(Refusal::DeviceFailed);
+            return Err(NotRun::DeviceFailed);
         }
         let root = root.copy(alloc)?;
         let trigger = trigger.copy()?;

@@ -1,18 +1,17 @@
 //! The starter of real programs: it makes the command and the input of each run.
 //! Definitions: specs/Starters.antt, specs/Starting.antt. Tests: registry_tests/src/trigger_runs/programs.rt.
-ghost use Rattle.std.specs.Prelude.{◌≡◌};
+ghost use Rattle.std.specs.Prelude.{◌≡◌, ◌⊎◌};
 ghost use Rattle.wm_triggers.specs.Starters.{failed_programs, launcher_of};
 ghost use Rattle.wm_triggers.specs.Starting.{launch_for};
 
 use crate::launcher::Launcher;
+use crate::not_run::NotRun;
 use crate::program_end::ProgramEnd;
 use crate::run::Run;
 use crate::starter::Starter;
 use crate::starting::{run_command, run_input};
 use std::alloc::Global;
-use std::io;
-use std::io::ErrorKind;
-use wm_disk::{MAX_COUNTER, Refusal};
+use wm_disk::MAX_COUNTER;
 use wm_names::RootPath;
 use wm_registry::Trigger;
 
@@ -21,11 +20,6 @@ use wm_registry::Trigger;
 pub struct ProgramStarter<L> {
     launcher: L,
     failures: u64,
-}
-
-/// Whether it was memory of this process that ran out, and not that of the system.
-fn is_memory(error: &io::Error) -> bool {
-    error.kind() == ErrorKind::OutOfMemory && error.raw_os_error().is_none()
 }
 
 impl<L: Launcher> ProgramStarter<L> {
@@ -60,7 +54,7 @@ impl<L: Launcher> Starter for ProgramStarter<L> {
 
     ghost has_run = { λ old root trigger run end new. L.has_ended (launcher_of old) (launch_for root trigger run) end (launcher_of new) };
 
-    ghost stays = { λ old new. launcher_of new ≡ launcher_of old };
+    ghost stays = { λ old new. (launcher_of new ≡ launcher_of old) ⊎ L.stays (launcher_of old) (launcher_of new) };
 
     ghost has_failed = { λ old root trigger run new. L.has_failed (launcher_of old) (launch_for root trigger run) (launcher_of new) };
 
@@ -70,18 +64,18 @@ impl<L: Launcher> Starter for ProgramStarter<L> {
         root: &RootPath,
         trigger: &Trigger,
         run: &Run,
-    ) -> Result<ProgramEnd, Refusal> {
+    ) -> Result<ProgramEnd, NotRun> {
         let command = run_command(alloc, root, trigger, run)?;
         let input = run_input(alloc, trigger, run)?;
         match self.launcher.launch(command, input) {
             Ok(end) => Ok(end),
-            Err(error) if is_memory(&error) => Err(Refusal::NoMemory),
-            Err(_) => {
+            Err(NotRun::DeviceFailed) => {
                 if self.failures < MAX_COUNTER {
                     self.failures += 1;
                 }
-                Err(Refusal::DeviceFailed)
+                Err(NotRun::DeviceFailed)
             }
+            Err(not_run) => Err(not_run),
         }
     }
 }

@@ -1,22 +1,21 @@
 //! The programs that many threads may start, in place of the runtime's `Processes`.
 //! Definitions: specs/Starting.antt, specs/Starters.antt. Tests: serve_tests/src/sessions.rt.
-ghost use Rattle.std.specs.Prelude.{◌≡◌, ◌≢◌, IfErr, IfOk, IsErrOf};
-ghost use Rattle.wm_disk.specs.declared.refusal.Refusal.TheVariants.{DeviceFailed as device_failed, NoMemory as no_memory};
+ghost use Rattle.std.specs.Prelude.{◌≡◌, IfOk, IsErrOf};
 ghost use Rattle.wm_names.specs.Paths.{Path};
 ghost use Rattle.wm_registry.specs.Triggers.{Definition};
 ghost use Rattle.wm_since.specs.declared.query.Answer.{Answer};
+ghost use Rattle.wm_triggers.specs.declared.not_run.NotRun.TheVariants.{DeviceFailed};
 ghost use Rattle.wm_triggers.specs.declared.program_end.ProgramEnd.{ProgramEnd};
 ghost use Rattle.wm_triggers.specs.Starters.{system_behind};
 ghost use Rattle.wm_triggers.specs.Starting.{launch_for};
 
-use crate::launcher::{ProgramSystem, SystemLauncher};
+use crate::launcher::ProgramSystem;
+use crate::not_run::NotRun;
 use crate::permit::Permit;
 use crate::program_end::ProgramEnd;
-use crate::program_starter::ProgramStarter;
 use crate::run::Run;
-use crate::starter::Starter;
+use crate::starting::{run_command, run_input};
 use std::alloc::Global;
-use wm_disk::Refusal;
 use wm_names::RootPath;
 use wm_registry::Trigger;
 
@@ -26,11 +25,11 @@ pub trait Programs {
     /// input of the run and the environment of this process, and has ended so.
     ghost has_run: { Self → Path → Definition → Answer → ProgramEnd → Type 0 };
 
-    /// The program of such a run could not be started, or its permit refused the start.
+    /// The start of such a run's program was tried, and failed.
     ghost has_failed: { Self → Path → Definition → Answer → Type 0 };
 
     /// As `Starter::run`, but a start that fails isn't counted, and the permit is asked right before the start and told right
-    /// after. `DeviceFailed` where it refuses the start: no program ran then.
+    /// after: that this start is over comes with the program's end. `NotPermitted` where it refuses the start.
     fn run<P: Permit + Drop>(
         &self,
         alloc: Global,
@@ -38,10 +37,10 @@ pub trait Programs {
         trigger: &Trigger,
         run: &Run,
         permit: P,
-    ) -> Result<ProgramEnd, Refusal>
-        ensures ran { IfOk result (has_run self.now root.now trigger.now run.now) }
-        ensures failed { IsErrOf result device_failed → has_failed self.now root.now trigger.now run.now }
-        ensures refused { IfErr result (λ e. e ≢ device_failed → e ≡ no_memory) };
+    ) -> Result<(ProgramEnd, P::Ended), NotRun>
+        ensures ran { IfOk result (λ ran. has_run self.now root.now trigger.now run.now ran.0) }
+        ensures permitted { IfOk result (λ ran. P.shows_ended permit ran.1) }
+        ensures failed { IsErrOf result DeviceFailed → has_failed self.now root.now trigger.now run.now };
 }
 
 /// The programs of a system.
@@ -71,10 +70,9 @@ impl<S: ProgramSystem> Programs for SystemPrograms<S> {
         trigger: &Trigger,
         run: &Run,
         permit: P,
-    ) -> Result<ProgramEnd, Refusal> {
-        let launcher = SystemLauncher::permitted(&self.system, permit);
-        let mut starter = ProgramStarter::new(launcher);
-        let met = starter.run(alloc, root, trigger, run);
-        met
+    ) -> Result<(ProgramEnd, P::Ended), NotRun> {
+        let command = run_command(alloc, root, trigger, run)?;
+        let input = run_input(alloc, trigger, run)?;
+        self.system.start_and_wait(command, input, &permit)
     }
 }

@@ -1,17 +1,17 @@
 //! What starts the programs of runs.
 //! Definitions: specs/Starting.antt. Tests: registry_tests/src/trigger_runs/starters.rt.
-ghost use Rattle.std.specs.Prelude.{◌⊎◌, ℕ, IfOk, IsErrOf};
-ghost use Rattle.wm_disk.specs.declared.refusal.Refusal.TheVariants.{DeviceFailed, NoMemory};
+ghost use Rattle.std.specs.Prelude.{◌≢◌, ℕ, IfErr, IfOk, IsErrOf};
 ghost use Rattle.wm_names.specs.Paths.{Path};
 ghost use Rattle.wm_registry.specs.Triggers.{Definition};
 ghost use Rattle.wm_since.specs.declared.query.Answer.{Answer};
+ghost use Rattle.wm_triggers.specs.declared.not_run.NotRun.TheVariants.{DeviceFailed};
 ghost use Rattle.wm_triggers.specs.declared.program_end.ProgramEnd.{ProgramEnd};
 ghost use Rattle.wm_triggers.specs.Starting.{CountsStart};
 
+use crate::not_run::NotRun;
 use crate::program_end::ProgramEnd;
 use crate::run::Run;
 use std::alloc::Global;
-use wm_disk::Refusal;
 use wm_names::RootPath;
 use wm_registry::Trigger;
 
@@ -30,17 +30,16 @@ pub trait Starter {
     ghost has_failed: { Self → Path → Definition → Answer → Self → Type 0 };
 
     /// Starts the trigger's program for the run's files, and waits for its end, however it ends.
-    /// `DeviceFailed` where it couldn't be started, which is counted, and `NoMemory`; then no
-    /// program ran.
+    /// A start that fails is counted.
     fn run(
         &mut self,
         alloc: Global,
         root: &RootPath,
         trigger: &Trigger,
         run: &Run,
-    ) -> Result<ProgramEnd, Refusal>
+    ) -> Result<ProgramEnd, NotRun>
         ensures ran { IfOk result (λ end. has_run self.old root.now trigger.now run.now end self.new) }
         ensures failed { IsErrOf result DeviceFailed → has_failed self.old root.now trigger.now run.now self.new }
-        ensures short { IsErrOf result NoMemory → stays self.old self.new ⊎ has_failed self.old root.now trigger.now run.now self.new }
+        ensures untried { IfErr result (λ e. e ≢ DeviceFailed → stays self.old self.new) }
         ensures count { CountsStart (failures self.old) (failures self.new) result };
 }

@@ -7,9 +7,8 @@ use std::sync::atomic::{AtomicU64, Ordering};
 use std::sync::{Mutex, Wait};
 use std::thread::join;
 use std::{env, fs};
-use wm_disk::Refusal;
 use wm_registry::{Stdin, Trigger};
-use wm_triggers::{DefinedTrigger, Permit, Programs, Run, SystemPrograms, TriggerTable};
+use wm_triggers::{DefinedTrigger, NotRun, Permit, Programs, Run, SystemPrograms, TriggerTable};
 
 /// A permit that counts what it is asked and told, and says this.
 #[derive(Drop)]
@@ -38,12 +37,20 @@ fn are(counts: &Counts, asked: u64, told: u64) -> bool {
 }
 
 impl Permit for Counted<'_> {
-    fn begin(&self) -> bool {
+    type Given = ();
+
+    type Ended = ();
+
+    ghost shows_given = { λ permit given. Unit {0} };
+
+    ghost shows_ended = { λ permit ended. Unit {0} };
+
+    fn begin(&self) -> Option<()> {
         self.counts.asked.fetch_add(1, Ordering::SeqCst);
-        self.answer
+        if self.answer { Some(()) } else { None }
     }
 
-    fn end(&self) {
+    fn end(&self, _given: ()) {
         self.counts.told.fetch_add(1, Ordering::SeqCst);
     }
 }
@@ -64,7 +71,7 @@ fn run_in<R: Processes + Drop, P: Permit + Drop>(
     folder: &str,
     trigger: &Trigger,
     permit: P,
-) -> Option<Refusal> {
+) -> Option<NotRun> {
     let root = root(host, alloc, folder);
     let run = run_with(host, alloc, &["a.c"]);
     let refused = programs.run(alloc, &root, trigger, &run, permit).err();
@@ -80,7 +87,7 @@ fn run_line<P: Permit + Drop>(
     line: &str,
     stdin: Stdin,
     permit: P,
-) -> Option<Refusal> {
+) -> Option<NotRun> {
     let folder = here(rt, host);
     let trigger = trigger(host, rt.alloc(), &["sh", "-c", line], false, stdin);
     let programs = SystemPrograms::new(rt);
@@ -114,7 +121,7 @@ fn decides(rt: &HostRuntime, host: &impl Abort, stdin: Stdin, answer: bool) -> b
     let wanted = if answer {
         None
     } else {
-        Some(Refusal::DeviceFailed)
+        Some(NotRun::NotPermitted)
     };
     let told = if answer { 1 } else { 0 };
     let is_so = is_started == answer && refused == wanted && are(&counts, 1, told);
@@ -141,7 +148,7 @@ fn is_told_of_failure(rt: &HostRuntime, host: &impl Abort) -> bool {
     let programs = SystemPrograms::new(rt);
     let refused = run_in(host, rt.alloc(), &programs, "/tmp", &trigger, permit);
     drop(trigger);
-    let is_told = refused == Some(Refusal::DeviceFailed) && are(&counts, 1, 1);
+    let is_told = refused == Some(NotRun::DeviceFailed) && are(&counts, 1, 1);
     drop(counts);
     is_told
 }
@@ -158,11 +165,19 @@ struct Marking<'a> {
 }
 
 impl Permit for Marking<'_> {
-    fn begin(&self) -> bool {
-        true
+    type Given = ();
+
+    type Ended = ();
+
+    ghost shows_given = { λ permit given. Unit {0} };
+
+    ghost shows_ended = { λ permit ended. Unit {0} };
+
+    fn begin(&self) -> Option<()> {
+        Some(())
     }
 
-    fn end(&self) {
+    fn end(&self, _given: ()) {
         let _made = fs::write(self.rt, "trigger_begun", "");
     }
 }
@@ -188,14 +203,24 @@ struct ByTable<'a, R: Wait> {
 }
 
 impl<R: Wait> Permit for ByTable<'_, R> {
-    fn begin(&self) -> bool {
-        match self.defined.copy() {
-            Ok(one) => self.table.lock(self.rt).begin(one),
-            Err(_) => false,
+    type Given = ();
+
+    type Ended = ();
+
+    ghost shows_given = { λ permit given. Unit {0} };
+
+    ghost shows_ended = { λ permit ended. Unit {0} };
+
+    fn begin(&self) -> Option<()> {
+        let one = self.defined.copy().ok()?;
+        if self.table.lock(self.rt).begin(one) {
+            Some(())
+        } else {
+            None
         }
     }
 
-    fn end(&self) {
+    fn end(&self, _given: ()) {
         self.table.lock(self.rt).end();
     }
 }

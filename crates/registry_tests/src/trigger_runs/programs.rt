@@ -4,12 +4,11 @@ use crate::trigger_runs::making::{root, run_with, trigger, trigger_of_most};
 use std::alloc::Global;
 use std::process::{Abort, Processes};
 use std::{env, fs};
-use wm_disk::Refusal;
 use wm_names::RootPath;
 use wm_registry::{Stdin, Trigger};
-use wm_triggers::{ProgramEnd, ProgramStarter, Run, Starter, SystemLauncher};
+use wm_triggers::{NotRun, ProgramEnd, ProgramStarter, Run, Starter, SystemLauncher};
 
-const WELL: Result<ProgramEnd, Refusal> = Ok(ProgramEnd::Exited(0));
+const WELL: Result<ProgramEnd, NotRun> = Ok(ProgramEnd::Exited(0));
 
 /// A program's words, whether the files are appended, and what it reads.
 #[derive(Drop)]
@@ -20,7 +19,7 @@ struct Program<'a> {
 }
 
 /// How often a start failed, and how the program ended.
-type Ran = (u64, Result<ProgramEnd, Refusal>);
+type Ran = (u64, Result<ProgramEnd, NotRun>);
 
 /// Starts the trigger's program for the run.
 fn started<R: Processes>(
@@ -283,7 +282,7 @@ fn is_refused(rt: &HostRuntime, host: &impl Abort, bad: &Bad, stdin: Stdin) -> b
         stdin,
     };
     let ended = ran(host, rt.alloc(), rt, bad.1, &program, &["a.c"]);
-    ended == (1, Err(Refusal::DeviceFailed))
+    ended == (1, Err(NotRun::DeviceFailed))
 }
 
 #[test]
@@ -392,5 +391,5 @@ fn words_beyond_the_limit_of_the_system_are_refused(rt: HostRuntime) {
     let (failures, ended) = ran_here(&rt, &rt, &program, &paths);
     drop(paths);
     drop(long);
-    check!(rt; failures == 1 && ended == Err(Refusal::DeviceFailed));
+    check!(rt; failures == 1 && ended == Err(NotRun::DeviceFailed));
 }

@@ -5,8 +5,7 @@ use std::alloc::Global;
 use std::io;
 use std::io::ErrorKind;
 use std::process::{Abort, Command};
-use wm_disk::Refusal;
-use wm_triggers::{Launcher, MemStarter, ProgramEnd, ProgramStarter, StartedRun, Starter};
+use wm_triggers::{Launcher, MemStarter, NotRun, ProgramEnd, ProgramStarter, StartedRun, Starter};
 
 /// Has the starter run a trigger of this root for this file.
 fn run<S: Starter>(
@@ -15,7 +14,7 @@ fn run<S: Starter>(
     starter: &mut S,
     path: &str,
     file: &str,
-) -> Option<Refusal> {
+) -> Option<NotRun> {
     let root = root(rt, alloc, path);
     let trigger = trigger_for(rt, alloc, None);
     let run = run_with(rt, alloc, &[file]);
@@ -45,7 +44,7 @@ fn fail_both(rt: &impl Abort, alloc: Global, starter: &mut MemStarter) {
     starter.fail(2);
     for _ in 0..2 {
         let refused = run(rt, alloc, starter, "/r", "b.c");
-        check!(rt; refused == Some(Refusal::DeviceFailed));
+        check!(rt; refused == Some(NotRun::DeviceFailed));
     }
 }
 
@@ -82,25 +81,24 @@ impl Launcher for Full {
 
     ghost has_failed = { λ old launch new. Unit {0} };
 
-    fn launch(&mut self, command: Command, input: Option<Vec<u8>>) -> io::Result<ProgramEnd> {
+    ghost stays = { λ old new. Unit {0} };
+
+    fn launch(&mut self, command: Command, input: Option<Vec<u8>>) -> Result<ProgramEnd, NotRun> {
         drop(command);
         drop(input);
-        if self.is_system {
+        let error = if self.is_system {
             // ENOMEM
-            Err(io::Error::from_raw_os_error(12))
+            io::Error::from_raw_os_error(12)
         } else {
-            Err(io::Error::from(ErrorKind::OutOfMemory))
-        }
+            io::Error::from(ErrorKind::OutOfMemory)
+        };
+        Err(NotRun::from(error))
     }
 }
 
 /// How a starter over a full launcher refuses a run, how many failures it counts then, and whether its
 /// launcher is full by the system.
-fn refused_by_full(
-    rt: &impl Abort,
-    alloc: Global,
-    is_system: bool,
-) -> (Option<Refusal>, u64, bool) {
+fn refused_by_full(rt: &impl Abort, alloc: Global, is_system: bool) -> (Option<NotRun>, u64, bool) {
     let mut starter = ProgramStarter::new(Full { is_system });
     let refused = run(rt, alloc, &mut starter, "/r", "a.c");
     (refused, starter.failures(), starter.launcher().is_system)
@@ -109,9 +107,9 @@ fn refused_by_full(
 #[test]
 fn counts_failures_of_the_system_alone(rt: HostRuntime) {
     let (refused, failures, is_system) = refused_by_full(&rt, rt.alloc(), false);
-    check!(rt; refused == Some(Refusal::NoMemory));
+    check!(rt; refused == Some(NotRun::NoMemory));
     check!(rt; failures == 0 && !is_system);
     let (refused, failures, is_system) = refused_by_full(&rt, rt.alloc(), true);
-    check!(rt; refused == Some(Refusal::DeviceFailed));
+    check!(rt; refused == Some(NotRun::DeviceFailed));
     check!(rt; failures == 1 && is_system);
 }
