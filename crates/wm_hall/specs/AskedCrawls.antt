@@ -16,8 +16,9 @@ pub record AskedState : Type 0 where
   pub changes : ℕ  -- how often the view or the triggers may have changed
   pub has_ended : Bool  -- the root isn't watched any longer, or the server closes
 
--- the crawl of a ticket has ended so
+-- the crawl of a ticket of the root of a number has ended so
 pub record CrawlEnd : Type 0 where
+  pub root : ℕ
   pub ticket : ℕ
   pub ended : Result Progress Refusal
 

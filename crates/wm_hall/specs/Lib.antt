@@ -2,8 +2,11 @@ pub mod AgeOuts
 pub mod AskedCrawls
 pub mod ChangeSeen
 pub mod Changes
+pub mod Forgotten
 pub mod Inquired
+pub mod LockedSteps
 pub mod Performed
 pub mod Readings
 pub mod RootStates
 pub mod Starts
+pub mod TriggerSteps

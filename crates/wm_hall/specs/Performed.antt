@@ -1,11 +1,17 @@
 -- What is reported of an operation on a root.
-use Rattle.std.specs.Prelude.{◌≡◌, ◌⊎◌, ℕ, Some, None}
+use Rattle.std.specs.Prelude.{◌≡◌, ◌⊎◌, ℕ, Option, Some, None, Result}
 use Rattle.wm_disk.specs.declared.refusal.Refusal.{Refusal}
 use Rattle.wm_disk.specs.declared.refusal.Refusal.TheVariants.{NotReady}
 use Rattle.wm_lines.specs.declared.progress.Progress.{Progress}
 use Rattle.wm_view.specs.Listings.{Found}
 use Rattle.wm_view.specs.declared.op.Op.TheVariants.{Recrawl}
 use Rattle.wm_share.specs.PublishedLists.{PublishedList, EndsWith, clock_shown, history, outcome}
+
+-- how a reading ended that was handed in, with the number of its root, and the root's floor if it rose with it
+pub record ReadingEnd : Type 0 where
+  pub root : ℕ
+  pub ended : Result Progress Refusal
+  pub forgot : Option ℕ
 
 -- the last operation of the list was accepted, and the view stands so
 abbrev pub IsProgress : PublishedList → Progress → Type 0

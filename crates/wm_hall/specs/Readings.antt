@@ -22,10 +22,21 @@ abbrev pub clock_last : Option PublishedList → Option ClockId
 clock_last None = None
 clock_last (Some list) = clock_shown (history list)
 
--- what a reading found, and the tick at which the root stood when it began
+-- the number of a root, and the tick at which it stood when a reading of it began
+pub record ReadingBegun : Type 0 where
+  pub root : ℕ
+  pub tick : ℕ
+
+-- what a reading found, the number of its root, and the tick at which that stood when the reading began
 pub record Read : Type 0 where
+  pub root : ℕ
   pub begun_at : ℕ
   pub listing : Found
+
+-- the number of a root, and whether a reading of it was under way that is given up
+pub record ReadingGivenUp : Type 0 where
+  pub root : ℕ
+  pub was_under_way : Bool
 
 -- whether the operation is a reading that began before the tick
 abbrev pub is_begun_before : ℕ → Op → Bool

@@ -1,5 +1,6 @@
 -- Where a question starts.
-use Rattle.std.specs.Prelude.{Bool, true, false, Option, None, Some}
+use Rattle.std.specs.Prelude.{ℕ, Bool, true, false, List, Option, None, Some}
+use Rattle.wm_clock.specs.declared.clock_id.ClockId.{ClockId}
 use Rattle.wm_clock.specs.declared.clock_spec.ClockSpec.{ClockSpec}
 use Rattle.wm_clock.specs.declared.clock_spec.ClockSpec.TheVariants.{Clock, Another, Cursor, Seconds}
 use Rattle.wm_since.specs.declared.query.Since.{Since}
@@ -19,3 +20,9 @@ names_cursor (Some (Clock clock)) = false
 names_cursor (Some (Seconds moment)) = false
 names_cursor (Some Another) = false
 names_cursor (Some (Cursor name)) = true
+
+-- where a cursor stands: the number of its root, its name, and its clock, if there is such a cursor
+pub record CursorState : Type 0 where
+  pub root : ℕ
+  pub name : List ℕ
+  pub clock : Option ClockId

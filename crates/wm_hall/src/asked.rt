@@ -61,32 +61,58 @@ impl Model for NoWork {
     ghost view = { λ n. n.has_ended };
 }
 
-/// A crawl that has begun, as it was asked for: the root alone makes it.
+/// The ticket of a crawl, for one who waits for its end or for who does the crawl: the root alone gives it. It is used up by what is told
+/// for it. Contracts see its number.
+#[derive(Drop)]
+pub struct Ticket {
+    number: u64,
+}
+
+impl Model for Ticket {
+    ghost use Rattle.std.specs.Prelude.{ℕ};
+
+    ghost Value = { ℕ };
+
+    ghost view = { λ t. t.number };
+}
+
+impl Ticket {
+    /// Its number.
+    pub(crate) fn number(&self) -> u64
+        ensures { result ≡ self.now }
+    {
+        self.number
+    }
+}
+
+/// A crawl of the root of a number that has begun, as it was asked for: the root alone makes it.
 #[derive(Drop)]
 pub struct BegunCrawl {
-    ticket: u64,
+    root: u64,
+    ticket: Ticket,
     subtree: Result<Subtree, NoMemory>,
 }
 
 impl BegunCrawl {
-    /// Its ticket.
-    pub fn ticket(&self) -> u64
-        ensures { result ≡ self.now.ticket }
+    /// The number of its root.
+    pub fn root(&self) -> u64
+        ensures { result ≡ self.now.root }
     {
-        self.ticket
+        self.root
     }
 
-    /// Its part. `NoMemory` if that couldn't be copied: the crawl has begun all the same.
-    pub fn into_subtree(self) -> Result<Subtree, NoMemory>
-        ensures { result ≡ self.subtree }
+    /// Its ticket and its part. `NoMemory` if the part couldn't be copied: the crawl has begun all the same.
+    pub fn into_parts(self) -> (Ticket, Result<Subtree, NoMemory>)
+        ensures { (result.0 ≡ self.ticket) × (result.1 ≡ self.subtree) }
     {
-        self.subtree
+        (self.ticket, self.subtree)
     }
 }
 
-/// A crawl of a ticket has ended so: the root alone makes it, when it has noted that.
+/// A crawl of a ticket of the root of a number has ended so: the root alone makes it, when it has noted that.
 #[derive(Drop)]
 pub struct CrawlEnded {
+    root: u64,
     ticket: u64,
     ended: Result<Progress, Refusal>,
 }
@@ -96,7 +122,7 @@ impl Model for CrawlEnded {
 
     ghost Value = { CrawlEnd };
 
-    ghost view = { λ e. record { ticket = e.ticket; ended = e.ended } };
+    ghost view = { λ e. record { root = e.root; ticket = e.ticket; ended = e.ended } };
 }
 
 /// What a crawl came to, for one who waited for it: the root alone says so.
@@ -225,34 +251,37 @@ impl Asked {
 
     /// Asks for a crawl of a part, and tells its ticket: one more waits for its end. One that hasn't begun yet serves all who ask for
     /// the same part, and else there is a new one. `NoMemory`, and `Exhausted` after 2^64 - 1 tickets; nothing changes then.
-    pub(crate) fn ask(&mut self, subtree: &Subtree) -> Result<u64, Refusal>
+    pub(crate) fn ask(&mut self, subtree: &Subtree) -> Result<Ticket, Refusal>
         ensures joined { IfSome (find (serves subtree.now) self.old.crawls) (λ crawl. (result ≡ Ok crawl.ticket) × (self.new ≡ record self.old { crawls = with_first (serves subtree.now) one_more_waits self.old.crawls })) }
         ensures added { find (serves subtree.now) self.old.crawls ≡ None → IfOk result (λ ticket. (ticket ≡ self.old.last_ticket + 1) × (self.new ≡ record self.old { crawls = self.old.crawls ++ new_crawl ticket subtree.now 1 ∷ []; last_ticket = ticket })) }
         ensures refused { IfErr result (λ e. (self.new ≡ self.old) × ((e ≡ Refusal.NoMemory) ⊎ ((e ≡ Refusal.Exhausted) × (self.old.last_ticket ≡ 2 ^ 64 - 1)))) }
     {
         match place_to_join(&self.crawls, subtree) {
-            Some(place) => Ok(self.crawls[place].join()),
+            Some(place) => {
+                let number = self.crawls[place].join();
+                Ok(Ticket { number })
+            }
             None => self.add(subtree),
         }
     }
 
     /// A new crawl of a part, for which one waits, and its ticket. It is refused as `ask` is.
-    fn add(&mut self, subtree: &Subtree) -> Result<u64, Refusal>
+    fn add(&mut self, subtree: &Subtree) -> Result<Ticket, Refusal>
         ensures added { IfOk result (λ ticket. (ticket ≡ self.old.last_ticket + 1) × (self.new ≡ record self.old { crawls = self.old.crawls ++ new_crawl ticket subtree.now 1 ∷ []; last_ticket = ticket })) }
         ensures refused { IfErr result (λ e. (self.new ≡ self.old) × ((e ≡ Refusal.NoMemory) ⊎ ((e ≡ Refusal.Exhausted) × (self.old.last_ticket ≡ 2 ^ 64 - 1)))) }
     {
-        let Some(ticket) = self.last_ticket.checked_add(1) else {
+        let Some(number) = self.last_ticket.checked_add(1) else {
             return Err(Refusal::Exhausted);
         };
         let subtree = subtree.copy()?;
-        self.crawls.push(AskedCrawl::new(ticket, subtree, 1))?;
-        self.last_ticket = ticket;
-        Ok(ticket)
+        self.crawls.push(AskedCrawl::new(number, subtree, 1))?;
+        self.last_ticket = number;
+        Ok(Ticket { number })
     }
 
     /// Begins the first crawl that waits: its ticket and its part. If the part can't be copied it is `NoMemory`, and the crawl has
     /// begun all the same.
-    pub(crate) fn begin(&mut self) -> Option<(u64, Result<Subtree, NoMemory>)>
+    fn begin(&mut self) -> Option<(u64, Result<Subtree, NoMemory>)>
         ensures told { MatchOption (find is_waiting self.old.crawls) (result ≡ None) (λ crawl. MatchOption result ⊥ (λ begun. (begun.0 ≡ crawl.ticket) × IfOk begun.1 (λ part. part ≡ crawl.subtree))) }
         ensures begun { self.new ≡ record self.old { crawls = with_first is_waiting running self.old.crawls } }
     {
@@ -262,8 +291,10 @@ impl Asked {
         }
     }
 
-    /// Begins the first crawl that waits, as `begin`, unless the root has ended. Refused too if none waits.
-    pub(crate) fn next_crawl(&mut self) -> Result<BegunCrawl, NoWork>
+    /// Begins the first crawl of the root, which has this number, that waits, as `begin`, unless the root has ended. Refused too if none
+    /// waits.
+    pub(crate) fn next_crawl(&mut self, root: u64) -> Result<BegunCrawl, NoWork>
+        ensures root { IfOk result (λ begun. begun.root ≡ root) }
         ensures begun { IfOk result (λ begun. (self.old.has_ended ≡ false) × IfSome (find is_waiting self.old.crawls) (λ crawl. (begun.ticket ≡ crawl.ticket) × IfOk begun.subtree (λ part. part ≡ crawl.subtree))) }
         ensures runs { self.new ≡ record self.old { crawls = cond self.old.has_ended self.old.crawls (with_first is_waiting running self.old.crawls) } }
         ensures none { IfErr result (λ none. (none ≡ self.old.has_ended) × ((self.old.has_ended ≡ true) ⊎ (list_any is_waiting self.old.crawls ≡ false))) }
@@ -272,13 +303,17 @@ impl Asked {
             return Err(NoWork { has_ended: true });
         }
         match self.begin() {
-            Some((ticket, subtree)) => Ok(BegunCrawl { ticket, subtree }),
+            Some((number, subtree)) => Ok(BegunCrawl {
+                root,
+                ticket: Ticket { number },
+                subtree,
+            }),
             None => Err(NoWork { has_ended: false }),
         }
     }
 
     /// The crawl of a ticket has ended so. It goes if nobody waits for it.
-    pub(crate) fn end(&mut self, ticket: u64, ended: Result<Progress, Refusal>)
+    fn end(&mut self, ticket: u64, ended: Result<Progress, Refusal>)
         ensures { self.new ≡ record self.old { crawls = with_first (has_ticket ticket) (ended_crawl ended) self.old.crawls } }
     {
         match place_of(&self.crawls, ticket) {
@@ -292,7 +327,7 @@ impl Asked {
     }
 
     /// What the crawl of a ticket came to, for one who waited for it. `NotWatched` if it hasn't ended.
-    pub(crate) fn collect(&mut self, ticket: u64) -> Result<Progress, Refusal>
+    fn collect(&mut self, ticket: u64) -> Result<Progress, Refusal>
         ensures told { result ≡ crawl_told (find (has_ticket ticket) self.old.crawls) }
         ensures left { self.new ≡ record self.old { crawls = with_first (has_ticket ticket) collected self.old.crawls } }
     {
@@ -310,23 +345,34 @@ impl Asked {
         }
     }
 
-    /// As `end`, for the crawler.
-    pub(crate) fn crawled(&mut self, ticket: u64, ended: Result<Progress, Refusal>) -> CrawlEnded
-        ensures told { result ≡ record { ticket = ticket; ended = ended } }
+    /// As `end`, for the crawler of the root, which has this number.
+    pub(crate) fn crawled(
+        &mut self,
+        root: u64,
+        ticket: Ticket,
+        ended: Result<Progress, Refusal>,
+    ) -> CrawlEnded
+        ensures told { result ≡ record { root = root; ticket = ticket; ended = ended } }
         ensures ended { self.new ≡ record self.old { crawls = with_first (has_ticket ticket) (ended_crawl ended) self.old.crawls } }
     {
-        self.end(ticket, ended);
-        CrawlEnded { ticket, ended }
+        let Ticket { number } = ticket;
+        self.end(number, ended);
+        CrawlEnded {
+            root,
+            ticket: number,
+            ended,
+        }
     }
 
     /// As `collect`, for who waited until the crawl ended, or the root.
-    pub(crate) fn collected(&mut self, ticket: u64) -> Crawled
+    pub(crate) fn collected(&mut self, ticket: Ticket) -> Crawled
         requires { (list_any (is_pending ticket) self.old.crawls ≡ false) ⊎ (self.old.has_ended ≡ true) }
         ensures told { result ≡ crawl_told (find (has_ticket ticket) self.old.crawls) }
         ensures left { self.new ≡ record self.old { crawls = with_first (has_ticket ticket) collected self.old.crawls } }
     {
+        let Ticket { number } = ticket;
         Crawled {
-            ended: self.collect(ticket),
+            ended: self.collect(number),
         }
     }
 }

@@ -10,6 +10,7 @@ ghost use Rattle.wm_lines.specs.Replies.{line_text, query_reply};
 
 use std::alloc::Global;
 use std::marker::Model;
+use std::snapshot::Snapshot;
 use wm_clock::{ClockId, CursorName};
 use wm_disk::Refusal;
 use wm_lines::{Expression, reply};
@@ -23,35 +24,46 @@ pub(crate) struct Question {
     pub(crate) fields: Fields,
 }
 
-/// Where a cursor of a root stands: the root alone makes it.
+/// A question by a cursor of the root of a number.
+#[derive(Drop)]
+pub(crate) struct CursorQuestion {
+    pub(crate) root: u64,
+    pub(crate) name: CursorName,
+    pub(crate) question: Question,
+}
+
+/// Where a cursor of a root stands: the root alone makes it. Contracts see the number of the root, the cursor's name, and its clock.
 #[derive(Drop)]
 pub struct CursorClock {
+    root: u64,
+    name: Snapshot<CursorName>,
     clock: Option<ClockId>,
 }
 
 impl Model for CursorClock {
-    ghost use Rattle.std.specs.Prelude.{Option};
-    ghost use Rattle.wm_clock.specs.declared.clock_id.ClockId.{ClockId};
+    ghost use Rattle.wm_hall.specs.Starts.{CursorState};
 
-    ghost Value = { Option ClockId };
+    ghost Value = { CursorState };
 
-    ghost view = { λ c. c.clock };
+    ghost view = { λ c. record { root = c.root; name = c.name.value; clock = c.clock } };
 }
 
 impl CursorClock {
     /// The clock; none if there is no such cursor.
     pub fn clock(&self) -> Option<ClockId>
-        ensures { result ≡ self.now }
+        ensures { result ≡ self.now.clock }
     {
         self.clock
     }
 }
 
-/// Where a cursor stands.
-pub(crate) fn cursor_clock(cursors: &Cursors, name: &CursorName) -> CursorClock
-    ensures { result ≡ cursor_at name.now cursors.now }
+/// Where a cursor of the root of a number stands.
+pub(crate) fn cursor_clock(root: u64, cursors: &Cursors, name: &CursorName) -> CursorClock
+    ensures { result ≡ record { root = root; name = name.now; clock = cursor_at name.now cursors.now } }
 {
     CursorClock {
+        root,
+        name: Snapshot::of(name),
         clock: cursors.clock(name),
     }
 }
@@ -83,24 +95,33 @@ pub(crate) fn tell_by<J: Naming>(
     alloc: Global,
     viewer: &mut Viewer<J>,
     cursors: &mut Cursors,
-    name: CursorName,
-    mut asked: Question,
+    asked: CursorQuestion,
     out: &mut Vec<u8>,
 ) -> Result<CursorClock, Refusal>
     ensures seen { Begins viewer.old.list viewer.new.list }
-    ensures told { IfOk result (λ _. out.new.items ≡ out.old.items ++ line_text (query_reply asked.fields (answer_to (holds asked.query.test) (history viewer.new.list) (record { since = from_clock (cursor_at name cursors.old); empty_on_fresh = asked.query.empty_on_fresh })))) }
-    ensures ready { IfOk result (λ _. (is_ready (history viewer.new.list) ≡ true) × (has_room name cursors.old ≡ true)) }
-    ensures moved { IfOk result (λ at. (at ≡ Some (clock_of_history (history viewer.new.list))) × (cursors.new ≡ moved_to name (clock_of_history (history viewer.new.list)) cursors.old)) }
-    ensures refused { IfErr result (λ e. (e ≡ Refusal.NoMemory) ⊎ ((e ≡ Refusal.NoPlace) × (viewer.new ≡ disconnected viewer.old)) ⊎ ((e ≡ Refusal.NotReady) × (is_ready (history viewer.new.list) ≡ false)) ⊎ ((e ≡ Refusal.TooMany) × (is_ready (history viewer.new.list) ≡ true) × (has_room name cursors.old ≡ false))) }
+    ensures told { IfOk result (λ _. out.new.items ≡ out.old.items ++ line_text (query_reply asked.question.fields (answer_to (holds asked.question.query.test) (history viewer.new.list) (record { since = from_clock (cursor_at asked.name cursors.old); empty_on_fresh = asked.question.query.empty_on_fresh })))) }
+    ensures ready { IfOk result (λ _. (is_ready (history viewer.new.list) ≡ true) × (has_room asked.name cursors.old ≡ true)) }
+    ensures moved { IfOk result (λ at. (at ≡ record { root = asked.root; name = asked.name; clock = Some (clock_of_history (history viewer.new.list)) }) × (cursors.new ≡ moved_to asked.name (clock_of_history (history viewer.new.list)) cursors.old)) }
+    ensures refused { IfErr result (λ e. (e ≡ Refusal.NoMemory) ⊎ ((e ≡ Refusal.NoPlace) × (viewer.new ≡ disconnected viewer.old)) ⊎ ((e ≡ Refusal.NotReady) × (is_ready (history viewer.new.list) ≡ false)) ⊎ ((e ≡ Refusal.TooMany) × (is_ready (history viewer.new.list) ≡ true) × (has_room asked.name cursors.old ≡ false))) }
     ensures err { OnErr result ((out.new.items ≡ out.old.items) × (cursors.new ≡ cursors.old)) }
     ensures room { vec_capacity out.old ≤ vec_capacity out.new }
 {
-    asked.query.since = Since::from_clock(cursors.clock(&name));
+    let CursorQuestion {
+        root,
+        name,
+        mut question,
+    } = asked;
+    question.query.since = Since::from_clock(cursors.clock(&name));
     let has_room = cursors.has_room(&name);
-    match tell_with_room(alloc, viewer, has_room, &asked, out) {
+    match tell_with_room(alloc, viewer, has_room, &question, out) {
         Ok(clock) => {
+            let moved = Snapshot::of(&name);
             cursors.moved(name, clock);
-            Ok(CursorClock { clock: Some(clock) })
+            Ok(CursorClock {
+                root,
+                name: moved,
+                clock: Some(clock),
+            })
         }
         Err(refusal) => Err(refusal),
     }

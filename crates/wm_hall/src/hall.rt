@@ -1,6 +1,6 @@
 //! One watched root, shared by sessions and workers: its keeper, its viewers, its cursors and its triggers, each under a lock of
 //! its own. Tests: serve_tests/src/halls.rt and sessions.rt; without memory tools/growths.py.
-ghost use Rattle.std.specs.Prelude.{◌≡◌, ◌⊎◌, ◌≤◌, [], true, false, Some, None, IfOk, IfErr, MatchOption, vec_capacity};
+ghost use Rattle.std.specs.Prelude.{◌≡◌, ◌⊎◌, ◌≤◌, [], true, false, Some, None, IfOk, IfErr, IfSome, MatchOption, MatchResult, vec_capacity};
 ghost use Rattle.wm_view.specs.Histories.{is_ready};
 ghost use Rattle.wm_since.specs.Answers.{clock_of as clock_of_history};
 ghost use Rattle.wm_since.specs.Cursors.{CursorList};
@@ -10,16 +10,21 @@ ghost use Rattle.wm_hall.specs.ChangeSeen.{IsChangeSeen};
 ghost use Rattle.wm_hall.specs.Inquired.{IsInquired};
 ghost use Rattle.wm_hall.specs.Performed.{IsReadingReported};
 ghost use Rattle.wm_hall.specs.Starts.{names_cursor};
+ghost use Rattle.wm_hall.specs.TriggerSteps.{AreStartsOver, AreTriggersFull, DefinesTrigger, DeletesTrigger, EndsTriggers};
 
-use crate::asked::NoWork;
-use crate::asking::{CursorClock, Question, clock, cursor_clock, inquire_of, tell_by};
+use crate::asked::{BegunCrawl, CrawlEnded, Crawled, NoWork, Ticket};
+use crate::asking::{
+    CursorClock, CursorQuestion, Question, clock, cursor_clock, inquire_of, tell_by,
+};
 use crate::change::{Change, Seconds};
-use crate::locked_root::{Changed, HandedIn, LastPublished, Learnt, LockedRoot};
-use crate::reading::{Begun, GivenUp, Reading};
+use crate::locked_root::{
+    Begun, Changed, GivenUp, HandedIn, LastPublished, Learnt, LockedRoot, Reading,
+};
 use crate::retention::Retention;
 use crate::starts::start_of;
 use crate::triggers::{
-    Defined, LockedTriggers, StandingTriggers, StartPermit, StartsOver, TriggersEnded,
+    Defined, LockedTriggers, StandingTriggers, StartEnded, StartPermit, StartsOver, TriggersEnded,
+    TriggersFull,
 };
 use crate::viewer_pool::{PoolEmpty, ViewerPool};
 use crate::work::Work;
@@ -28,7 +33,7 @@ use std::sync::{Condvar, Mutex, Wait};
 use wm_clock::{ClockId, ClockSpec, CursorName};
 use wm_disk::{NoMemory, Refusal};
 use wm_lines::{Inquiry, Progress};
-use wm_names::RootPath;
+use wm_names::{RootPath, Subtree};
 use wm_registry::Trigger;
 use wm_share::{Naming, Pool, RootKeeper, Shown, Viewer};
 use wm_since::{Cursors, Query};
@@ -86,32 +91,33 @@ impl<J: Naming, K: Wait + Drop> RootHall<J, K> {
     }
 
     /// Defines a trigger by the command of a number: in place of the one of its name, or behind the others. The root's triggers
-    /// are looked at then. `NoMemory` only if the root has as many triggers as it may have.
+    /// are looked at then. Refused only if the root has as many triggers as it may have.
     pub fn define<R: Wait>(
         &self,
         rt: &R,
         number: u64,
         trigger: Trigger,
-    ) -> Result<Defined, NoMemory>
-        ensures { IfOk result (λ defined. defined ≡ Some number) }
+    ) -> Result<Defined, TriggersFull>
+        ensures { MatchResult result (DefinesTrigger self.now.number (record { number = number; trigger = trigger })) (AreTriggersFull self.now.number) }
     {
-        let defined = self.triggers.lock(rt).define(number, trigger);
+        let one = DefinedTrigger { number, trigger };
+        let defined = self.triggers.lock(rt).define(self.number, one);
         let _count = self.work.notify(rt);
         defined
     }
 
     /// Takes out the trigger of a name, if there is one.
     pub fn delete<R: Wait>(&self, rt: &R, name: &str) -> Defined
-        ensures { result ≡ None }
+        ensures { DeletesTrigger self.now.number name.now result }
     {
-        self.triggers.lock(rt).delete(name)
+        self.triggers.lock(rt).delete(self.number, name)
     }
 
     /// The root isn't watched any longer, or the server closes: no trigger is started from now on, and its workers end.
     pub fn end<R: Wait>(&self, rt: &R) -> HallEnded
-        ensures { (result.work ≡ true) × (result.triggers ≡ true) }
+        ensures { (result.work ≡ true) × EndsTriggers self.now.number result.triggers }
     {
-        let triggers = self.triggers.lock(rt).end_root();
+        let triggers = self.triggers.lock(rt).end_root(self.number);
         let work = self.work.end(rt);
         HallEnded { work, triggers }
     }
@@ -119,14 +125,14 @@ impl<J: Naming, K: Wait + Drop> RootHall<J, K> {
     /// Waits until no start is under way of a trigger that was deleted or replaced, or whose root has ended. No such trigger is
     /// started after that.
     pub fn await_starts<R: Wait>(&self, rt: &R) -> StartsOver
-        ensures { result ≡ true }
+        ensures { AreStartsOver self.now.number result }
     {
         let triggers = self.started.wait_while(
             rt,
             self.triggers.lock(rt),
             |triggers| !triggers.may_reply(),
         );
-        triggers.starts_over()
+        triggers.starts_over(self.number)
     }
 
     /// The triggers as they are defined now. `NoMemory`.
@@ -134,33 +140,67 @@ impl<J: Naming, K: Wait + Drop> RootHall<J, K> {
         self.triggers.lock(rt).defined(alloc)
     }
 
-    /// Whether a trigger may be started now: this definition stands, and the root is watched. Its start is under way then until the
+    /// That a trigger may be started now: this definition stands, and the root is watched. Its start is under way then until the
     /// permit is given back.
-    pub fn begin_start<R: Wait>(&self, rt: &R, one: DefinedTrigger) -> StartPermit {
-        self.triggers.lock(rt).begin(one)
+    pub fn begin_start<R: Wait>(&self, rt: &R, one: DefinedTrigger) -> Option<StartPermit>
+        ensures { IfSome result (λ permit. permit ≡ record { root = self.now.number; one = one }) }
+    {
+        self.triggers.lock(rt).begin(self.number, one)
     }
 
-    /// The start that was permitted is over: no permit is left.
-    pub fn end_start<R: Wait>(&self, rt: &R, permit: StartPermit) -> StartPermit
-        ensures { result ≡ false }
+    /// The start that was permitted is over.
+    pub fn end_start<R: Wait>(&self, rt: &R, permit: StartPermit) -> StartEnded
+        requires { permit.root ≡ self.now.number }
+        ensures { result ≡ permit }
     {
-        let none = self.triggers.lock(rt).end(permit);
+        let ended = self.triggers.lock(rt).end(permit);
         self.started.notify_all();
-        none
+        ended
+    }
+
+    /// As [`Work::crawl`].
+    pub fn crawl<R: Wait>(&self, rt: &R, subtree: Subtree) -> Result<Crawled, Refusal>
+        ensures refused { IfErr result (λ e. (e ≡ Refusal.NoMemory) ⊎ (e ≡ Refusal.Exhausted)) }
+    {
+        self.work.crawl(rt, subtree)
+    }
+
+    /// Waits until a crawl of the root is asked for, which has begun then; there is none at the end.
+    pub fn next_crawl<R: Wait>(&self, rt: &R) -> Result<BegunCrawl, NoWork>
+        ensures { MatchResult result (λ begun. begun.root ≡ self.now.number) (λ none. none ≡ true) }
+    {
+        self.work.next_crawl(rt, self.number)
+    }
+
+    /// The crawl of a ticket has ended so.
+    pub fn crawled<R: Wait>(
+        &self,
+        rt: &R,
+        ticket: Ticket,
+        ended: Result<Progress, Refusal>,
+    ) -> CrawlEnded
+        ensures { result ≡ record { root = self.now.number; ticket = ticket; ended = ended } }
+    {
+        self.work.crawled(rt, self.number, ticket, ended)
     }
 
     /// Begins a reading of the root, or of a part of it: what is observed from now on is noted until the reading is handed in or given
     /// up. One reading is under way at a time; an earlier one that wasn't handed in is given up.
-    pub fn begin_reading<R: Wait>(&self, rt: &R, alloc: Global) -> Begun {
+    pub fn begin_reading<R: Wait>(&self, rt: &R, alloc: Global) -> Begun
+        ensures { result.root ≡ self.now.number }
+    {
         let mut root = self.root.lock(rt);
-        let begun = root.begin_reading(alloc, &self.last.lock(rt));
+        let begun = root.begin_reading(alloc, &self.last.lock(rt), self.number);
         drop(root);
         begun
     }
 
     /// Gives up the reading that is under way.
-    pub fn give_up_reading<R: Wait>(&self, rt: &R) -> GivenUp {
-        self.root.lock(rt).give_up_reading()
+    pub fn give_up_reading<R: Wait>(&self, rt: &R, begun: Begun) -> GivenUp
+        requires { begun.root ≡ self.now.number }
+        ensures { result.root ≡ self.now.number }
+    {
+        self.root.lock(rt).give_up_reading(begun, self.number)
     }
 
     /// Hands in what a reading found, publishes it, and reports where the view stands then. Of each path that was observed since the
@@ -172,11 +212,13 @@ impl<J: Naming, K: Wait + Drop> RootHall<J, K> {
         seconds: &S,
         found: Reading,
     ) -> HandedIn
-        ensures { IfOk result (IsReadingReported (S.may_read seconds.now) found.begun_at) }
+        requires { found.root ≡ self.now.number }
+        ensures root { result.root ≡ self.now.number }
+        ensures reported { IfOk result.ended (IsReadingReported (S.may_read seconds.now) found.begun_at) }
     {
         let mut root = self.root.lock(rt);
         let performed = root.take_in(alloc, seconds.second(), found);
-        let handed_in = self.last.lock(rt).keep_reading(performed);
+        let handed_in = self.last.lock(rt).keep_reading(performed, self.number);
         drop(root);
         let _count = self.work.notify(rt);
         handed_in
@@ -194,7 +236,7 @@ impl<J: Naming, K: Wait + Drop> RootHall<J, K> {
         change: Change,
     ) -> (Result<Progress, Refusal>, Changed)
         ensures seen { IsChangeSeen viewer.old (S.may_read seconds.now) change result.0 viewer.new }
-        ensures changed { result.1 ≡ self.now.number }
+        ensures changed { result.1.root ≡ self.now.number }
     {
         let mut root = self.root.lock(rt);
         let performed = root.change(alloc, seconds.second(), change);
@@ -245,8 +287,10 @@ impl<J: Naming, K: Wait + Drop> RootHall<J, K> {
     }
 
     /// Where a cursor stands now.
-    pub fn cursor<R: Wait>(&self, rt: &R, name: &CursorName) -> CursorClock {
-        cursor_clock(&self.cursors.lock(rt), name)
+    pub fn cursor<R: Wait>(&self, rt: &R, name: &CursorName) -> CursorClock
+        ensures { (result.root ≡ self.now.number) × (result.name ≡ name.now) }
+    {
+        cursor_clock(self.number, &self.cursors.lock(rt), name)
     }
 
     /// Appends the answer to what is asked, as a viewer sees the root. Questions by a cursor are answered one after the other.
@@ -262,7 +306,7 @@ impl<J: Naming, K: Wait + Drop> RootHall<J, K> {
     ) -> Result<Option<CursorClock>, Refusal>
         ensures seen { Begins viewer.old.list viewer.new.list }
         ensures met { (cursors : CursorList) × IsInquired inquiry cursors viewer.old out.old.items result viewer.new out.new.items }
-        ensures moved { IfOk result (λ moved. MatchOption moved (names_cursor inquiry.since ≡ false) (λ at. (names_cursor inquiry.since ≡ true) × (at ≡ Some (clock_of_history (history viewer.new.list))))) }
+        ensures moved { IfOk result (λ moved. MatchOption moved (names_cursor inquiry.since ≡ false) (λ at. (inquiry.since ≡ Some (ClockSpec.Cursor at.name)) × (at.root ≡ self.now.number) × (at.clock ≡ Some (clock_of_history (history viewer.new.list))))) }
         ensures room { vec_capacity out.old ≤ vec_capacity out.new }
     {
         let Inquiry {
@@ -276,18 +320,23 @@ impl<J: Naming, K: Wait + Drop> RootHall<J, K> {
             test: expression,
             empty_on_fresh,
         };
-        let asked = Question { query, fields };
+        let question = Question { query, fields };
         match since {
             Some(ClockSpec::Cursor(name)) => {
+                let asked = CursorQuestion {
+                    root: self.number,
+                    name,
+                    question,
+                };
                 let mut cursors = self.cursors.lock(rt);
-                let moved = tell_by(alloc, viewer, &mut cursors, name, asked, out)?;
+                let moved = tell_by(alloc, viewer, &mut cursors, asked, out)?;
                 Ok(Some(moved))
             }
             Some(ClockSpec::Clock(_))
             | Some(ClockSpec::Seconds(_))
             | Some(ClockSpec::Another)
             | None => {
-                inquire_of(alloc, viewer, asked, out)?;
+                inquire_of(alloc, viewer, question, out)?;
                 Ok(None)
             }
         }

@@ -13,21 +13,25 @@ mod backlog;
 mod change;
 mod hall;
 mod locked_root;
-mod reading;
 mod retention;
 mod starts;
+mod step;
 mod triggers;
 mod viewer_pool;
 mod work;
 
-pub use asked::{BegunCrawl, ChangeCount, CrawlEnded, Crawled, NoWork};
+pub use asked::{BegunCrawl, ChangeCount, CrawlEnded, Crawled, NoWork, Ticket};
 pub use asking::CursorClock;
 pub use change::{Change, Seconds};
 pub use hall::{HallEnded, RootHall};
-pub use locked_root::{Changed, HandedIn, Learnt};
-pub use reading::{Begun, CrawlTools, GivenUp, Reading};
+pub use locked_root::{
+    Begun, Changed, CrawlRefused, CrawlTools, GivenUp, HandedIn, Learnt, Reading, Unread,
+};
 pub use retention::Retention;
 pub use starts::start_of;
-pub use triggers::{Defined, StandingTriggers, StartPermit, StartsOver, TriggersEnded};
+pub use step::Step;
+pub use triggers::{
+    Defined, StandingTriggers, StartEnded, StartPermit, StartsOver, TriggersEnded, TriggersFull,
+};
 pub use viewer_pool::PoolEmpty;
 pub use work::Work;

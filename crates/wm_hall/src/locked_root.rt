@@ -8,15 +8,19 @@ ghost use Rattle.wm_view.specs.declared.op.Op.TheVariants.{Recrawl};
 ghost use Rattle.wm_reading.specs.Overlays.{IsOverlaid, Noted};
 ghost use Rattle.wm_hall.specs.ChangeSeen.{IsEnded};
 ghost use Rattle.wm_hall.specs.Changes.{op_at};
+ghost use Rattle.wm_hall.specs.Forgotten.{floor_last, if_greater, risen_floor};
 ghost use Rattle.wm_hall.specs.Performed.{IsOutcome, IsProgress};
 ghost use Rattle.wm_hall.specs.Readings.{IsUnread, NotesIf, clock_last, pairs_in};
 ghost use Rattle.wm_hall.specs.RootStates.{IsLast, IsOperated, root_state};
 ghost use Rattle.wm_share.specs.PublishedLists.{Begins, EndsWith, PublishedList};
 
+mod reading;
+
 use crate::backlog::{Backlog, age_out, moment_of, operate as operate_alone, publish_backlog};
 use crate::change::Change;
-use crate::reading::{Reading, note_if, observed_in, recrawl_by};
 use crate::retention::Retention;
+pub use reading::{Begun, CrawlRefused, CrawlTools, GivenUp, Reading, Unread};
+use reading::{note_if, observed_in, recrawl_by};
 use std::alloc::Global;
 use std::marker::Model;
 use std::sync::Wait;
@@ -31,10 +35,10 @@ use wm_view::Op;
 /// under way, and when deleted paths are forgotten.
 #[derive(Drop)]
 pub(crate) struct LockedRoot<V: Drop> {
-    pub(crate) keeper: V,
-    pub(crate) backlog: Backlog,
-    pub(crate) reading: Option<Observed>,
-    pub(crate) retention: Retention,
+    keeper: V,
+    backlog: Backlog,
+    reading: Option<Observed>,
+    retention: Retention,
 }
 
 /// What was published last of a root. It is made with the root alone.
@@ -51,44 +55,62 @@ pub(crate) struct Performed<J: Naming> {
     ended: Result<Progress, Refusal>,
 }
 
-/// How a reading ended that was handed in: what was published last makes it, when it has kept what that published.
+/// How a reading ended that was handed in: what was published last makes it, when it has kept what that published. Contracts see the
+/// root's number with it, and the floor of its view if that rose.
 #[derive(Drop)]
 pub struct HandedIn {
+    root: u64,
     ended: Result<Progress, Refusal>,
+    forgot: Option<u64>,
 }
 
 impl Model for HandedIn {
-    ghost use Rattle.std.specs.Prelude.{Result};
-    ghost use Rattle.wm_disk.specs.declared.refusal.Refusal.{Refusal};
-    ghost use Rattle.wm_lines.specs.declared.progress.Progress.{Progress};
+    ghost use Rattle.wm_hall.specs.Performed.{ReadingEnd};
 
-    ghost Value = { Result Progress Refusal };
+    ghost Value = { ReadingEnd };
 
-    ghost view = { λ h. h.ended };
+    ghost view = { λ h. record { root = h.root; ended = h.ended; forgot = h.forgot } };
 }
 
 impl HandedIn {
     /// How it ended.
     pub fn ended(&self) -> Result<Progress, Refusal>
-        ensures { result ≡ self.now }
+        ensures { result ≡ self.now.ended }
     {
         self.ended
+    }
+
+    /// The tick of the last deletion that was forgotten, if anything was forgotten that was deleted later than all before it.
+    pub fn forgot(&self) -> Option<u64>
+        ensures { result ≡ self.now.forgot }
+    {
+        self.forgot
     }
 }
 
 /// A change of a root was performed or refused, and what it published has been kept: what was published last makes it. Contracts see
-/// the root's number.
+/// the root's number, and the floor of its view if that rose.
 #[derive(Drop)]
 pub struct Changed {
-    number: u64,
+    root: u64,
+    forgot: Option<u64>,
 }
 
 impl Model for Changed {
-    ghost use Rattle.std.specs.Prelude.{ℕ};
+    ghost use Rattle.wm_hall.specs.Forgotten.{RootChange};
 
-    ghost Value = { ℕ };
+    ghost Value = { RootChange };
 
-    ghost view = { λ c. c.number };
+    ghost view = { λ c. record { root = c.root; forgot = c.forgot } };
+}
+
+impl Changed {
+    /// As [`HandedIn::forgot`].
+    pub fn forgot(&self) -> Option<u64>
+        ensures { result ≡ self.now.forgot }
+    {
+        self.forgot
+    }
 }
 
 /// A viewer has learnt what was published last of a root: only what was published makes it. Contracts see whether it is known to have seen
@@ -288,16 +310,35 @@ impl<J: Naming> Performed<J> {
     }
 }
 
+/// A floor, if it is greater than the one before.
+fn risen(before: u64, after: u64) -> Option<u64>
+    ensures { result ≡ if_greater before after }
+{
+    if before < after { Some(after) } else { None }
+}
+
 impl<J: Naming> LastPublished<J> {
-    /// Keeps what an operation published last, if it published anything, and reports how it ended.
-    fn keep(&mut self, performed: Performed<J>) -> Result<Progress, Refusal>
+    /// The floor; 0 if nothing was published.
+    fn floor(&self) -> u64
+        ensures { result ≡ floor_last self.now.told }
+    {
+        match &self.told {
+            Some(told) => told.floor(),
+            None => 0,
+        }
+    }
+
+    /// Keeps what an operation published last, if it published anything, and reports how it ended, and the floor if that rose.
+    fn keep(&mut self, performed: Performed<J>) -> (Result<Progress, Refusal>, Option<u64>)
         ensures kept { self.new.told ≡ option_or performed.last self.old.told }
-        ensures ended { result ≡ performed.ended }
+        ensures ended { result.0 ≡ performed.ended }
+        ensures forgot { result.1 ≡ risen_floor self.old.told self.new.told }
     {
         let Performed { last, ended } = performed;
+        let floor = self.floor();
         let before = self.told.take();
         self.told = last.or(before);
-        ended
+        (ended, risen(floor, self.floor()))
     }
 
     /// As `keep`, of a change of the root of a number.
@@ -308,18 +349,26 @@ impl<J: Naming> LastPublished<J> {
     ) -> (Result<Progress, Refusal>, Changed)
         ensures kept { self.new.told ≡ option_or performed.last self.old.told }
         ensures ended { result.0 ≡ performed.ended }
-        ensures changed { result.1 ≡ number }
+        ensures changed { result.1 ≡ record { root = number; forgot = risen_floor self.old.told self.new.told } }
     {
-        (self.keep(performed), Changed { number })
+        let (ended, forgot) = self.keep(performed);
+        let changed = Changed {
+            root: number,
+            forgot,
+        };
+        (ended, changed)
     }
 
-    /// As `keep`, of a reading that was handed in.
-    pub(crate) fn keep_reading(&mut self, performed: Performed<J>) -> HandedIn
+    /// As `keep`, of a reading of the root of a number that was handed in.
+    pub(crate) fn keep_reading(&mut self, performed: Performed<J>, number: u64) -> HandedIn
         ensures kept { self.new.told ≡ option_or performed.last self.old.told }
-        ensures ended { result ≡ performed.ended }
+        ensures ended { result ≡ record { root = number; ended = performed.ended; forgot = risen_floor self.old.told self.new.told } }
     {
+        let (ended, forgot) = self.keep(performed);
         HandedIn {
-            ended: self.keep(performed),
+            root: number,
+            ended,
+            forgot,
         }
     }
 

@@ -1,13 +1,14 @@
 //! The triggers of a root, as they lie under their lock: what changes them, and what may be started.
 //! Definitions: specs/Tables.antt of wm_triggers. Tests: serve_tests/src/triggers.rt.
-ghost use Rattle.std.specs.Prelude.{◌≡◌, ◌≤◌, true, false, Some, None, cond, length, IfOk, MatchResult};
+ghost use Rattle.std.specs.Prelude.{◌≡◌, ◌≤◌, true, false, length, IfErr, IfOk, OnOk, MatchOption};
 ghost use Rattle.wm_registry.specs.Limits.{max_triggers};
 ghost use Rattle.wm_triggers.specs.Tables.{empty_table, may_begin, may_reply, table_begun, table_ended, table_idle, table_with, table_without};
 
+use crate::step::Step;
 use std::alloc::Global;
 use std::marker::Model;
+use std::snapshot::Snapshot;
 use wm_disk::NoMemory;
-use wm_registry::Trigger;
 use wm_triggers::{DefinedTrigger, DefinedTriggers, TriggerTable};
 
 /// The triggers of a root under their lock.
@@ -16,19 +17,36 @@ pub(crate) struct LockedTriggers {
     table: TriggerTable,
 }
 
-/// The triggers of a root were changed: the table alone makes it. It has the number of the command if that defined one, and none if a
-/// trigger was deleted.
+/// The triggers of a root were changed: the table alone makes it. Contracts see the number of the root, and what the table was before
+/// and after.
 #[derive(Drop)]
 pub struct Defined {
-    number: Option<u64>,
+    root: u64,
+    table: Step<TriggerTable>,
 }
 
 impl Model for Defined {
-    ghost use Rattle.std.specs.Prelude.{ℕ, Option};
+    ghost use Rattle.wm_hall.specs.TriggerSteps.{RootStep};
 
-    ghost Value = { Option ℕ };
+    ghost Value = { RootStep };
 
-    ghost view = { λ d. d.number };
+    ghost view = { λ d. record { root = d.root; table = d.table } };
+}
+
+/// A root has as many triggers as it may have, so that one of another name isn't defined: the table alone makes it. Contracts see the number
+/// of the root, and the table.
+#[derive(Drop)]
+pub struct TriggersFull {
+    root: u64,
+    table: Snapshot<TriggerTable>,
+}
+
+impl Model for TriggersFull {
+    ghost use Rattle.wm_hall.specs.TriggerSteps.{RootTable};
+
+    ghost Value = { RootTable };
+
+    ghost view = { λ f. record { root = f.root; table = f.table.value } };
 }
 
 /// The triggers of a root as its table has them: the table alone makes it.
@@ -46,47 +64,66 @@ impl Model for StandingTriggers {
     ghost view = { λ s. s.all };
 }
 
-/// Whether the program of a trigger may be started: the table alone says so. If it may, its start is under way until the permit is
-/// given back.
-#[derive(Drop)]
+/// That the program of a trigger may be started: the table alone says so. Its start is under way until the permit is given back, and nobody
+/// can drop it. Contracts see the number of the root, and the definition.
 pub struct StartPermit {
-    is_given: bool,
+    root: u64,
+    one: Snapshot<DefinedTrigger>,
 }
 
 impl Model for StartPermit {
-    ghost use Rattle.std.specs.Prelude.{Bool};
+    ghost use Rattle.wm_hall.specs.TriggerSteps.{PermittedStart};
 
-    ghost Value = { Bool };
+    ghost Value = { PermittedStart };
 
-    ghost view = { λ p. p.is_given };
+    ghost view = { λ p. record { root = p.root; one = p.one.value } };
 }
 
-/// No trigger of a root begins any more: the table alone makes it. Contracts see that.
+/// The start that was permitted is over: the table alone makes it. Contracts see the number of the root, and the definition.
+#[derive(Drop)]
+pub struct StartEnded {
+    root: u64,
+    one: Snapshot<DefinedTrigger>,
+}
+
+impl Model for StartEnded {
+    ghost use Rattle.wm_hall.specs.TriggerSteps.{PermittedStart};
+
+    ghost Value = { PermittedStart };
+
+    ghost view = { λ e. record { root = e.root; one = e.one.value } };
+}
+
+/// No trigger of a root begins any more: the table alone makes it. Contracts see the number of the root, and what the table was before and
+/// after.
 #[derive(Drop)]
 pub struct TriggersEnded {
-    have_ended: bool,
+    root: u64,
+    table: Step<TriggerTable>,
 }
 
 impl Model for TriggersEnded {
-    ghost use Rattle.std.specs.Prelude.{Bool};
+    ghost use Rattle.wm_hall.specs.TriggerSteps.{RootStep};
 
-    ghost Value = { Bool };
+    ghost Value = { RootStep };
 
-    ghost view = { λ t. t.have_ended };
+    ghost view = { λ t. record { root = t.root; table = t.table } };
 }
 
-/// Whether no start is under way of a trigger that may not be started any more: the table alone says so.
+/// No start is under way of a trigger that may not be started any more: the table alone says so. Contracts see the number of the root, and
+/// the table.
 #[derive(Drop)]
 pub struct StartsOver {
-    are_over: bool,
+    root: u64,
+    table: Snapshot<TriggerTable>,
 }
 
 impl Model for StartsOver {
-    ghost use Rattle.std.specs.Prelude.{Bool};
+    ghost use Rattle.wm_hall.specs.TriggerSteps.{RootTable};
 
-    ghost Value = { Bool };
+    ghost Value = { RootTable };
 
-    ghost view = { λ s. s.are_over };
+    ghost view = { λ s. record { root = s.root; table = s.table.value } };
 }
 
 impl StandingTriggers {
@@ -95,15 +132,6 @@ impl StandingTriggers {
         ensures { result.now ≡ self.now }
     {
         &self.all
-    }
-}
-
-impl StartPermit {
-    /// Whether the program may be started.
-    pub fn is_given(&self) -> bool
-        ensures { result ≡ self.now }
-    {
-        self.is_given
     }
 }
 
@@ -116,33 +144,50 @@ impl LockedTriggers {
         Ok(LockedTriggers { table })
     }
 
-    /// Defines a trigger by the command of a number, as `TriggerTable::define`.
-    pub(crate) fn define(&mut self, number: u64, trigger: Trigger) -> Result<Defined, NoMemory>
-        ensures { MatchResult result (λ defined. (defined ≡ Some number) × (self.new.table ≡ table_with (record { number = number; trigger = trigger }) self.old.table))
-            (λ _. (self.new ≡ self.old) × (max_triggers ≤ length self.old.table.defined)) }
+    /// Defines a trigger of the root of this number, as `TriggerTable::define`.
+    pub(crate) fn define(&mut self, root: u64, one: DefinedTrigger) -> Result<Defined, TriggersFull>
+        ensures told { IfOk result (λ defined. defined ≡ record { root = root; table = record { before = self.old.table; after = self.new.table } }) }
+        ensures ok { OnOk result (self.new.table ≡ table_with one self.old.table) }
+        ensures refused { IfErr result (λ full. (self.new ≡ self.old) × (full ≡ record { root = root; table = self.old.table }) × (max_triggers ≤ length self.old.table.defined)) }
     {
-        self.table.define(number, trigger)?;
+        let before = Snapshot::of(&self.table);
+        let DefinedTrigger { number, trigger } = one;
+        if self.table.define(number, trigger).is_err() {
+            return Err(TriggersFull {
+                root,
+                table: before,
+            });
+        }
         Ok(Defined {
-            number: Some(number),
+            root,
+            table: Step::taken(before, &self.table),
         })
     }
 
-    /// Takes out the trigger of a name, if there is one.
-    pub(crate) fn delete(&mut self, name: &str) -> Defined
-        ensures told { result ≡ None }
+    /// Takes out the trigger of a name of the root of this number, if there is one.
+    pub(crate) fn delete(&mut self, root: u64, name: &str) -> Defined
+        ensures told { result ≡ record { root = root; table = record { before = self.old.table; after = self.new.table } } }
         ensures deleted { self.new.table ≡ table_without name.now self.old.table }
     {
+        let before = Snapshot::of(&self.table);
         self.table.remove(name);
-        Defined { number: None }
+        Defined {
+            root,
+            table: Step::taken(before, &self.table),
+        }
     }
 
-    /// The root isn't watched any longer: nothing begins from now on.
-    pub(crate) fn end_root(&mut self) -> TriggersEnded
-        ensures told { result ≡ true }
+    /// The root of this number isn't watched any longer: nothing begins from now on.
+    pub(crate) fn end_root(&mut self, root: u64) -> TriggersEnded
+        ensures told { result ≡ record { root = root; table = record { before = self.old.table; after = self.new.table } } }
         ensures ended { self.new.table ≡ table_ended self.old.table }
     {
+        let before = Snapshot::of(&self.table);
         self.table.end_root();
-        TriggersEnded { have_ended: true }
+        TriggersEnded {
+            root,
+            table: Step::taken(before, &self.table),
+        }
     }
 
     /// Whether who deleted or replaced a trigger, or ended the root, may reply.
@@ -153,11 +198,13 @@ impl LockedTriggers {
     }
 
     /// As `may_reply`, for who waited.
-    pub(crate) fn starts_over(&self) -> StartsOver
-        ensures { result ≡ may_reply self.now.table }
+    pub(crate) fn starts_over(&self, root: u64) -> StartsOver
+        requires { may_reply self.now.table ≡ true }
+        ensures { result ≡ record { root = root; table = self.now.table } }
     {
         StartsOver {
-            are_over: self.may_reply(),
+            root,
+            table: Snapshot::of(&self.table),
         }
     }
 
@@ -169,23 +216,28 @@ impl LockedTriggers {
         Ok(StandingTriggers { all })
     }
 
-    /// Whether this definition's program may be started now, as `TriggerTable::begin`.
-    pub(crate) fn begin(&mut self, one: DefinedTrigger) -> StartPermit
-        ensures permit { result ≡ may_begin one self.old.table }
+    /// That this definition's program may be started now in the root of this number, as `TriggerTable::begin`.
+    pub(crate) fn begin(&mut self, root: u64, one: DefinedTrigger) -> Option<StartPermit>
+        ensures permit { MatchOption result (may_begin one self.old.table ≡ false) (λ permit. (may_begin one self.old.table ≡ true) × (permit ≡ record { root = root; one = one })) }
         ensures begun { self.new.table ≡ table_begun one self.old.table }
     {
-        let is_given = self.table.begin(one);
-        StartPermit { is_given }
+        let permitted = Snapshot::of(&one);
+        if !self.table.begin(one) {
+            return None;
+        }
+        Some(StartPermit {
+            root,
+            one: permitted,
+        })
     }
 
-    /// The start is over, if the permit was given. No permit is left.
-    pub(crate) fn end(&mut self, permit: StartPermit) -> StartPermit
-        ensures told { result ≡ false }
-        ensures over { self.new.table ≡ cond permit (table_idle self.old.table) self.old.table }
+    /// The start that was permitted is over.
+    pub(crate) fn end(&mut self, permit: StartPermit) -> StartEnded
+        ensures told { result ≡ permit }
+        ensures over { self.new.table ≡ table_idle self.old.table }
     {
-        if permit.is_given {
-            self.table.end();
-        }
-        StartPermit { is_given: false }
+        let StartPermit { root, one } = permit;
+        self.table.end();
+        StartEnded { root, one }
     }
 }

@@ -1,8 +1,8 @@
 //! What the workers of a root are asked: crawls, and to look whether a trigger is due.
 //! Tests: serve_tests/src/crawls.rt.
-ghost use Rattle.std.specs.Prelude.{◌≡◌, ◌⊎◌, true, IfErr};
+ghost use Rattle.std.specs.Prelude.{◌≡◌, ◌⊎◌, true, IfErr, MatchResult};
 
-use crate::asked::{Asked, BegunCrawl, ChangeCount, CrawlEnded, Crawled, NoWork};
+use crate::asked::{Asked, BegunCrawl, ChangeCount, CrawlEnded, Crawled, NoWork, Ticket};
 use std::alloc::Global;
 use std::sync::{Condvar, Mutex, Wait};
 use wm_disk::{NoMemory, Refusal};
@@ -47,39 +47,41 @@ impl Work {
     /// Asks for a crawl of a part, and waits for the end of one that began after that: what the crawl or the view refuses, and
     /// `NotWatched` if the root isn't watched any longer or the server closes. Not asked for are `NoMemory`, and `Exhausted` after
     /// 2^64 - 1 crawls.
-    pub fn crawl<R: Wait>(&self, rt: &R, subtree: Subtree) -> Result<Crawled, Refusal>
+    pub(crate) fn crawl<R: Wait>(&self, rt: &R, subtree: Subtree) -> Result<Crawled, Refusal>
         ensures refused { IfErr result (λ e. (e ≡ Refusal.NoMemory) ⊎ (e ≡ Refusal.Exhausted)) }
     {
         let mut asked = self.asked.lock(rt);
         let ticket = asked.ask(&subtree)?;
         self.notified.notify_all();
+        let number = ticket.number();
         let mut asked = self.notified.wait_while(rt, asked, |asked| {
-            asked.is_pending(ticket) && !asked.has_ended()
+            asked.is_pending(number) && !asked.has_ended()
         });
         Ok(asked.collected(ticket))
     }
 
-    /// Waits until a crawl is asked for, which has begun then; there is none at the end.
-    pub fn next_crawl<R: Wait>(&self, rt: &R) -> Result<BegunCrawl, NoWork>
-        ensures { IfErr result (λ none. none ≡ true) }
+    /// Waits until a crawl of the root, which has this number, is asked for, which has begun then; there is none at the end.
+    pub(crate) fn next_crawl<R: Wait>(&self, rt: &R, root: u64) -> Result<BegunCrawl, NoWork>
+        ensures { MatchResult result (λ begun. begun.root ≡ root) (λ none. none ≡ true) }
     {
         let mut asked = self.notified.wait_while(rt, self.asked.lock(rt), |asked| {
             !asked.has_waiting() && !asked.has_ended()
         });
-        asked.next_crawl()
+        asked.next_crawl(root)
     }
 
-    /// The crawl of a ticket has ended so.
-    pub fn crawled<R: Wait>(
+    /// The crawl of a ticket of the root, which has this number, has ended so.
+    pub(crate) fn crawled<R: Wait>(
         &self,
         rt: &R,
-        ticket: u64,
+        root: u64,
+        ticket: Ticket,
         ended: Result<Progress, Refusal>,
     ) -> CrawlEnded
-        ensures { result ≡ record { ticket = ticket; ended = ended } }
+        ensures { result ≡ record { root = root; ticket = ticket; ended = ended } }
     {
         let mut asked = self.asked.lock(rt);
-        let crawl = asked.crawled(ticket, ended);
+        let crawl = asked.crawled(root, ticket, ended);
         drop(asked);
         self.notified.notify_all();
         crawl

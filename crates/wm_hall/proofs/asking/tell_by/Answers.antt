@@ -9,6 +9,6 @@ use Rattle.wm_hall.proofs.asking.tell_by.Goals as goal
 pub returns-in-Ok-clause-told : goal.returns-in-Ok-clause-told
 returns-in-Ok-clause-told g c =
     subst
-    (λ s. c.tell_with_room.new.out.items ≡ c.args.out.now.items ++ line_text (query_reply c.args.asked.fields (answer_to (holds c.args.asked.query.test) (history c.tell_with_room.new.viewer.list) (record { since = s; empty_on_fresh = c.args.asked.query.empty_on_fresh }))))
-    (c.from_clock-asked.ensures ∙ ap from_clock c.clock.ensures)
+    (λ s. c.tell_with_room.new.out.items ≡ c.args.out.now.items ++ line_text (query_reply c.args.asked.question.fields (answer_to (holds c.args.asked.question.query.test) (history c.tell_with_room.new.viewer.list) (record { since = s; empty_on_fresh = c.args.asked.question.query.empty_on_fresh }))))
+    (c.from_clock-question.ensures ∙ ap from_clock c.clock.ensures)
     c.in-Ok.ensures.told

@@ -1,5 +1,5 @@
 //! A reading of the root by its crawler: what is observed meanwhile, and what is handed in at its end.
-//! Definitions: specs/Readings.antt; `IsOverlaid` of wm_reading. Tests: serve_tests/src/crawls.rt, serve_tests/src/readings.rt.
+//! Definitions: specs/Readings.antt; `IsOverlaid` of wm_reading. Tests: serve_tests/src/crawls.rt.
 ghost use Rattle.std.specs.Prelude.{◌≡◌, ◌≢◌, [], None, Some, IsSome, IfOk, IfErr, MatchOption, MatchResult, OnErr, true, false};
 ghost use Rattle.wm_view.specs.Listings.{Found};
 ghost use Rattle.wm_view.specs.declared.op.Op.TheVariants.{Recrawl};
@@ -7,8 +7,8 @@ ghost use Rattle.wm_crawler.specs.Crawls.{FailsIn, IsCrawl, IsReadable};
 ghost use Rattle.wm_reading.specs.Overlays.{IsOverlaid, Noted, noted as noted_all};
 ghost use Rattle.wm_hall.specs.Readings.{IsNotedIf, IsUnread, Notes, clock_last, pairs_in, tick_shown};
 
+use super::{LastPublished, LockedRoot};
 use crate::backlog::tick_of;
-use crate::locked_root::{LastPublished, LockedRoot};
 use std::alloc::Global;
 use std::marker::Model;
 use std::sync::Wait;
@@ -30,35 +30,68 @@ pub struct CrawlTools<'a, F, G> {
 }
 
 /// A reading that has begun. What is observed from then on is noted until the reading's listing is handed in, or the reading is
-/// given up. Contracts see the tick at which the root stood when it began.
+/// given up, which uses this up. Contracts see the root's number, and the tick at which it stood when the reading began.
 #[derive(Drop)]
 pub struct Begun {
+    root: u64,
     tick: u64,
 }
 
 impl Model for Begun {
-    ghost use Rattle.std.specs.Prelude.{ℕ};
+    ghost use Rattle.wm_hall.specs.Readings.{ReadingBegun};
 
-    ghost Value = { ℕ };
+    ghost Value = { ReadingBegun };
 
-    ghost view = { λ b. b.tick };
+    ghost view = { λ b. record { root = b.root; tick = b.tick } };
 }
 
-/// The reading of a root that was under way, if one was, is given up: the root alone makes it. Contracts see whether one was under way.
+/// The reading of a root that was under way, if one was, is given up: the root alone makes it. Contracts see the root's number, and
+/// whether one was under way.
 #[derive(Drop)]
 pub struct GivenUp {
+    root: u64,
     was_under_way: bool,
 }
 
 impl Model for GivenUp {
-    ghost use Rattle.std.specs.Prelude.{Bool};
+    ghost use Rattle.wm_hall.specs.Readings.{ReadingGivenUp};
 
-    ghost Value = { Bool };
+    ghost Value = { ReadingGivenUp };
 
-    ghost view = { λ g. g.was_under_way };
+    ghost view = { λ g. record { root = g.root; was_under_way = g.was_under_way } };
 }
 
-/// What a reading found, all of it since the reading began: it is made of a [`Begun`] by a crawl alone.
+/// Why a crawl was refused: a crawl alone makes it.
+#[derive(Drop)]
+pub struct CrawlRefused {
+    refusal: Refusal,
+}
+
+impl Model for CrawlRefused {
+    ghost use Rattle.wm_disk.specs.declared.refusal.Refusal.{Refusal};
+
+    ghost Value = { Refusal };
+
+    ghost view = { λ r. r.refusal };
+}
+
+impl CrawlRefused {
+    /// The refusal.
+    pub fn refusal(&self) -> Refusal
+        ensures { result ≡ self.now }
+    {
+        self.refusal
+    }
+}
+
+/// A reading whose crawl was refused: it is to be given up.
+#[derive(Drop)]
+pub struct Unread {
+    pub refused: CrawlRefused,
+    pub begun: Begun,
+}
+
+/// What a reading of a root found, all of it since the reading began: it is made of a [`Begun`] by a crawl alone.
 #[derive(Drop)]
 pub struct Reading {
     begun: Begun,
@@ -70,34 +103,71 @@ impl Model for Reading {
 
     ghost Value = { Read };
 
-    ghost view = { λ r. record { begun_at = r.begun; listing = r.listing } };
+    ghost view = { λ r. record { root = r.begun.root; begun_at = r.begun.tick; listing = r.listing } };
 }
 
 impl<J: Naming, T: Listed<J> + Drop, R: Wait + Drop> LockedRoot<RootKeeper<J, T, R>> {
-    /// Begins a reading at the tick that was published last: from now on what is observed is noted. An earlier one that is under way is
-    /// given up.
-    pub(crate) fn begin_reading(&mut self, alloc: Global, last: &LastPublished<J>) -> Begun
-        ensures tick { result ≡ tick_shown (clock_last last.now.told) }
+    /// Begins a reading of the root, which has this number, at the tick that was published last: from now on what is observed is noted.
+    /// An earlier one that is under way is given up.
+    pub(crate) fn begin_reading(
+        &mut self,
+        alloc: Global,
+        last: &LastPublished<J>,
+        number: u64,
+    ) -> Begun
+        ensures begun { result ≡ record { root = number; tick = tick_shown (clock_last last.now.told) } }
         ensures noted { self.new ≡ record self.old { reading = Some (noted_all []) } }
     {
         self.reading = Some(Observed::new(alloc));
         let tick = tick_of(last.clock());
-        Begun { tick }
+        Begun { root: number, tick }
     }
 
-    /// Gives up the reading that is under way.
-    pub(crate) fn give_up_reading(&mut self) -> GivenUp
-        ensures told { MatchOption self.old.reading (result ≡ false) (λ _. result ≡ true) }
+    /// Gives up the reading of the root, which has this number, that is under way.
+    pub(crate) fn give_up_reading(&mut self, begun: Begun, number: u64) -> GivenUp
+        ensures root { result.root ≡ number }
+        ensures told { MatchOption self.old.reading (result.was_under_way ≡ false) (λ _. result.was_under_way ≡ true) }
         ensures given_up { self.new ≡ record self.old { reading = None } }
     {
+        drop(begun);
         let was_under_way = self.reading.is_some();
         self.reading = None;
-        GivenUp { was_under_way }
+        GivenUp {
+            root: number,
+            was_under_way,
+        }
+    }
+}
+
+impl Reading {
+    /// The number of its root.
+    pub fn root(&self) -> u64
+        ensures { result ≡ self.now.root }
+    {
+        self.begun.root()
     }
 }
 
 impl Begun {
-    /// Crawls a root, or a part of it, as `crawl_root` does, which begins after this reading did.
+    /// With why its crawl was refused.
+    fn unread(self, refusal: Refusal) -> Unread
+        ensures { (result.refused ≡ refusal) × (result.begun ≡ self) }
+    {
+        Unread {
+            refused: CrawlRefused { refusal },
+            begun: self,
+        }
+    }
+
+    /// The number of its root.
+    pub fn root(&self) -> u64
+        ensures { result ≡ self.now.root }
+    {
+        self.root
+    }
+
+    /// Crawls a root, or a part of it, as `crawl_root` does, which begins after this reading did. A crawl that is refused gives the reading
+    /// back.
     pub fn crawl<R: Threads + Sync, F: Folders + Sync, G: Turnstile + Sync>(
         self,
         rt: &R,
@@ -105,14 +175,15 @@ impl Begun {
         tools: &CrawlTools<'_, F, G>,
         root: &RootPath,
         subtree: &Subtree,
-    ) -> Result<Reading, Refusal>
-        ensures begun { IfOk result (λ found. found.begun_at ≡ self) }
+    ) -> Result<Reading, Unread>
+        ensures begun { IfOk result (λ found. (found.root ≡ self.root) × (found.begun_at ≡ self.tick)) }
         ensures part { IfOk result (λ found. found.listing.subtree ≡ subtree.now) }
         ensures files { IfOk result (λ found. F.stays tools.now.folders.now → IsCrawl (F.content tools.now.folders.now root.now) subtree.now found.listing.files) }
         ensures whole { IfOk result (λ _. F.stays tools.now.folders.now → IsReadable (F.content tools.now.folders.now root.now) subtree.now) }
-        ensures refused { IfErr result (λ e. e ≢ Refusal.NoMemory → (e ≡ Refusal.DeviceFailed) × FailsIn (F.may_fail tools.now.folders.now root.now) subtree.now) }
+        ensures refused { IfErr result (λ unread. unread.refused ≢ Refusal.NoMemory → (unread.refused ≡ Refusal.DeviceFailed) × FailsIn (F.may_fail tools.now.folders.now root.now) subtree.now) }
+        ensures given_back { IfErr result (λ unread. unread.begun ≡ self) }
     {
-        let listing = crawl_root(
+        let crawled = crawl_root(
             rt,
             alloc,
             tools.folders,
@@ -120,11 +191,14 @@ impl Begun {
             subtree,
             tools.workers,
             tools.turnstile,
-        )?;
-        Ok(Reading {
-            begun: self,
-            listing,
-        })
+        );
+        match crawled {
+            Ok(listing) => Ok(Reading {
+                begun: self,
+                listing,
+            }),
+            Err(refusal) => Err(self.unread(refusal)),
+        }
     }
 }
 
@@ -152,7 +226,7 @@ fn copied_all(
 }
 
 /// The pairs of an observation again; none of another operation.
-pub(crate) fn observed_in(alloc: Global, op: &Op) -> Result<Option<Pairs>, NoMemory>
+pub(super) fn observed_in(alloc: Global, op: &Op) -> Result<Option<Pairs>, NoMemory>
     ensures pairs { IfOk result (λ pairs. pairs ≡ pairs_in op.now) }
     ensures memory { OnErr result (IsSome (pairs_in op.now)) }
 {
@@ -188,7 +262,7 @@ fn note(alloc: Global, observed: &mut Observed, pairs: Result<Option<Pairs>, NoM
 }
 
 /// Notes what an accepted operation observes, if a reading is under way.
-pub(crate) fn note_if(
+pub(super) fn note_if(
     alloc: Global,
     reading: &mut Option<Observed>,
     pairs: Result<Option<Pairs>, NoMemory>,
@@ -203,7 +277,7 @@ pub(crate) fn note_if(
 
 /// The operation of a reading's end: its listing with what was observed meanwhile. `BadClock` if an observation was left out, or no
 /// reading is under way: it has to be done again; and `NoMemory`.
-pub(crate) fn recrawl_by(
+pub(super) fn recrawl_by(
     alloc: Global,
     observed: Option<Observed>,
     moment: u64,
