@@ -72,7 +72,7 @@ fn are_left<F: Front, H: Roots<J, K>, J: Naming, K: Wait + Drop, R: Wait + Abort
     count: usize,
 ) {
     let ended = end_subscriptions(rt, alloc, roots, session);
-    check!(rt; ended.is_ok());
+    check!(rt; ended.is_whole());
     let left = session.subscriptions().len();
     check!(rt; left == count, left);
 }
@@ -144,7 +144,7 @@ fn both<J: Naming, R: Wait + Abort>(
     let front = SharedFront::new(rt, alloc, Place::new(desk), &roots);
     let mut other = Session::new(alloc, front);
     sees_a_root_go(rt, alloc, &roots, &mut own, &mut other);
-    own.front.drop_ended();
+    let _left = own.front.drop_ended();
     sees_a_new_root(rt, alloc, &roots, &mut own, &mut other);
     drop(other);
     drop(own);

@@ -8,4 +8,5 @@ mod Placing
 mod RootCalls
 mod Submitting
 mod Sitting
+mod Starting
 mod Telling

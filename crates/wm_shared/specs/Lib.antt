@@ -4,3 +4,4 @@ pub mod Looks
 pub mod MetShared
 pub mod RootsSeen
 pub mod SharedLaws
+pub mod SinceAsked

@@ -12,12 +12,13 @@ mod registrar;
 mod roots;
 mod seconds;
 mod shared_front;
+mod since_asked;
 mod viewers;
 
 pub use due::DueOnceLearnt;
-pub use ended::end_subscriptions;
+pub use ended::{SubscriptionsEnded, end_subscriptions};
 pub use place::Place;
 pub use registrar::Registrar;
 pub use roots::{FollowingRoots, Roots};
 pub use shared_front::SharedFront;
-pub use viewers::Viewers;
+pub use viewers::{Viewers, ViewersLeft};

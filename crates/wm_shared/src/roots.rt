@@ -80,6 +80,6 @@ pub trait FollowingRoots<J: Naming, K: Wait + Drop>: Roots<J, K> {
     /// The view of a root has changed, or its change was refused: those who wait for that are woken, since the subscriptions on it may
     /// be due.
     fn wake<R: Wait>(&self, rt: &R, hall: &RootHall<J, K>, changed: Changed) -> Self::Woken
-        requires { changed ≡ hall.now.number }
+        requires { changed.root ≡ hall.now.number }
         ensures { shows_woken self.now hall.now.number result };
 }

@@ -3,11 +3,8 @@
 ghost use Rattle.std.specs.Prelude.{◌≡◌, ◌⊎◌, Some, false, IfOk, IfErr, MatchBool, MatchOption, MatchResult};
 ghost use Rattle.std.specs.Arc.{arc_value};
 ghost use Rattle.std.specs.List.{list_any};
-ghost use Rattle.wm_since.specs.Cursors.{CursorList};
 ghost use Rattle.wm_disk.specs.declared.refusal.Refusal.TheVariants.{BadArguments as bad_arguments};
 ghost use Rattle.wm_registry.specs.declared.reply.Reply.TheVariants.{Refused as refused};
-ghost use Rattle.wm_session.specs.session.Fronts.{start_with};
-ghost use Rattle.wm_session.specs.session.Inquiries.{since_point};
 ghost use Rattle.wm_names.specs.Paths.{Path};
 ghost use Rattle.wm_shared.specs.Ended.{AreWatched};
 ghost use Rattle.wm_shared.specs.RootsSeen.{IsSeenMore, is_viewer_of, unless_unwatched};
@@ -21,7 +18,8 @@ use crate::place::Place;
 use crate::registrar::Registrar;
 use crate::roots::{FollowingRoots, Roots};
 use crate::seconds::SinceGiven;
-use crate::viewers::Viewers;
+use crate::since_asked::{since_of, starting};
+use crate::viewers::{Viewers, ViewersLeft};
 use std::alloc::Global;
 use std::sync::{Arc, Wait};
 use wm_clock::{ClockId, ClockSpec};
@@ -92,11 +90,12 @@ impl<'a, T: Registrar, H: Roots<J, K>, J: Naming, K: Wait + Copy + Drop> SharedF
     }
 
     /// Drops the session's viewers of roots that aren't watched any longer.
-    pub fn drop_ended(&mut self)
+    pub fn drop_ended(&mut self) -> ViewersLeft<J>
+        ensures shown { (result.before.value ≡ self.old.viewers) × (result.after.value ≡ self.new.viewers) }
         ensures left { AreWatched (λ number. (path : Path) × H.has self.old.roots.now path number) (H.ended self.old.roots.now) self.old.viewers self.new.viewers }
         ensures kept { self.new ≡ record self.old { viewers = self.new.viewers } }
     {
-        self.viewers.drop_ended(&self.rt, self.roots);
+        self.viewers.drop_ended(&self.rt, self.roots)
     }
 }
 
@@ -195,49 +194,6 @@ fn find_root<T: Registrar, H: FollowingRoots<J, K>, J: Naming, K: Wait + Copy + 
         }
     }
     Err(Refusal::NoMemory)
-}
-
-/// Since when is asked of a root: by a cursor since its clock as it stands now, and from nowhere if it isn't there.
-fn since_named<J: Naming, K: Wait + Copy + Drop>(
-    rt: &K,
-    hall: &RootHall<J, K>,
-    since: &ClockSpec,
-) -> Option<Since>
-    ensures { (cursors : CursorList) × (result ≡ since_point (Some since.now) cursors) }
-{
-    match since {
-        ClockSpec::Cursor(name) => Since::from_clock(hall.cursor(rt, name).clock()),
-        ClockSpec::Clock(clock) => Some(Since::Clock(*clock)),
-        ClockSpec::Seconds(seconds) => Some(Since::Moment(*seconds)),
-        ClockSpec::Another => None,
-    }
-}
-
-/// As [`since_named`], if anything is named.
-fn since_of<J: Naming, K: Wait + Copy + Drop>(
-    rt: &K,
-    hall: &RootHall<J, K>,
-    since: &Option<ClockSpec>,
-) -> Option<Since>
-    ensures { (cursors : CursorList) × (result ≡ since_point since.now cursors) }
-{
-    match since {
-        Some(since) => since_named(rt, hall, since),
-        None => None,
-    }
-}
-
-/// The clock of a root, with since when is asked there.
-fn starting(
-    clock: Result<ClockId, Refusal>,
-    since: Option<Since>,
-) -> Result<(ClockId, Option<Since>), Refusal>
-    ensures { result ≡ start_with clock since }
-{
-    match clock {
-        Ok(clock) => Ok((clock, since)),
-        Err(refusal) => Err(refusal),
-    }
 }
 
 /// What is due on a root that wasn't found: nothing, if it isn't watched.
@@ -352,9 +308,9 @@ impl<'a, T: Registrar, H: FollowingRoots<J, K>, J: Naming, K: Wait + Copy + Drop
             Err(refusal) => return Err(refusal),
         };
         let met = self.viewers.clock(&self.rt, alloc, &hall);
-        let since = since_of(&self.rt, &hall, since);
+        let asked = since_of(&self.rt, &hall, since);
         drop(hall);
-        starting(met, since)
+        starting(met, asked)
     }
 
     fn due(

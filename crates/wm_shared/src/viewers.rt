@@ -12,6 +12,7 @@ use crate::due::{DueOnceLearnt, due_once_learnt, unless_gone};
 use crate::roots::Roots;
 use std::alloc::Global;
 use std::marker::Model;
+use std::snapshot::Snapshot;
 use std::sync::Wait;
 use wm_clock::ClockId;
 use wm_disk::Refusal;
@@ -35,6 +36,14 @@ impl<J: Naming> Model for Viewers<J> {
     ghost Value = { ViewerList };
 
     ghost view = { λ v. v.all.items };
+}
+
+/// The viewers of a session that are left once those of roots that aren't watched any longer were dropped: [`Viewers::drop_ended`] alone makes it.
+/// Contracts see the viewers before and after.
+#[derive(Drop)]
+pub struct ViewersLeft<J: Naming> {
+    before: Snapshot<Viewers<J>>,
+    after: Snapshot<Viewers<J>>,
 }
 
 /// Whether a question was answered.
@@ -182,7 +191,7 @@ impl<J: Naming> Viewers<J> {
         change: Change,
     ) -> Result<(Result<Progress, Refusal>, Changed), Refusal>
         ensures seen { IfOk result (λ done. (more : IsSeenMore hall.now.number self.old self.new) × IsChangeSeen more.viewer (S.may_read seconds.now) change done.0 more.new) }
-        ensures changed { IfOk result (λ done. done.1 ≡ hall.now.number) }
+        ensures changed { IfOk result (λ done. done.1.root ≡ hall.now.number) }
         ensures refused { IfErr result (λ e. (e ≡ Refusal.NoMemory) × (self.new ≡ self.old)) }
     {
         let place = match self.place(rt, hall) {
@@ -210,11 +219,28 @@ impl<J: Naming> Viewers<J> {
         }
     }
 
-    /// Drops the viewers of roots that aren't watched any longer.
-    pub fn drop_ended<R: Wait, H: Roots<J, K>, K: Wait + Drop>(&mut self, rt: &R, roots: &H)
+    /// As [`Viewers::drop_ended`].
+    fn retain_watched<R: Wait, H: Roots<J, K>, K: Wait + Drop>(&mut self, rt: &R, roots: &H)
         ensures { AreWatched (λ number. (path : Path) × H.has roots.now path number) (H.ended roots.now) self.old self.new }
     {
         self.all
             .retain(|viewer| roots.is_watched(rt, viewer.share().root));
+    }
+
+    /// Drops the viewers of roots that aren't watched any longer.
+    pub fn drop_ended<R: Wait, H: Roots<J, K>, K: Wait + Drop>(
+        &mut self,
+        rt: &R,
+        roots: &H,
+    ) -> ViewersLeft<J>
+        ensures shown { (result.before.value ≡ self.old) × (result.after.value ≡ self.new) }
+        ensures left { AreWatched (λ number. (path : Path) × H.has roots.now path number) (H.ended roots.now) self.old self.new }
+    {
+        let before = Snapshot::of(&*self);
+        self.retain_watched(rt, roots);
+        ViewersLeft {
+            before,
+            after: Snapshot::of(&*self),
+        }
     }
 }

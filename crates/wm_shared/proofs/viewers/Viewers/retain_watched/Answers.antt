@@ -3,7 +3,7 @@ use Rattle.wm_names.specs.Paths.{Path}
 use Rattle.wm_shared.specs.Ended.{AreWatched}
 use Rattle.wm_shared.specs.RootsSeen.{ViewerList}
 use Rattle.wm_shared.proofs.Ending.{watched_left}
-use Rattle.wm_shared.proofs.viewers.Viewers.drop_ended.Goals as goal
+use Rattle.wm_shared.proofs.viewers.Viewers.retain_watched.Goals as goal
 
 pub returns : goal.returns
 returns g c =

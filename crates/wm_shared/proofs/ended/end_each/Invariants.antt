@@ -1,7 +1,7 @@
 use Rattle.std.proofs.Common.{◌≡◌, drop}
 use Rattle.std.specs.List.{AllByRecursion}
 use Rattle.wm_shared.specs.Ended.{HaveEnded, IsOnWatched}
-use Rattle.wm_shared.proofs.ended.end_subscriptions.Given as goal
+use Rattle.wm_shared.proofs.ended.end_each.Given as goal
 
 abbrev pub invariant-loop-place : goal.invariant-loop-place
 invariant-loop-place g l =

@@ -3,7 +3,7 @@ use Rattle.std.proofs.lemmas.List.Elements.{All-from_recursion}
 use Rattle.wm_session.specs.session.Sessions.{SubscriptionList}
 use Rattle.wm_shared.specs.Ended.{IsOnWatched}
 use Rattle.wm_shared.proofs.Ending.{ended_then, left_all, left_beyond, left_next, none_ended}
-use Rattle.wm_shared.proofs.ended.end_subscriptions.Goals as goal
+use Rattle.wm_shared.proofs.ended.end_each.Goals as goal
 
 pub loop-place-init : goal.loop-place-init
 loop-place-init g c =
