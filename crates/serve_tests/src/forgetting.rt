@@ -7,12 +7,17 @@ use std::alloc::{Alloc, Global};
 use std::marker::Brand;
 use std::process::Abort;
 use std::sync::Wait;
-use wm_hall::{Retention, RootHall};
+use wm_hall::{Change, Retention, RootHall};
+use wm_lines::Request;
 use wm_share::{Naming, Opened, Shares};
 use wm_shared::Viewers;
 
 const LISTS_BOTH: &str =
     "[\"listing\",\"/r\",0,\"\",[[\"a\",{\"type\":\"f\",\"size\":1,\"mtime_ms\":0}],[\"b\",{\"type\":\"f\",\"size\":1,\"mtime_ms\":0}]]]\n";
+
+const A_GOES: &str = "[\"observe\",\"/r\",[[\"a\",null]]]\n";
+
+const B_GOES: &str = "[\"observe\",\"/r\",[[\"b\",null]]]\n";
 
 const NOTHING: &str = "[\"observe\",\"/r\",[]]\n";
 
@@ -36,12 +41,8 @@ const FORGETS: &[(u64, &str, &str)] = &[
         LISTS_BOTH,
         "{\"clock\":\"c:1:5:1\",\"version\":\"w1\"}\n",
     ),
-    (
-        101,
-        "[\"observe\",\"/r\",[[\"a\",null]]]\n",
-        "{\"clock\":\"c:1:5:2\",\"version\":\"w1\"}\n",
-    ),
-    (104, "[\"observe\",\"/r\",[[\"b\",null]]]\n", CLOCK_3),
+    (101, A_GOES, "{\"clock\":\"c:1:5:2\",\"version\":\"w1\"}\n"),
+    (104, B_GOES, CLOCK_3),
     (106, NOTHING, CLOCK_3),
     (110, NOTHING, CLOCK_3),
     (
@@ -94,4 +95,62 @@ fn forgets<J: Naming, R: Wait + Abort>(rt: &R, alloc: Global, opened: Opened)
 #[test]
 fn deleted_files_are_forgotten(rt: HostRuntime) {
     forgets::<Brand, _>(&rt, rt.alloc(), Opened::new());
+}
+
+/// Changes of a root at a second, and the last tick of what each has it forget.
+const FORGOTTEN: &[(u64, &str, Option<u64>)] = &[
+    (100, LISTS_BOTH, None),
+    (101, A_GOES, None),
+    (104, B_GOES, None),
+    (106, NOTHING, None),
+    (110, NOTHING, None),
+    (111, NOTHING, Some(2)),
+    (115, NOTHING, None),
+    (116, NOTHING, Some(3)),
+    (121, NOTHING, None),
+];
+
+/// The change of a line.
+fn change_of(rt: &impl Abort, alloc: Global, line: &str) -> Change {
+    match Request::read(alloc, line.as_bytes()).expect(rt, "a request") {
+        Request::Observe(_, pairs) => Change::Observe(pairs),
+        Request::Listing(_, begun_at, found) => Change::Recrawl(begun_at, found),
+        another => {
+            drop(another);
+            Change::AgeOut(0)
+        }
+    }
+}
+
+fn tell_rows<J: Naming, R: Wait + Abort, K: Wait + Drop>(
+    rt: &R,
+    alloc: Global,
+    hall: &RootHall<J, K>,
+    viewers: &mut Viewers<J>,
+) {
+    for (moment, line, forgot) in FORGOTTEN {
+        let at = At { moment: *moment };
+        let change = change_of(rt, alloc, line);
+        let (_, changed) = viewers
+            .change(rt, alloc, hall, &at, change)
+            .expect(rt, "a viewer");
+        check!(rt; changed.forgot() == *forgot, line);
+    }
+}
+
+fn tells_forgotten<J: Naming, R: Wait + Abort>(rt: &R, alloc: Global, opened: Opened)
+    requires { opened.seen.book ≡ J.book }
+{
+    let shares: Shares<J> = Shares::new(opened);
+    let hall = opened_hall(rt, alloc, shares, SOON);
+    let mut viewers = Viewers::new(alloc);
+    tell_rows(rt, alloc, &hall, &mut viewers);
+    drop(viewers);
+    drop(hall);
+}
+
+/// A change of a root tells up to which tick it had the root forget, once.
+#[test]
+fn change_tells_what_was_forgotten(rt: HostRuntime) {
+    tells_forgotten::<Brand, _>(&rt, rt.alloc(), Opened::new());
 }

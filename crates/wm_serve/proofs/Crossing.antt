@@ -95,9 +95,9 @@ wakes_sync = search (WakeSent.the_sync, crosses, sendable) depth 60 fits 20000
 
 -- ---- what all threads share
 
-pub shared_sync : (T J K : RattleType) (g : Naming.Ghosts J.Denot) → IsSync T → IsSend K → IsSync K → IsSync (Shared.the_row T J K g)
-shared_sync T J K g desk k k' =
-    declared_sync (Shared.the_type T J K g) (
+pub shared_sync : (T J K : RattleType) (h : Registrar.Ghosts T.Denot) (g : Naming.Ghosts J.Denot) → IsSync T → IsSend K → IsSync K → IsSync (Shared.the_row T J K h g)
+shared_sync T J K h g desk k k' =
+    declared_sync (Shared.the_type T J K h g) (
       record { shared = desk.shared },
       (
         record { shared = k'.shared },
@@ -134,17 +134,17 @@ module _ (κ : NamedLft) (T J K : RattleType) (h : Registrar.Ghosts T.Denot) (g 
       view_send (PlaceInside.the_row κ T h) _ _ _ _
       (declared_send (PlaceInside.the_type κ T h) (search (desk, sendable) depth 20 fits 5000, (OptionSent.the_send (Given.the_row κ T h) given_send, tt)))
 
-  front_send : IsSend (SharedFront.the_row κ T (Shared.the_row T J K g) J K h g)
+  front_send : IsSend (SharedFront.the_row κ T (Shared.the_row T J K h g) J K h g)
   front_send =
-      let shared = shared_sync T J K g desk k k' in
-      declared_send (SharedFront.the_type κ T (Shared.the_row T J K g) J K h g) (
+      let shared = shared_sync T J K h g desk k k' in
+      declared_send (SharedFront.the_type κ T (Shared.the_row T J K h g) J K h g) (
         as_row_send (row_field K) k,
         (place_send, (search (shared, sendable) depth 20 fits 5000, (ViewersSent.the_send J g, (RegistrySent.the_send, tt)))),
       )
 
-  session_send : IsSend (Session.the_row (SharedFront.the_row κ T (Shared.the_row T J K g) J K h g))
+  session_send : IsSend (Session.the_row (SharedFront.the_row κ T (Shared.the_row T J K h g) J K h g))
   session_send =
-      let front = SharedFront.the_row κ T (Shared.the_row T J K g) J K h g in
+      let front = SharedFront.the_row κ T (Shared.the_row T J K h g) J K h g in
       declared_send (Session.the_type front) (as_row_send (row_field front) front_send, (search (crosses, Expressions.crosses, sendable) depth 60 fits 20000, tt))
 
   connection_send : IsSend (Connection.the_row κ T J K h g)
@@ -159,5 +159,5 @@ module _ (κ : NamedLft) (T J K : RattleType) (h : Registrar.Ghosts T.Denot) (g 
 
   pub slots_sync : IsSync (Slots.the_row κ T J K h g)
   slots_sync =
-      let shared = shared_sync T J K g desk k k' in
+      let shared = shared_sync T J K h g desk k k' in
       declared_sync (Slots.the_type κ T J K h g) (search (shared, sendable) depth 20 fits 5000, (search (slot_sync, crosses, sendable) depth 60 fits 20000, tt))

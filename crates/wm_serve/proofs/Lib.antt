@@ -2,11 +2,14 @@ mod Bits
 pub mod Closing
 pub mod Crossing
 mod Begun
+mod Defining
 mod DueRuns
 mod Names
+mod Numbered
 mod Parting
 mod Rising
 mod Rounds
 mod SeatSent
+mod ServedClosed
 mod Steps
 mod Workers

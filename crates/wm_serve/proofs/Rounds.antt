@@ -3,7 +3,6 @@ use Rattle.std.proofs.Common.{◌≡◌, inl, inr, ◌<◌, ◌+◌, ℕ, List, 
 use Rattle.std.specs.Prelude.{slice_get}
 use Rattle.std.specs.Option.{MatchOption}
 use mathlib.Core.List.{IsPrefix}
-use Rattle.wm_disk.specs.declared.refusal.Refusal.{Refusal}
 use Rattle.wm_names.specs.Paths.{Path}
 use Rattle.wm_registry.specs.Triggers.{Definition}
 use Rattle.wm_clock.specs.declared.clock_id.ClockId.{ClockId}
@@ -135,9 +134,9 @@ pub turn_stays : (has_run : Path → Definition → Answer → Type 0) (root : P
     → new ≡ now → IsTurned (RunsOrStays has_run root) h place now new
 turn_stays has_run root h place now new same o after os is count = (o, inr refl, same ∙ is)
 
-pub on_ok : {A B : Type 0} (r : Result (Unit {0}) Refusal) → OnOk r A → (A → B) → OnOk r B
+pub on_ok : {A B E : Type 0} (r : Result (Unit {0}) E) → OnOk r A → (A → B) → OnOk r B
 on_ok (Ok done) a f = f a
 on_ok (Err refusal) a f = tt
 
-pub refused_ok : (A : Type 0) (refusal : Refusal) (r : Result (Unit {0}) Refusal) → r ≡ Err refusal → OnOk r A
+pub refused_ok : {E : Type 0} (A : Type 0) (refusal : E) (r : Result (Unit {0}) E) → r ≡ Err refusal → OnOk r A
 refused_ok A refusal r e = subst (λ t. OnOk t A) (sym e) tt

@@ -1,14 +1,24 @@
 -- How the roots of a registry begin in the table of the watched roots.
-use Rattle.std.specs.Prelude.{◌≡◌, ℕ, max, length, List, [], ◌∷◌, Some}
+use Rattle.std.specs.Prelude.{◌≡◌, ℕ, max, List, [], ◌∷◌, Some}
 use Rattle.std.specs.Option.{option_map}
 use Rattle.wm_names.specs.Paths.{Path}
-use Rattle.wm_registry.specs.Roots.{State}
+use Rattle.wm_registry.specs.Roots.{State, root_at}
+use Rattle.wm_registry.specs.Triggers.{Definition}
 use Rattle.wm_registry.specs.declared.root.Root.{Root}
-use Rattle.wm_serve.specs.FollowedRoots.{PutsRoot}
+use Rattle.wm_hall.specs.TriggerSteps.{DefinesTrigger, RootStep}
+use Rattle.wm_serve.specs.FollowedRoots.{FillsRoot, PutsRoot}
 use Rattle.wm_serve.specs.UnstartedWorkers.{WorkerList}
 use Rattle.wm_serve.specs.WatchedRoots.{RootName, WatchedRoots, root_name}
 use Rattle.wm_serve.specs.declared.begun_roots.BegunRoot.{BegunRoot}
 use Rattle.wm_serve.specs.declared.begun_roots.BegunRoots.{BegunRoots}
+use Rattle.wm_serve.specs.declared.begun_roots.MadeHall.{MadeHall}
+
+-- These triggers were defined in the root of the number, one after the other, by the command of a number.
+abbrev pub AreDefined : (root number : ℕ) → List Definition → List RootStep → Type 0
+AreDefined root number [] [] = Unit {0}
+AreDefined root number [] (step ∷ steps) = ⊥
+AreDefined root number (trigger ∷ triggers) [] = ⊥
+AreDefined root number (trigger ∷ triggers) (step ∷ steps) = DefinesTrigger root (record { number = number; trigger = trigger }) step × AreDefined root number triggers steps
 
 module _ {H : Type 0} where
   -- The roots are put, one after the other
@@ -27,7 +37,7 @@ module _ {H : Type 0} (name : H → RootName) where
   IsRootBegun entry begun =
       (root_name begun.root ≡ record { path = entry.0; number = entry.1.number })
       × (option_map name begun.root.hall ≡ Some (record { path = entry.0; number = entry.1.number }))
-      × (begun.triggers.count ≡ length entry.1.triggers)
+      × AreDefined entry.1.number 0 entry.1.triggers begun.triggers.items
 
   abbrev pub AreRootsBegun : List (Path × Root) → List (BegunRoot H) → Type 0
   AreRootsBegun [] [] = Unit {0}
@@ -41,3 +51,10 @@ module _ {H : Type 0} (name : H → RootName) where
       (begun.turn.after ≡ record { incarnation = registry.incarnation; count = count })
       × (all : List (BegunRoot H)) × AreRootsBegun registry.roots all
       × BeginsTable all registry.next begun.table.roots.before begun.table.unstarted.before begun.table.roots.after begun.table.unstarted.after
+
+  -- The root of the path, which had no hall, has one with its number and its triggers, as a registry has them after so many commands.
+  abbrev pub IsHallMade : Path → State → ℕ → MadeHall H → Type 0
+  IsHallMade path registry count made =
+      (root : Root) × (root_at path registry ≡ Some root) × AreDefined root.number count root.triggers made.triggers.items
+      × (hall : H) × (name hall ≡ record { path = path; number = root.number })
+      × FillsRoot root.number hall made.table.roots.before made.table.unstarted.before made.table.roots.after made.table.unstarted.after

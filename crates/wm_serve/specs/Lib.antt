@@ -4,11 +4,12 @@ pub mod BegunRoots
 pub mod CrawlLines
 pub mod FollowedCommands
 pub mod FollowedRoots
-pub mod LockedSteps
 pub mod LogEvents
 pub mod LoggedParts
 pub mod NumberedHalls
+pub mod ReadLines
 pub mod SentLines
+pub mod SlotThreads
 pub mod SubscribedRoots
 pub mod TriedCrawls
 pub mod TriggerWork

@@ -6,13 +6,15 @@ use Rattle.wm_lines.specs.Replies.{reply_bytes}
 use Rattle.wm_lines.specs.declared.progress.Progress.{Progress}
 use Rattle.wm_log.specs.declared.event.What.{What}
 use Rattle.wm_log.specs.declared.event.What.TheVariants as whats
+use Rattle.wm_triggers.specs.declared.not_run.NotRun.{NotRun}
+use Rattle.wm_triggers.specs.declared.not_run.NotRun.TheVariants as not_run
 use Rattle.wm_triggers.specs.declared.program_end.ProgramEnd.{ProgramEnd}
 use Rattle.wm_triggers.specs.declared.program_end.ProgramEnd.TheVariants as ends
 
 -- of a run of the trigger of this name, which came to this, this is logged
-abbrev pub IsLoggedRun : List ℕ → Result ProgramEnd Refusal → Option What → Type 0
-IsLoggedRun name ended None = (ended ≡ Ok (ends.Exited 0)) ⊎ (ended ≡ Ok ends.Unknown)
-IsLoggedRun name ended (Some (whats.NotStarted text)) = (string_bytes text ≡ name) × (e : Refusal) × (ended ≡ Err e)
+abbrev pub IsLoggedRun : List ℕ → Result ProgramEnd NotRun → Option What → Type 0
+IsLoggedRun name ended None = (ended ≡ Ok (ends.Exited 0)) ⊎ (ended ≡ Ok ends.Unknown) ⊎ (ended ≡ Err not_run.NotPermitted)
+IsLoggedRun name ended (Some (whats.NotStarted text)) = (string_bytes text ≡ name) × (e : NotRun) × (ended ≡ Err e) × (e ≢ not_run.NotPermitted)
 IsLoggedRun name ended (Some (whats.Exited text status)) = (string_bytes text ≡ name) × (ended ≡ Ok (ends.Exited status)) × (status ≢ 0)
 IsLoggedRun name ended (Some (whats.Killed text signal)) = (string_bytes text ≡ name) × (ended ≡ Ok (ends.Killed signal))
 IsLoggedRun name ended (Some other) = ⊥

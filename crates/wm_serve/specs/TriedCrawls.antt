@@ -1,5 +1,5 @@
 -- What the tries of a crawl come to.
-use Rattle.std.specs.Prelude.{◌≡◌, ℕ, true, Option, Some, None, Result, Ok, Err, IfOk}
+use Rattle.std.specs.Prelude.{◌≡◌, ℕ, true, Option, Some, None, Result, Ok, Err, IfOk, MatchResult}
 use Rattle.wm_disk.specs.declared.refusal.Refusal.{Refusal}
 use Rattle.wm_disk.specs.declared.refusal.Refusal.TheVariants.{BadClock, NotWatched}
 use Rattle.wm_lines.specs.declared.progress.Progress.{Progress}
@@ -27,9 +27,16 @@ IsWithout (Triggers root) (triggers_end ended) = IfOk ended (λ none. none ≡ t
 -- how a try ended: as what was handed in did, by what the crawl was refused with, or without the root
 abbrev pub try_end : Tried → Result Progress Refusal
 try_end (NotBegun none) = Err NotWatched
-try_end (HandedIn handed_in) = handed_in
+try_end (HandedIn handed_in) = handed_in.ended
 try_end (NotHandedIn none) = Err NotWatched
-try_end (GivenUp refusal given_up) = Err refusal
+try_end (GivenUp refused given_up) = Err refused
+
+-- each thing that a try came to is of the root of the number
+abbrev pub IsTryOf : ℕ → Tried → Type 0
+IsTryOf root (NotBegun none) = none ≡ root
+IsTryOf root (HandedIn handed_in) = handed_in.root ≡ root
+IsTryOf root (NotHandedIn none) = none ≡ root
+IsTryOf root (GivenUp refused given_up) = MatchResult given_up (λ over. over.root ≡ root) (λ none. none ≡ root)
 
 -- the last of one or two tries
 abbrev pub last_try : Tried → Option Tried → Tried

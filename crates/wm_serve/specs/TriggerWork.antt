@@ -1,17 +1,21 @@
 -- What the worker of a root's triggers does with the runs of the root's definitions.
 use Rattle.std.specs.Prelude.{◌≡◌, ◌⊎◌, ℕ, false, List, [], ◌∷◌, Option, Some, option_and_then, slice_get}
 use Rattle.std.specs.Option.{MatchOption}
+use Rattle.wm_disk.specs.declared.refusal.Refusal.TheVariants.{NoMemory, NoPlace, NotReady}
 use Rattle.wm_names.specs.Paths.{Path}
 use Rattle.wm_clock.specs.declared.clock_id.ClockId.{ClockId}
 use Rattle.wm_registry.specs.Triggers.{Definition}
 use Rattle.wm_expr.specs.Meanings.{holds}
-use Rattle.wm_view.specs.Histories.{History}
+use Rattle.wm_view.specs.Histories.{History, is_ready}
 use Rattle.wm_since.specs.Answers.{Question, answer_to, from_clock}
 use Rattle.wm_since.specs.declared.query.Answer.{Answer}
-use Rattle.wm_share.specs.PublishedLists.{Begins, PublishedList, history}
+use Rattle.wm_share.specs.PublishedLists.{Begins, PublishedList, ViewerState, disconnected, history}
 use Rattle.wm_triggers.specs.Due.{run_by, term_for}
 use Rattle.wm_triggers.specs.KeptRuns.{KeptRuns, started_at}
+use Rattle.wm_triggers.specs.declared.not_run.NotRun.TheVariants.{DeviceFailed}
 use Rattle.wm_triggers.specs.declared.program_end.ProgramEnd.{ProgramEnd}
+use Rattle.wm_serve.specs.declared.trigger_worker.NotDone.{NotDone}
+use Rattle.wm_serve.specs.declared.trigger_worker.NotDone.TheVariants.{Refused, Unstarted}
 
 -- ---- one definition
 
@@ -46,6 +50,11 @@ RunsAt has_run root h place old new = (one : KeptRuns) × (slice_get old place �
 abbrev pub FailsAt : (has_failed : Path → Definition → Answer → Type 0) → Path → History → ℕ → List KeptRuns → Type 0
 FailsAt has_failed root h place old = (one : KeptRuns) × (slice_get old place ≡ Some one)
     × (run : Answer) × (due_for one h ≡ Some run) × has_failed root one.trigger run
+
+-- Why the run there wasn't done: memory ran out, the root is gone, or it isn't ready yet; or no program ran. If its start failed, it was that of the run that is due.
+abbrev pub IsNotDone : ViewerState → ViewerState → (fails : Type 0) → NotDone → Type 0
+IsNotDone old new fails (Refused e) = (e ≡ NoMemory) ⊎ ((e ≡ NoPlace) × (new ≡ disconnected old)) ⊎ ((e ≡ NotReady) × (is_ready (history new.list) ≡ false))
+IsNotDone old new fails (Unstarted why) = why ≡ DeviceFailed → fails
 
 -- ---- a round
 

@@ -1,6 +1,6 @@
 -- Whose turn it is to have the roots follow: each accepted command in its turn, by its number.
 use Rattle.std.specs.Prelude.{◌≡◌, ◌+◌, ℕ, Bool, false, nat_lt, max}
-use Rattle.wm_serve.specs.LockedSteps.{StepState}
+use Rattle.wm_hall.specs.LockedSteps.{StepState}
 
 -- how often the server had begun, and how many commands the roots have followed since its state file was made
 pub record TurnState : Type 0 where

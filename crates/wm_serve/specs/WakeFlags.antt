@@ -1,9 +1,10 @@
 -- What wakes the thread that sends a session the lines that are due to it.
-use Rattle.std.specs.Prelude.{◌≡◌, ◌^◌, ◌%◌, ℕ, ◌==◌, not, bit_and, bit_or, Bool, true, false, if◌then◌else◌}
-use Rattle.wm_serve.specs.LockedSteps.{StepState}
+use Rattle.std.specs.Prelude.{◌≡◌, ◌^◌, ◌%◌, ℕ, ◌==◌, not, bit_and, bit_or, Bool, true, false, if◌then◌else◌, List, length, Some, slice_get}
+use Rattle.wm_hall.specs.LockedSteps.{StepState}
 use Rattle.wm_serve.specs.declared.notified.NotifiedFlags.{NotifiedFlags}
 use Rattle.wm_serve.specs.declared.wake_state.Wake.{Wake}
 use Rattle.wm_serve.specs.declared.wake_state.WakeState.{WakeState}
+use Rattle.wm_serve.specs.declared.wake_flag.WakeFlag.{WakeFlag}
 use Rattle.wm_serve.specs.declared.wake_flag.Woken.{Woken}
 use Rattle.wm_serve.specs.declared.wake_state.Wake.TheVariants.{Clear, Set, Closed}
 
@@ -53,12 +54,20 @@ taken_flag s = record s { wake = taken_wake s.wake }
 
 -- the flag wasn't clear any longer, the thread has looked, and goes on unless the server closes
 abbrev pub HasWaited : Woken → Type 0
-HasWaited woken = (is_clear woken.step.before.wake ≡ false) × (woken.goes_on ≡ is_not_closed woken.step.before.wake) × (woken.step.after ≡ taken_flag woken.step.before)
+HasWaited woken = let step = woken.flag.step in (is_clear step.before.wake ≡ false) × (woken.goes_on ≡ is_not_closed step.before.wake) × (step.after ≡ taken_flag step.before)
+
+-- a server has so many slots
+abbrev pub slot_count : ℕ
+slot_count = 31
+
+-- these are the flags of all slots, each at the place of its slot's number
+abbrev pub AreSlotFlags : List WakeFlag → Type 0
+AreSlotFlags flags = (length flags ≡ slot_count) × ((i : ℕ) (flag : WakeFlag) → slice_get flags i ≡ Some flag → flag.slot ≡ i)
 
 -- these roots have changed: lines may be due if the session has a subscription on one of them
 abbrev pub HasNotified : ℕ → StepState WakeState → Type 0
 HasNotified roots step = step.after ≡ (if has_common step.before.roots roots then record step.before { wake = set_wake step.before.wake } else step.before)
 
--- so many flags were notified of a change of the root of the number
+-- each of so many flags was notified of a change of the root of the number
 abbrev pub NotifiesAll : ℕ → ℕ → NotifiedFlags → Type 0
 NotifiesAll flags number notified = (notified.count ≡ flags) × (notified.roots ≡ 2 ^ (number % 64))

@@ -1,12 +1,13 @@
 //! How the watched roots begin, as the registry has them.
 //! Definitions: specs/BegunRoots.antt. Tests: serve_tests/src/restarts.rt.
-ghost use Rattle.std.specs.Prelude.{◌≡◌, length, IfOk};
+ghost use Rattle.std.specs.Prelude.{length, IfOk};
 ghost use Rattle.std.specs.Arc.{arc_value};
 ghost use Rattle.wm_groupcommit.specs.Histories.{HistoryState, last_state};
-ghost use Rattle.wm_serve.specs.BegunRoots.{AreRootsBegun, BeginsRoots, BeginsTable, IsRootBegun};
+ghost use Rattle.wm_hall.specs.TriggerSteps.{DefinesTrigger};
+ghost use Rattle.wm_serve.specs.BegunRoots.{AreDefined, AreRootsBegun, BeginsRoots, BeginsTable, IsRootBegun};
 ghost use Rattle.wm_serve.specs.FollowedCommands.{hall_name};
 
-use crate::begun_roots::{BegunRoot, BegunRoots, DefinedTriggers, begin_table};
+use crate::begun_roots::{BegunRoot, BegunRoots, begin_table};
 use crate::followed_roots::TableStep;
 use crate::registrar::ServerDesk;
 use crate::root_table::WatchedRoot;
@@ -15,23 +16,41 @@ use std::alloc::Global;
 use std::sync::{Arc, Wait};
 use std::time::Clock;
 use wm_disk::NoMemory;
-use wm_hall::RootHall;
+use wm_hall::{Defined, RootHall};
 use wm_names::RootPath;
 use wm_registry::{Registry, Root, Trigger};
 use wm_share::Naming;
 
-/// Defines all triggers of a root that begins.
-fn define_all<R: Wait, J: Naming, K: Wait + Drop>(
+/// Defines a trigger of a root in its hall, by the command of a number. `NoMemory`.
+fn define_one<R: Wait, J: Naming, K: Wait + Drop>(
     rt: &R,
     hall: &RootHall<J, K>,
-    triggers: &[Trigger],
-) -> Result<DefinedTriggers, NoMemory>
-    ensures { IfOk result (λ defined. (defined.number ≡ 0) × (defined.count ≡ length triggers.now)) }
+    number: u64,
+    trigger: &Trigger,
+) -> Result<Defined, NoMemory>
+    ensures { IfOk result (DefinesTrigger hall.now.number (record { number = number; trigger = trigger.now })) }
 {
-    let mut all = DefinedTriggers::none(0);
+    let trigger = trigger.copy()?;
+    match hall.define(rt, number, trigger) {
+        Ok(defined) => Ok(defined),
+        Err(_) => Err(NoMemory),
+    }
+}
+
+/// Defines the triggers of a root in its hall, one after the other, by the command of a number. `NoMemory`.
+pub fn define_all<R: Wait, J: Naming, K: Wait + Drop>(
+    rt: &R,
+    alloc: Global,
+    hall: &RootHall<J, K>,
+    number: u64,
+    triggers: &[Trigger],
+) -> Result<Vec<Defined>, NoMemory>
+    ensures { IfOk result (λ all. AreDefined hall.now.number number triggers.now all.items) }
+{
+    let mut all = Vec::new(alloc);
     for trigger in triggers {
-        let defined = hall.define(rt, 0, trigger.copy()?)?;
-        all = all.with(defined);
+        let defined = define_one(rt, hall, number, trigger)?;
+        all.push(defined)?;
     }
     Ok(all)
 }
@@ -83,7 +102,7 @@ impl<T: ServerDesk, J: Naming, K: Wait + Clock + Copy + Drop> Shared<T, J, K> {
         ensures { IfOk result (IsRootBegun (λ hall. hall_name (arc_value hall)) (path.now, root.now)) }
     {
         let hall = self.new_hall(rt, alloc, path, incarnation, root.number)?;
-        let triggers = define_all(rt, &hall, root.triggers.as_slice())?;
+        let triggers = define_all(rt, alloc, &hall, 0, root.triggers.as_slice())?;
         let root = WatchedRoot {
             path: path.copy(alloc)?,
             number: root.number,

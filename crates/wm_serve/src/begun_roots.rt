@@ -1,6 +1,5 @@
 //! The roots of a registry as they begin: each with its hall, in which its triggers were defined.
 //! Definitions: specs/BegunRoots.antt. Tests: serve_tests/src/restarts.rt.
-ghost use Rattle.std.specs.Prelude.{◌≡◌, ◌+◌, ◌<◌, ◌^◌, Some};
 ghost use Rattle.wm_serve.specs.BegunRoots.{BeginsTable, PutsAll};
 
 use crate::followed_roots::{TableStep, put_root, stepped};
@@ -11,40 +10,18 @@ use crate::unstarted_workers::UnstartedWorkers;
 use std::snapshot::Snapshot;
 use wm_hall::Defined;
 
-/// How many triggers of a hall were defined by the command of a number. Each took one change of the hall's triggers.
-#[derive(Drop)]
-pub struct DefinedTriggers {
-    number: u64,
-    count: u64,
-}
-
-impl DefinedTriggers {
-    /// No trigger was defined yet.
-    pub fn none(number: u64) -> DefinedTriggers
-        ensures { (result.number ≡ number) × (result.count ≡ 0) }
-    {
-        DefinedTriggers { number, count: 0 }
-    }
-
-    /// One more trigger was defined.
-    pub fn with(self, defined: Defined) -> DefinedTriggers
-        requires defined { defined ≡ Some self.number }
-        requires fits { self.count + 1 < 2 ^ 64 }
-        ensures { (result.number ≡ self.number) × (result.count ≡ self.count + 1) }
-    {
-        drop(defined);
-        DefinedTriggers {
-            number: self.number,
-            count: self.count + 1,
-        }
-    }
-}
-
-/// A root that begins, and that its triggers were defined.
+/// A root that begins, and that its triggers were defined in its hall.
 #[derive(Drop)]
 pub struct BegunRoot<H> {
     pub root: WatchedRoot<H>,
-    pub triggers: DefinedTriggers,
+    pub triggers: Vec<Defined>,
+}
+
+/// That a root has a hall for which memory had run out: its triggers were defined in it, and then it was put into the table.
+#[derive(Drop)]
+pub struct MadeHall<H> {
+    pub triggers: Vec<Defined>,
+    pub table: TableStep<H>,
 }
 
 /// That the table has the roots of a registry, after as many commands as the registry.

@@ -1,14 +1,16 @@
 //! A connection slot: the session that two threads share, one of its lines and one of the lines that are due to it.
 //! Definitions: specs/SubscribedRoots.antt. Tests: serve_tests/src/sessions.rt.
-ghost use Rattle.std.specs.Prelude.{◌≡◌, ◌≤◌, length, IfOk, IfErr, MatchOption, None, Some};
+ghost use Rattle.std.specs.Prelude.{◌≡◌, ◌≤◌, IfOk, IfErr, MatchOption, None, Some};
 ghost use Rattle.wm_serve.specs.SubscribedRoots.{AddsBitsOf};
+ghost use Rattle.wm_serve.specs.WakeFlags.{slot_count};
 
 use crate::log_events::{is_cut_off, reports_store_failure};
 use crate::registrar::ServerDesk;
-use crate::sent_lines::{Answered, answer_line, send, send_due};
+use crate::sent_lines::{Answered, SentDue, answer_line, send, send_due};
 use crate::shared::Shared;
 use crate::step::Step;
-use crate::wake_state::{WakeState, with_bit};
+use crate::wake_flag::FlagStep;
+use crate::wake_state::with_bit;
 use std::alloc::Global;
 use std::net::Shutdown;
 use std::os::unix::net::UnixStream;
@@ -21,13 +23,34 @@ use wm_hall::{RootHall, Seconds};
 use wm_log::What;
 use wm_session::Session;
 use wm_share::Naming;
-use wm_shared::{SharedFront, end_subscriptions};
+use wm_shared::{SharedFront, SubscriptionsEnded, ViewersLeft, end_subscriptions};
+
+/// The front of a session of a server.
+pub type ServerFront<'a, T, J, K> = SharedFront<'a, T, Shared<T, J, K>, J, K>;
 
 /// A session of a server.
-pub type ServerSession<'a, T, J, K> = Session<SharedFront<'a, T, Shared<T, J, K>, J, K>>;
+pub type ServerSession<'a, T, J, K> = Session<ServerFront<'a, T, J, K>>;
 
-/// That a session of a server answered a line.
-pub type AnsweredHere<'l, 'a, T, J, K> = Answered<'l, SharedFront<'a, T, Shared<T, J, K>, J, K>>;
+/// That what a session had of roots that aren't watched any longer was dropped: its subscriptions first, and then its viewers.
+#[derive(Drop)]
+pub struct EndedDropped<'a, T: ServerDesk, J: Naming, K: Wait + Clock + Copy + Drop> {
+    pub subscriptions: SubscriptionsEnded<ServerFront<'a, T, J, K>>,
+    pub viewers: ViewersLeft<J>,
+}
+
+/// That a session answered a line, once it had dropped what it had of roots that aren't watched any longer.
+#[derive(Drop)]
+pub struct AnsweredHere<'l, 'a, T: ServerDesk, J: Naming, K: Wait + Clock + Copy + Drop> {
+    pub ended: EndedDropped<'a, T, J, K>,
+    pub answered: Answered<'l, ServerFront<'a, T, J, K>>,
+}
+
+/// That what was due to a session was sent, once it had dropped what it had of roots that aren't watched any longer.
+#[derive(Drop)]
+pub struct UpdatedHere<'a, T: ServerDesk, J: Naming, K: Wait + Clock + Copy + Drop> {
+    pub ended: EndedDropped<'a, T, J, K>,
+    pub sent: SentDue<ServerFront<'a, T, J, K>>,
+}
 
 /// A session with its socket, and the lines on their way.
 #[derive(Drop)]
@@ -61,11 +84,23 @@ impl<'a, T: ServerDesk, J: Naming, K: Wait + Clock + Copy + Drop> Connection<'a,
         session
     }
 
-    /// Drops what the session has of roots that aren't watched any longer.
-    fn drop_ended<R: Wait>(&mut self, rt: &R, alloc: Global, shared: &Shared<T, J, K>) {
-        // what memory runs out for ends before the next line
-        let _ended = end_subscriptions(rt, alloc, shared, &mut self.session);
-        self.session.front.drop_ended();
+    /// Drops what the session has of roots that aren't watched any longer. What memory runs out for ends before the next line.
+    fn drop_ended<R: Wait>(
+        &mut self,
+        rt: &R,
+        alloc: Global,
+        shared: &Shared<T, J, K>,
+    ) -> EndedDropped<'a, T, J, K>
+        ensures before { result.subscriptions.before.value ≡ self.old.session }
+        ensures subscriptions { result.subscriptions.after.value.subscriptions ≡ self.new.session.subscriptions }
+        ensures viewers { result.viewers.after.value ≡ self.new.session.front.viewers }
+    {
+        let subscriptions = end_subscriptions(rt, alloc, shared, &mut self.session);
+        let viewers = self.session.front.drop_ended();
+        EndedDropped {
+            subscriptions,
+            viewers,
+        }
     }
 
     /// The roots that the session has subscriptions on, as their bits.
@@ -90,13 +125,15 @@ impl<'a, T: ServerDesk, J: Naming, K: Wait + Clock + Copy + Drop> Connection<'a,
         shared: &Shared<T, J, K>,
         line: &'l [u8],
     ) -> AnsweredHere<'l, 'a, T, J, K>
-        ensures line { result.line.value.now ≡ line.now }
-        ensures session { result.session.after ≡ self.new.session }
+        ensures line { result.answered.line.value.now ≡ line.now }
+        ensures session { (result.ended.subscriptions.before.value ≡ self.old.session) × (result.answered.session.after ≡ self.new.session) }
+        ensures subscriptions { result.answered.session.before.subscriptions ≡ result.ended.subscriptions.after.value.subscriptions }
+        ensures viewers { result.answered.session.before.front.viewers ≡ result.ended.viewers.after.value }
     {
-        self.drop_ended(rt, alloc, shared);
+        let ended = self.drop_ended(rt, alloc, shared);
         let moment = shared.second();
         let mut writer = &*self.stream;
-        let sent = answer_line(
+        let answered = answer_line(
             alloc,
             &mut self.session,
             moment,
@@ -107,20 +144,30 @@ impl<'a, T: ServerDesk, J: Naming, K: Wait + Clock + Copy + Drop> Connection<'a,
         if reports_store_failure(&self.page) {
             shared.log.note(&shared.keeping, None, What::StoreFailed);
         }
-        sent
+        AnsweredHere { ended, answered }
     }
 
     /// Sends what is due. A client that doesn't read it is cut off.
-    fn send_updates<R: Wait>(&mut self, rt: &R, alloc: Global, shared: &Shared<T, J, K>) {
-        self.drop_ended(rt, alloc, shared);
+    fn send_updates<R: Wait>(
+        &mut self,
+        rt: &R,
+        alloc: Global,
+        shared: &Shared<T, J, K>,
+    ) -> UpdatedHere<'a, T, J, K>
+        ensures session { (result.ended.subscriptions.before.value ≡ self.old.session) × (result.sent.session.after ≡ self.new.session) }
+        ensures subscriptions { result.sent.session.before.subscriptions ≡ result.ended.subscriptions.after.value.subscriptions }
+        ensures viewers { result.sent.session.before.front.viewers ≡ result.ended.viewers.after.value }
+    {
+        let ended = self.drop_ended(rt, alloc, shared);
         let mut writer = &*self.stream;
         let sent = send_due(alloc, &mut self.session, &mut self.page, &mut writer);
-        if is_cut_off(&sent) {
+        if is_cut_off(sent.sent()) {
             shared.log.note(&shared.keeping, None, What::CutOff);
         }
-        if sent.is_err() {
+        if sent.sent().is_err() {
             let _ = self.stream.shutdown(Shutdown::Both);
         }
+        UpdatedHere { ended, sent }
     }
 }
 
@@ -153,8 +200,43 @@ impl<'a, T: ServerDesk, J: Naming, K: Wait + Clock + Copy + Drop> Replaced<'a, T
 /// That the session of a slot answered a line, and that the roots which it has subscriptions on were noted, if the slot has a wake flag.
 #[derive(Drop)]
 pub struct SlotAnswer<'l, 'a, T: ServerDesk, J: Naming, K: Wait + Clock + Copy + Drop> {
-    pub answered: AnsweredHere<'l, 'a, T, J, K>,
-    pub noted: Option<Step<WakeState>>,
+    pub here: AnsweredHere<'l, 'a, T, J, K>,
+    pub noted: Option<FlagStep>,
+}
+
+impl<T: ServerDesk, J: Naming, K: Wait + Clock + Copy + Drop> SlotAnswer<'_, '_, T, J, K> {
+    /// Whether the reply was sent.
+    pub fn into_sent(self) -> io::Result<()>
+        ensures { result ≡ self.entry.here.answered.sent }
+    {
+        let SlotAnswer { here, noted: _ } = self;
+        let AnsweredHere { answered, ended: _ } = here;
+        answered.into_sent()
+    }
+}
+
+/// A line, or that memory ran out for it, was sent alone to a slot's session, unless that failed or none is there: the slot alone makes it.
+#[derive(Drop)]
+pub struct SentAlone {
+    line: Snapshot<Result<Vec<u8>, NoMemory>>,
+    sent: io::Result<()>,
+}
+
+impl SentAlone {
+    /// Whether it was sent.
+    pub fn into_sent(self) -> io::Result<()>
+        ensures { result ≡ self.sent }
+    {
+        let SentAlone { line: _, sent } = self;
+        sent
+    }
+}
+
+/// What was due to the session of a slot was sent, or no session is there: the slot of this number alone makes it.
+#[derive(Drop)]
+pub struct SlotUpdate<'a, T: ServerDesk, J: Naming, K: Wait + Clock + Copy + Drop> {
+    slot: usize,
+    updated: Result<UpdatedHere<'a, T, J, K>, Vacant<'a, T, J, K>>,
 }
 
 /// Puts another connection, or none, in the place of what is there.
@@ -181,8 +263,10 @@ fn answer_in<'l, 'a, R: Wait, T: ServerDesk, J: Naming, K: Wait + Clock + Copy +
     shared: &Shared<T, J, K>,
     line: &'l [u8],
 ) -> Result<(AnsweredHere<'l, 'a, T, J, K>, u64), Vacant<'a, T, J, K>>
-    ensures line { IfOk result (λ answer. answer.0.line.value.now ≡ line.now) }
-    ensures roots { IfOk result (λ answer. AddsBitsOf 0 answer.0.session.after.subscriptions answer.1) }
+    ensures line { IfOk result (λ answer. answer.0.answered.line.value.now ≡ line.now) }
+    ensures subscriptions { IfOk result (λ answer. answer.0.answered.session.before.subscriptions ≡ answer.0.ended.subscriptions.after.value.subscriptions) }
+    ensures viewers { IfOk result (λ answer. answer.0.answered.session.before.front.viewers ≡ answer.0.ended.viewers.after.value) }
+    ensures roots { IfOk result (λ answer. AddsBitsOf 0 answer.0.answered.session.after.subscriptions answer.1) }
     ensures vacant { IfErr result (λ vacant. (vacant.seen.value ≡ None) × (place.old ≡ None)) }
 {
     let seen = Snapshot::of(place);
@@ -194,6 +278,24 @@ fn answer_in<'l, 'a, R: Wait, T: ServerDesk, J: Naming, K: Wait + Clock + Copy +
     Ok((answered, roots))
 }
 
+/// What is due to the session that is there is sent, if one is.
+fn update_in<'a, R: Wait, T: ServerDesk, J: Naming, K: Wait + Clock + Copy + Drop>(
+    place: &mut Option<Connection<'a, T, J, K>>,
+    rt: &R,
+    alloc: Global,
+    shared: &Shared<T, J, K>,
+) -> Result<UpdatedHere<'a, T, J, K>, Vacant<'a, T, J, K>>
+    ensures subscriptions { IfOk result (λ here. here.sent.session.before.subscriptions ≡ here.ended.subscriptions.after.value.subscriptions) }
+    ensures viewers { IfOk result (λ here. here.sent.session.before.front.viewers ≡ here.ended.viewers.after.value) }
+    ensures vacant { IfErr result (λ vacant. (vacant.seen.value ≡ None) × (place.old ≡ None)) }
+{
+    let seen = Snapshot::of(place);
+    match place {
+        Some(one) => Ok(one.send_updates(rt, alloc, shared)),
+        None => Err(Vacant { seen }),
+    }
+}
+
 /// A slot for a session and its two threads.
 #[derive(Drop)]
 pub struct Slot<'a, T: ServerDesk, J: Naming, K: Wait + Clock + Copy + Drop> {
@@ -203,7 +305,9 @@ pub struct Slot<'a, T: ServerDesk, J: Naming, K: Wait + Clock + Copy + Drop> {
 
 impl<'a, T: ServerDesk, J: Naming, K: Wait + Clock + Copy + Drop> Slot<'a, T, J, K> {
     /// A slot without a session.
-    pub fn new(number: usize) -> Slot<'a, T, J, K> {
+    pub fn new(number: usize) -> Slot<'a, T, J, K>
+        ensures { result.number ≡ number }
+    {
         Slot {
             number,
             connection: Mutex::new(None),
@@ -238,21 +342,33 @@ impl<'a, T: ServerDesk, J: Naming, K: Wait + Clock + Copy + Drop> Slot<'a, T, J,
         shared: &Shared<T, J, K>,
         line: &'l [u8],
     ) -> Result<SlotAnswer<'l, 'a, T, J, K>, Vacant<'a, T, J, K>>
-        ensures line { IfOk result (λ answer. answer.answered.line.value.now ≡ line.now) }
-        ensures noted { IfOk result (λ answer. MatchOption answer.noted (length shared.now.wakes.items ≤ self.now.number) (λ step. AddsBitsOf 0 answer.answered.session.after.subscriptions step.after.roots)) }
+        ensures line { IfOk result (λ answer. answer.here.answered.line.value.now ≡ line.now) }
+        ensures subscriptions { IfOk result (λ answer. answer.here.answered.session.before.subscriptions ≡ answer.here.ended.subscriptions.after.value.subscriptions) }
+        ensures viewers { IfOk result (λ answer. answer.here.answered.session.before.front.viewers ≡ answer.here.ended.viewers.after.value) }
+        ensures noted { IfOk result (λ answer. MatchOption answer.noted (slot_count ≤ self.now.number) (λ flag. (flag.slot ≡ self.now.number) × AddsBitsOf 0 answer.here.answered.session.after.subscriptions flag.step.after.roots)) }
     {
         let mut connection = self.connection.lock(rt);
-        let (answered, roots) = answer_in(&mut *connection, rt, alloc, shared, line)?;
+        let (here, roots) = answer_in(&mut *connection, rt, alloc, shared, line)?;
         drop(connection);
         let noted = shared.note(rt, self.number, roots);
-        Ok(SlotAnswer { answered, noted })
+        Ok(SlotAnswer { here, noted })
     }
 
     /// Sends a line alone, or that memory ran out for it.
-    pub fn send<R: Wait>(&self, rt: &R, line: Result<&[u8], NoMemory>) -> io::Result<()> {
-        match &*self.connection.lock(rt) {
-            Some(one) => send(line, &mut &*one.stream),
+    pub fn send<R: Wait>(&self, rt: &R, line: &Result<Vec<u8>, NoMemory>) -> SentAlone
+        ensures { result.line.value ≡ line.now }
+    {
+        let bytes = match line {
+            Ok(bytes) => Ok(bytes.as_slice()),
+            Err(NoMemory) => Err(NoMemory),
+        };
+        let sent = match &*self.connection.lock(rt) {
+            Some(one) => send(bytes, &mut &*one.stream),
             None => Ok(()),
+        };
+        SentAlone {
+            line: Snapshot::of(line),
+            sent,
         }
     }
 
@@ -263,10 +379,21 @@ impl<'a, T: ServerDesk, J: Naming, K: Wait + Clock + Copy + Drop> Slot<'a, T, J,
         }
     }
 
-    /// Sends what is due.
-    pub fn send_updates<R: Wait>(&self, rt: &R, alloc: Global, shared: &Shared<T, J, K>) {
-        if let Some(one) = &mut *self.connection.lock(rt) {
-            one.send_updates(rt, alloc, shared);
+    /// Sends what is due to the session that is there, if one is.
+    pub fn send_updates<R: Wait>(
+        &self,
+        rt: &R,
+        alloc: Global,
+        shared: &Shared<T, J, K>,
+    ) -> SlotUpdate<'a, T, J, K>
+        ensures slot { result.slot ≡ self.now.number }
+        ensures subscriptions { IfOk result.updated (λ here. here.sent.session.before.subscriptions ≡ here.ended.subscriptions.after.value.subscriptions) }
+        ensures viewers { IfOk result.updated (λ here. here.sent.session.before.front.viewers ≡ here.ended.viewers.after.value) }
+        ensures vacant { IfErr result.updated (λ vacant. vacant.seen.value ≡ None) }
+    {
+        SlotUpdate {
+            slot: self.number,
+            updated: update_in(&mut *self.connection.lock(rt), rt, alloc, shared),
         }
     }
 }

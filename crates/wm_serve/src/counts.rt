@@ -1,10 +1,11 @@
 //! How many sessions were admitted, halls ended and wake flags closed: each counted by the value that it gave itself.
 //! Tests: serve_tests/src/sessions.rt.
 ghost use Rattle.std.specs.Prelude.{◌≡◌, ◌<◌, ◌+◌, ◌-◌, ◌^◌, true, length};
+ghost use Rattle.wm_hall.specs.TriggerSteps.{EndsTriggers};
 
-use crate::step::Step;
 use crate::waiting_sessions::QueueStep;
-use crate::wake_state::{Wake, WakeState};
+use crate::wake_flag::FlagStep;
+use crate::wake_state::Wake;
 use std::marker::Model;
 use wm_hall::HallEnded;
 
@@ -33,7 +34,7 @@ impl HallsEnded {
     /// One more, whose work and whose triggers have ended.
     pub fn add(&mut self, ended: HallEnded)
         requires room { self.old < 2 ^ 64 - 1 }
-        requires ended { (ended.work ≡ true) × (ended.triggers ≡ true) }
+        requires ended { (ended.work ≡ true) × EndsTriggers ended.triggers.root ended.triggers }
         ensures { self.new ≡ self.old + 1 }
     {
         drop(ended);
@@ -41,7 +42,7 @@ impl HallsEnded {
     }
 }
 
-/// How many wake flags were closed.
+/// How many wake flags were closed: those of the slots from the first one on.
 #[derive(Drop)]
 pub struct FlagsClosed {
     count: usize,
@@ -63,13 +64,14 @@ impl FlagsClosed {
         FlagsClosed { count: 0 }
     }
 
-    /// One more, as its step says.
-    pub fn add(&mut self, step: Step<WakeState>)
+    /// That of the next slot, as its step says.
+    pub fn add(&mut self, flag: FlagStep)
         requires room { self.old < 2 ^ 64 - 1 }
-        requires closed { step.after.wake ≡ Wake.Closed }
+        requires next { flag.slot ≡ self.old }
+        requires closed { flag.step.after.wake ≡ Wake.Closed }
         ensures { self.new ≡ self.old + 1 }
     {
-        drop(step);
+        drop(flag);
         self.count += 1;
     }
 }

@@ -1,7 +1,7 @@
 //! The worker that crawls a root when that is asked for.
 //! Definitions: specs/TriedCrawls.antt. Tests: serve_tests/src/crawls.rt.
-ghost use Rattle.std.specs.Prelude.{◌≡◌, ◌↔◌, IsTrue, Err, IfOk};
-ghost use Rattle.wm_serve.specs.TriedCrawls.{IsTriedAgain, IsWithoutCrawl, last_try, try_end};
+ghost use Rattle.std.specs.Prelude.{◌≡◌, ◌↔◌, IsTrue, Err, IfSome, MatchResult};
+ghost use Rattle.wm_serve.specs.TriedCrawls.{IsTriedAgain, IsTryOf, IsWithoutCrawl, last_try, try_end};
 
 use crate::crawl::{Crawl, NoCrawl};
 use crate::noted_folders::{LentTurnstile, NotedFolders};
@@ -13,7 +13,7 @@ use std::thread::Threads;
 use std::time::Clock;
 use wm_crawler::{Folders, Turnstile};
 use wm_disk::Refusal;
-use wm_hall::CrawlTools;
+use wm_hall::{CrawlTools, Unread};
 use wm_lines::Progress;
 
 /// Crawls once, and hands in what was found. What is observed while the crawl reads is noted from before it begins. If the crawl is
@@ -23,17 +23,21 @@ fn crawl_once<
     H: ServerHandle,
     F: Folders + Sync,
     G: Turnstile + Sync,
->(rt: &R, alloc: Global, server: &H, tools: &CrawlTools<'_, F, G>, asked: &Crawl) -> Tried {
-    let begun = match server.begin_reading(rt, alloc, asked.root) {
+>(rt: &R, alloc: Global, server: &H, tools: &CrawlTools<'_, F, G>, asked: &Crawl) -> Tried
+    ensures { IsTryOf asked.now.root result }
+{
+    let begun = match server.begin_reading(rt, alloc, asked.root()) {
         Ok(begun) => begun,
         Err(none) => return Tried::NotBegun(none),
     };
-    match begun.crawl(rt, alloc, tools, &asked.path, &asked.subtree) {
-        Ok(found) => match server.take_in(rt, alloc, asked.root, found) {
-            Ok(handed_in) => Tried::HandedIn(handed_in),
+    match begun.crawl(rt, alloc, tools, asked.path(), asked.subtree()) {
+        Ok(found) => match server.take_in(rt, alloc, asked.root(), found) {
+            Ok(taken) => Tried::HandedIn(taken.into_handed_in()),
             Err(none) => Tried::NotHandedIn(none),
         },
-        Err(refusal) => Tried::GivenUp(refusal, server.give_up_reading(rt, asked.root)),
+        Err(Unread { refused, begun }) => {
+            Tried::GivenUp(refused, server.give_up_reading(rt, asked.root(), begun))
+        }
     }
 }
 
@@ -58,7 +62,8 @@ fn try_again<
     asked: &Crawl,
     first: &Tried,
 ) -> Option<Tried>
-    ensures { IsTriedAgain first.now result }
+    ensures again { IsTriedAgain first.now result }
+    ensures root { IfSome result (IsTryOf asked.now.root) }
 {
     if !tries_again(&first.ended()) {
         return None;
@@ -82,9 +87,10 @@ fn run_crawl<
     H: ServerHandle,
     F: Folders + Sync,
     G: Turnstile + Sync,
->(rt: &R, alloc: Global, server: &H, tools: &CrawlTools<'_, F, G>, asked: &Crawl) -> TriedCrawl
+>(rt: &R, alloc: Global, server: &H, tools: &CrawlTools<'_, F, G>, asked: Crawl) -> TriedCrawl
     ensures again { IsTriedAgain result.first result.second }
-    ensures reported { IfOk result.reported (λ crawl. crawl ≡ record { ticket = asked.now.ticket; ended = try_end (last_try result.first result.second) }) }
+    ensures root { IsTryOf asked.root result.first × IfSome result.second (IsTryOf asked.root) }
+    ensures reported { MatchResult result.reported (λ crawl. crawl ≡ record { root = asked.root; ticket = asked.ticket; ended = try_end (last_try result.first result.second) }) (λ none. none ≡ asked.root) }
 {
     let folders = NotedFolders::new(rt, tools.folders);
     let turnstile = LentTurnstile {
@@ -95,11 +101,12 @@ fn run_crawl<
         turnstile: &turnstile,
         workers: tools.workers,
     };
-    let first = crawl_once(rt, alloc, server, &tools, asked);
-    let second = try_again(rt, alloc, server, &tools, asked, &first);
+    let first = crawl_once(rt, alloc, server, &tools, &asked);
+    let second = try_again(rt, alloc, server, &tools, &asked, &first);
     let ended = last_end(&first, &second);
-    folders.log_end(alloc, server.log(), &asked.path, &ended);
-    let reported = server.crawled(rt, asked.root, asked.ticket(), ended);
+    folders.log_end(alloc, server.log(), asked.path(), &ended);
+    let root = asked.root();
+    let reported = server.crawled(rt, root, asked.into_ticket(), ended);
     TriedCrawl {
         first,
         second,
@@ -119,7 +126,7 @@ pub fn run_crawls<
     for _ in rt.forever() {
         match server.next_crawl(rt, alloc, root) {
             Ok(asked) => {
-                let _tried = run_crawl(rt, alloc, server, tools, &asked);
+                let _tried = run_crawl(rt, alloc, server, tools, asked);
             }
             Err(none) => return none,
         }

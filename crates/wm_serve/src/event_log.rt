@@ -6,10 +6,12 @@ use std::sync::{Condvar, Mutex, Wait};
 use std::time::Clock;
 use wm_hall::Seconds;
 use wm_log::{Event, EventQueue, What};
+use wm_names::RootPath;
 
 /// The events that wait to be written. It keeps none before it is opened.
 #[derive(Drop)]
 pub struct EventLog {
+    alloc: Global,
     queue: Mutex<EventQueue>,
     changed: Condvar,
 }
@@ -18,6 +20,7 @@ impl EventLog {
     /// A log that keeps no events yet.
     pub fn new(alloc: Global) -> EventLog {
         EventLog {
+            alloc,
             queue: Mutex::new(EventQueue::new(alloc)),
             changed: Condvar::new(),
         }
@@ -41,6 +44,16 @@ impl EventLog {
         let _kept = queue.push(Event { time, root, what });
         drop(queue);
         self.changed.notify_one();
+    }
+
+    /// Keeps that paths of a root were forgotten, if this is the tick of the last deletion of them. Without memory it is left out.
+    pub fn note_forgotten<R: Wait + Clock>(&self, rt: &R, root: &RootPath, forgot: Option<u64>) {
+        let Some(tick) = forgot else {
+            return;
+        };
+        if let Ok(root) = String::from_str(self.alloc, root.as_str()) {
+            self.note(rt, Some(root), What::Forgot(tick));
+        }
     }
 
     /// Waits for an event; `None` once the log is closed and nothing waits.

@@ -1,12 +1,12 @@
 //! What shows that the roots have followed a command: its turn, what it did to the table, and what was done about a hall.
 //! Definitions: specs/FollowedCommands.antt. Tests: serve_tests/src/sessions.rt.
+use crate::begun_roots::MadeHall;
 use crate::followed_roots::TableStep;
 use crate::found_hall::FoundHall;
 use crate::notified::NotifiedFlags;
 use crate::step::Step;
 use crate::turn::Following;
-use wm_disk::NoMemory;
-use wm_hall::{Defined, HallEnded, StartsOver};
+use wm_hall::{Defined, HallEnded, StartsOver, TriggersFull};
 
 /// A hall that has ended: its workers have nothing more to do, none of its triggers begins any more, and who waits for changes of its
 /// root was notified.
@@ -21,7 +21,14 @@ pub struct EndedHall<H> {
 #[derive(Drop)]
 pub struct ChangedHall<H> {
     pub found: FoundHall<H>,
-    pub defined: Option<Result<Defined, NoMemory>>,
+    pub defined: Option<Result<Defined, TriggersFull>>,
+}
+
+/// That a root has a hall: the table had it, or it was made.
+#[derive(Drop)]
+pub enum MadeUp<H> {
+    Found(FoundHall<H>),
+    Made(MadeHall<H>),
 }
 
 /// What was done about a hall for a command that the table had followed.

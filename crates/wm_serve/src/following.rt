@@ -5,16 +5,19 @@
 //! of commands, and a session that has seen more commands than that waits until the table has followed them.
 //!
 //! Tests: serve_tests/src/sessions.rt.
-ghost use Rattle.std.specs.Prelude.{◌≡◌, ◌≤◌, ◌⊎◌, false, Ok, Some, None, length, IfOk, IfErr, MatchOption};
+ghost use Rattle.std.specs.Prelude.{◌≡◌, ◌≤◌, ◌⊎◌, false, length, IfOk, IfErr, MatchOption};
 ghost use Rattle.std.specs.Arc.{arc_value};
-ghost use Rattle.wm_serve.specs.FollowedCommands.{AppliesCommand, ChangesHall, FollowsInHall, HasFollowed, IsHallEnded, IsMadeFor, awaited_starts, hall_name};
+ghost use Rattle.wm_groupcommit.specs.Histories.{HistoryState, last_state};
+ghost use Rattle.wm_serve.specs.BegunRoots.{IsHallMade};
+ghost use Rattle.wm_serve.specs.FollowedCommands.{AppliesCommand, AwaitsStarts, ChangesHall, DefinesBy, DeletesNamed, FollowsInHall, HasFollowed, IsHallEnded, IsMadeFor, IsMadeUp, hall_name};
 ghost use Rattle.wm_serve.specs.Turns.{is_out_of_turn};
 
+use crate::beginning::define_all;
+use crate::begun_roots::MadeHall;
 use crate::followed_command::{
-    AppliedCommand, ChangedHall, EndedHall, FollowedCommand, FollowedInHall,
+    AppliedCommand, ChangedHall, EndedHall, FollowedCommand, FollowedInHall, MadeUp,
 };
 use crate::followed_roots::{Followed, FollowedInTable};
-use crate::found_hall::FoundHall;
 use crate::notified::NotifiedFlags;
 use crate::registrar::ServerDesk;
 use crate::second::SystemSeconds;
@@ -36,7 +39,7 @@ fn await_starts<R: Wait, J: Naming, K: Wait + Drop>(
     rt: &R,
     followed: &FollowedInHall<Arc<RootHall<J, K>>>,
 ) -> Option<StartsOver>
-    ensures { result ≡ awaited_starts followed.now }
+    ensures { AwaitsStarts arc_value hall_name followed.now result }
 {
     match followed {
         FollowedInHall::Untouched => None,
@@ -173,7 +176,7 @@ impl<T: ServerDesk, J: Naming, K: Wait + Clock + Copy + Drop> Shared<T, J, K> {
         number: u64,
         trigger: Trigger,
     ) -> ChangedHall<Arc<RootHall<J, K>>>
-        ensures { ChangesHall arc_value path.now (λ defined. IfOk defined (λ by. by ≡ Some number)) result }
+        ensures { ChangesHall arc_value hall_name path.now (DefinesBy number trigger) result }
     {
         let found = self.known_hall(rt, path);
         let defined = match &found.hall {
@@ -193,7 +196,7 @@ impl<T: ServerDesk, J: Naming, K: Wait + Clock + Copy + Drop> Shared<T, J, K> {
         path: &RootPath,
         name: &str,
     ) -> ChangedHall<Arc<RootHall<J, K>>>
-        ensures { ChangesHall arc_value path.now (λ deleted. deleted ≡ Ok None) result }
+        ensures { ChangesHall arc_value hall_name path.now (DeletesNamed name.now) result }
     {
         let found = self.known_hall(rt, path);
         let defined = match &found.hall {
@@ -205,18 +208,24 @@ impl<T: ServerDesk, J: Naming, K: Wait + Clock + Copy + Drop> Shared<T, J, K> {
 
     /// Makes the hall of a root for which memory had run out, unless that was done meanwhile. No command is followed meanwhile.
     /// `NotWatched` if the root isn't watched any longer, and `NoMemory`.
-    pub fn make_up<R: Wait>(&self, rt: &R, alloc: Global, path: &RootPath) -> Result<(), Refusal>
-        ensures { IfErr result (λ e. (e ≡ Refusal.NotWatched) ⊎ (e ≡ Refusal.NoMemory)) }
+    pub fn make_up<R: Wait>(
+        &self,
+        rt: &R,
+        alloc: Global,
+        path: &RootPath,
+    ) -> Result<MadeUp<Arc<RootHall<J, K>>>, Refusal>
+        ensures made { IfOk result (IsMadeUp arc_value hall_name path.now) }
+        ensures refused { IfErr result (λ e. (e ≡ Refusal.NotWatched) ⊎ (e ≡ Refusal.NoMemory)) }
     {
         let following = self.following.lock(rt);
-        let FoundHall { hall, table: _ } = self.known_hall(rt, path);
-        let made = match hall {
-            Ok(Some(hall)) => {
-                drop(hall);
-                Ok(())
-            }
-            Ok(None) => self.make(rt, alloc, &following, path),
-            Err(refusal) => Err(refusal),
+        let found = self.known_hall(rt, path);
+        let made = match &found.hall {
+            Ok(Some(_)) => Ok(MadeUp::Found(found)),
+            Ok(None) => match self.make(rt, alloc, &following, path) {
+                Ok(made) => Ok(MadeUp::Made(made)),
+                Err(refusal) => Err(refusal),
+            },
+            Err(refusal) => Err(*refusal),
         };
         drop(following);
         made
@@ -229,8 +238,9 @@ impl<T: ServerDesk, J: Naming, K: Wait + Clock + Copy + Drop> Shared<T, J, K> {
         alloc: Global,
         following: &Following,
         path: &RootPath,
-    ) -> Result<(), Refusal>
-        ensures { IfErr result (λ e. (e ≡ Refusal.NotWatched) ⊎ (e ≡ Refusal.NoMemory)) }
+    ) -> Result<MadeHall<Arc<RootHall<J, K>>>, Refusal>
+        ensures made { IfOk result (λ made. (h : HistoryState) × IsHallMade (λ hall. hall_name (arc_value hall)) path.now (last_state h) following.now.count made) }
+        ensures refused { IfErr result (λ e. (e ≡ Refusal.NotWatched) ⊎ (e ≡ Refusal.NoMemory)) }
     {
         let registry = self.desk.registry(rt)?.into_registry();
         let number = self.number_of(rt, path);
@@ -241,11 +251,15 @@ impl<T: ServerDesk, J: Naming, K: Wait + Clock + Copy + Drop> Shared<T, J, K> {
             return Err(Refusal::NotWatched);
         }
         let hall = self.new_hall(rt, alloc, path, following.incarnation(), root.number)?;
-        for trigger in root.triggers.as_slice() {
-            let _defined = hall.define(rt, following.count(), trigger.copy()?)?;
-        }
-        let _filled = self.fill(rt, root.number, hall)?;
-        Ok(())
+        let triggers = define_all(
+            rt,
+            alloc,
+            &hall,
+            following.count(),
+            root.triggers.as_slice(),
+        )?;
+        let table = self.fill(rt, root.number, hall)?;
+        Ok(MadeHall { triggers, table })
     }
 }
 
@@ -320,6 +334,8 @@ impl<T: ServerDesk, J: Naming, K: Wait + Clock + Copy + Drop> FollowingRoots<J, 
     }
 
     fn wake<R: Wait>(&self, rt: &R, hall: &RootHall<J, K>, changed: Changed) -> NotifiedFlags {
+        self.log
+            .note_forgotten(&self.keeping, &hall.path, changed.forgot());
         drop(changed);
         self.notify(rt, bit_of(hall.number))
     }

@@ -11,13 +11,14 @@ use std::io::ErrorKind;
 use wm_disk::{NoMemory, Refusal};
 use wm_lines::Progress;
 use wm_log::What;
-use wm_triggers::ProgramEnd;
+use wm_triggers::{NotRun, ProgramEnd};
 
-/// What is logged of a run of the trigger of a name: that its program wasn't started, or ended other than with 0.
+/// What is logged of a run of the trigger of a name: that its program couldn't be started, or ended other than with 0. A start that wasn't
+/// permitted isn't logged: its definition doesn't stand any longer.
 pub fn run_event(
     alloc: Global,
     name: &str,
-    ended: &Result<ProgramEnd, Refusal>,
+    ended: &Result<ProgramEnd, NotRun>,
 ) -> Result<Option<What>, NoMemory>
     ensures { IfOk result (IsLoggedRun name.now ended.now) }
 {
@@ -32,7 +33,8 @@ pub fn run_event(
             Ok(Some(What::Killed(name, *signal)))
         }
         Ok(ProgramEnd::Unknown) => Ok(None),
-        Err(_) => {
+        Err(NotRun::NotPermitted) => Ok(None),
+        Err(NotRun::DeviceFailed | NotRun::NoMemory) => {
             let name = String::from_str(alloc, name)?;
             Ok(Some(What::NotStarted(name)))
         }

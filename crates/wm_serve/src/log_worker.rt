@@ -1,5 +1,8 @@
 //! The thread that writes the log of a server, which serves meanwhile.
-//! Tests: tools/quick_log.py.
+//! Definitions: specs/SlotThreads.antt. Tests: tools/quick_log.py.
+ghost use Rattle.std.specs.Prelude.{IfOk};
+ghost use Rattle.wm_serve.specs.SlotThreads.{HasServed};
+
 use crate::event_log::EventLog;
 use crate::server_handle::ServerHandle;
 use crate::server_threads::{ServerEnd, Service, end, serve_on};
@@ -67,21 +70,29 @@ pub fn serve_logged<
     server: &H,
     logged: &LoggedService<'_, '_, F, G, P, L>,
     writer: &mut W,
-) -> ServerEnd {
+) -> ServerEnd
+    ensures { IfOk result.served (HasServed logged.now.service.acceptor.sessions) }
+{
     let Some(output) = logged.log.output else {
         return serve_on(rt, alloc, server, &logged.service, writer);
     };
     server.log().open(rt);
     note_socket(rt, alloc, server.log(), logged.log.taken_socket);
-    thread::scope(thread::scope_env(), rt, |scope| {
-        if scope
-            .spawn(move || write_log(rt, alloc, server.log(), output))
-            .is_err()
+    thread::scope(
+        thread::scope_env(),
+        rt,
+        |scope| -> ServerEnd
+            ensures { IfOk result.served (HasServed logged.entry.now.service.acceptor.sessions) }
         {
-            return end(rt, server, Err(Refusal::NoMemory));
-        }
-        let served = serve_on(rt, alloc, server, &logged.service, writer);
-        server.log().close(rt);
-        served
-    })
+            if scope
+                .spawn(move || write_log(rt, alloc, server.log(), output))
+                .is_err()
+            {
+                return end(rt, server, Err(Refusal::NoMemory));
+            }
+            let served = serve_on(rt, alloc, server, &logged.service, writer);
+            server.log().close(rt);
+            served
+        },
+    )
 }

@@ -7,12 +7,11 @@ use crate::event_log::EventLog;
 use crate::log_events::run_event;
 use std::alloc::Global;
 use std::sync::Wait;
-use std::sync::atomic::{AtomicBool, Ordering};
 use std::time::Clock;
-use wm_disk::{NoMemory, Refusal};
+use wm_disk::NoMemory;
 use wm_names::RootPath;
 use wm_registry::Trigger;
-use wm_triggers::{Permit, ProgramEnd, Programs, Run};
+use wm_triggers::{NotRun, Permit, ProgramEnd, Programs, Run};
 
 /// The programs of triggers, a log, and what its times are read by.
 #[derive(Drop)]
@@ -20,25 +19,6 @@ pub struct LoggedPrograms<'p, 'l, P, K> {
     programs: &'p P,
     log: &'l EventLog,
     clock: K,
-}
-
-/// A permit that notes whether it refused its start.
-#[derive(Drop)]
-struct NotedPermit<'a, P> {
-    permit: P,
-    has_refused: &'a AtomicBool,
-}
-
-impl<P: Permit> Permit for NotedPermit<'_, P> {
-    fn begin(&self) -> bool {
-        let begins = self.permit.begin();
-        self.has_refused.store(!begins, Ordering::SeqCst);
-        begins
-    }
-
-    fn end(&self) {
-        self.permit.end();
-    }
 }
 
 impl<'p, 'l, P: Programs, K: Wait + Clock> LoggedPrograms<'p, 'l, P, K> {
@@ -59,7 +39,7 @@ impl<'p, 'l, P: Programs, K: Wait + Clock> LoggedPrograms<'p, 'l, P, K> {
         alloc: Global,
         root: &RootPath,
         trigger: &Trigger,
-        ended: &Result<ProgramEnd, Refusal>,
+        ended: &Result<ProgramEnd, NotRun>,
     ) -> Result<(), NoMemory> {
         if let Some(what) = run_event(alloc, trigger.name(), ended)? {
             let root = String::from_str(alloc, root.as_str())?;
@@ -74,7 +54,6 @@ impl<P: Programs, K: Wait + Clock> Programs for LoggedPrograms<'_, '_, P, K> {
 
     ghost has_failed = { λ logged root trigger run. P.has_failed (programs_behind logged) root trigger run };
 
-    /// A start that the permit refused isn't logged: its definition doesn't stand any longer.
     fn run<Q: Permit + Drop>(
         &self,
         alloc: Global,
@@ -82,17 +61,14 @@ impl<P: Programs, K: Wait + Clock> Programs for LoggedPrograms<'_, '_, P, K> {
         trigger: &Trigger,
         run: &Run,
         permit: Q,
-    ) -> Result<ProgramEnd, Refusal> {
-        let has_refused = AtomicBool::new(false);
-        let permit = NotedPermit {
-            permit,
-            has_refused: &has_refused,
+    ) -> Result<(ProgramEnd, Q::Ended), NotRun> {
+        let ran = self.programs.run(alloc, root, trigger, run, permit);
+        let ended = match &ran {
+            Ok((end, _)) => Ok(*end),
+            Err(not_run) => Err(*not_run),
         };
-        let ended = self.programs.run(alloc, root, trigger, run, permit);
-        if !has_refused.load(Ordering::SeqCst) {
-            // what memory runs out for isn't logged
-            let _noted = self.note(alloc, root, trigger, &ended);
-        }
-        ended
+        // what memory runs out for isn't logged
+        let _noted = self.note(alloc, root, trigger, &ended);
+        ran
     }
 }

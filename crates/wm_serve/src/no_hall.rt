@@ -1,6 +1,6 @@
 //! The hall of a root by its number, for a worker of the root.
 //! Definitions: specs/NumberedHalls.antt. Tests: serve_tests/src/sessions.rt.
-ghost use Rattle.std.specs.Prelude.{◌≡◌, MatchOption, MatchResult};
+ghost use Rattle.std.specs.Prelude.{◌≡◌, IfErr, IfOk, MatchOption};
 ghost use Rattle.std.specs.Arc.{arc_value};
 ghost use Rattle.wm_serve.specs.NumberedHalls.{IsHallOf, IsHallSharing, LacksHall};
 
@@ -43,11 +43,17 @@ pub fn hall_numbered<J: Naming, K: Wait + Drop>(
     roots: &RootTable<Arc<RootHall<J, K>>>,
     number: u64,
 ) -> Result<Arc<RootHall<J, K>>, NoHall>
-    ensures { MatchResult result (λ hall. IsHallSharing arc_value number roots.now.roots (arc_value hall)) (λ none. none ≡ number) }
+    ensures kept { IfOk result (λ hall. IsHallSharing arc_value number roots.now.roots (arc_value hall)) }
+    ensures number { IfOk result (λ hall. (arc_value hall).number ≡ number) }
+    ensures none { IfErr result (λ none. none ≡ number) }
 {
     let Some(hall) = kept_hall(roots, number) else {
         return Err(NoHall { number });
     };
+    // each hall has the number of its root
+    if hall.number != number {
+        return Err(NoHall { number });
+    }
     match Arc::try_clone(hall) {
         Ok(hall) => Ok(hall),
         Err(_) => Err(NoHall { number }),

@@ -3,10 +3,10 @@
 ghost use Rattle.std.specs.Prelude.{◌≡◌, ◌+◌, ◌<◌, ◌^◌};
 ghost use Rattle.wm_serve.specs.WakeFlags.{HasNotified};
 
-use crate::step::Step;
-use crate::wake_state::WakeState;
+use crate::wake_flag::FlagStep;
+use wm_hall::HandedIn;
 
-/// How many flags were notified that these roots, as their bits, have changed. Each took one step of a flag's state.
+/// How many flags were notified that these roots, as their bits, have changed: those of the slots from the first one on, each by one step.
 #[derive(Drop)]
 pub struct NotifiedFlags {
     roots: u64,
@@ -21,16 +21,37 @@ impl NotifiedFlags {
         NotifiedFlags { roots, count: 0 }
     }
 
-    /// One more flag was notified.
-    pub fn with(self, step: Step<WakeState>) -> NotifiedFlags
-        requires notified { HasNotified self.roots step }
+    /// The flag of the next slot was notified.
+    pub fn with(self, flag: FlagStep) -> NotifiedFlags
+        requires next { flag.slot ≡ self.count }
+        requires notified { HasNotified self.roots flag.step }
         requires fits { self.count + 1 < 2 ^ 64 }
         ensures { (result.roots ≡ self.roots) × (result.count ≡ self.count + 1) }
     {
-        drop(step);
+        drop(flag);
         NotifiedFlags {
             roots: self.roots,
             count: self.count + 1,
         }
+    }
+}
+
+/// What a crawl found was handed in to a root, and then the wake flags were notified.
+#[derive(Drop)]
+pub struct TakenIn {
+    pub handed_in: HandedIn,
+    pub notified: NotifiedFlags,
+}
+
+impl TakenIn {
+    /// That it was handed in.
+    pub fn into_handed_in(self) -> HandedIn
+        ensures { result ≡ self.handed_in }
+    {
+        let TakenIn {
+            handed_in,
+            notified: _,
+        } = self;
+        handed_in
     }
 }

@@ -96,16 +96,38 @@ pub fn answer_line<'l, F: Front, W: Write>(
     }
 }
 
-/// Sends what is due to a session's subscriptions. An `Err` means that the writer failed: then a part may be sent.
+/// What was due to a session's subscriptions was sent, unless the writer failed: [`send_due`] alone makes it. Contracts see the session before and after.
+#[derive(Drop)]
+pub struct SentDue<F> {
+    sent: io::Result<()>,
+    session: Step<Session<F>>,
+}
+
+impl<F> SentDue<F> {
+    /// Whether it was sent.
+    pub fn sent(&self) -> &io::Result<()>
+        ensures { result.now ≡ self.now.sent }
+    {
+        &self.sent
+    }
+}
+
+/// Sends what is due to a session's subscriptions. If the writer fails a part may be sent.
 pub fn send_due<F: Front, W: Write>(
     alloc: Global,
     session: &mut Session<F>,
     page: &mut Vec<u8>,
     writer: &mut W,
-) -> io::Result<()>
-    ensures { OnOk result (SendsDue F.met session.old.front session.old.subscriptions (W.contents writer.old) (W.contents writer.new) session.new.front session.new.subscriptions) }
+) -> SentDue<F>
+    ensures session { result.session ≡ record { before = session.old; after = session.new } }
+    ensures sent { OnOk result.sent (SendsDue F.met session.old.front session.old.subscriptions (W.contents writer.old) (W.contents writer.new) session.new.front session.new.subscriptions) }
 {
+    let before = Snapshot::of(session);
     page.clear();
     let _whole = session.tell_due(alloc, page);
-    writer.write_all(page)
+    let sent = writer.write_all(page);
+    SentDue {
+        sent,
+        session: Step::taken(before, session),
+    }
 }

@@ -1,11 +1,13 @@
 //! `serve`: the whole server, from its state file and its socket to the close of the file.
 //! Tests: serve_tests/src/restarts.rt.
-ghost use Rattle.std.specs.Prelude.{◌≡◌, true};
+ghost use Rattle.std.specs.Prelude.{◌≡◌, true, IfOk};
 ghost use Rattle.wm_lines.specs.KeptExpressions.{have_expressions as have_expressions_lem};
+ghost use Rattle.wm_serve.specs.SlotThreads.{HasServed};
 
 use crate::admission::Acceptor;
 use crate::log_worker::{LogPlace, LoggedService, serve_logged};
 use crate::registrar::ServerDesk;
+use crate::roots_begun::RootsBegun;
 use crate::server_threads::{ServerClosed, Service, closed};
 use crate::shared::Shared;
 use crate::slots::Slots;
@@ -89,7 +91,9 @@ pub fn serve<
     tools: &Tools<'_, F, G, P, L>,
     settings: Settings,
     writer: &mut W,
-) -> Result<Served, Refusal> {
+) -> Result<Served, Refusal>
+    ensures { IfOk result (λ served. HasServed settings.sessions served.closed.served) }
+{
     let store = open_file(rt, alloc, paths.file)?;
     let Ok((listener, took_over)) = listen(rt, paths.socket) else {
         drop(store);
@@ -181,6 +185,7 @@ fn serve_over<
 ) -> Result<ServerClosed, Refusal>
     requires expressions { have_expressions_lem store.registry ≡ true }
     requires book { opened.seen.book ≡ J.book }
+    ensures { IfOk result (λ closed. HasServed service.now.service.acceptor.sessions closed.served) }
 {
     let desk = desk_over(alloc, store)?;
     let shares: Shares<J> = Shares::new(opened);
@@ -207,10 +212,12 @@ fn serve_shared<
     shared: &Shared<T, J, K>,
     service: &LoggedService<'_, '_, F, G, P, L>,
     writer: &mut W,
-) -> Result<ServerClosed, Refusal> {
-    let _begun = shared.begin(rt, alloc)?;
-    let slots = Slots::new(alloc, shared)?;
+) -> Result<ServerClosed, Refusal>
+    ensures { IfOk result (λ closed. HasServed service.now.service.acceptor.sessions closed.served) }
+{
+    let begun = RootsBegun::by(&shared.begin(rt, alloc)?);
+    let slots = Slots::new(alloc, shared, &begun)?;
     let served = serve_logged(rt, alloc, &slots, service, writer);
     drop(slots);
-    closed(served)
+    closed(begun, served)
 }

@@ -1,21 +1,25 @@
 //! What the threads of a server see of it: a bound in place of the types, so that little is proved of what crosses. What is done under
 //! a lock comes back as a value that only what lies there makes.
 //! Definitions: specs/AcceptQueues.antt, specs/UnstartedWorkers.antt, specs/TriedCrawls.antt. Tests: serve_tests/src/sessions.rt.
-ghost use Rattle.std.specs.Prelude.{◌≡◌, true, false, IfOk, IfErr, IfSome, MatchResult};
+ghost use Rattle.std.specs.Prelude.{◌≡◌, ℕ, true, IfOk, IfErr, MatchResult};
 ghost use Rattle.wm_serve.specs.AcceptQueues.{IsAdmitted, closed_queue, opened_queue};
+ghost use Rattle.wm_serve.specs.SlotThreads.{IsServed, IsUpdated};
 ghost use Rattle.wm_serve.specs.TriedCrawls.{IsWithoutCrawl};
 ghost use Rattle.wm_serve.specs.UnstartedWorkers.{workers_after};
+ghost use Rattle.wm_serve.specs.WakeFlags.{NotifiesAll};
 
-use crate::accept_queue::NoSession;
 use crate::crawl::{Crawl, NoCrawl};
 use crate::event_log::EventLog;
 use crate::no_hall::NoHall;
+use crate::notified::TakenIn;
 use crate::registrar::NothingLeft;
+use crate::sessions::SlotServed;
+use crate::slot_threads::SlotThreads;
 use crate::step::Step;
 use crate::store_closed::{StoreClosed, StoreUnclosed};
 use crate::unstarted_workers::{NextWorker, NoWorker, UnstartedWorkers};
 use crate::waiting_sessions::{Admission, QueueStep};
-use crate::wake_flag::Woken;
+use crate::wake_flag::SlotUpdated;
 use crate::workers_end::WorkersEnded;
 use std::alloc::Global;
 use std::os::unix::net::UnixStream;
@@ -23,30 +27,33 @@ use std::sync::Wait;
 use std::time::Clock;
 use wm_disk::Refusal;
 use wm_groupcommit::NoFlusher;
-use wm_hall::{Begun, CrawlEnded, GivenUp, HandedIn, NoWork, Reading};
+use wm_hall::{Begun, CrawlEnded, GivenUp, NoWork, Reading, Ticket};
 use wm_lines::Progress;
 use wm_triggers::Programs;
 
 /// What the threads of a server share.
 pub trait ServerHandle {
+    /// How many wake flags there are.
+    ghost flags: { Self → ℕ };
+
     /// What happens is logged here.
     fn log(&self) -> &EventLog;
 
-    /// So many sessions may be there at once from now on.
-    fn open_slots<R: Wait>(&self, rt: &R, slots: u64) -> QueueStep
-        ensures { result.after ≡ opened_queue slots result.before };
+    /// As many sessions may be there at once from now on as slots have their threads.
+    fn open_slots<R: Wait>(&self, rt: &R, threads: &SlotThreads) -> QueueStep
+        ensures { result.after ≡ opened_queue threads.now.count result.before };
 
     /// Admits a session, or hands it back with the cause: `TooMany` if each slot is taken, and `NoMemory`.
     fn admit<R: Wait>(&self, rt: &R, stream: UnixStream) -> Admission
         ensures { IsAdmitted stream result.step.before result.step.after result.admitted };
 
-    /// Answers the lines of one session of a slot after the other, until no session comes any longer. `None` if there is no such slot.
-    fn serve_sessions<R: Wait>(&self, rt: &R, alloc: Global, slot: usize) -> Option<NoSession>
-        ensures { IfSome result (λ none. none ≡ true) };
+    /// Answers the lines of one session of a slot after the other, until no session comes any longer. `None` only if there is no such slot.
+    fn serve_sessions<R: Wait>(&self, rt: &R, alloc: Global, slot: usize) -> Option<SlotServed>
+        ensures { IsServed slot result };
 
-    /// Sends the sessions of a slot what is due to their subscriptions, until the server closes. `None` if there is no such slot.
-    fn send_updates<R: Wait>(&self, rt: &R, alloc: Global, slot: usize) -> Option<Woken>
-        ensures { IfSome result (λ woken. woken.goes_on ≡ false) };
+    /// Sends the sessions of a slot what is due to their subscriptions, until the server closes. `None` only if there is no such slot.
+    fn send_updates<R: Wait>(&self, rt: &R, alloc: Global, slot: usize) -> Option<SlotUpdated>
+        ensures { IsUpdated slot result };
 
     /// Commits what is submitted, until the server closes and nothing is left. Refused if another thread does.
     fn flush<R: Wait + Clock>(&self, rt: &R) -> Result<NothingLeft, NoFlusher>;
@@ -64,29 +71,34 @@ pub trait ServerHandle {
         ensures { MatchResult result (λ crawl. crawl.root ≡ root) (IsWithoutCrawl root) };
 
     /// Begins a reading of the root of this number.
-    fn begin_reading<R: Wait>(&self, rt: &R, alloc: Global, root: u64) -> Result<Begun, NoHall>;
+    fn begin_reading<R: Wait>(&self, rt: &R, alloc: Global, root: u64) -> Result<Begun, NoHall>
+        ensures { MatchResult result (λ begun. begun.root ≡ root) (λ none. none ≡ root) };
 
     /// Gives up the reading of the root that is under way.
-    fn give_up_reading<R: Wait>(&self, rt: &R, root: u64) -> Result<GivenUp, NoHall>;
+    fn give_up_reading<R: Wait>(&self, rt: &R, root: u64, begun: Begun) -> Result<GivenUp, NoHall>
+        requires { begun.root ≡ root }
+        ensures { MatchResult result (λ given_up. given_up.root ≡ root) (λ none. none ≡ root) };
 
-    /// Hands in what a crawl found.
+    /// Hands in what a crawl of the root found, and notifies the wake flags of it.
     fn take_in<R: Wait + Clock>(
         &self,
         rt: &R,
         alloc: Global,
         root: u64,
         found: Reading,
-    ) -> Result<HandedIn, NoHall>;
+    ) -> Result<TakenIn, NoHall>
+        requires { found.root ≡ root }
+        ensures { MatchResult result (λ taken. (taken.handed_in.root ≡ root) × NotifiesAll (flags self.now) root taken.notified) (λ none. none ≡ root) };
 
     /// The crawl of a ticket has ended so.
     fn crawled<R: Wait>(
         &self,
         rt: &R,
         root: u64,
-        ticket: u64,
+        ticket: Ticket,
         ended: Result<Progress, Refusal>,
     ) -> Result<CrawlEnded, NoHall>
-        ensures { IfOk result (λ crawl. crawl ≡ record { ticket = ticket; ended = ended }) };
+        ensures { MatchResult result (λ crawl. crawl ≡ record { root = root; ticket = ticket; ended = ended }) (λ none. none ≡ root) };
 
     /// Runs the triggers of the root of this number, until it isn't watched any longer.
     fn run_triggers<R: Wait, P: Programs>(

@@ -1,15 +1,18 @@
 //! The sessions of a slot, one after the other: their lines and their replies.
 //! Tests: serve_tests/src/sessions.rt.
-ghost use Rattle.std.specs.Prelude.{◌≡◌, true};
+ghost use Rattle.std.specs.Prelude.{◌≡◌, true, IfOk};
+ghost use Rattle.wm_lines.specs.Replies.{reply_bytes};
+ghost use Rattle.wm_serve.specs.SentLines.{crawl_reply};
 
 use crate::accept_queue::NoSession;
-use crate::connection::{Connection, Slot, SlotAnswer};
+use crate::connection::{Connection, SentAlone, Slot};
 use crate::log_events::is_cut_off;
+use crate::read_lines::{CrawlRequest, LineServed, NextLine, next_line};
 use crate::registrar::ServerDesk;
 use crate::requests::crawl_asked;
 use crate::sent_lines::crawl_line;
 use crate::shared::Shared;
-use crate::waiting_sessions::NextSession;
+use crate::waiting_sessions::{NextSession, SlotTaken};
 use std::alloc::Global;
 use std::io;
 use std::io::BufReader;
@@ -21,8 +24,7 @@ use wm_disk::{NoMemory, Refusal};
 use wm_lines::Progress;
 use wm_log::What;
 use wm_names::{RootPath, Subtree};
-use wm_session::input::{LineRead, read_line};
-use wm_session::{Input, Session};
+use wm_session::Session;
 use wm_share::{Naming, Viewer};
 use wm_shared::{Place, SharedFront, Viewers};
 
@@ -39,7 +41,7 @@ fn crawl<R: Wait, T: ServerDesk, J: Naming, K: Wait + Clock + Copy + Drop>(
     subtree: Subtree,
 ) -> Result<Progress, Refusal> {
     let hall = shared.hall(rt, alloc, root)?;
-    let ended = match hall.work.crawl(rt, subtree) {
+    let ended = match hall.crawl(rt, subtree) {
         Ok(crawled) => crawled.into_result(),
         Err(refusal) => Err(refusal),
     };
@@ -54,40 +56,35 @@ fn send_ended<R: Wait, T: ServerDesk, J: Naming, K: Wait + Clock + Copy + Drop>(
     alloc: Global,
     slot: &Slot<'_, T, J, K>,
     ended: Result<Progress, Refusal>,
-) -> io::Result<()> {
-    match crawl_line(alloc, ended) {
-        Ok(line) => slot.send(rt, Ok(&line)),
-        Err(NoMemory) => slot.send(rt, Err(NoMemory)),
-    }
+) -> SentAlone
+    ensures { IfOk result.line.value (λ line. line.items ≡ reply_bytes (crawl_reply ended)) }
+{
+    let line = crawl_line(alloc, ended);
+    slot.send(rt, &line)
 }
 
 /// Answers a line that was read. A crawl is awaited without the session, so that what is due is sent meanwhile.
-fn serve_line<R: Wait, T: ServerDesk, J: Naming, K: Wait + Clock + Copy + Drop>(
+fn serve_line<'l, R: Wait, T: ServerDesk, J: Naming, K: Wait + Clock + Copy + Drop>(
     rt: &R,
     alloc: Global,
     shared: &Shared<T, J, K>,
     slot: &Slot<'_, T, J, K>,
-    line: &[u8],
-) -> io::Result<()> {
-    match crawl_asked(alloc, line) {
-        Some(Ok((root, subtree))) => {
-            let ended = crawl(rt, alloc, shared, slot, &root, subtree);
-            send_ended(rt, alloc, slot, ended)
-        }
-        Some(Err(refusal)) => send_ended(rt, alloc, slot, Err(refusal)),
-        None => match slot.answer(rt, alloc, shared, line) {
-            Ok(answer) => {
-                let SlotAnswer { answered, noted: _ } = answer;
-                answered.into_sent()
-            }
-            Err(_) => Ok(()),
-        },
-    }
-}
-
-/// Reads the next line of a session.
-fn next_line(reader: &mut BufReader<&UnixStream>, line: &mut Vec<u8>) -> io::Result<LineRead> {
-    read_line(&mut Input::new(reader), line)
+    line: &'l [u8],
+) -> LineServed<'l>
+    ensures { result.line.value.now ≡ line.now }
+{
+    let Some(asked) = crawl_asked(alloc, line) else {
+        return match slot.answer(rt, alloc, shared, line) {
+            Ok(answer) => LineServed::answered(line, answer),
+            Err(vacant) => LineServed::vacant(line, vacant),
+        };
+    };
+    let request = CrawlRequest::of(line, &asked);
+    let ended = match asked {
+        Ok((root, subtree)) => crawl(rt, alloc, shared, slot, &root, subtree),
+        Err(refusal) => Err(refusal),
+    };
+    LineServed::replied(request, send_ended(rt, alloc, slot, ended))
 }
 
 /// Answers the lines of a reader until they end or its socket fails.
@@ -101,9 +98,11 @@ fn serve_lines_of<R: Wait, T: ServerDesk, J: Naming, K: Wait + Clock + Copy + Dr
 ) -> io::Result<()> {
     for _ in rt.forever() {
         match next_line(reader, line)? {
-            LineRead::End => return Ok(()),
-            LineRead::Lost => slot.send(rt, Err(NoMemory))?,
-            LineRead::Kept => serve_line(rt, alloc, shared, slot, line)?,
+            NextLine::End => return Ok(()),
+            NextLine::Lost(lost) => lost.served(slot.send(rt, &Err(NoMemory)))?,
+            NextLine::Line(unanswered) => {
+                unanswered.served(serve_line(rt, alloc, shared, slot, line))?
+            }
         }
     }
     Ok(())
@@ -158,18 +157,19 @@ fn both_ends(alloc: Global, stream: UnixStream) -> Option<(Arc<UnixStream>, Arc<
     Some((stream, other))
 }
 
-/// One session in a slot. The place at the desk comes back.
+/// One session in a slot. The place at the desk comes back, and that the session has the slot until it leaves.
 fn serve_session<'a, R: Wait, T: ServerDesk, J: Naming, K: Wait + Clock + Copy + Drop>(
     rt: &R,
     alloc: Global,
     shared: &'a Shared<T, J, K>,
     slot: &Slot<'a, T, J, K>,
     place: Place<'a, T>,
-    stream: UnixStream,
-) -> Place<'a, T> {
+    next: NextSession,
+) -> (Place<'a, T>, SlotTaken) {
+    let NextSession { stream, taken } = next;
     let _timed = stream.set_write_timeout(Some(Duration::from_secs(WRITE_SECONDS)));
     let Some((stream, other)) = both_ends(alloc, stream) else {
-        return place;
+        return (place, taken);
     };
     let front = SharedFront::new(shared.keeping, alloc, place, shared);
     let connection = Connection::new(alloc, Session::new(alloc, front), other);
@@ -181,14 +181,19 @@ fn serve_session<'a, R: Wait, T: ServerDesk, J: Naming, K: Wait + Clock + Copy +
     let _ = stream.shutdown(Shutdown::Both);
     drop(stream);
     let _noted = shared.note(rt, slot.number, 0);
-    match slot.close(rt).into_connection() {
-        Some(connection) => {
-            let (place, viewers) = connection.into_session().into_front().into_parts();
-            give_all_back(rt, shared, viewers);
-            place
-        }
-        None => Place::new(&shared.desk),
-    }
+    let Some(connection) = slot.close(rt).into_connection() else {
+        return (Place::new(&shared.desk), taken);
+    };
+    let (place, viewers) = connection.into_session().into_front().into_parts();
+    give_all_back(rt, shared, viewers);
+    (place, taken)
+}
+
+/// The sessions of the slot of this number were served, until none came any longer: the slot alone makes it.
+#[derive(Drop)]
+pub struct SlotServed {
+    slot: usize,
+    none: NoSession,
 }
 
 /// Answers the lines of one session after the other, until no session comes any longer.
@@ -197,20 +202,23 @@ pub fn serve_sessions<'a, R: Wait, T: ServerDesk, J: Naming, K: Wait + Clock + C
     alloc: Global,
     shared: &'a Shared<T, J, K>,
     slot: &Slot<'a, T, J, K>,
-) -> NoSession
-    ensures { result ≡ true }
+) -> SlotServed
+    ensures { (result.slot ≡ slot.now.number) × (result.none ≡ true) }
 {
     let mut place = Place::new(&shared.desk);
     for _ in rt.forever() {
         match shared.waiting.next(rt) {
             Ok(next) => {
-                let NextSession { stream, step: _ } = next;
-                place = serve_session(rt, alloc, shared, slot, place, stream);
-                let _left = shared.waiting.leave(rt);
+                let (left, taken) = serve_session(rt, alloc, shared, slot, place, next);
+                place = left;
+                let _left = shared.waiting.leave(rt, taken);
             }
             Err(none) => {
                 drop(place);
-                return none;
+                return SlotServed {
+                    slot: slot.number,
+                    none,
+                };
             }
         }
     }

@@ -6,7 +6,7 @@ ghost use Rattle.std.specs.Arc.{arc_value};
 ghost use Rattle.std.specs.List.{list_any};
 ghost use Rattle.wm_names.specs.Paths.{Path};
 ghost use Rattle.wm_serve.specs.FollowedRoots.{FillsRoot, FollowsCommand, IsStepOf, left_to_halls, numbered_roots};
-ghost use Rattle.wm_serve.specs.WakeFlags.{HasWaited, noted_flag};
+ghost use Rattle.wm_serve.specs.WakeFlags.{AreSlotFlags, HasWaited, noted_flag, slot_count};
 ghost use Rattle.wm_serve.specs.WatchedRoots.{FindsHall, MayHaveHad, MayHaveLacked, MayHaveLackedNumber, has_path};
 
 use crate::event_log::EventLog;
@@ -15,12 +15,10 @@ use crate::found_hall::{FoundHall, find_hall};
 use crate::notified::NotifiedFlags;
 use crate::registrar::ServerDesk;
 use crate::root_table::RootTable;
-use crate::step::Step;
 use crate::turn::Following;
 use crate::unstarted_workers::UnstartedWorkers;
 use crate::waiting_sessions::{SLOTS, WaitingSessions};
-use crate::wake_flag::{WakeFlag, Woken};
-use crate::wake_state::WakeState;
+use crate::wake_flag::{FlagStep, WakeFlag, Woken};
 use crate::workers_end::{WorkersEnded, close_flags, close_workers, end_halls};
 use std::alloc::Global;
 use std::sync::{Arc, Condvar, Mutex, Wait};
@@ -49,6 +47,7 @@ pub struct Shared<T: ServerDesk, J: Naming, K: Wait + Clock + Copy + Drop> {
     pub workers_changed: Condvar,
     /// A flag for each connection slot.
     wakes: Vec<WakeFlag>,
+    ghost all: { AreSlotFlags wakes.items },
     /// The sessions that wait for a slot.
     pub waiting: WaitingSessions,
     /// When deleted paths of a root are forgotten.
@@ -238,8 +237,8 @@ impl<T: ServerDesk, J: Naming, K: Wait + Clock + Copy + Drop> Shared<T, J, K> {
     }
 
     /// Notes the roots that the session of a slot has subscriptions on, as their bits. `None` only if there is no such slot.
-    pub fn note<R: Wait>(&self, rt: &R, slot: usize, roots: u64) -> Option<Step<WakeState>>
-        ensures { MatchOption result (length self.now.wakes.items ≤ slot) (λ step. step.after ≡ noted_flag roots step.before) }
+    pub fn note<R: Wait>(&self, rt: &R, slot: usize, roots: u64) -> Option<FlagStep>
+        ensures { MatchOption result (slot_count ≤ slot) (λ flag. (flag.slot ≡ slot) × (flag.step.after ≡ noted_flag roots flag.step.before)) }
     {
         match self.wakes.get(slot) {
             Some(wake) => Some(wake.note(rt, roots)),
@@ -249,7 +248,7 @@ impl<T: ServerDesk, J: Naming, K: Wait + Clock + Copy + Drop> Shared<T, J, K> {
 
     /// Waits until lines may be due to the session of a slot, or the server closes. `None` only if there is no such slot.
     pub fn wait<R: Wait>(&self, rt: &R, slot: usize) -> Option<Woken>
-        ensures { MatchOption result (length self.now.wakes.items ≤ slot) HasWaited }
+        ensures { MatchOption result (slot_count ≤ slot) (λ woken. (woken.flag.slot ≡ slot) × HasWaited woken) }
     {
         match self.wakes.get(slot) {
             Some(wake) => Some(wake.wait(rt)),
@@ -272,16 +271,21 @@ impl<T: ServerDesk, J: Naming, K: Wait + Clock + Copy + Drop> Shared<T, J, K> {
 /// The flags, and the table of roots.
 fn fittings<J: Naming, K: Wait + Drop>(
     alloc: Global,
-) -> Result<(Vec<WakeFlag>, Mutex<RootTable<Arc<RootHall<J, K>>>>), NoMemory> {
+) -> Result<(Vec<WakeFlag>, Mutex<RootTable<Arc<RootHall<J, K>>>>), NoMemory>
+    ensures { IfOk result (λ fittings. AreSlotFlags fittings.0.items) }
+{
     let wakes = wakes(alloc)?;
     let roots = RootTable::locked(alloc)?;
     Ok((wakes, roots))
 }
 
-fn wakes(alloc: Global) -> Result<Vec<WakeFlag>, NoMemory> {
+/// A flag for each slot.
+fn wakes(alloc: Global) -> Result<Vec<WakeFlag>, NoMemory>
+    ensures { IfOk result (λ wakes. AreSlotFlags wakes.items) }
+{
     let mut wakes = Vec::new(alloc);
-    for _ in 0..SLOTS {
-        wakes.push(WakeFlag::new())?;
+    for slot in 0..SLOTS {
+        wakes.push(WakeFlag::new(slot as usize))?;
     }
     Ok(wakes)
 }

@@ -1,26 +1,30 @@
 //! What threads are given of a server.
 //! Tests: serve_tests/src/sessions.rt.
-ghost use Rattle.std.specs.Prelude.{◌≡◌, true, IfErr, MatchResult};
+ghost use Rattle.std.specs.Prelude.{◌≡◌, ℕ, true, length, slice_get, Some, IfErr, IfOk, MatchResult};
+ghost use Rattle.std.specs.Arc.{arc_value};
 ghost use Rattle.wm_serve.specs.UnstartedWorkers.{workers_after};
+ghost use Rattle.wm_serve.specs.WakeFlags.{slot_count};
 
-use crate::accept_queue::NoSession;
 use crate::connection::Slot;
 use crate::crawl::{Crawl, NoCrawl};
 use crate::event_log::EventLog;
 use crate::logged_programs::LoggedPrograms;
 use crate::no_hall::{NoHall, hall_numbered};
+use crate::notified::TakenIn;
 use crate::registrar::{NothingLeft, ServerDesk};
+use crate::roots_begun::RootsBegun;
 use crate::second::SystemSeconds;
 use crate::server_handle::ServerHandle;
-use crate::sessions::serve_sessions;
+use crate::sessions::{SlotServed, serve_sessions};
 use crate::shared::Shared;
+use crate::slot_threads::SlotThreads;
 use crate::step::Step;
 use crate::store_closed::{StoreClosed, StoreUnclosed};
 use crate::trigger_worker::run_triggers;
 use crate::unstarted_workers::{NextWorker, NoWorker, UnstartedWorkers};
 use crate::updates::send_updates;
 use crate::waiting_sessions::{Admission, QueueStep, SLOTS};
-use crate::wake_flag::Woken;
+use crate::wake_flag::SlotUpdated;
 use crate::wake_state::bit_of;
 use crate::workers_end::WorkersEnded;
 use std::alloc::Global;
@@ -30,27 +34,25 @@ use std::sync::{Arc, Wait};
 use std::time::Clock;
 use wm_disk::{NoMemory, Refusal};
 use wm_groupcommit::NoFlusher;
-use wm_hall::{Begun, CrawlEnded, GivenUp, HandedIn, NoWork, Reading, RootHall};
+use wm_hall::{Begun, CrawlEnded, GivenUp, NoWork, Reading, RootHall, Ticket};
 use wm_lines::Progress;
 use wm_share::Naming;
 use wm_triggers::Programs;
 
-/// The next crawl of a hall's root, which has this number, once one is asked for. One that memory runs out for is over. Refused if the root has ended.
+/// The next crawl of a hall's root, once one is asked for. One that memory runs out for is over. Refused if the root has ended.
 fn next_crawl<R: Wait, J: Naming, K: Wait + Drop>(
     rt: &R,
     alloc: Global,
     hall: &RootHall<J, K>,
-    root: u64,
 ) -> Result<Crawl, NoWork>
-    ensures { MatchResult result (λ crawl. (crawl.root ≡ root) × (crawl.path ≡ hall.now.path)) (λ none. none ≡ true) }
+    ensures { MatchResult result (λ crawl. (crawl.root ≡ hall.now.number) × (crawl.path ≡ hall.now.path)) (λ none. none ≡ true) }
 {
     for _ in rt.forever() {
-        let begun = hall.work.next_crawl(rt)?;
-        let ticket = begun.ticket();
-        match Crawl::of(alloc, root, &hall.path, begun) {
+        let begun = hall.next_crawl(rt)?;
+        match Crawl::of(alloc, &hall.path, begun) {
             Ok(crawl) => return Ok(crawl),
-            Err(NoMemory) => {
-                let _ended = hall.work.crawled(rt, ticket, Err(Refusal::NoMemory));
+            Err((NoMemory, ticket)) => {
+                let _ended = hall.crawled(rt, ticket, Err(Refusal::NoMemory));
             }
         }
     }
@@ -71,11 +73,17 @@ fn started(unstarted: &mut UnstartedWorkers, worker: NextWorker) -> Step<Unstart
 pub struct Slots<'a, T: ServerDesk, J: Naming, K: Wait + Clock + Copy + Drop> {
     shared: &'a Shared<T, J, K>,
     slots: Vec<Slot<'a, T, J, K>>,
+    ghost count: { length slots.items ≡ slot_count },
+    ghost numbered: { (i : ℕ) (slot : _) → slice_get slots.items i ≡ Some slot → slot.number ≡ i },
 }
 
 impl<'a, T: ServerDesk, J: Naming, K: Wait + Clock + Copy + Drop> Slots<'a, T, J, K> {
-    /// The slots of a server, without a session.
-    pub fn new(alloc: Global, shared: &'a Shared<T, J, K>) -> Result<Slots<'a, T, J, K>, NoMemory> {
+    /// The slots of a server whose roots have begun, without a session.
+    pub fn new(
+        alloc: Global,
+        shared: &'a Shared<T, J, K>,
+        _begun: &RootsBegun,
+    ) -> Result<Slots<'a, T, J, K>, NoMemory> {
         let mut slots = Vec::new(alloc);
         for number in 0..SLOTS {
             slots.push(Slot::new(number as usize))?;
@@ -85,7 +93,8 @@ impl<'a, T: ServerDesk, J: Naming, K: Wait + Clock + Copy + Drop> Slots<'a, T, J
 
     /// The hall of the root of a number.
     fn hall<R: Wait>(&self, rt: &R, root: u64) -> Result<Arc<RootHall<J, K>>, NoHall>
-        ensures { IfErr result (λ none. none ≡ root) }
+        ensures number { IfOk result (λ hall. (arc_value hall).number ≡ root) }
+        ensures none { IfErr result (λ none. none ≡ root) }
     {
         hall_numbered(&self.shared.roots.lock(rt), root)
     }
@@ -93,26 +102,30 @@ impl<'a, T: ServerDesk, J: Naming, K: Wait + Clock + Copy + Drop> Slots<'a, T, J
 
 impl<'a, T: ServerDesk, J: Naming, K: Wait + Clock + Copy + Drop> ServerHandle
     for Slots<'a, T, J, K> {
+    ghost use Rattle.std.specs.Prelude.{length};
+
+    ghost flags = { λ s. length s.shared.now.wakes.items };
+
     fn log(&self) -> &EventLog {
         &self.shared.log
     }
 
-    fn open_slots<R: Wait>(&self, rt: &R, slots: u64) -> QueueStep {
-        self.shared.waiting.open(rt, slots)
+    fn open_slots<R: Wait>(&self, rt: &R, threads: &SlotThreads) -> QueueStep {
+        self.shared.waiting.open(rt, threads.count())
     }
 
     fn admit<R: Wait>(&self, rt: &R, stream: UnixStream) -> Admission {
         self.shared.waiting.admit(rt, stream)
     }
 
-    fn serve_sessions<R: Wait>(&self, rt: &R, alloc: Global, slot: usize) -> Option<NoSession> {
+    fn serve_sessions<R: Wait>(&self, rt: &R, alloc: Global, slot: usize) -> Option<SlotServed> {
         match self.slots.get(slot) {
             Some(slot) => Some(serve_sessions(rt, alloc, self.shared, slot)),
             None => None,
         }
     }
 
-    fn send_updates<R: Wait>(&self, rt: &R, alloc: Global, slot: usize) -> Option<Woken> {
+    fn send_updates<R: Wait>(&self, rt: &R, alloc: Global, slot: usize) -> Option<SlotUpdated> {
         match self.slots.get(slot) {
             Some(slot) => send_updates(rt, alloc, self.shared, slot),
             None => None,
@@ -142,7 +155,7 @@ impl<'a, T: ServerDesk, J: Naming, K: Wait + Clock + Copy + Drop> ServerHandle
             Ok(hall) => hall,
             Err(none) => return Err(NoCrawl::NoHall(none)),
         };
-        let next = next_crawl(rt, alloc, &hall, root);
+        let next = next_crawl(rt, alloc, &hall);
         drop(hall);
         match next {
             Ok(crawl) => Ok(crawl),
@@ -157,9 +170,9 @@ impl<'a, T: ServerDesk, J: Naming, K: Wait + Clock + Copy + Drop> ServerHandle
         Ok(begun)
     }
 
-    fn give_up_reading<R: Wait>(&self, rt: &R, root: u64) -> Result<GivenUp, NoHall> {
+    fn give_up_reading<R: Wait>(&self, rt: &R, root: u64, begun: Begun) -> Result<GivenUp, NoHall> {
         let hall = self.hall(rt, root)?;
-        let given_up = hall.give_up_reading(rt);
+        let given_up = hall.give_up_reading(rt, begun);
         drop(hall);
         Ok(given_up)
     }
@@ -170,23 +183,29 @@ impl<'a, T: ServerDesk, J: Naming, K: Wait + Clock + Copy + Drop> ServerHandle
         alloc: Global,
         root: u64,
         found: Reading,
-    ) -> Result<HandedIn, NoHall> {
+    ) -> Result<TakenIn, NoHall> {
         let hall = self.hall(rt, root)?;
         let handed_in = hall.take_in(rt, alloc, &SystemSeconds { rt }, found);
-        let _notified = self.shared.notify(rt, bit_of(root));
+        let notified = self.shared.notify(rt, bit_of(root));
+        self.shared
+            .log
+            .note_forgotten(rt, &hall.path, handed_in.forgot());
         drop(hall);
-        Ok(handed_in)
+        Ok(TakenIn {
+            handed_in,
+            notified,
+        })
     }
 
     fn crawled<R: Wait>(
         &self,
         rt: &R,
         root: u64,
-        ticket: u64,
+        ticket: Ticket,
         ended: Result<Progress, Refusal>,
     ) -> Result<CrawlEnded, NoHall> {
         let hall = self.hall(rt, root)?;
-        let crawl = hall.work.crawled(rt, ticket, ended);
+        let crawl = hall.crawled(rt, ticket, ended);
         drop(hall);
         Ok(crawl)
     }

@@ -5,7 +5,7 @@ ghost use Rattle.wm_serve.specs.TriedCrawls.{try_end};
 
 use crate::no_hall::NoHall;
 use wm_disk::Refusal;
-use wm_hall::{CrawlEnded, GivenUp, HandedIn};
+use wm_hall::{CrawlEnded, CrawlRefused, GivenUp, HandedIn};
 use wm_lines::Progress;
 
 /// What a try came to.
@@ -17,8 +17,8 @@ pub enum Tried {
     HandedIn(HandedIn),
     /// What it found couldn't be handed in.
     NotHandedIn(NoHall),
-    /// The crawl was refused with this, and its reading was given up, unless the root has no hall any longer.
-    GivenUp(Refusal, Result<GivenUp, NoHall>),
+    /// The crawl was refused so, and its reading was given up, unless the root has no hall any longer.
+    GivenUp(CrawlRefused, Result<GivenUp, NoHall>),
 }
 
 /// The tries of a crawl, and that the end of the last was reported, unless the root has no hall any longer.
@@ -38,7 +38,7 @@ impl Tried {
             Tried::NotBegun(_) => Err(Refusal::NotWatched),
             Tried::HandedIn(handed_in) => handed_in.ended(),
             Tried::NotHandedIn(_) => Err(Refusal::NotWatched),
-            Tried::GivenUp(refusal, _) => Err(*refusal),
+            Tried::GivenUp(refused, _) => Err(refused.refusal()),
         }
     }
 }

@@ -1,19 +1,19 @@
 //! The worker that runs the triggers of a root: which of them stand, which run is due, and that none is started once it was deleted, is decided
 //! by the machines of wm_triggers.
 //! Definitions: specs/TriggerWork.antt. Tests: serve_tests/src/triggers.rt.
-ghost use Rattle.std.specs.Prelude.{◌≡◌, ◌⊎◌, ◌<◌, true, false, length, map, IfErr, IfOk, OnErr, OnOk};
+ghost use Rattle.std.specs.Prelude.{◌≡◌, ◌⊎◌, ◌<◌, true, false, length, map, IfErr, IfOk, IsErrOf, OnErr, OnOk};
 ghost use Rattle.wm_share.specs.PublishedLists.{Begins, disconnected, history};
 ghost use Rattle.wm_view.specs.Histories.{is_ready};
 ghost use Rattle.wm_triggers.specs.KeptRuns.{kept_for};
-ghost use Rattle.wm_serve.specs.TriggerWork.{EachInTurn, FailsAt, RunsAt, RunsIfDue, RunsOrStays, RunsToEnd, due_for};
+ghost use Rattle.wm_serve.specs.TriggerWork.{EachInTurn, FailsAt, IsNotDone, RunsAt, RunsIfDue, RunsOrStays, RunsToEnd, due_for};
 
 use std::alloc::Global;
-use std::sync::{Mutex, Wait};
-use wm_disk::Refusal;
-use wm_hall::{Learnt, NoWork, RootHall, StartPermit};
+use std::sync::Wait;
+use wm_disk::{NoMemory, Refusal};
+use wm_hall::{Learnt, NoWork, RootHall, StartEnded, StartPermit};
 use wm_share::{Naming, Viewer};
 use wm_triggers::{
-    DefinedTrigger, DefinedTriggers, DefinitionRuns, Permit, Programs, Run, TriggerRuns,
+    DefinedTrigger, DefinedTriggers, DefinitionRuns, NotRun, Permit, Programs, Run, TriggerRuns,
 };
 
 /// A root, and what starts the programs of its triggers.
@@ -29,26 +29,49 @@ struct StandingPermit<'a, R: Wait, J: Naming, K: Wait + Drop> {
     rt: &'a R,
     hall: &'a RootHall<J, K>,
     one: DefinedTrigger,
-    /// The permit, while the start is under way.
-    given: Mutex<Option<StartPermit>>,
 }
 
 impl<R: Wait, J: Naming, K: Wait + Drop> Permit for StandingPermit<'_, R, J, K> {
-    fn begin(&self) -> bool {
-        let Ok(one) = self.one.copy() else {
-            return false;
-        };
-        let permit = self.hall.begin_start(self.rt, one);
-        let is_given = permit.is_given();
-        *self.given.lock(self.rt) = Some(permit);
-        is_given
+    ghost use Rattle.std.specs.Prelude.{◌≡◌};
+
+    type Given = StartPermit;
+
+    type Ended = StartEnded;
+
+    ghost shows_given = { λ permit given. given ≡ record { root = permit.hall.now.number; one = permit.one } };
+
+    ghost shows_ended = { λ permit ended. ended ≡ record { root = permit.hall.now.number; one = permit.one } };
+
+    fn begin(&self) -> Option<StartPermit> {
+        let one = self.one.copy().ok()?;
+        self.hall.begin_start(self.rt, one)
     }
 
-    fn end(&self) {
-        if let Some(permit) = self.given.lock(self.rt).take() {
-            let _none = self.hall.end_start(self.rt, permit);
-        }
+    fn end(&self, given: StartPermit) -> StartEnded {
+        self.hall.end_start(self.rt, given)
     }
+}
+
+/// The permit to start the definition of these runs in a root.
+fn permit_for<'a, R: Wait, J: Naming, K: Wait + Drop>(
+    rt: &'a R,
+    hall: &'a RootHall<J, K>,
+    one: &DefinitionRuns,
+) -> Result<StandingPermit<'a, R, J, K>, NoMemory>
+    ensures hall { IfOk result (λ permit. permit.hall.now ≡ hall.now) }
+    ensures definition { IfOk result (λ permit. permit.one ≡ record { number = one.now.number; trigger = one.now.trigger }) }
+{
+    let one = one.definition()?;
+    Ok(StandingPermit { rt, hall, one })
+}
+
+/// Why a run wasn't done.
+#[derive(Clone, Copy)]
+pub enum NotDone {
+    /// What it would list was refused.
+    Refused(Refusal),
+    /// Its program didn't run.
+    Unstarted(NotRun),
 }
 
 /// The run of a definition that is due, as the viewer sees the root: its files are those that changed since the last run that was
@@ -68,29 +91,24 @@ fn due_run<J: Naming>(
     Ok(one.runs().run_of(answer?))
 }
 
-/// Starts the program of a run that is due, and waits for its end, however it ends. `DeviceFailed` if it couldn't be started, or
-/// its definition doesn't stand any longer, and `NoMemory`.
+/// Starts the program of a run that is due, and waits for its end, however it ends: that its definition's start was permitted, and is over.
+/// `NotPermitted` if its definition doesn't stand any longer.
 fn start<R: Wait, J: Naming, K: Wait + Drop, P: Programs>(
     rt: &R,
     alloc: Global,
     root: &RootPrograms<'_, J, K, P>,
     one: &DefinitionRuns,
     run: &Run,
-) -> Result<(), Refusal>
+) -> Result<StartEnded, NotRun>
     ensures ran { OnOk result (RunsToEnd (P.has_run root.now.programs.now) root.now.hall.now.path one.now.trigger run.now) }
-    ensures failed { IfErr result (λ e. (e ≡ Refusal.NoMemory) ⊎ ((e ≡ Refusal.DeviceFailed) × P.has_failed root.now.programs.now root.now.hall.now.path one.now.trigger run.now)) }
+    ensures permitted { IfOk result (λ ended. ended ≡ record { root = root.now.hall.now.number; one = record { number = one.now.number; trigger = one.now.trigger } }) }
+    ensures failed { IsErrOf result NotRun.DeviceFailed → P.has_failed root.now.programs.now root.now.hall.now.path one.now.trigger run.now }
 {
-    let definition = one.definition()?;
-    let permit = StandingPermit {
-        rt,
-        hall: root.hall,
-        one: definition,
-        given: Mutex::new(None),
-    };
-    let _end = root
+    let permit = permit_for(rt, root.hall, one)?;
+    let (_end, ended) = root
         .programs
         .run(alloc, &root.hall.path, one.trigger(), run, permit)?;
-    Ok(())
+    Ok(ended)
 }
 
 /// Runs the definition at a place if a run of it is due. It is refused as `due_run` and `start` are: its next run then lists the
@@ -102,37 +120,43 @@ fn run_at<R: Wait, J: Naming, K: Wait + Drop, P: Programs>(
     viewer: &mut Viewer<J>,
     runs: &mut TriggerRuns,
     place: usize,
-) -> Result<(), Refusal>
+) -> Result<(), NotDone>
     requires { place < length runs.old }
     ensures seen { Begins viewer.old.list viewer.new.list }
     ensures ran { OnOk result (RunsAt (RunsToEnd (P.has_run root.now.programs.now)) root.now.hall.now.path (history viewer.new.list) place runs.old runs.new) }
     ensures same { OnErr result (runs.new ≡ runs.old) }
-    ensures refused { IfErr result (λ e. (e ≡ Refusal.NoMemory) ⊎ ((e ≡ Refusal.NoPlace) × (viewer.new ≡ disconnected viewer.old)) ⊎ ((e ≡ Refusal.NotReady) × (is_ready (history viewer.new.list) ≡ false)) ⊎ ((e ≡ Refusal.DeviceFailed) × FailsAt (P.has_failed root.now.programs.now) root.now.hall.now.path (history viewer.new.list) place runs.old)) }
+    ensures refused { IfErr result (IsNotDone viewer.old viewer.new (FailsAt (P.has_failed root.now.programs.now) root.now.hall.now.path (history viewer.new.list) place runs.old)) }
 {
     let one = runs.at(place);
-    let Some(run) = due_run(alloc, viewer, one)? else {
-        return Ok(());
+    let run = match due_run(alloc, viewer, one) {
+        Ok(Some(run)) => run,
+        Ok(None) => return Ok(()),
+        Err(refusal) => return Err(NotDone::Refused(refusal)),
     };
-    start(rt, alloc, root, one, &run)?;
-    runs.started(place, &run);
-    Ok(())
+    match start(rt, alloc, root, one, &run) {
+        Ok(_ended) => {
+            runs.started(place, &run);
+            Ok(())
+        }
+        Err(not_run) => Err(NotDone::Unstarted(not_run)),
+    }
 }
 
-/// Runs each definition of which a run is due, one after another, whether or not others are refused: the last refusal, if there is one.
+/// Runs each definition of which a run is due, one after another, whether or not others are done: why the last one wasn't that was not, if there is one.
 fn run_each<R: Wait, J: Naming, K: Wait + Drop, P: Programs>(
     rt: &R,
     alloc: Global,
     root: &RootPrograms<'_, J, K, P>,
     viewer: &mut Viewer<J>,
     runs: &mut TriggerRuns,
-) -> Result<(), Refusal>
+) -> Result<(), NotDone>
     ensures each { EachInTurn (RunsOrStays (RunsToEnd (P.has_run root.now.programs.now)) root.now.hall.now.path) viewer.old.list runs.old runs.new viewer.new.list }
     ensures ok { OnOk result (EachInTurn (RunsIfDue (RunsToEnd (P.has_run root.now.programs.now)) root.now.hall.now.path) viewer.old.list runs.old runs.new viewer.new.list) }
 {
     let mut met = Ok(());
     for place in 0..runs.len() {
-        if let Err(refusal) = run_at(rt, alloc, root, viewer, runs, place) {
-            met = Err(refusal);
+        if let Err(not_done) = run_at(rt, alloc, root, viewer, runs, place) {
+            met = Err(not_done);
         }
     }
     met
@@ -147,11 +171,13 @@ fn run_round<R: Wait, J: Naming, K: Wait + Drop, P: Programs>(
     viewer: &mut Viewer<J>,
     defined: &DefinedTriggers,
     runs: &mut TriggerRuns,
-) -> Result<(), Refusal>
+) -> Result<(), NotDone>
     ensures each { (runs.new ≡ runs.old) ⊎ EachInTurn (RunsOrStays (RunsToEnd (P.has_run root.now.programs.now)) root.now.hall.now.path) viewer.old.list (map (kept_for runs.old) defined.now) runs.new viewer.new.list }
     ensures ok { OnOk result (EachInTurn (RunsIfDue (RunsToEnd (P.has_run root.now.programs.now)) root.now.hall.now.path) viewer.old.list (map (kept_for runs.old) defined.now) runs.new viewer.new.list) }
 {
-    runs.keep(alloc, defined)?;
+    if let Err(refusal) = runs.keep(alloc, defined) {
+        return Err(NotDone::Refused(refusal));
+    }
     run_each(rt, alloc, root, viewer, runs)
 }
 
@@ -163,9 +189,11 @@ fn run_all<R: Wait, J: Naming, K: Wait + Drop, P: Programs>(
     learnt: Learnt,
     viewer: &mut Viewer<J>,
     runs: &mut TriggerRuns,
-) -> Result<(), Refusal> {
+) -> Result<(), NotDone> {
     drop(learnt);
-    let defined = root.hall.defined(rt, alloc)?;
+    let Ok(defined) = root.hall.defined(rt, alloc) else {
+        return Err(NotDone::Refused(Refusal::NoMemory));
+    };
     let met = run_round(rt, alloc, root, viewer, defined.definitions(), runs);
     drop(defined);
     met

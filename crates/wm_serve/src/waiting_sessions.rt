@@ -24,11 +24,15 @@ pub struct Admission {
     pub step: QueueStep,
 }
 
-/// A session that has a slot from now on, with what the queue did.
-#[derive(Drop)]
+/// That a session has a slot from now on, by what the queue did. It is to be given up as the session leaves ([`WaitingSessions::leave`]).
+pub struct SlotTaken {
+    step: QueueStep,
+}
+
+/// A session that has a slot from now on.
 pub struct NextSession {
     pub stream: UnixStream,
-    pub step: QueueStep,
+    pub taken: SlotTaken,
 }
 
 /// Admits a session, as of [`AcceptQueue::admit`].
@@ -46,13 +50,14 @@ fn admit(queue: &mut AcceptQueue<UnixStream>, stream: UnixStream) -> Admission
 
 /// Gives a slot the next session, as of [`AcceptQueue::take`].
 fn take(queue: &mut AcceptQueue<UnixStream>) -> Result<NextSession, NoSession>
-    ensures { MatchResult result (λ next. (next.step.before ≡ queue.old) × IsFirstSession next.stream queue.old next.step.after) (λ none. (none ≡ queue.old.is_closed) × (queue.old.waiting ≡ [])) }
+    ensures { MatchResult result (λ next. (next.taken.step.before ≡ queue.old) × IsFirstSession next.stream queue.old next.taken.step.after) (λ none. (none ≡ queue.old.is_closed) × (queue.old.waiting ≡ [])) }
 {
     let before = Snapshot::of(queue);
     let stream = queue.take()?;
+    let step = Step::taken(before, queue);
     Ok(NextSession {
         stream,
-        step: Step::taken(before, queue),
+        taken: SlotTaken { step },
     })
 }
 
@@ -98,7 +103,7 @@ impl WaitingSessions {
     /// Waits for a session. Refused if no session comes any longer, and none waits.
     #[tactic(auto, using(crate::proofs::Closing::none_waiting))]
     pub fn next<R: Wait>(&self, rt: &R) -> Result<NextSession, NoSession>
-        ensures { MatchResult result (λ next. IsFirstSession next.stream next.step.before next.step.after) (λ none. none ≡ true) }
+        ensures { MatchResult result (λ next. IsFirstSession next.stream next.taken.step.before next.taken.step.after) (λ none. none ≡ true) }
     {
         let mut queue = self
             .came
@@ -106,10 +111,11 @@ impl WaitingSessions {
         take(&mut *queue)
     }
 
-    /// A session has ended.
-    pub fn leave<R: Wait>(&self, rt: &R) -> QueueStep
+    /// A session that had a slot has ended.
+    pub fn leave<R: Wait>(&self, rt: &R, taken: SlotTaken) -> QueueStep
         ensures { result.after ≡ left_queue result.before }
     {
+        let SlotTaken { step: _ } = taken;
         let mut queue = self.queue.lock(rt);
         let before = Snapshot::of(&*queue);
         queue.leave();

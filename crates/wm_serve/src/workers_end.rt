@@ -2,6 +2,7 @@
 //! Definitions: specs/WorkersEnds.antt. Tests: serve_tests/src/sessions.rt.
 ghost use Rattle.std.specs.Prelude.{◌≡◌, length};
 ghost use Rattle.wm_serve.specs.UnstartedWorkers.{closed_workers};
+ghost use Rattle.wm_serve.specs.WakeFlags.{AreSlotFlags};
 ghost use Rattle.wm_serve.specs.WorkersEnds.{halls_in};
 
 use crate::counts::{FlagsClosed, HallsEnded};
@@ -66,8 +67,9 @@ pub fn end_halls<R: Wait, J: Naming, K: Wait + Drop>(
     ended
 }
 
-/// Closes each of these flags.
+/// Closes each of these flags, which are those of all slots.
 pub fn close_flags<R: Wait>(rt: &R, wakes: &[WakeFlag]) -> FlagsClosed
+    requires { AreSlotFlags wakes.now }
     ensures { result ≡ length wakes.now }
 {
     let mut closed = FlagsClosed::none();

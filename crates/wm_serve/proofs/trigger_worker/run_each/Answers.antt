@@ -29,7 +29,7 @@ loop-place-preserved g c =
     elim c.match-run_at.branch [
       | in-Err w ↦ record {
         each = each (turn_stays has_run root h place now new w.in-Err.ensures.same);
-        ok = refused_ok Done w.in-Err.refusal c.match-run_at.met w.met-is;
+        ok = refused_ok Done w.in-Err.not_done c.match-run_at.met w.met-is;
       }
       | in_default w ↦ record {
         each = each (turn_ran_or has_run root h place now new w.in_default.ensures.ran);
