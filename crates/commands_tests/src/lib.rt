@@ -6,7 +6,11 @@ mod answers;
 #[cfg(test)]
 mod checks;
 #[cfg(test)]
+mod feedings;
+#[cfg(test)]
 mod folders;
+#[cfg(test)]
+mod presences;
 #[cfg(test)]
 mod questions;
 #[cfg(test)]

@@ -18,9 +18,31 @@ pub fn advice_of(refusal: Refusal) -> &'static str {
         }
         Refusal::NoMemory => "the server has no memory left: ask for fewer files, or later",
         Refusal::TooMany =>
-            "the server has too many roots, names or connections: 'wm unwatch' what nobody needs, or try later",
+            "the server has too many watched folders, or names for --since: 'wm unwatch' what nobody needs",
         Refusal::NoPlace => "the folder is no longer watched, or the server is busy: try again",
         _ =>
             "this wm and the server may be of two versions: 'wm down' and 'wm up' start the new one",
+    }
+}
+
+/// What is said if the server refuses a session, before any request.
+pub const NO_SESSION: &str =
+    "all of the server's 31 sessions are taken (17 TooMany); try later, or end what holds them, as 'wm run' and feeds do";
+
+/// What a refusal of a question about a root tells of the root. `None` if it is named by itself.
+pub fn root_status(refusal: Refusal) -> Option<&'static str> {
+    match refusal {
+        Refusal::NotReady => Some("not crawled yet"),
+        Refusal::NotWatched => Some("no longer watched"),
+        _ => None,
+    }
+}
+
+/// What to do if a folder in a root can't be read, so that the root can't be crawled.
+pub fn unreadable_advice(is_running: bool) -> &'static str {
+    if is_running {
+        "the feed passes it over once it is ready: 'wm status' tells"
+    } else {
+        "a feed passes it over: 'wm up' starts one"
     }
 }

@@ -1,0 +1,13 @@
+-- What `wm up` does once it looked for a server.
+use Rattle.std.specs.Prelude.{Bool, if◌then◌else◌}
+use Rattle.wm_commands.specs.declared.presence.Presence.{Presence}
+use Rattle.wm_commands.specs.declared.presence.Presence.TheVariants.{Answered, Silent, Absent}
+use Rattle.wm_commands.specs.declared.presence.UpStep.{UpStep}
+use Rattle.wm_commands.specs.declared.presence.UpStep.TheVariants.{Keep, LookAgain, Start}
+
+-- A server is kept only if it answered. One that took a connection and didn't answer is looked at again until it is late; then one is
+-- started, as if none was there.
+abbrev pub up_step : Presence → (is_late : Bool) → UpStep
+up_step Answered is_late = Keep
+up_step Silent is_late = if is_late then Start else LookAgain
+up_step Absent is_late = Start
