@@ -1,34 +1,37 @@
 //! `wm files` and `wm changes`: one question, and what is shown of its answer.
 
+use crate::crawling::{await_crawl, crawl};
 use crate::failure::Failure;
 use crate::feeds::is_fed;
 use crate::listening::read_answer;
 use crate::place::{Place, expression_of, place_of};
 use crate::server::{Reply, Server};
 use serde_json::Value;
-use std::io::IsTerminal;
-use wm_commands::{query_line, root_line, shown_of};
+use wm_commands::{Feeding, query_line, root_line, shown_of};
 use wm_orders::Order;
 
-/// Says on standard error that no feed runs, and has the root crawled in its place.
-fn without_feed(server: &Server<'_>, root: &str) -> Result<(), Failure> {
-    eprintln!(server.rt;
-        "wm: {root}: no feed runs, so it is crawled for this question; 'wm up' starts a feed"
-    )?;
-    server.crawl(root)
+/// Says on standard error why a root is crawled, and has it crawled.
+fn crawl_instead(server: &Server<'_>, root: &str, is_running: bool) -> Result<(), Failure> {
+    let reason = Feeding::of(is_running, false).crawl_reason();
+    eprintln!(server.rt; "wm: {root}: {reason}")?;
+    crawl(server, root)
 }
 
 /// Waits until the server knows all that happened in a root so far: by its feed, and else by a crawl.
 pub fn sync(server: &Server<'_>, root: &str) -> Result<(), Failure> {
-    server.await_crawl(root, server.rt.stderr().is_terminal())?;
+    await_crawl(server, root)?;
     if !is_fed(server.rt, server.socket, false)? {
-        return without_feed(server, root);
+        return crawl_instead(server, root, false);
     }
     let json = root_line(server.rt.alloc(), "clock", root)?;
     match server.ask(json, Some(root))? {
         Reply::Line(_) => Ok(()),
         Reply::Refused(refusal, line) => Err(server.refused(root, refusal, &line)),
-        Reply::NoFeed => without_feed(server, root),
+        Reply::NoSession => Err(server.no_session()),
+        Reply::NoFeed => {
+            let is_running = is_fed(server.rt, server.socket, false)?;
+            crawl_instead(server, root, is_running)
+        }
     }
 }
 
@@ -41,7 +44,7 @@ pub fn answer_line(
     is_json: bool,
 ) -> Result<String, Failure> {
     if order.question.is_unsynced {
-        server.await_crawl(&place.root, server.rt.stderr().is_terminal())?;
+        await_crawl(server, &place.root)?;
     } else {
         sync(server, &place.root)?;
     }

@@ -1,18 +1,8 @@
-//! Which programs run, by what the system says of its processes.
+//! Which feeds run, by what the system says of its processes.
 
 use crate::failure::Failure;
+use crate::processes::is_program;
 use std::fs;
-
-/// Whether the words of a process, each with a zero byte behind it, begin with a program of this name. A process that has ended has none.
-pub fn is_program(words: &str, name: &str) -> bool {
-    let Some((program, _)) = words.split_once('\0') else {
-        return false;
-    };
-    match program.rsplit_once('/') {
-        Some((_, last)) => last == name,
-        None => program == name,
-    }
-}
 
 /// Whether a word of a process, whose folder in /proc is named, says the path of a socket.
 fn is_socket(rt: &HostRuntime, process: &str, word: &str, socket: &str) -> Result<bool, Failure> {
@@ -57,10 +47,29 @@ fn is_feed(
     is_socket(rt, process, named, socket)
 }
 
-/// Whether a feed runs for the server at a socket, whoever started it: one for all roots, if that is wanted.
-pub fn is_fed(rt: &HostRuntime, socket: &str, is_for_all: bool) -> Result<bool, Failure> {
+/// Whether a process, whose folder in /proc is named, is such a feed.
+pub fn is_feed_in(
+    rt: &HostRuntime,
+    process: &str,
+    socket: &str,
+    is_for_all: bool,
+) -> Result<bool, Failure> {
+    let file = format!(in rt.alloc(); "{process}/cmdline")?;
+    match fs::read_to_string(rt, file.as_str()) {
+        Ok(words) => is_feed(rt, process, words.as_str(), socket, is_for_all),
+        Err(_) => Ok(false),
+    }
+}
+
+/// The folder in /proc of a feed for the server at a socket, whoever started it: one for all roots, if that is wanted. `None` if none
+/// runs.
+pub fn feed_of(
+    rt: &HostRuntime,
+    socket: &str,
+    is_for_all: bool,
+) -> Result<Option<String>, Failure> {
     let Ok(processes) = fs::read_dir(rt, "/proc") else {
-        return Ok(false);
+        return Ok(None);
     };
     for process in processes {
         let Ok(process) = process else {
@@ -68,12 +77,14 @@ pub fn is_fed(rt: &HostRuntime, socket: &str, is_for_all: bool) -> Result<bool, 
         };
         let number = process.file_name();
         let folder = format!(in rt.alloc(); "/proc/{number}")?;
-        let file = format!(in rt.alloc(); "{folder}/cmdline")?;
-        if let Ok(words) = fs::read_to_string(rt, file.as_str()) {
-            if is_feed(rt, &folder, words.as_str(), socket, is_for_all)? {
-                return Ok(true);
-            }
+        if is_feed_in(rt, &folder, socket, is_for_all)? {
+            return Ok(Some(folder));
         }
     }
-    Ok(false)
+    Ok(None)
+}
+
+/// Whether a feed runs for the server at a socket: one for all roots, if that is wanted.
+pub fn is_fed(rt: &HostRuntime, socket: &str, is_for_all: bool) -> Result<bool, Failure> {
+    Ok(feed_of(rt, socket, is_for_all)?.is_some())
 }

@@ -1,18 +1,23 @@
 //! A subscription that waits for a change below a folder.
 
 use crate::failure::Failure;
+use crate::feed_looks::FeedLooks;
 use crate::place::{Place, expression_of};
 use crate::server::Server;
 use serde_json::Value;
-use std::io::{BufRead, BufReader, ErrorKind, Write};
+use std::io::{BufRead, BufReader, Write};
 use std::os::unix::net::UnixStream;
 use std::time::{Duration, Instant};
 use wm_client::refusal_of;
 use wm_commands::{Answer, Settle, answer_of, reported_name, subscribe_line};
+use wm_disk::Refusal;
 use wm_orders::Order;
 
 /// How often it is looked whether a change has settled, in milliseconds.
 const TICK: u64 = 10;
+
+/// How often it is looked whether the root is fed while nothing changes, in milliseconds.
+const LOOK: u64 = 1_500;
 
 /// The names of an answer as they are reported from the place's folder, those outside of it left out.
 pub fn from_dir(server: &Server<'_>, place: &Place, answer: Answer) -> Result<Answer, Failure> {
@@ -63,30 +68,33 @@ pub fn await_change(
     place: &Place,
     order: &Order,
     since: Option<&str>,
+    feed: &mut FeedLooks,
 ) -> Result<(), Failure> {
     let alloc = server.rt.alloc();
+    feed.set_root(server, since)?;
     let expression = expression_of(server, place, order)?;
     let json = subscribe_line(alloc, &place.root, since, expression, false)?;
     let request = format!(in alloc; "{json}\n")?;
     let stream = server.connected()?;
+    stream.set_read_timeout(Some(Duration::from_millis(LOOK)))?;
     let mut sender = &stream;
-    if sender.write_all(request.as_bytes()).is_err() {
-        return Err(server.lost("it takes no request"));
-    }
+    // A server that refuses the session says so.
+    let _written = sender.write_all(request.as_bytes());
     let mut lines = BufReader::new(alloc, &stream)?;
-    match read_changes(server, place, order, &stream, &mut lines) {
+    match read_changes(server, place, order, &stream, &mut lines, feed) {
         Err(failure) => Err(server.explained(failure, &json)),
         Ok(()) => Ok(()),
     }
 }
 
-/// Reads the lines of a subscription until a change has settled. Before the first change nothing is looked at meanwhile.
+/// Reads the lines of a subscription until a change has settled. Before the first change it is looked now and then whether the root is fed.
 fn read_changes<R: BufRead>(
     server: &Server<'_>,
     place: &Place,
     order: &Order,
     stream: &UnixStream,
     lines: &mut R,
+    feed: &mut FeedLooks,
 ) -> Result<(), Failure> {
     let begun = Instant::now(server.rt)?;
     let mut settle = Settle {
@@ -101,6 +109,8 @@ fn read_changes<R: BufRead>(
                 stream.set_read_timeout(Some(Duration::from_millis(TICK)))?;
             }
             line.clear();
+        } else if settle.last.is_none() {
+            feed.look(server, &place.root)?;
         }
         if settle.is_settled(millis_since(server, begun)?) {
             return Ok(());
@@ -115,25 +125,21 @@ fn millis_since(server: &Server<'_>, begun: Instant) -> Result<u64, Failure> {
     Ok(u64::try_from(now.duration_since(begun).as_millis()).unwrap_or(u64::MAX))
 }
 
-/// Reads on in a line. `false` if it isn't whole yet.
+/// Reads on in a line. `false` if it isn't whole yet; a refusal is a failure.
 fn is_read<R: BufRead>(
     server: &Server<'_>,
     place: &Place,
     lines: &mut R,
     line: &mut Vec<u8>,
 ) -> Result<bool, Failure> {
-    match lines.read_until(b'\n', line) {
-        Ok(0) => Err(server.lost("it ended")),
-        Ok(_) if !line.ends_with(b"\n") => Err(server.lost("it ended")),
-        Ok(_) => {
-            if line.starts_with(b"{\"error\":") {
-                let text = str::from_utf8(line).unwrap_or("");
-                return Err(server.refused(&place.root, refusal_of(line), text));
-            }
-            Ok(true)
+    let is_whole = server.is_read(lines, line)?;
+    if is_whole && line.starts_with(b"{\"error\":") {
+        let refusal = refusal_of(line);
+        if refusal == Some(Refusal::TooMany) {
+            return Err(server.no_session());
         }
-        Err(error) if error.kind() == ErrorKind::WouldBlock => Ok(false),
-        Err(error) if error.kind() == ErrorKind::OutOfMemory => Err(Failure::NoMemory),
-        Err(_) => Err(server.lost("it ended")),
+        let text = str::from_utf8(line).unwrap_or("");
+        return Err(server.refused(&place.root, refusal, text));
     }
+    Ok(is_whole)
 }

@@ -2,11 +2,14 @@
 #![tactic(auto)]
 
 mod asking;
+mod crawling;
 mod failure;
+mod feed_looks;
 mod feeds;
 mod listening;
 mod place;
 mod places;
+mod processes;
 mod running;
 mod server;
 mod starting;
@@ -30,7 +33,7 @@ fn about_folder(server: &Server<'_>, order: &Order) -> Result<u8, Failure> {
         let dir = gone_folder(server.rt, named)?;
         return watches::unwatch(server, &dir);
     }
-    let dir = folder(server.rt, named)?;
+    let dir = folder(server.rt, named, order.verb.pattern_example())?;
     match order.verb {
         Verb::Watch => watches::watch(server, &dir),
         Verb::Wait => running::wait(server, dir, order),

@@ -92,19 +92,25 @@ fn no_folder(alloc: Global, path: &str, what: &str) -> Failure {
     }
 }
 
-/// What is wrong with a path where nothing is.
-fn lacking(path: &str) -> &'static str {
-    let bytes = path.as_bytes();
-    if bytes.contains(&b'*') || bytes.contains(&b'?') {
-        "no such folder; a PATTERN stands behind DIR, as in 'wm files . PATTERN'"
-    } else {
-        "no such folder"
+/// What is wrong with the word that names a folder, with how a PATTERN stands in the command, if it takes one.
+fn wrong_word(alloc: Global, path: &str, what: &str, example: Option<&str>) -> Failure {
+    let Some(example) = example else {
+        return no_folder(alloc, path, what);
+    };
+    match format!(in alloc; "{what}; a PATTERN stands behind DIR, as in '{example}'") {
+        Ok(text) => no_folder(alloc, path, &text),
+        Err(_) => Failure::NoMemory,
     }
 }
 
-/// The real path of a folder, the present one if none is named. It has to be there.
-pub fn folder(rt: &HostRuntime, named: Option<&str>) -> Result<String, Failure> {
+/// The real path of a folder, the present one if none is named. It has to be there. If the command takes a PATTERN, `example` has one.
+pub fn folder(
+    rt: &HostRuntime,
+    named: Option<&str>,
+    example: Option<&str>,
+) -> Result<String, Failure> {
     let alloc = rt.alloc();
+    let example = if named.is_some() { example } else { None };
     let path = whole(rt, named.unwrap_or("."))?;
     let real = match fs::canonicalize(rt, path.as_str()) {
         Ok(real) => real.into_string(),
@@ -116,13 +122,13 @@ pub fn folder(rt: &HostRuntime, named: Option<&str>) -> Result<String, Failure> 
                     &path,
                     "no permission to look there",
                 ),
-                _ => no_folder(alloc, &path, lacking(&path)),
+                _ => wrong_word(alloc, &path, "no such folder", example),
             });
         }
     };
     match fs::metadata(rt, real.as_str()) {
         Ok(found) if found.is_dir() => Ok(real),
-        Ok(_) => Err(no_folder(alloc, &real, "is a file, and no folder")),
+        Ok(_) => Err(wrong_word(alloc, &real, "is a file, and no folder", example)),
         Err(_) => Err(no_folder(alloc, &real, "no such folder")),
     }
 }

@@ -2,6 +2,7 @@
 
 use crate::asking::{answer_line, show};
 use crate::failure::{Failure, failed};
+use crate::feed_looks::FeedLooks;
 use crate::listening::{await_change, read_answer};
 use crate::place::{Place, place_of};
 use crate::server::Server;
@@ -34,7 +35,8 @@ pub fn wait(server: &Server<'_>, dir: String, order: &Order) -> Result<u8, Failu
     let place = place_of(server, dir)?;
     let now = answer(server, &place, order, None)?;
     let since = Some(now.clock.as_str());
-    await_change(server, &place, order, since)?;
+    let mut feed = FeedLooks::new();
+    await_change(server, &place, order, since, &mut feed)?;
     let line = answer_line(server, &place, order, since, order.style.is_json)?;
     show(server, &place, order, &line)
 }
@@ -109,6 +111,7 @@ fn step(
     order: &Order,
     runs: &mut Runs,
     is_lost: &mut bool,
+    feed: &mut FeedLooks,
 ) -> Result<(), Failure> {
     let answer = answer(server, place, order, runs.since())?;
     *is_lost = false;
@@ -116,7 +119,7 @@ fn step(
         run_once(server, place, order, &names)?;
         runs.end();
     }
-    await_change(server, place, order, runs.since())
+    await_change(server, place, order, runs.since(), feed)
 }
 
 /// Handles `run`: it goes on until a signal ends it. A server that isn't there, or can't answer yet, is waited for.
@@ -124,8 +127,9 @@ pub fn run(server: &Server<'_>, dir: String, order: &Order) -> Result<u8, Failur
     let place = place_of(server, dir)?;
     let mut runs = Runs::new();
     let mut is_lost = false;
+    let mut feed = FeedLooks::new();
     for _ in 0..u64::MAX {
-        match step(server, &place, order, &mut runs, &mut is_lost) {
+        match step(server, &place, order, &mut runs, &mut is_lost, &mut feed) {
             Ok(()) => {}
             Err(Failure::Told { status: 3, text } | Failure::Later { text }) => {
                 if !is_lost {

@@ -3,12 +3,12 @@
 use crate::failure::{Failure, cause_of, failed};
 use serde_json::Value;
 use std::alloc::Global;
-use std::io::{BufReader, ErrorKind, IsTerminal};
+use std::io::{BufRead, BufReader, ErrorKind, IsTerminal, Write};
 use std::os::unix::net::UnixStream;
 use std::time::{Duration, Instant};
-use std::{io, process, thread};
+use std::{io, process};
 use wm_client::{Request, Sync, SyncEnd, SyncFiles, TalkEnd, refusal_of, synced_talk};
-use wm_commands::{advice_of, root_line};
+use wm_commands::{NO_SESSION, Presence, advice_of};
 use wm_disk::Refusal;
 use wm_findings::is_wanted;
 use wm_parts::explanation;
@@ -27,6 +27,8 @@ pub enum Reply {
     Line(String),
     /// A refusal, with its line.
     Refused(Option<Refusal>, String),
+    /// The server refused the session, since all of its sessions are taken.
+    NoSession,
     /// No feed synced the root in time.
     NoFeed,
 }
@@ -34,12 +36,11 @@ pub enum Reply {
 /// For how many milliseconds a feed is waited for.
 const PATIENCE: u32 = 3_000;
 
-/// How long a root that isn't ready is left alone.
-const PAUSE: u64 = 50;
+/// How long an answer of a server is waited for that may be about to end, in milliseconds.
+const ANSWER: u64 = 2_000;
 
-const LOOKS_A_SECOND: u64 = 20;
-
-const LOOKS_BEFORE_CRAWL: u64 = 200;
+/// How long it is looked whether a server closes a session that it refused, in milliseconds.
+const CLOSE: u64 = 500;
 
 impl Server<'_> {
     /// The failure of a server that can't be reached, for this cause.
@@ -78,14 +79,36 @@ impl Server<'_> {
         }
     }
 
-    /// Whether a server listens at the socket. The failure is that of a path where none can.
-    pub fn is_there(&self) -> Result<bool, Failure> {
-        match UnixStream::connect(self.rt, self.socket) {
-            Ok(_) => Ok(true),
-            Err(error) => match error.kind() {
-                ErrorKind::NotFound | ErrorKind::ConnectionRefused => Ok(false),
-                _ => Err(self.unreached(&error)),
-            },
+    /// What is at the socket. The failure is that of a path where nothing can be.
+    pub fn presence(&self) -> Result<Presence, Failure> {
+        let stream = match UnixStream::connect(self.rt, self.socket) {
+            Ok(stream) => stream,
+            Err(error) => {
+                return match error.kind() {
+                    ErrorKind::NotFound | ErrorKind::ConnectionRefused => Ok(Presence::Absent),
+                    _ => Err(self.unreached(&error)),
+                };
+            }
+        };
+        if self.is_answered(&stream)? {
+            Ok(Presence::Answered)
+        } else {
+            Ok(Presence::Silent)
+        }
+    }
+
+    /// Whether a line comes over a connection. A server that refuses the session sends one too.
+    fn is_answered(&self, stream: &UnixStream) -> Result<bool, Failure> {
+        let alloc = self.rt.alloc();
+        stream.set_read_timeout(Some(Duration::from_millis(ANSWER)))?;
+        let mut sender = stream;
+        let _written = sender.write_all(b"[\"version\"]\n");
+        let mut lines = BufReader::new(alloc, stream)?;
+        let mut line = Vec::new(alloc);
+        match lines.read_until(b'\n', &mut line) {
+            Ok(_) => Ok(line.ends_with(b"\n")),
+            Err(error) if error.kind() == ErrorKind::OutOfMemory => Err(Failure::NoMemory),
+            Err(_) => Ok(false),
         }
     }
 
@@ -127,7 +150,22 @@ impl Server<'_> {
             &mut replies,
             &mut printed,
         )?;
+        if refusal_of(&printed) == Some(Refusal::TooMany)
+            && self.is_closed(&stream, &mut replies)?
+        {
+            return Ok(Reply::NoSession);
+        }
         self.reply(end, &printed)
+    }
+
+    /// Whether the server closes a connection behind a refusal: it refused the session, and no request.
+    fn is_closed<R: BufRead>(&self, stream: &UnixStream, replies: &mut R) -> Result<bool, Failure> {
+        stream.set_read_timeout(Some(Duration::from_millis(CLOSE)))?;
+        let mut line = Vec::new(self.rt.alloc());
+        match replies.read_until(b'\n', &mut line) {
+            Ok(count) => Ok(count == 0),
+            Err(error) => Ok(error.kind() != ErrorKind::WouldBlock),
+        }
     }
 
     /// The reply of a talk that ended so, after it printed these bytes.
@@ -172,19 +210,24 @@ impl Server<'_> {
         }
     }
 
-    /// Has a root crawled, and waits until that is done.
-    pub fn crawl(&self, root: &str) -> Result<(), Failure> {
-        let json = root_line(self.rt.alloc(), "recrawl", root)?;
-        match self.ask(json, None)? {
-            Reply::Line(_) => Ok(()),
-            Reply::Refused(Some(Refusal::DeviceFailed), _) => {
-                let text = format!(in self.rt.alloc();
-                    "{root}: a folder in it can't be read (13 DeviceFailed); a feed passes it over: 'wm up' starts one"
-                )?;
-                Err(failed(1, text))
-            }
-            Reply::Refused(refusal, line) => Err(self.refused(root, refusal, &line)),
-            Reply::NoFeed => Err(self.lost("no feed")),
+    /// The failure of a session that was refused.
+    pub fn no_session(&self) -> Failure {
+        let socket = self.socket;
+        match format!(in self.rt.alloc(); "{socket}: {NO_SESSION}") {
+            Ok(text) => Failure::Later { text },
+            Err(_) => Failure::NoMemory,
+        }
+    }
+
+    /// Reads on in a line. `false` if it isn't whole yet, and the connection's time for a read is over.
+    pub fn is_read<R: BufRead>(&self, lines: &mut R, line: &mut Vec<u8>) -> Result<bool, Failure> {
+        match lines.read_until(b'\n', line) {
+            Ok(0) => Err(self.lost("it ended")),
+            Ok(_) if !line.ends_with(b"\n") => Err(self.lost("it ended")),
+            Ok(_) => Ok(true),
+            Err(error) if error.kind() == ErrorKind::WouldBlock => Ok(false),
+            Err(error) if error.kind() == ErrorKind::OutOfMemory => Err(Failure::NoMemory),
+            Err(_) => Err(self.lost("it ended")),
         }
     }
 
@@ -216,6 +259,7 @@ impl Server<'_> {
             Reply::Refused(refusal, line) => {
                 Err(self.explained(self.refused(about, refusal, &line), &asked))
             }
+            Reply::NoSession => Err(self.no_session()),
             Reply::NoFeed => Err(self.lost("no feed")),
         }
     }
@@ -227,35 +271,6 @@ impl Server<'_> {
             Ok(value) => Ok(value),
             Err(_) => Err(self.lost("its reply is no JSON")),
         }
-    }
-
-    /// Whether a root was crawled.
-    fn is_crawled(&self, root: &str) -> Result<bool, Failure> {
-        let json = root_line(self.rt.alloc(), "clock", root)?;
-        match self.ask(json, None)? {
-            Reply::Line(_) => Ok(true),
-            Reply::Refused(Some(Refusal::NotReady), _) | Reply::NoFeed => Ok(false),
-            Reply::Refused(refusal, line) => Err(self.refused(root, refusal, &line)),
-        }
-    }
-
-    /// Waits until a root was crawled, and says so on standard error each second, if that is to be shown. A crawl that isn't done
-    /// after ten seconds may have been refused, so another one is asked for, which says why.
-    pub fn await_crawl(&self, root: &str, is_shown: bool) -> Result<(), Failure> {
-        for looks in 0..u64::MAX {
-            if self.is_crawled(root)? {
-                break;
-            }
-            if looks == LOOKS_BEFORE_CRAWL {
-                self.crawl(root)?;
-            }
-            if is_shown && looks != 0 && looks % LOOKS_A_SECOND == 0 {
-                let seconds = looks / LOOKS_A_SECOND;
-                eprintln!(self.rt; "wm: {root}: the first crawl goes on, {seconds} s so far")?;
-            }
-            thread::sleep(self.rt, Duration::from_millis(PAUSE));
-        }
-        Ok(())
     }
 }
 

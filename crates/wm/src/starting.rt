@@ -1,19 +1,24 @@
 //! `wm up` and `wm down`: the server and the feed in the background.
 
 use crate::failure::{Failure, at_path, failed};
-use crate::feeds::{is_fed, is_program};
+use crate::feeds::is_fed;
 use crate::places::Places;
+use crate::processes::{has_gone, is_program};
 use crate::server::Server;
 use std::fs::{DirBuilder, OpenOptions};
 use std::os::unix::fs::{DirBuilderExt, OpenOptionsExt};
 use std::process::{Child, Command, Stdio};
-use std::time::Duration;
+use std::time::{Duration, Instant};
 use std::{env, fs, thread};
+use wm_commands::{Presence, UpStep, up_step};
 
 /// How often it is looked whether a server answers, and how long between two looks, in milliseconds.
 const LOOKS: u32 = 200;
 
 const PAUSE: u64 = 25;
+
+/// For how many seconds a server is looked at that takes connections and doesn't answer.
+const PATIENCE: u64 = 10;
 
 /// How often it is looked whether a feed stays.
 const FEED_LOOKS: u32 = 10;
@@ -226,7 +231,7 @@ fn start_server(server: &Server<'_>, places: &Places) -> Result<(), Failure> {
         &["serve", file.as_str(), server.socket],
     )?;
     for _ in 0..LOOKS {
-        if server.is_there()? {
+        if server.presence()? == Presence::Answered {
             return write_number(rt, places, "watchmand", &child);
         }
         if has_ended(&mut child) {
@@ -266,12 +271,27 @@ fn make_socket_folder(rt: &HostRuntime, socket: &str) -> Result<(), Failure> {
     }
 }
 
+/// Whether a server is there that answers. What takes a connection without an answer is about to end, and is looked at for some seconds.
+fn is_served(server: &Server<'_>) -> Result<bool, Failure> {
+    let begun = Instant::now(server.rt)?;
+    for _ in 0..u64::MAX {
+        let presence = server.presence()?;
+        let is_late = begun.elapsed(server.rt)?.as_secs() >= PATIENCE;
+        match up_step(presence, is_late) {
+            UpStep::Keep => return Ok(true),
+            UpStep::Start => return Ok(false),
+            UpStep::LookAgain => thread::sleep(server.rt, Duration::from_millis(PAUSE)),
+        }
+    }
+    Ok(false)
+}
+
 /// Handles `up`.
 pub fn up(server: &Server<'_>, places: &Places) -> Result<u8, Failure> {
     let rt = server.rt;
     make_folder(rt, &places.state)?;
     let socket = places.socket.as_str();
-    if server.is_there()? {
+    if is_served(server)? {
         println!(rt; "a server answers at {socket}")?;
     } else {
         make_socket_folder(rt, socket)?;
@@ -285,7 +305,7 @@ pub fn up(server: &Server<'_>, places: &Places) -> Result<u8, Failure> {
     Ok(0)
 }
 
-/// Ends a program that was started.
+/// Ends a program that was started, and waits until it has ended.
 fn end(rt: &HostRuntime, places: &Places, name: &str) -> Result<(), Failure> {
     let alloc = rt.alloc();
     let Some(number) = running(rt, places, name)? else {
@@ -296,7 +316,7 @@ fn end(rt: &HostRuntime, places: &Places, name: &str) -> Result<(), Failure> {
     command.arg(number.as_str())?;
     let _status = command.status(rt);
     for _ in 0..LOOKS {
-        if running(rt, places, name)?.is_none() {
+        if has_gone(rt, &number, name)? {
             println!(rt; "{name} ended")?;
             return Ok(());
         }

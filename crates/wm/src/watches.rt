@@ -1,12 +1,13 @@
 //! `wm watch`, `wm unwatch`, `wm list` and `wm status`.
 
 use crate::failure::Failure;
+use crate::feed_looks::is_ready;
 use crate::feeds::is_fed;
 use crate::place::{place_of, roots};
 use crate::server::{Reply, Server};
 use std::fs;
 use wm_client::root_number_of;
-use wm_commands::root_line;
+use wm_commands::{Feeding, NO_SESSION, root_line, root_status};
 use wm_disk::Refusal;
 
 /// Handles `watch`.
@@ -33,27 +34,53 @@ pub fn list(server: &Server<'_>) -> Result<u8, Failure> {
     Ok(0)
 }
 
+/// Whether a root that was crawled is fed, by the reply to a question for its clock.
+fn crawled_status(
+    server: &Server<'_>,
+    line: &str,
+    has_feed: bool,
+) -> Result<&'static str, Failure> {
+    let Some(number) = root_number_of(server.rt.alloc(), line.as_bytes())? else {
+        return Ok("unknown");
+    };
+    match Feeding::of(has_feed, is_ready(server, number)?) {
+        Feeding::Fed => Ok("ready, fed"),
+        Feeding::Unready | Feeding::Unfed => Ok("ready, not fed"),
+    }
+}
+
+/// What a refusal tells of a root.
+fn refused_status(
+    server: &Server<'_>,
+    refusal: Option<Refusal>,
+    line: &str,
+) -> Result<String, Failure> {
+    let alloc = server.rt.alloc();
+    let Some(refusal) = refusal else {
+        let line = line.trim_end();
+        return Ok(format!(in alloc; "the server refused: {line}")?);
+    };
+    match root_status(refusal) {
+        Some(status) => Ok(String::from_str(alloc, status)?),
+        None => {
+            let name = refusal.text();
+            Ok(format!(in alloc; "the server refused: {name}")?)
+        }
+    }
+}
+
 /// Whether a root is crawled and fed, in a few words.
-fn root_status(server: &Server<'_>, root: &str, has_feed: bool) -> Result<&'static str, Failure> {
+fn status_of(server: &Server<'_>, root: &str, has_feed: bool) -> Result<String, Failure> {
     let alloc = server.rt.alloc();
     if fs::metadata(server.rt, root).is_err() {
-        return Ok("no such folder: 'wm unwatch' ends its watch");
+        let text = "no such folder: 'wm unwatch' ends its watch";
+        return Ok(String::from_str(alloc, text)?);
     }
     match server.ask(root_line(alloc, "clock", root)?, None)? {
-        Reply::Line(line) => match root_number_of(alloc, line.as_bytes())? {
-            Some(number) => {
-                let socket = server.socket;
-                let folder = format!(in alloc; "{socket}.sync/{number}")?;
-                if has_feed && fs::metadata(server.rt, folder.as_str()).is_ok() {
-                    Ok("ready, fed")
-                } else {
-                    Ok("ready, not fed")
-                }
-            }
-            None => Ok("unknown"),
-        },
-        Reply::Refused(Some(Refusal::NotReady), _) => Ok("not crawled yet"),
-        Reply::Refused(..) | Reply::NoFeed => Ok("no longer watched"),
+        Reply::Line(line) => Ok(String::from_str(alloc, crawled_status(server, &line, has_feed)?)?),
+        Reply::Refused(refusal, line) => refused_status(server, refusal, &line),
+        Reply::NoSession => Ok(format!(in alloc; "not known: {NO_SESSION}")?),
+        Reply::NoFeed => Ok(String::from_str(alloc, "unknown")?),
     }
 }
 
@@ -68,7 +95,7 @@ pub fn status(server: &Server<'_>) -> Result<u8, Failure> {
     }
     for root in &roots {
         let root = root.as_str();
-        let status = root_status(server, root, has_feed)?;
+        let status = status_of(server, root, has_feed)?;
         println!(server.rt; "{root}: {status}")?;
     }
     Ok(0)

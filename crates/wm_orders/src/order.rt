@@ -40,6 +40,23 @@ impl Verb {
             _ => None,
         }
     }
+
+    /// How a PATTERN stands behind DIR in this command. `None` if it takes none.
+    pub fn pattern_example(self) -> Option<&'static str> {
+        match self {
+            Verb::Files => Some("wm files . PATTERN"),
+            Verb::Changes => Some("wm changes . PATTERN --since CLOCK"),
+            Verb::Wait => Some("wm wait . PATTERN"),
+            Verb::Run => Some("wm run . PATTERN -- COMMAND"),
+            Verb::Up
+            | Verb::Down
+            | Verb::Watch
+            | Verb::Unwatch
+            | Verb::List
+            | Verb::Status
+            | Verb::Sync => None,
+        }
+    }
 }
 
 /// A command with its arguments.

@@ -1,0 +1,82 @@
+//! Looks at the feed of a root while a change is waited for.
+
+use crate::failure::Failure;
+use crate::feeds::{feed_of, is_feed_in};
+use crate::server::Server;
+use std::fs;
+use wm_clock::ClockSpec;
+use wm_commands::{FeedSeen, Feeding};
+use wm_disk::Refusal;
+
+/// What was seen of the feed of a root.
+#[derive(Drop)]
+pub struct FeedLooks {
+    /// The root's number. `None` if it isn't known, so that nothing is looked at.
+    root: Option<u64>,
+    /// The folder in /proc of the feed that was seen last.
+    process: Option<String>,
+    seen: FeedSeen,
+}
+
+/// The number of the root that a clock has. `None` if it has none.
+fn root_of(server: &Server<'_>, clock: &str) -> Result<Option<u64>, Failure> {
+    match ClockSpec::read(server.rt.alloc(), clock) {
+        Ok(ClockSpec::Clock(clock)) => Ok(Some(clock.root)),
+        Err(Refusal::NoMemory) => Err(Failure::NoMemory),
+        Ok(_) | Err(_) => Ok(None),
+    }
+}
+
+impl FeedLooks {
+    /// No look yet. What is waited for was asked behind a sync.
+    pub fn new() -> FeedLooks {
+        FeedLooks {
+            root: None,
+            process: None,
+            seen: FeedSeen::Present,
+        }
+    }
+
+    /// The root is the one that a clock has.
+    pub fn set_root(&mut self, server: &Server<'_>, clock: Option<&str>) -> Result<(), Failure> {
+        self.root = match clock {
+            Some(clock) => root_of(server, clock)?,
+            None => None,
+        };
+        Ok(())
+    }
+
+    /// Whether a feed runs. The one that was seen last is looked at first.
+    fn is_running(&mut self, server: &Server<'_>) -> Result<bool, Failure> {
+        if let Some(process) = &self.process {
+            if is_feed_in(server.rt, process, server.socket, false)? {
+                return Ok(true);
+            }
+        }
+        self.process = feed_of(server.rt, server.socket, false)?;
+        Ok(self.process.is_some())
+    }
+
+    /// Looks once, and says on standard error if the feed of the root is missing, or is back.
+    pub fn look(&mut self, server: &Server<'_>, path: &str) -> Result<(), Failure> {
+        let Some(root) = self.root else {
+            return Ok(());
+        };
+        let is_running = self.is_running(server)?;
+        let feeding = Feeding::of(is_running, is_ready(server, root)?);
+        let is_fed = feeding == Feeding::Fed;
+        if self.seen.is_news(is_fed) {
+            let news = feeding.news();
+            eprintln!(server.rt; "wm: {path}: {news}")?;
+        }
+        self.seen = self.seen.after(is_fed);
+        Ok(())
+    }
+}
+
+/// Whether a feed has made its folder for the syncs of the root of a number.
+pub fn is_ready(server: &Server<'_>, root: u64) -> Result<bool, Failure> {
+    let socket = server.socket;
+    let folder = format!(in server.rt.alloc(); "{socket}.sync/{root}")?;
+    Ok(fs::metadata(server.rt, folder.as_str()).is_ok())
+}
