@@ -216,4 +216,36 @@ def closed_from_the_start():
         check("closed_from_the_start: the feed goes on", made.lives(), made.words_of_feed())
 
 
-CASES = [packages, there_and_back, moves_of_many, moved_folder, root_above_moves, root_is_replaced, closed_folders, closed_from_the_start]
+def lines_of_server(made):
+    """What the server has logged since the last look."""
+    os.set_blocking(made.serve.stderr.fileno(), False)
+    return (made.serve.stderr.read() or b"").decode().splitlines()
+
+
+def closed_root():
+    """A root that nobody may read is named once, and crawled ever more rarely, whether it was crawled before or never."""
+    if (kept := as_nobody()) is None:
+        return
+    for what in ("never crawled", "crawled before"):
+        with site(fed=False, before=lambda root: tree(root, ["a"], 3), **kept) as made:
+            client = made.client()
+            if what == "crawled before":
+                made.watch()
+                until(lambda: view(client, made.root) is not None)
+            os.chmod(made.root, 0)
+            made.watch()
+            made.start_feed(of_root=False)
+            line = f"wmfeed: {made.root}: 13 DeviceFailed\n"
+            check(f"closed_root, {what}: it is named", until(lambda: line in made.words_of_feed(), 10), made.words_of_feed())
+            lines_of_server(made)
+            time.sleep(12)
+            lines = lines_of_server(made)
+            check(f"closed_root, {what}: it is crawled ever more rarely", len(lines) <= 6, lines)
+            check(f"closed_root, {what}: it is named once", made.words_of_feed().count(f"wmfeed: {made.root}: ") == 1, made.words_of_feed())
+            os.chmod(made.root, 0o755)
+            equal(made, client, f"closed_root, {what}: it may be read then", 30)
+            write(made.root + "/a/new", "x")
+            equal(made, client, f"closed_root, {what}: and what happens in it", 20)
+
+
+CASES = [packages, there_and_back, moves_of_many, moved_folder, root_above_moves, root_is_replaced, closed_folders, closed_from_the_start, closed_root]

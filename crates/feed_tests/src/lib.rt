@@ -46,6 +46,8 @@ mod paths;
 #[cfg(test)]
 mod records;
 #[cfg(test)]
+mod refused_crawls;
+#[cfg(test)]
 mod renames;
 #[cfg(test)]
 mod renewed;

@@ -1,1 +1,2 @@
 pub mod ForNow
+pub mod Pauses

@@ -33,10 +33,12 @@ impl<Y: System> Root<'_, Y> {
     /// Crawls a part of the root. A folder in it that can't be read is passed over.
     pub(crate) fn crawl(&mut self, server: &mut Server<Y>, part: &Subtree) -> Result<(), Stop> {
         match self.recrawl(server, part)? {
-            Asked::Told => Ok(()),
-            Asked::Refused(Refusal::DeviceFailed) => self.crawl_around(server, part),
-            Asked::Refused(refusal) => Err(stop_of(refusal)),
+            Asked::Told => {}
+            Asked::Refused(Refusal::DeviceFailed) => self.crawl_around(server, part)?,
+            Asked::Refused(refusal) => return Err(stop_of(refusal)),
         }
+        self.pause = 0;
+        Ok(())
     }
 
     /// Crawls a part that can't be crawled at once: each folder in it that can't be is read here.

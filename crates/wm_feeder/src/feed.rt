@@ -1,6 +1,7 @@
 //! The feed of a root under one watch: its records until a doubt. Tests: feed_tests, tools/feed_use.py.
 
 use crate::gathering::Gathering;
+use crate::ready::UNREADY;
 use crate::root::Root;
 use crate::server::Server;
 use crate::system::System;
@@ -19,9 +20,6 @@ const UNHEARD: u64 = 100;
 
 /// How long after a complaint of inotifywait the making of the folder that it may be of is reported at the latest, in milliseconds.
 const COMPLAINED: u64 = 1_000;
-
-/// How long a root that isn't ready waits until it is asked for again, in milliseconds.
-const UNREADY: u64 = 10;
 
 /// The device and the number of a folder.
 pub(crate) type Identity = (u64, u64);
@@ -235,7 +233,11 @@ impl<Y: System> Feed<Y> {
         }
         self.asked_at = now;
         match root.number(turn.server)? {
-            None => return Ok(()),
+            None => {
+                let wait = root.unready_wait().saturating_sub(UNREADY);
+                self.asked_at = now.saturating_add(wait);
+                return Ok(());
+            }
             Some(number) if number != self.number => return Err(Stop::Doubt),
             Some(_) => {}
         }

@@ -137,10 +137,10 @@ fn feed_all<Y: System>(system: &Y, alloc: Global, order: &Order<'_>) -> Result<(
 /// A feed of all roots ends only if it can't begin, or can't read its stream of records any longer: `Unwatched` if inotifywait can't be
 /// started, and `NoMemory`. Of one root:
 /// `NoFolder` if no folder is at the root's path when it begins: the server isn't asked to watch it. One that goes later is waited for.
-/// `WatchGone` if the root isn't watched any longer; `Refused` by the refusal of a request that isn't one for now, or of one that
-/// ended the last of ten watches; `Unwatched` if inotifywait can't be started, `Unwatchable` if ten watches in a row came to nothing,
-/// as inotifywait ended or a folder stayed without a watch; `ServerGone`, `Unreadable` and `NoMemory`. What was sent until then is with
-/// the server.
+/// `WatchGone` if the root isn't watched any longer; `Refused` by the refusal of a request that isn't one for now, of one that ended
+/// the last of ten watches, or of the crawl behind them; `Unwatched` if inotifywait can't be started, `Unwatchable` if ten watches in a
+/// row came to nothing, as inotifywait ended or a folder stayed without a watch; `ServerGone`, `Unreadable` and `NoMemory`. What was
+/// sent until then is with the server.
 pub fn feed_by<Y: System>(system: &Y, alloc: Global, order: &Order<'_>) -> Stop {
     let ended = match order.root {
         None => feed_all(system, alloc, order),

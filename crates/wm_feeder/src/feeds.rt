@@ -1,7 +1,7 @@
 //! The feeds of roots by one session with the server and one stream of records. Tests: feed_tests, tools/feed_use.py.
 
 use crate::feed::Turn;
-use crate::root::Root;
+use crate::root::{Root, is_for_now};
 use crate::root_feed::RootFeed;
 use crate::server::Server;
 use crate::system::{Records, System};
@@ -90,17 +90,20 @@ impl<'a, Y: System> Feeds<'a, Y> {
         }
     }
 
-    /// Reports to the user why the root at a place can't be fed, and lets it rest. One that isn't watched any longer goes with the next list.
+    /// Reports to the user why the root at a place can't be fed, and lets it rest: longer each time if its crawl was refused. One that
+    /// isn't watched any longer goes with the next list.
     pub(crate) fn rest(&mut self, place: usize, stop: Stop) -> Result<(), Stop> {
         let Some(one) = self.roots.get_mut(place) else {
             return Ok(());
         };
         if stop != Stop::WatchGone {
-            let root = one.root.path.as_str();
-            let line = format!(in self.alloc; "wmfeed: {root}: {}", stop.text())?;
-            one.root.said.tell(self.system, line)?;
+            one.root.tell_cause(stop.text())?;
         }
-        one.pause(UNFED);
+        let millis = match stop {
+            Stop::Refused(refusal) if is_for_now(refusal) => one.root.rest(),
+            _ => UNFED,
+        };
+        one.pause(millis);
         Ok(())
     }
 

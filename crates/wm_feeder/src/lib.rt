@@ -18,6 +18,7 @@ mod inotify;
 mod inotifywait;
 mod line_sender;
 mod looking;
+mod pause;
 mod ready;
 mod root;
 mod root_feed;

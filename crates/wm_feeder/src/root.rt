@@ -6,6 +6,7 @@ ghost use Rattle.wm_client.specs.RefusalLines.{is_refused_by};
 ghost use Rattle.wm_client.specs.Talks.{is_refusal_line};
 ghost use Rattle.wm_feeder.specs.ForNow.{is_for_now as is_for_now_lem};
 
+use crate::pause::next_pause;
 use crate::said::Said;
 use crate::server::{Asked, Server};
 use crate::system::System;
@@ -38,6 +39,8 @@ pub(crate) struct Root<'a, Y: System> {
     pub(crate) is_every_event: bool,
     /// Since when the server hasn't crawled the root, or when a crawl was last asked for.
     pub(crate) unready_at: Option<u64>,
+    /// How long the root rests since its crawl was refused, in milliseconds; 0 if the last crawl wasn't.
+    pub(crate) pause: u64,
 }
 
 /// Whether the same request may be accepted later: the root isn't crawled yet, a crawl was overtaken by too many observations, the
@@ -95,6 +98,7 @@ impl<'a, Y: System> Root<'a, Y> {
             closed: BTreeSet::new(alloc),
             is_every_event,
             unready_at: None,
+            pause: 0,
         })
     }
 
@@ -102,6 +106,18 @@ impl<'a, Y: System> Root<'a, Y> {
     pub(crate) fn whole(&self, path: &str) -> Result<String, Stop> {
         let root = self.path.as_str();
         Ok(format!(in self.alloc; "{root}/{path}")?)
+    }
+
+    /// Names the root to the user, and why it isn't fed, once.
+    pub(crate) fn tell_cause(&mut self, cause: &str) -> Result<(), Stop> {
+        let line = format!(in self.alloc; "wmfeed: {}: {cause}", self.path.as_str())?;
+        self.said.tell(self.system, line)
+    }
+
+    /// How long the root rests now, in milliseconds, as its crawl was refused once more.
+    pub(crate) fn rest(&mut self) -> u64 {
+        self.pause = next_pause(self.pause);
+        self.pause
     }
 
     /// Asks by a command of one argument.

@@ -13,10 +13,8 @@ const MAX_FAULTS: u32 = 10;
 
 const FAULT: u64 = 50;
 
-/// How long a root that isn't there, or isn't ready, waits until it is looked for again, in milliseconds.
+/// How long a root that isn't there waits until it is looked for again, in milliseconds.
 const ABSENT: u64 = 200;
-
-const UNREADY: u64 = 10;
 
 /// A root, and its feed if it is watched.
 #[derive(Drop)]
@@ -81,7 +79,7 @@ impl<'a, Y: System> RootFeed<'a, Y> {
             return Ok(());
         }
         let Some(number) = self.root.number(turn.server)? else {
-            self.begin_at = now.saturating_add(UNREADY);
+            self.begin_at = now.saturating_add(self.root.unready_wait());
             return Ok(());
         };
         let Some(identity) = self.root.system.identity(self.root.path.as_str()) else {
@@ -123,12 +121,15 @@ impl<'a, Y: System> RootFeed<'a, Y> {
         self.begin_at = self.root.system.now().saturating_add(wait);
     }
 
-    /// How a feed ends whose watches end again and again: by the refusal that ended the last of them, if one did. What is there
-    /// now is crawled once more.
+    /// How a feed ends whose watches end again and again. What is there now is crawled once more: the refusal of that crawl is the cause, or
+    /// else the one that ended the last watch, if one did.
     fn give_up(&mut self, turn: &mut Turn<'_, Y>, last: Stop) -> Stop {
         self.faults = 0;
-        let _told = self.root.crawl(turn.server, &Subtree::Whole);
-        match last {
+        let cause = match self.root.crawl(turn.server, &Subtree::Whole) {
+            Err(Stop::RefusedForNow(refusal)) => Stop::RefusedForNow(refusal),
+            _ => last,
+        };
+        match cause {
             Stop::RefusedForNow(refusal) => Stop::Refused(refusal),
             _ => Stop::Unwatchable,
         }
