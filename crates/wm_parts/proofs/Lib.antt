@@ -1,2 +1,3 @@
 mod KeyCounts
 mod TermParts
+mod ValueKinds

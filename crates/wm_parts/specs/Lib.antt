@@ -1,3 +1,4 @@
 pub mod PartLines
 pub mod RefusedParts
 pub mod RefusedTerms
+pub mod RefusedValues

@@ -1,10 +1,11 @@
 -- The line that says a part of a request.
-use Rattle.std.specs.Prelude.{◌≡◌, ◌++◌, ℕ, false, List, Option, None, Some, codes}
+use Rattle.std.specs.Prelude.{◌≡◌, ◌++◌, ℕ, false, List, Option, None, Some, codes, decimal}
 use Rattle.serde_json.specs.Data.{Data}
 use Rattle.serde_json.specs.Written.{compact_text, has_float}
 use Rattle.wm_disk.specs.declared.refusal.Refusal.{Refusal}
 use Rattle.wm_explain.specs.Shown.{shown_text}
-use Rattle.wm_parts.specs.RefusedParts.{PartSeen, command_seen, field_seen, key_seen, refusing_part, root_seen, term_seen}
+use Rattle.wm_parts.specs.RefusedParts.{PartSeen, command_seen, field_seen, form_seen, key_seen, refusing_part, root_seen, term_seen, value_seen}
+use Rattle.wm_parts.specs.RefusedValues.{value_said}
 
 -- a name, and what is said of it
 abbrev pub named_line : (name text : List ℕ) → List ℕ
@@ -14,24 +15,36 @@ named_line name text = codes "'" ++ name ++ codes "' " ++ text ++ codes "\n"
 abbrev pub value_line : (value text : List ℕ) → List ℕ
 value_line value text = value ++ codes " " ++ text ++ codes "\n"
 
+-- how a request of the command is written
+abbrev pub form_line : List ℕ → List ℕ
+form_line form = codes "such a request is written " ++ form ++ codes "\n"
+
 -- of a value with a float no text is known
 abbrev pub IsLineOf : PartSeen → List ℕ → Type 0
 IsLineOf (command_seen name) line = line ≡ named_line (shown_text name) (codes "is no command")
-IsLineOf (root_seen path) line = line ≡ named_line (shown_text path) (codes "is no root's path: it begins with / and has no part that is empty, . or ..")
+IsLineOf (root_seen path) line = line ≡ named_line (shown_text path) (codes "is no root's path: it begins with / and has no part that is empty, . or ..; realpath prints such a path")
 IsLineOf (key_seen key) line = line ≡ named_line (shown_text key) (codes "is no key of such a request")
+IsLineOf (value_seen key d) line = has_float d ≡ false → line ≡ value_line (shown_text (compact_text d)) (value_said key)
 IsLineOf (term_seen d) line = has_float d ≡ false → line ≡ value_line (shown_text (compact_text d)) (codes "is no term of an expression")
 IsLineOf (field_seen d) line = has_float d ≡ false → line ≡ value_line (shown_text (compact_text d)) (codes "is no field")
+IsLineOf (form_seen form) line = line ≡ form_line form
 
 abbrev pub SaysOf : Option PartSeen → Option (List ℕ) → Type 0
 SaysOf None said = said ≡ None
 SaysOf (Some part) None = ⊥
 SaysOf (Some part) (Some line) = IsLineOf part line
 
-abbrev pub no_json : List ℕ
-no_json = codes "the request is no JSON text, as [\"watch-list\"] is\n"
+-- the column is where the reader of JSON stopped
+abbrev pub no_json : ℕ → List ℕ
+no_json column = codes "the request is no JSON text, as '[\"watch-list\"]' is in a shell: look at column " ++ decimal column ++ codes "\n"
+
+-- it is said to be no JSON text, with some column
+abbrev pub SaysNoJson : Option (List ℕ) → Type 0
+SaysNoJson None = ⊥
+SaysNoJson (Some line) = (column : ℕ) × (line ≡ no_json column)
 
 -- the part for which a request is refused is said, if it has one, or that it is no JSON text
 abbrev pub SaysPart : Option Refusal → Option Data → Option (List ℕ) → Type 0
 SaysPart None value said = said ≡ None
-SaysPart (Some e) None said = said ≡ Some no_json
+SaysPart (Some e) None said = SaysNoJson said
 SaysPart (Some e) (Some d) said = SaysOf (refusing_part e d) said

@@ -1,36 +1,47 @@
 -- The part of a request that is the cause of its refusal.
 use Rattle.std.specs.Prelude.{◌||◌, ◌&&◌, ℕ, Bool, List, Option, None, Some, codes, is_some, option_and_then, option_map, if◌then◌else◌}
+use Rattle.std.specs.Option.{option_or}
 use Rattle.std.specs.Str.{bytes_eq}
 use Rattle.serde_json.specs.Data.{Data, Items, Members, item, member, no_items, no_members}
 use Rattle.serde_json.specs.Find.{as_array, as_object, as_str, at, get}
 use Rattle.serde_json.specs.View.{view}
 use Rattle.wm_disk.specs.declared.refusal.Refusal.{Refusal}
-use Rattle.wm_disk.specs.declared.refusal.Refusal.TheVariants.{BadCommand, BadArguments, BadPath, BadExpression, BadField, BadTrigger}
+use Rattle.wm_disk.specs.declared.refusal.Refusal.TheVariants.{BadCommand, BadArguments, BadPath, BadClock, BadExpression, BadField, BadTrigger}
 use Rattle.wm_lines.specs.Arguments.{text_at}
 use Rattle.wm_lines.specs.QueryLines.{has_query_keys}
 use Rattle.wm_lines.specs.TriggerLines.{has_known_keys}
+use Rattle.wm_lines.specs.declared.recrawl.ServerRequest.{ServerRequest}
+use Rattle.wm_lines.specs.declared.recrawl.ServerRequest.TheVariants as requests
+use Rattle.wm_lines.specs.declared.request.Request.TheVariants.{Watch}
 use Rattle.wm_names.specs.Paths.{is_root_path}
 use Rattle.wm_since.specs.Fields.{field_of}
 use Rattle.wm_parts.specs.RefusedTerms.{refused_term_in}
+use Rattle.wm_parts.specs.RefusedValues.{form_of, key_name, refused_value}
 use Rattle.wm_parts.specs.declared.keys.Asking.{Asking}
 use Rattle.wm_parts.specs.declared.keys.Asking.TheVariants.{Query, Trigger}
 use Rattle.wm_parts.specs.declared.parts.Part.{Part}
 use Rattle.wm_parts.specs.declared.parts.Part.TheVariants as parts
+use Rattle.wm_parts.specs.declared.values.Key.{Key}
+use Rattle.wm_parts.specs.declared.values.Key.TheVariants as keys
 
 -- a part of a request, as clauses see it
 pub data PartSeen : Type 0 where
   command_seen : List ℕ → PartSeen
   root_seen : List ℕ → PartSeen
   key_seen : List ℕ → PartSeen
+  value_seen : Key → Data → PartSeen
   term_seen : Data → PartSeen
   field_seen : Data → PartSeen
+  form_seen : List ℕ → PartSeen
 
 abbrev pub part_seen : Part → PartSeen
 part_seen (parts.Command name) = command_seen name.now
 part_seen (parts.Root path) = root_seen path.now
 part_seen (parts.Key key) = key_seen key.now
+part_seen (parts.Value key value) = value_seen key (view value.now)
 part_seen (parts.Term value) = term_seen (view value.now)
 part_seen (parts.Field value) = field_seen (view value.now)
+part_seen (parts.Form form) = form_seen form.now
 
 -- ---- fields and keys
 
@@ -81,8 +92,12 @@ object_of d = option_and_then (λ asked. option_map (λ o. (asked.0, o)) (at ask
 abbrev pub command_part : Data → Option PartSeen
 command_part d = option_map command_seen (text_at 0 d)
 
+-- a path that can't be that of a root
+abbrev pub refused_root : List ℕ → Option PartSeen
+refused_root path = if is_root_path path then None else Some (root_seen path)
+
 abbrev pub root_part : Data → Option PartSeen
-root_part d = option_and_then (λ root. if is_root_path root then None else Some (root_seen root)) (text_at 1 d)
+root_part d = option_and_then refused_root (text_at 1 d)
 
 abbrev pub key_part : Data → Option PartSeen
 key_part d = option_map key_seen (option_and_then (λ o. unknown_key_in o.0 o.1) (object_of d))
@@ -93,12 +108,33 @@ term_part d = option_map term_seen (option_and_then refused_term_in (option_and_
 abbrev pub field_part : Data → Option PartSeen
 field_part d = option_map field_seen (option_and_then first_unknown (option_and_then as_array (option_and_then (λ o. get (codes "fields") o.1) (object_of d))))
 
+abbrev pub value_part : Data → Option PartSeen
+value_part d = option_map (λ v. value_seen v.0 v.1) (option_and_then (λ o. refused_value o.0 o.1) (object_of d))
+
+-- what the object has at the key
+abbrev pub part_at : Key → Data → Option PartSeen
+part_at key d = option_map (value_seen key) (option_and_then (λ o. get (key_name key) o.1) (object_of d))
+
+abbrev pub form_part : Data → Option PartSeen
+form_part d = option_map form_seen (option_and_then form_of (text_at 0 d))
+
+-- a key, a value that isn't of its kind, or else how such a request is written
+abbrev pub argument_part : Data → Option PartSeen
+argument_part d = option_or (key_part d) (option_or (value_part d) (form_part d))
+
+-- the root that a request asks to crawl
+abbrev pub root_in : ServerRequest → Option (List ℕ)
+root_in (requests.Recrawl root subtree) = Some root
+root_in (requests.Common (Watch root)) = Some root
+root_in (requests.Common request) = None
+
 -- the part for which a request is refused so
 abbrev pub refusing_part : Refusal → Data → Option PartSeen
 refusing_part BadCommand d = command_part d
 refusing_part BadPath d = root_part d
-refusing_part BadArguments d = key_part d
-refusing_part BadTrigger d = key_part d
+refusing_part BadArguments d = argument_part d
+refusing_part BadTrigger d = argument_part d
+refusing_part BadClock d = option_or (part_at keys.Since d) (form_part d)
 refusing_part BadExpression d = term_part d
-refusing_part BadField d = field_part d
+refusing_part BadField d = option_or (field_part d) (part_at keys.Fields d)
 refusing_part refusal d = None

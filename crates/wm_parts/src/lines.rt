@@ -1,23 +1,21 @@
 //! The line that says a part. Definitions: specs/PartLines. Tests: client_tests/src/parts.rt.
-ghost use Rattle.std.specs.Prelude.{◌≡◌, ◌++◌, IfOk, codes, false, option_map, string_bytes};
-ghost use Rattle.std.specs.Result.{result_err};
+ghost use Rattle.std.specs.Prelude.{◌≡◌, ◌++◌, IfOk, codes, false, option_and_then, option_map, string_bytes};
+ghost use Rattle.std.specs.Result.{result_err, result_ok};
 ghost use Rattle.serde_json.specs.Read.{read as read_text};
 ghost use Rattle.serde_json.specs.View.{view};
 ghost use Rattle.serde_json.specs.Written.{compact_text, has_float};
 ghost use Rattle.wm_explain.specs.Shown.{shown_text};
 ghost use Rattle.wm_lines.specs.RecrawlLines.{server_request_of_line};
-ghost use Rattle.wm_parts.specs.PartLines.{IsLineOf, SaysOf, SaysPart, named_line, value_line};
-ghost use Rattle.wm_parts.specs.RefusedParts.{refusing_part, part_seen};
+ghost use Rattle.wm_parts.specs.PartLines.{IsLineOf, SaysOf, SaysPart, form_line, named_line, no_json, value_line};
+ghost use Rattle.wm_parts.specs.RefusedParts.{refused_root, refusing_part, part_seen, root_in};
 
-use crate::parts::{Part, part_in};
+use crate::parts::{Part, part_in, refused_root};
 use serde_json::Value;
 use std::alloc::Global;
 use wm_disk::{NoMemory, Refusal};
 use wm_explain::shown;
-use wm_lines::ServerRequest;
-
-/// What is said of a request that is no JSON text.
-const NO_JSON: &str = "the request is no JSON text, as [\"watch-list\"] is\n";
+use wm_lines::{Request, ServerRequest};
+use wm_names::RootPath;
 
 /// The line of a name, and what is said of it.
 fn named_line(alloc: Global, name: &str, text: &str) -> Result<String, NoMemory>
@@ -36,6 +34,23 @@ fn value_line(alloc: Global, value: &Value, text: &str) -> Result<String, NoMemo
     Ok(format!(in alloc; "{value} {text}\n")?)
 }
 
+/// The line that says how a request of the command is written.
+fn form_line(alloc: Global, form: &str) -> Result<String, NoMemory>
+    ensures { IfOk result (λ line. string_bytes line ≡ form_line form.now) }
+{
+    Ok(format!(in alloc; "such a request is written {form}\n")?)
+}
+
+/// The line of a request that is no JSON text; its reader stopped at this column.
+fn no_json_line(alloc: Global, column: usize) -> Result<String, NoMemory>
+    ensures { IfOk result (λ line. string_bytes line ≡ no_json column) }
+{
+    let text = format!(in alloc;
+        "the request is no JSON text, as '[\"watch-list\"]' is in a shell: look at column {column}\n"
+    )?;
+    Ok(text)
+}
+
 /// The line of a part, with its newline.
 fn line_of(alloc: Global, part: &Part<'_>) -> Result<String, NoMemory>
     ensures { IfOk result (λ line. IsLineOf (part_seen part.now) (string_bytes line)) }
@@ -45,11 +60,13 @@ fn line_of(alloc: Global, part: &Part<'_>) -> Result<String, NoMemory>
         Part::Root(path) => named_line(
             alloc,
             path,
-            "is no root's path: it begins with / and has no part that is empty, . or ..",
+            "is no root's path: it begins with / and has no part that is empty, . or ..; realpath prints such a path",
         ),
         Part::Key(key) => named_line(alloc, key, "is no key of such a request"),
+        Part::Value(key, value) => value_line(alloc, value, key.said()),
         Part::Term(value) => value_line(alloc, value, "is no term of an expression"),
         Part::Field(value) => value_line(alloc, value, "is no field"),
+        Part::Form(form) => form_line(alloc, form),
     }
 }
 
@@ -63,14 +80,24 @@ fn said_of(alloc: Global, refusal: Refusal, value: &Value) -> Result<Option<Stri
     }
 }
 
-/// The JSON value that a text is.
-fn value_of(alloc: Global, json: &str) -> Result<Option<Value>, NoMemory>
-    ensures { IfOk result (λ r. option_map view r ≡ read_text json.now) }
+/// The line that says that a text is no root's path. `None` if it is one.
+pub fn root_explanation(alloc: Global, path: &str) -> Result<Option<String>, NoMemory>
+    ensures { IfOk result (λ r. SaysOf (refused_root path.now) (option_map string_bytes r)) }
+{
+    match refused_root(alloc, path) {
+        Some(part) => Ok(Some(line_of(alloc, &part)?)),
+        None => Ok(None),
+    }
+}
+
+/// The JSON value that a text is, or the column at which its reader stopped.
+fn value_of(alloc: Global, json: &str) -> Result<Result<Value, usize>, NoMemory>
+    ensures { IfOk result (λ r. option_map view (result_ok r) ≡ read_text json.now) }
 {
     match Value::from_str(alloc, json) {
-        Ok(value) => Ok(Some(value)),
+        Ok(value) => Ok(Ok(value)),
         Err(error) if error.is_memory() => Err(NoMemory),
-        Err(_) => Ok(None),
+        Err(error) => Ok(Err(error.column())),
     }
 }
 
@@ -86,8 +113,34 @@ fn refusal_of(alloc: Global, json: &str) -> Result<Option<Refusal>, NoMemory>
     }
 }
 
+/// The root that a request asks to crawl.
+fn root_in(request: ServerRequest) -> Option<RootPath>
+    ensures { result ≡ root_in request }
+{
+    match request {
+        ServerRequest::Recrawl(root, _) => Some(root),
+        ServerRequest::Common(request) => match request {
+            Request::Watch(root) => Some(root),
+            _ => None,
+        },
+    }
+}
+
+/// The root that a server is asked to watch, or to crawl, by a request, one line without its newline. `None` if it is asked for something
+/// else, or refuses the request as it reads it.
+pub fn root_to_crawl(alloc: Global, json: &str) -> Result<Option<RootPath>, NoMemory>
+    ensures { IfOk result (λ r. r ≡ option_and_then root_in (result_ok (server_request_of_line (json.now ++ codes "\n")))) }
+{
+    let line = format!(in alloc; "{json}\n")?;
+    match ServerRequest::read(alloc, line.as_bytes()) {
+        Ok(request) => Ok(root_in(request)),
+        Err(Refusal::NoMemory) => Err(NoMemory),
+        Err(_) => Ok(None),
+    }
+}
+
 /// The line that says for which part a server refuses a request, which is one line without its newline. `None` if a server takes
-/// it as it reads it, or refuses it for another cause. One that is no JSON text is said to be none.
+/// it as it reads it, or refuses it for another cause. One that is no JSON text is said to be none, with a column that is only tested.
 pub fn explanation(alloc: Global, json: &str) -> Result<Option<String>, NoMemory>
     ensures { IfOk result (λ r. SaysPart (result_err (server_request_of_line (json.now ++ codes "\n"))) (read_text json.now) (option_map string_bytes r)) }
 {
@@ -95,7 +148,7 @@ pub fn explanation(alloc: Global, json: &str) -> Result<Option<String>, NoMemory
         return Ok(None);
     };
     match value_of(alloc, json)? {
-        Some(value) => said_of(alloc, refusal, &value),
-        None => Ok(Some(String::from_str(alloc, NO_JSON)?)),
+        Ok(value) => said_of(alloc, refusal, &value),
+        Err(column) => Ok(Some(no_json_line(alloc, column)?)),
     }
 }

@@ -4,11 +4,13 @@ ghost use Rattle.serde_json.specs.Find.{at};
 ghost use Rattle.serde_json.specs.View.{view};
 ghost use Rattle.wm_lines.specs.Arguments.{text_at as text_at_lem};
 ghost use Rattle.wm_names.specs.Paths.{is_root_path};
-ghost use Rattle.wm_parts.specs.RefusedParts.{asking_of, command_part, field_part, key_part, object_of, refusing_part, part_seen, root_part, term_part};
+ghost use Rattle.wm_parts.specs.RefusedParts.{argument_part, asking_of, command_part, field_part, form_part, key_part, object_of, part_at, refused_root, refusing_part, part_seen, root_part, term_part, value_part};
 
 use crate::fields::first_unknown;
+use crate::forms::form_of;
 use crate::keys::{Asking, unknown_key_in};
 use crate::terms::term_in;
+use crate::values::{Key, refused_value};
 use serde_json::Value;
 use std::alloc::Global;
 use wm_disk::Refusal;
@@ -23,10 +25,14 @@ pub enum Part<'a> {
     Root(&'a str),
     /// A key that an object may not have.
     Key(&'a str),
+    /// A value that can't be at its key.
+    Value(Key, &'a Value),
     /// A term that is none.
     Term(&'a Value),
     /// A field that isn't there.
     Field(&'a Value),
+    /// How a request of the command is written.
+    Form(&'static str),
 }
 
 /// The text at a place of an array.
@@ -73,15 +79,21 @@ fn command_part(value: &Value) -> Option<Part<'_>>
     Some(Part::Command(text_at(value, 0)?))
 }
 
+/// A path that can't be that of a root.
+pub(crate) fn refused_root(alloc: Global, path: &str) -> Option<Part<'_>>
+    ensures { option_map part_seen result ≡ refused_root path.now }
+{
+    if is_root_path(alloc, path) {
+        return None;
+    }
+    Some(Part::Root(path))
+}
+
 /// The path of a request's root, if it is none.
 fn root_part(alloc: Global, value: &Value) -> Option<Part<'_>>
     ensures { option_map part_seen result ≡ root_part (view value.now) }
 {
-    let root = text_at(value, 1)?;
-    if is_root_path(alloc, root) {
-        return None;
-    }
-    Some(Part::Root(root))
+    refused_root(alloc, text_at(value, 1)?)
 }
 
 /// The first key of a request's object that it may not have.
@@ -109,17 +121,50 @@ fn field_part(value: &Value) -> Option<Part<'_>>
     Some(Part::Field(first_unknown(fields)?))
 }
 
-/// The part for which a request is refused so. `None` if there is no such part: then it is refused for another cause, as the number of
-/// its arguments.
+/// The first value of a request's object that isn't of its kind.
+fn value_part(value: &Value) -> Option<Part<'_>>
+    ensures { option_map part_seen result ≡ value_part (view value.now) }
+{
+    let (asking, object) = object_of(value)?;
+    let (key, found) = refused_value(asking, object)?;
+    Some(Part::Value(key, found))
+}
+
+/// What a request's object has at a key.
+fn part_at(value: &Value, key: Key) -> Option<Part<'_>>
+    ensures { option_map part_seen result ≡ part_at key (view value.now) }
+{
+    let (_asking, object) = object_of(value)?;
+    Some(Part::Value(key, object.get(key.name())?))
+}
+
+/// How a request of this command is written.
+fn form_part(value: &Value) -> Option<Part<'_>>
+    ensures { option_map part_seen result ≡ form_part (view value.now) }
+{
+    Some(Part::Form(form_of(text_at(value, 0)?)?))
+}
+
+/// A key that a request's object may not have, a value in it that isn't of its kind, or else how such a request is written.
+fn argument_part(value: &Value) -> Option<Part<'_>>
+    ensures { option_map part_seen result ≡ argument_part (view value.now) }
+{
+    let others = value_part(value).or(form_part(value));
+    key_part(value).or(others)
+}
+
+/// The part for which a request is refused so. `None` if there is no such part: then it is refused for another cause, as a root that
+/// isn't watched.
 pub fn part_in(alloc: Global, refusal: Refusal, value: &Value) -> Option<Part<'_>>
     ensures { option_map part_seen result ≡ refusing_part refusal (view value.now) }
 {
     match refusal {
         Refusal::BadCommand => command_part(value),
         Refusal::BadPath => root_part(alloc, value),
-        Refusal::BadArguments | Refusal::BadTrigger => key_part(value),
+        Refusal::BadArguments | Refusal::BadTrigger => argument_part(value),
+        Refusal::BadClock => part_at(value, Key::Since).or(form_part(value)),
         Refusal::BadExpression => term_part(alloc, value),
-        Refusal::BadField => field_part(value),
+        Refusal::BadField => field_part(value).or(part_at(value, Key::Fields)),
         _ => None,
     }
 }
