@@ -87,7 +87,6 @@ def shut_folder(program):
         client.ask(["recrawl", top])
         check("none of a crawl that succeeds", len(server.lines()) == before and names(client, top)["files"], server.whole())
         os.chmod(top, 0o000)
-        time.sleep(1.1)  # another second, or the line would be left out
         client.ask(["recrawl", top])
         server.says("a root that a crawl can't read", wanted, f"{top}: a crawl failed at {top}: 13 DeviceFailed")
         os.chmod(top, 0o755)
@@ -129,6 +128,21 @@ def trigger_ends(program):
         ran = until(lambda: os.path.exists(f"{server.folder}/ran"))
         time.sleep(0.3)
         check("none of a trigger that ends with 0", ran and server.lines() == [], server.whole())
+
+
+def two_triggers(program):
+    """Two triggers that can't be started are both named, and each once a second."""
+    with triggered(program) as (server, top, client):
+        define(client, top, "a", "./none")
+        define(client, top, "b", "./none")
+        end = time.time() + 2.5
+        while time.time() < end:
+            client.ask(["observe", top, [["x.go", {**FILE, "size": time.monotonic_ns() % 1000000}]]])
+            time.sleep(0.02)
+        for name in "ab":
+            lines = [line for line in server.whole() if line.endswith(f" {top}: couldn't start the trigger {name}".encode())]
+            check(f"the trigger {name} is named", 2 <= len(lines) <= 4, server.whole())
+            check("once a second", len({line[:20] for line in lines}) == len(lines), lines)
 
 
 def deleted_trigger(program):
@@ -244,6 +258,32 @@ def state_file_fails(program):
     shutil.rmtree(folder)
 
 
+def forgotten(program):
+    """A line tells the last tick of what an age-out forgot: one by the interval, and one that is asked for. None comes of one that forgets nothing."""
+    with logged(program, "--gc-age", "0", "--gc-interval", "0") as server:
+        top = tree(f"{server.folder}/T")
+        client = server.client()
+        client.ask(["watch", top])
+        names(client, top)
+        deleted = client.tell(["observe", top, [["x", FILE]]]), client.tell(["observe", top, [["x", None]]])
+        check("a path comes and goes", [reply.get("clock", "").split(":")[-1] for reply in deleted] == ["2", "3"], deleted)
+        check("no line before something is forgotten", server.lines() == [], server.whole())
+        client.ask(["observe", top, [["y", FILE]]])
+        wanted = f"{top}: forgot paths that were deleted up to tick 3"
+        server.says("what an operation's age-out forgets", wanted)
+        time.sleep(1.1)  # another second, or a further line would be left out
+        client.ask(["observe", top, [["z", FILE]]])
+        time.sleep(0.3)
+        server.says("none of an age-out that forgets nothing", wanted)
+        client.ask(["observe", top, [["y", None]]])
+        client.ask(["age-out", top, 0])
+        server.says("what an age-out forgets that is asked for", wanted, f"{top}: forgot paths that were deleted up to tick 6")
+        client.ask(["observe", top, [["z", None]]])
+        time.sleep(1.1)
+        client.ask(["recrawl", top])
+        server.says("what a crawl's age-out forgets", wanted, f"{top}: forgot paths that were deleted up to tick 6", f"{top}: forgot paths that were deleted up to tick 7")
+
+
 def quiet(program):
     with logged(program, "--quiet", prepare=dead_socket) as server:
         kept = [server.client() for _ in range(SLOTS)]
@@ -274,8 +314,8 @@ def drained_at_the_end(program):
     shutil.rmtree(folder)
 
 
-CASES = [socket_taken_over, shut_folder, trigger_ends, deleted_trigger, session_refused, one_a_second, client_cut_off, subscriber_cut_off, client_that_goes, state_file_fails, quiet,
-         drained_at_the_end]
+CASES = [socket_taken_over, shut_folder, trigger_ends, two_triggers, deleted_trigger, session_refused, one_a_second, client_cut_off, subscriber_cut_off, client_that_goes, state_file_fails,
+         forgotten, quiet, drained_at_the_end]
 NAMED = {case.__name__: case for case in CASES}
 
 

@@ -15,6 +15,8 @@ import tempfile
 
 NOBODY = 65534
 REFUSED = {13: "13 DeviceFailed", 14: "14 Damaged", 20: "20 Retired"}
+NO_REQUEST = "a request is one word, JSON, as in wmctl SOCKET '[\"watch-list\"]'; 'wm watch FOLDER' and 'wm --help' are for plain words\n"
+NO_ROOT = "is no root's path: it begins with / and has no part that is empty, . or ..; realpath prints such a path"
 LONG = "d" * 60 + "/" + "e" * 63 + "/socket"
 
 
@@ -112,7 +114,7 @@ def socket_cases():
 def request_cases(root):
     """A request, the refusal that the server prints, and the further line, if there is one."""
     asked = '["query","%s",%%s]' % root
-    no_root = "is no root's path: it begins with / and has no part that is empty, . or .."
+    written = "such a request is written [%s]"
     yield asked % '{"expression":["sufix","c"]}', "8 BadExpression", '["sufix","c"] is no term of an expression'
     yield asked % '{"expression":["allof",["suffix","c"],["imatch","x"]]}', "8 BadExpression", '["imatch","x"] is no term of an expression'
     yield asked % '{"expression":["not",["anyof","exists",["type","b"]]]}', "8 BadExpression", '["type","b"] is no term of an expression'
@@ -122,14 +124,27 @@ def request_cases(root):
     yield asked % '{"expresion":"exists"}', "3 BadArguments", "'expresion' is no key of such a request"
     yield '["subscribe","%s","n",{"defer":[]}]' % root, "3 BadArguments", "'defer' is no key of such a request"
     yield '["trigger","%s",{"name":"n","command":["true"],"chdir":"/"}]' % root, "10 BadTrigger", "'chdir' is no key of such a request"
-    yield '["trigger","%s",{"name":"n","command":"make"}]' % root, "10 BadTrigger", ""
+    command = "\"make\" can't be 'command': this is a list of texts, as [\"make\",\"all\"]"
+    yield '["trigger","%s",{"name":"n","command":"make"}]' % root, "10 BadTrigger", command
+    yield '["trigger","%s",{"name":"n"}]' % root, "10 BadTrigger", written % '"trigger","/proj",{"name":"n","command":["make"]}'
+    fields = "[] can't be 'fields': this is a list of one or more fields, none of them twice, as [\"name\",\"size\"]"
+    yield asked % '{"fields":[]}', "9 BadField", fields
+    since = "can't be 'since': this is a clock, a cursor or a time in seconds, as \"c:1:2:3\", \"n:build\" or 1700000000"
+    yield asked % '{"since":"yesterday"}', "7 BadClock", f'"yesterday" {since}'
+    yield asked % '{"since":true}', "3 BadArguments", f"true {since}"
+    yield asked % '{"sync_timeout":"1s"}', "3 BadArguments", "\"1s\" can't be 'sync_timeout': this is a whole number of milliseconds, as 1000"
+    yield '["since","%s","yesterday"]' % root, "7 BadClock", written % '"since","/proj","c:1:2:3"'
     yield '["wach","/x"]', "2 BadCommand", "'wach' is no command"
-    yield '["watch","proj"]', "4 BadPath", f"'proj' {no_root}"
-    yield '["watch","~/proj"]', "4 BadPath", f"'~/proj' {no_root}"
-    yield '["watch","/proj/"]', "4 BadPath", f"'/proj/' {no_root}"
-    yield "[watch", "1 BadLine", 'the request is no JSON text, as ["watch-list"] is'
-    yield "watch-list", "1 BadLine", 'the request is no JSON text, as ["watch-list"] is'
-    yield '["query","%s"]' % root, "3 BadArguments", ""
+    yield '["watch","proj"]', "4 BadPath", f"'proj' {NO_ROOT}"
+    yield '["watch","~/proj"]', "4 BadPath", f"'~/proj' {NO_ROOT}"
+    yield '["watch","/proj/"]', "4 BadPath", f"'/proj/' {NO_ROOT}"
+    no_json = "the request is no JSON text, as '[\"watch-list\"]' is in a shell: look at column %d"
+    yield "[watch", "1 BadLine", no_json % 2
+    yield "watch-list", "1 BadLine", no_json % 1
+    yield '["watch","/proj"', "1 BadLine", no_json % 16
+    yield '["query","%s"]' % root, "3 BadArguments", written % '"query","/proj",{"fields":["name"]}'
+    yield '["watch"]', "3 BadArguments", written % '"watch","/proj"'
+    yield '["watch-list","all"]', "3 BadArguments", written % '"watch-list"'
     yield '["clock","/not/watched"]', "5 NotWatched", ""
 
 
@@ -187,11 +202,21 @@ def check_all(checks, place, watchmand, wmctl):
     for request, refusal, further in request_cases(place.path("root")):
         reply = '{"error":"%s","version":"w1"}\n' % refusal
         check(checks, place, [wmctl, "sock", request], 1, reply, "", further, False)
+    for name, further in (("nothere", True), ("plain", True), ("plain/sub", True), ("root", False)):
+        root = place.path(name)
+        further = f"{root}: no folder is there, so the root has no files" if further else ""
+        check(checks, place, [wmctl, "sock", '["watch","%s"]' % root], 0, '{"version":"w1","watch":"%s"}\n' % root, "", further, False)
     nofile = "watchmand: 13 DeviceFailed\nnofile: no such file; 'watchmand format nofile' makes it\n"
     checks.same("lines nofile (terminal)", run_on_terminal(place, [watchmand, "lines", "nofile"]), nofile)
     nosock = "wmctl: no reply\nnosock: no such file (is the server running?)\n"
     checks.same("nosock (terminal)", run_on_terminal(place, [wmctl, "nosock", "[]"]), nosock)
     checks.same("wach (terminal)", run_on_terminal(place, [wmctl, "sock", '["wach"]']), "'wach' is no command\n")
+    for words in (["watch", "/proj"], ["--follow", "1"]):
+        status, output, errors = run(place, [wmctl, "sock", *words], False, False)
+        checks.same(f"sock {words} (usage)", (status, output), (2, ""))
+        checks.same(f"sock {words} (explained)", run(place, [wmctl, "sock", *words], True, False), (2, "", errors + NO_REQUEST))
+    misspelt = [wmctl, "sock", '["watch-list"]', "--folow", "1"]
+    checks.same("--folow (explained)", run(place, misspelt, True, False), run(place, misspelt, False, False))
     usage = run(place, [watchmand, "serv"], False, False)
     checks.same("serv (explained)", run(place, [watchmand, "serv"], True, False), usage)
 
@@ -199,7 +224,9 @@ def check_all(checks, place, watchmand, wmctl):
 def check_feed(checks, place, wmfeed):
     for path, further, no_rights in socket_cases():
         check(checks, place, [wmfeed, path, place.path("root")], 3, "", "wmfeed: the server ended\n", further, no_rights)
-    check(checks, place, [wmfeed, "sock", "root"], 2, "", "wmfeed: ROOT is no root's path (4 BadPath)\n", "", False)
+    for root in ("root", ".", "./root", place.path("root/")):
+        check(checks, place, [wmfeed, "sock", root], 2, "", "wmfeed: ROOT is no root's path (4 BadPath)\n", f"'{root}' {NO_ROOT}", False)
+    check(checks, place, [wmfeed, "sock", "--folow"], 2, "", run(place, [wmfeed, "sock", "--folow"], False, False)[2], "", False)
 
 
 def check_wm(checks, place, wm):

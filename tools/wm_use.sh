@@ -1,9 +1,10 @@
 #!/usr/bin/env bash
 # What a person does with `wm`, from nothing to a killed server, each line with what it has to print and its status.
-# usage: tools/wm_use.sh WM WATCHMAND WMFEED
+# usage: tools/wm_use.sh WM WATCHMAND WMFEED (inotify-tools, python3, script and setpriv from util-linux)
 set -eu
 export LC_ALL=C
 folder=$(mktemp -d)
+chmod 755 "$folder"
 export XDG_STATE_HOME=$folder/home/state XDG_RUNTIME_DIR=$folder/home/run
 unset WATCHMAND_SOCKET
 mkdir -p "$folder/bin" "$folder/work/lib" "$folder/work/library"
@@ -47,9 +48,70 @@ says 3 "wm: FOLDER/other/$(printf '%0100d' 0): the path is too long: at most 107
     wm list --socket "$folder/other/$(printf '%0100d' 0)"
 says 1 'wm: FOLDER/work: is no socket; --socket or WATCHMAND_SOCKET names another path' wm up --socket "$folder/work"
 says 0 '' wm list
+
+# A server that ends still takes connections for a while: it isn't taken for one that is there.
+for _ in 1 2 3; do
+    kill -9 "$(cat "$XDG_STATE_HOME/watchmand/watchmand.pid")"
+    says 0 "a server was started at $socket" wm up
+    says 0 '' wm list
+done
+for _ in 1 2 3; do
+    says 0 $'wmfeed ended\nwatchmand ended' wm down
+    says 0 "a server was started at $socket
+a feed was started" wm up
+    says 0 '' wm list
+done
+
+# What python3 does at a socket in place of a server: it ends each session; it refuses each but the first.
+made_socket() { until [ -S "$1" ]; do sleep 0.05; done; }
+cat > "$folder/ending.py" <<'END'
+import os, socket, sys, time
+taking = socket.socket(socket.AF_UNIX)
+taking.bind(sys.argv[1] + ".new")
+taking.listen(5)
+os.rename(sys.argv[1] + ".new", sys.argv[1])
+taking.settimeout(0.05)
+end = time.monotonic() + 3
+while time.monotonic() < end:
+    try:
+        taking.accept()[0].close()
+    except TimeoutError:
+        pass
+END
+python3 "$folder/ending.py" "$folder/ending" &
+made_socket "$folder/ending"
+says 1 "wm: FOLDER/home/state/watchmand/state: another watchmand has it (pid $(cat "$folder/home/state/watchmand/watchmand.pid")); \
+FOLDER/home/state/watchmand/log has all that it said" wm up --socket "$folder/ending"
+cat > "$folder/full.py" <<'END'
+import os, socket, sys
+taking = socket.socket(socket.AF_UNIX)
+taking.bind(sys.argv[1] + ".new")
+taking.listen(5)
+os.rename(sys.argv[1] + ".new", sys.argv[1])
+session = taking.accept()[0]
+session.makefile().readline()
+session.sendall(b'{"roots":["/tmp"],"version":"w1"}\n')
+for _ in range(2):
+    session.close()
+    session = taking.accept()[0]
+    session.sendall(b'{"error":"17 TooMany","version":"w1"}\n')
+END
+python3 "$folder/full.py" "$folder/full" &
+made_socket "$folder/full"
+taken="all of the server's 31 sessions are taken (17 TooMany); try later, or end what holds them, as 'wm run' and feeds do"
+says 0 "server: FOLDER/full
+no feed runs: 'wm up' starts one
+/tmp: not known: $taken" wm status --socket "$folder/full"
+says 1 "wm: FOLDER/full: $taken" wm list --socket "$folder/full"
+
 says 2 'wm: FOLDER/work/tpyo: no such folder' wm watch tpyo
 touch file
 says 2 'wm: FOLDER/work/file: is a file, and no folder' wm watch file
+says 2 "wm: FOLDER/work/file: is a file, and no folder; a PATTERN stands behind DIR, as in 'wm files . PATTERN'" wm files file
+says 2 "wm: FOLDER/work/*.c: no such folder; a PATTERN stands behind DIR, as in 'wm changes . PATTERN --since CLOCK'" \
+    wm changes --since @test '*.c'
+says 2 "wm: FOLDER/work/a.c: no such folder; a PATTERN stands behind DIR, as in 'wm wait . PATTERN'" wm wait a.c
+says 2 "wm: FOLDER/work/a.c: no such folder; a PATTERN stands behind DIR, as in 'wm run . PATTERN -- COMMAND'" wm run a.c -- make
 says 1 "wm: FOLDER/work: no watched folder has it; 'wm watch FOLDER/work' watches it" wm files
 says 0 'FOLDER/work' wm watch
 says 0 'FOLDER/work' wm list
@@ -87,23 +149,30 @@ END
 chmod +x "$folder/bin/noted"
 wm run lib '*.c' -- noted "$folder/runs" 2> "$folder/said" &
 runner=$!
-awaited() { for _ in $(seq 200); do grep -qs "$1" "$folder/runs" && return; sleep 0.1; done; echo "no run for $1"; failed=1; }
+awaited() { # TEXT FILE
+    for _ in $(seq 200); do grep -qs "$1" "${2:-$folder/runs}" && return; sleep 0.1; done
+    echo "no $1 in ${2:-$folder/runs}"
+    failed=1
+}
 awaited 'a.c'
 touch lib/during.c
 awaited 'during.c'
 kill -9 "$(cat "$XDG_STATE_HOME/watchmand/watchmand.pid")"
 touch lib/meanwhile.c
-sleep 1
 wm up > "$folder/up"
 awaited 'meanwhile.c'
 touch lib/later.c
 awaited 'later.c'
 kill -9 "$(cat "$XDG_STATE_HOME/watchmand/wmfeed.pid")"
+awaited 'no feed runs any longer' "$folder/said"
 touch lib/unfed.c
 says 0 "a server answers at $socket
 a feed was started" wm up
 awaited 'unfed.c'
+awaited 'fed again' "$folder/said"
 kill "$runner"
+says 0 "wm: FOLDER/work: no feed runs any longer, so changes aren't seen; 'wm up' starts one
+wm: FOLDER/work: it is fed again, so changes are seen" grep -v 'waited for' "$folder/said"
 says 0 '' wm sync
 kill "$(cat "$XDG_STATE_HOME/watchmand/wmfeed.pid")"
 says 0 "wm: FOLDER/work: no feed runs, so it is crawled for this question; 'wm up' starts a feed
@@ -116,11 +185,19 @@ says 0 "a server answers at $socket
 a feed was started" wm up
 says 0 '' wm sync
 says 0 'FOLDER/work: ready, fed' bash -c 'wm status | tail -1'
+kill -STOP "$(cat "$XDG_STATE_HOME/watchmand/wmfeed.pid")"
+mkdir unready
+touch unready/a
+says 0 'FOLDER/work/unready' wm watch unready
+says 0 "wm: FOLDER/work/unready: the feed isn't ready for it yet, so it is crawled for this question
+a" wm files unready
+kill -CONT "$(cat "$XDG_STATE_HOME/watchmand/wmfeed.pid")"
+says 0 '' wm unwatch unready
 mkdir gone
 says 0 'FOLDER/work/gone' wm watch gone/
 rmdir gone
 says 0 "FOLDER/work/gone: no such folder: 'wm unwatch' ends its watch" bash -c 'wm status | tail -1'
-says 2 'wm: FOLDER/work/gone: no such folder' wm files gone
+says 2 "wm: FOLDER/work/gone: no such folder; a PATTERN stands behind DIR, as in 'wm files . PATTERN'" wm files gone
 says 0 '' wm unwatch ./gone/
 says 0 'FOLDER/work' wm list
 says 0 '' wm unwatch
@@ -128,5 +205,58 @@ says 0 '' wm list
 says 0 $'wmfeed ended\nwatchmand ended' wm down
 says 0 "no wmfeed of 'wm up' runs
 no watchmand of 'wm up' runs" wm down
+
+# A folder that a user can't read, or in which there is one.
+user() { if [ "$(id -u)" = 0 ]; then setpriv --reuid 65534 --regid 65534 --clear-groups "$@"; else "$@"; fi; }
+theirs() { user env XDG_STATE_HOME="$folder/user/state" WATCHMAND_SOCKET="$folder/user/socket" "$folder/bin/wm" "$@"; }
+mkdir -p "$folder/user/whole" "$folder/user/part/inner"
+chmod 0 "$folder/user/whole" "$folder/user/part/inner"
+if [ "$(id -u)" = 0 ]; then chown -R 65534:65534 "$folder/user"; fi
+says 0 $'a server was started at FOLDER/user/socket\na feed was started' theirs up
+says 0 'FOLDER/user/whole' theirs watch "$folder/user/whole"
+says 1 "wm: FOLDER/user/whole: the folder can't be read (no permission)" theirs files "$folder/user/whole"
+kill "$(cat "$folder/user/state/watchmand/wmfeed.pid")"
+says 0 'FOLDER/user/part' theirs watch "$folder/user/part"
+says 1 "wm: FOLDER/user/part: a folder in it can't be read (13 DeviceFailed); a feed passes it over: 'wm up' starts one" \
+    theirs files "$folder/user/part"
+says 0 $'no wmfeed of \'wm up\' runs\nwatchmand ended' theirs down
+chmod 700 "$folder/user/whole" "$folder/user/part/inner"
+
+# A first crawl that lasts, and then a recrawl: a person is told that it goes on.
+cat > "$folder/slow.py" <<'END'
+import os, socket, sys, threading, time
+taking = socket.socket(socket.AF_UNIX)
+taking.bind(sys.argv[1] + ".new")
+taking.listen(5)
+os.rename(sys.argv[1] + ".new", sys.argv[1])
+end = time.monotonic() + 16
+
+
+def serve(session):
+    for line in session.makefile("rb"):
+        if b"watch-list" in line:
+            reply = b'{"roots":["/tmp"],"version":"w1"}'
+        elif b"recrawl" in line:
+            time.sleep(max(0, end - time.monotonic()))
+            reply = b'{"clock":"c:1:1:1","version":"w1"}'
+        elif time.monotonic() < end:
+            reply = b'{"error":"6 NotReady","version":"w1"}'
+        else:
+            reply = b'{"clock":"c:1:1:1","files":["a"],"is_fresh_instance":true,"version":"w1"}'
+        session.sendall(reply + b"\n")
+
+
+while True:
+    threading.Thread(target=serve, args=(taking.accept()[0],), daemon=True).start()
+END
+python3 "$folder/slow.py" "$folder/slow" &
+slow=$!
+made_socket "$folder/slow"
+script -qec "wm files /tmp --no-sync --socket $folder/slow" /dev/null < /dev/null | tr -d '\r' > "$folder/told"
+kill "$slow"
+says 0 'wm: /tmp: the first crawl goes on, N s so far' bash -c "grep -v '^a\$' '$folder/told' | sed 's/[0-9][0-9]* s/N s/' | sort -u"
+says 0 'a' tail -1 "$folder/told"
+count=$(grep -c 'goes on' "$folder/told")
+if ((count < 4 || count > 6)); then echo "it was told $count times that the crawl goes on"; failed=1; fi
 [ "$failed" = 0 ] && echo "wm does what a person asks of it"
 exit "$failed"

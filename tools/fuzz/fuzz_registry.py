@@ -1,4 +1,4 @@
-"""What a state file's registry means, for the fuzzer's model: docs/DEFINITIONS.md, Registry step; docs/FORMATS.md, Spellings.
+"""What a state file's registry means, for the fuzzer's model: docs/DEFINITIONS.md, Registry step; docs/FORMATS.md, Encodings.
 
 A state is a plain value: (incarnation, next root number, roots, version of its file), roots a dict from path to (number, triggers), in order
 of watching; triggers a dict from name to (words, expression's text or None, append_files, stdin, most files or None), in order of first

@@ -1,4 +1,4 @@
-"""What a state file means, read anew from docs/FORMATS.md, Spellings, Journal and Slots, for the fuzzer's model (tools/fuzz/fuzz.py)."""
+"""What a state file means, read anew from docs/FORMATS.md, Encodings, Journal and Slots, for the fuzzer's model (tools/fuzz/fuzz.py)."""
 from fuzz_history import Refused
 from fuzz_json import NoJson, read
 from fuzz_registry import (MOST_BYTES, STDIN, begun, is_command, is_name, is_root_path, state_spelling, text_spelling, trigger_spelling,
