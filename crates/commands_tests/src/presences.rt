@@ -1,6 +1,6 @@
 //! What `wm up` does by what it found at the socket, and when a person is told that a wait goes on.
 use crate::checks::check;
-use wm_commands::{Presence, UpStep, is_progress_due, up_step};
+use wm_commands::{Presence, StartStep, UpStep, is_progress_due, start_step, up_step};
 
 /// What a look found, whether it is late, and what is done.
 const STEPS: &[(Presence, bool, UpStep)] = &[
@@ -16,6 +16,26 @@ const STEPS: &[(Presence, bool, UpStep)] = &[
 fn steps_of_the_table(rt: HostRuntime) {
     for (presence, is_late, wanted) in STEPS {
         check!(rt; up_step(*presence, *is_late) == *wanted, (presence, is_late));
+    }
+}
+
+/// What a look found, whether the program has ended, whether it is late, and what that says.
+const STARTS: &[(Presence, bool, bool, StartStep)] = &[
+    (Presence::Absent, false, false, StartStep::Await),
+    (Presence::Silent, false, false, StartStep::Await),
+    (Presence::Answered, false, false, StartStep::Started),
+    (Presence::Answered, false, true, StartStep::Started),
+    (Presence::Absent, true, false, StartStep::Ended),
+    (Presence::Absent, true, true, StartStep::Ended),
+    (Presence::Absent, false, true, StartStep::Late),
+    (Presence::Silent, false, true, StartStep::Late),
+];
+
+#[test]
+fn starts_of_the_table(rt: HostRuntime) {
+    for (presence, has_ended, is_late, wanted) in STARTS {
+        let step = start_step(*presence, *has_ended, *is_late);
+        check!(rt; step == *wanted, (presence, has_ended, is_late));
     }
 }
 

@@ -2,6 +2,8 @@
 use Rattle.std.specs.Prelude.{Bool, if◌then◌else◌}
 use Rattle.wm_commands.specs.declared.presence.Presence.{Presence}
 use Rattle.wm_commands.specs.declared.presence.Presence.TheVariants.{Answered, Silent, Absent}
+use Rattle.wm_commands.specs.declared.presence.StartStep.{StartStep}
+use Rattle.wm_commands.specs.declared.presence.StartStep.TheVariants.{Started, Ended, Late, Await}
 use Rattle.wm_commands.specs.declared.presence.UpStep.{UpStep}
 use Rattle.wm_commands.specs.declared.presence.UpStep.TheVariants.{Keep, LookAgain, Start}
 
@@ -11,3 +13,9 @@ abbrev pub up_step : Presence → (is_late : Bool) → UpStep
 up_step Answered is_late = Keep
 up_step Silent is_late = if is_late then Start else LookAgain
 up_step Absent is_late = Start
+
+-- A server that was started is ready once it answers. Otherwise it failed if it has ended, and is given up if it is late.
+abbrev pub start_step : Presence → (has_ended : Bool) → (is_late : Bool) → StartStep
+start_step Answered has_ended is_late = Started
+start_step Silent has_ended is_late = if has_ended then Ended else if is_late then Late else Await
+start_step Absent has_ended is_late = if has_ended then Ended else if is_late then Late else Await

@@ -27,7 +27,7 @@ pub use advice::{NO_SESSION, advice_of, root_status, unreadable_advice};
 pub use answers::{Answer, answer_of};
 pub use feeding::{FeedSeen, Feeding};
 pub use folders::{holder_of, name_in, reported_name};
-pub use presence::{Presence, UpStep, up_step};
+pub use presence::{Presence, StartStep, UpStep, start_step, up_step};
 pub use progress::is_progress_due;
 pub use questions::{
     expression, fits_in_pattern, query_line, root_line, since_text, subscribe_line,
