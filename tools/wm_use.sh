@@ -37,6 +37,15 @@ wm: wmfeed: can't be started: install it beside wm, or on the PATH" alone up
 says 0 $'server: FOLDER/alone/socket\nno feed runs: \'wm up\' starts one' alone status
 says 0 $'no wmfeed of \'wm up\' runs\nwatchmand ended' alone down
 
+# A server that takes its time to start is awaited.
+late() { env XDG_STATE_HOME="$folder/late/state" WATCHMAND_SOCKET="$folder/late/socket" "$folder/late/wm" "$1"; }
+mkdir "$folder/late"
+cp "$1" "$3" "$folder/late"
+printf '#!/bin/sh\nif [ "$1" = serve ]; then sleep 7; fi\nexec %s "$@"\n' "$folder/bin/$(basename "$2")" > "$folder/late/watchmand"
+chmod +x "$folder/late/watchmand"
+says 0 $'a server was started at FOLDER/late/socket\na feed was started' late up
+says 0 $'wmfeed ended\nwatchmand ended' late down
+
 socket=FOLDER/home/run/watchmand/socket
 says 3 "wm: $socket: no server answers (no such file); 'wm up' starts one" wm list
 says 0 "a server was started at $socket

@@ -10,12 +10,16 @@ use std::os::unix::fs::{DirBuilderExt, OpenOptionsExt};
 use std::process::{Child, Command, Stdio};
 use std::time::{Duration, Instant};
 use std::{env, fs, thread};
-use wm_commands::{Presence, UpStep, up_step};
+use wm_commands::{StartStep, UpStep, start_step, up_step};
 
-/// How often it is looked whether a server answers, and how long between two looks, in milliseconds.
+/// How often it is looked whether a program has ended that was told to.
 const LOOKS: u32 = 200;
 
+/// How long it is waited between two looks, in milliseconds.
 const PAUSE: u64 = 25;
+
+/// For how many seconds a server is awaited that was started and runs.
+const START: u64 = 60;
 
 /// For how many seconds a server is looked at that takes connections and doesn't answer.
 const PATIENCE: u64 = 10;
@@ -218,28 +222,53 @@ fn has_ended(child: &mut Child) -> bool {
     matches!(child.try_wait(), Ok(Some(_)))
 }
 
+/// The failure of a server that runs and doesn't answer.
+fn late(server: &Server<'_>, places: &Places) -> Failure {
+    let Ok(log) = log_of(server.rt, places) else {
+        return Failure::NoMemory;
+    };
+    let (socket, seconds) = (server.socket, START);
+    match format!(in server.rt.alloc();
+        "{socket}: the server was started, and doesn't answer after {seconds} seconds; {log} has all that it said"
+    ) {
+        Ok(text) => failed(3, text),
+        Err(_) => Failure::NoMemory,
+    }
+}
+
+/// Waits until a server that was started answers. One that is late runs on, and 'wm down' ends it.
+fn await_server(server: &Server<'_>, places: &Places, mut child: Child) -> Result<(), Failure> {
+    let rt = server.rt;
+    let begun = Instant::now(rt)?;
+    for _ in 0..u64::MAX {
+        let has_ended = has_ended(&mut child);
+        let is_late = begun.elapsed(rt)?.as_secs() >= START;
+        match start_step(server.presence()?, has_ended, is_late) {
+            StartStep::Started => return write_number(rt, places, "watchmand", &child),
+            StartStep::Ended => return Err(not_started(rt, places, "watchmand")),
+            StartStep::Late => {
+                write_number(rt, places, "watchmand", &child)?;
+                return Err(late(server, places));
+            }
+            StartStep::Await => thread::sleep(rt, Duration::from_millis(PAUSE)),
+        }
+    }
+    Err(late(server, places))
+}
+
 /// Starts the server, and waits until it answers.
 fn start_server(server: &Server<'_>, places: &Places) -> Result<(), Failure> {
     let rt = server.rt;
     let state = places.state.as_str();
     let file = format!(in rt.alloc(); "{state}/state")?;
     make_state(rt, &file)?;
-    let mut child = start(
+    let child = start(
         rt,
         places,
         "watchmand",
         &["serve", file.as_str(), server.socket],
     )?;
-    for _ in 0..LOOKS {
-        if server.presence()? == Presence::Answered {
-            return write_number(rt, places, "watchmand", &child);
-        }
-        if has_ended(&mut child) {
-            break;
-        }
-        thread::sleep(rt, Duration::from_millis(PAUSE));
-    }
-    Err(not_started(rt, places, "watchmand"))
+    await_server(server, places, child)
 }
 
 /// Starts the feed, and looks for a moment whether it stays.
