@@ -22,6 +22,12 @@ pub record CrawlEnd : Type 0 where
   pub ticket : ℕ
   pub ended : Result Progress Refusal
 
+-- what a crawl of a part of the root of a number came to, for one who asked for it
+pub record AwaitedEnd : Type 0 where
+  pub root : ℕ
+  pub part : Subtree
+  pub ended : Result Progress Refusal
+
 -- each ticket is above the ones before it, and none is above the last
 abbrev pub TicketsRise : ℕ → List AskedCrawl → ℕ → Type 0
 TicketsRise before [] last = before ≤ last

@@ -3,13 +3,15 @@ use Rattle.std.specs.Prelude.{◌≡◌, ◌⊎◌, ℕ, Option, Some, None, Res
 use Rattle.wm_disk.specs.declared.refusal.Refusal.{Refusal}
 use Rattle.wm_disk.specs.declared.refusal.Refusal.TheVariants.{NotReady}
 use Rattle.wm_lines.specs.declared.progress.Progress.{Progress}
+use Rattle.wm_names.specs.declared.subtree.Subtree.{Subtree}
 use Rattle.wm_view.specs.Listings.{Found}
 use Rattle.wm_view.specs.declared.op.Op.TheVariants.{Recrawl}
 use Rattle.wm_share.specs.PublishedLists.{PublishedList, EndsWith, clock_shown, history, outcome}
 
--- how a reading ended that was handed in, with the number of its root, and the root's floor if it rose with it
+-- how a reading ended that was handed in, with the number of its root, the part that was read, and the root's floor if it rose with it
 pub record ReadingEnd : Type 0 where
   pub root : ℕ
+  pub part : Subtree
   pub ended : Result Progress Refusal
   pub forgot : Option ℕ
 

@@ -1,7 +1,8 @@
 -- What was done to the triggers of a root under their lock.
-use Rattle.std.specs.Prelude.{◌≡◌, ◌≤◌, ℕ, true, List, length}
+use Rattle.std.specs.Prelude.{◌≡◌, ◌≤◌, ℕ, true, false, List, length}
 use Rattle.wm_hall.specs.LockedSteps.{StepState}
 use Rattle.wm_registry.specs.Limits.{max_triggers}
+use Rattle.wm_triggers.specs.Definitions.{is_defined}
 use Rattle.wm_triggers.specs.Tables.{Table, may_reply, table_ended, table_with, table_without}
 use Rattle.wm_triggers.specs.declared.defined_trigger.DefinedTrigger.{DefinedTrigger}
 
@@ -24,9 +25,9 @@ pub record PermittedStart : Type 0 where
 abbrev pub DefinesTrigger : ℕ → DefinedTrigger → RootStep → Type 0
 DefinesTrigger root one step = (step.root ≡ root) × (step.table.after ≡ table_with one step.table.before)
 
--- it has as many triggers as it may have
-abbrev pub AreTriggersFull : ℕ → RootTable → Type 0
-AreTriggersFull root full = (full.root ≡ root) × (max_triggers ≤ length full.table.defined)
+-- it has as many triggers as it may have, none of which has this name
+abbrev pub AreTriggersFull : ℕ → List ℕ → RootTable → Type 0
+AreTriggersFull root name full = (full.root ≡ root) × (max_triggers ≤ length full.table.defined) × (is_defined name full.table.defined ≡ false)
 
 -- it has none of the name any more
 abbrev pub DeletesTrigger : ℕ → List ℕ → RootStep → Type 0

@@ -8,6 +8,7 @@ ghost use Rattle.wm_hall.specs.AskedCrawls.{collected, ended_crawl, has_ticket, 
 use crate::asked_crawl::AskedCrawl;
 use std::alloc::Global;
 use std::marker::Model;
+use std::snapshot::Snapshot;
 use wm_disk::{NoMemory, Refusal};
 use wm_lines::Progress;
 use wm_names::Subtree;
@@ -125,26 +126,26 @@ impl Model for CrawlEnded {
     ghost view = { λ e. record { root = e.root; ticket = e.ticket; ended = e.ended } };
 }
 
-/// What a crawl came to, for one who waited for it: the root alone says so.
+/// What a crawl came to, for one who asked for it and waited: the root alone says so. Contracts see the root's number and the part with it.
 #[derive(Drop)]
 pub struct Crawled {
+    root: u64,
+    part: Snapshot<Subtree>,
     ended: Result<Progress, Refusal>,
 }
 
 impl Model for Crawled {
-    ghost use Rattle.std.specs.Prelude.{Result};
-    ghost use Rattle.wm_disk.specs.declared.refusal.Refusal.{Refusal};
-    ghost use Rattle.wm_lines.specs.declared.progress.Progress.{Progress};
+    ghost use Rattle.wm_hall.specs.AskedCrawls.{AwaitedEnd};
 
-    ghost Value = { Result Progress Refusal };
+    ghost Value = { AwaitedEnd };
 
-    ghost view = { λ c. c.ended };
+    ghost view = { λ c. record { root = c.root; part = c.part.value; ended = c.ended } };
 }
 
 impl Crawled {
     /// How it ended.
-    pub fn into_result(self) -> Result<Progress, Refusal>
-        ensures { result ≡ self }
+    pub fn ended(&self) -> Result<Progress, Refusal>
+        ensures { result ≡ self.now.ended }
     {
         self.ended
     }
@@ -364,14 +365,16 @@ impl Asked {
         }
     }
 
-    /// As `collect`, for who waited until the crawl ended, or the root.
-    pub(crate) fn collected(&mut self, ticket: Ticket) -> Crawled
+    /// As `collect`, for who asked for the part of the root, which has this number, and waited until the crawl ended, or the root.
+    pub(crate) fn collected(&mut self, root: u64, part: &Subtree, ticket: Ticket) -> Crawled
         requires { (list_any (is_pending ticket) self.old.crawls ≡ false) ⊎ (self.old.has_ended ≡ true) }
-        ensures told { result ≡ crawl_told (find (has_ticket ticket) self.old.crawls) }
+        ensures told { result ≡ record { root = root; part = part.now; ended = crawl_told (find (has_ticket ticket) self.old.crawls) } }
         ensures left { self.new ≡ record self.old { crawls = with_first (has_ticket ticket) collected self.old.crawls } }
     {
         let Ticket { number } = ticket;
         Crawled {
+            root,
+            part: Snapshot::of(part),
             ended: self.collect(number),
         }
     }

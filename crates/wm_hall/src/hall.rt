@@ -1,6 +1,6 @@
 //! One watched root, shared by sessions and workers: its keeper, its viewers, its cursors and its triggers, each under a lock of
 //! its own. Tests: serve_tests/src/halls.rt and sessions.rt; without memory tools/growths.py.
-ghost use Rattle.std.specs.Prelude.{◌≡◌, ◌⊎◌, ◌≤◌, [], true, false, Some, None, IfOk, IfErr, IfSome, MatchOption, MatchResult, vec_capacity};
+ghost use Rattle.std.specs.Prelude.{◌≡◌, ◌⊎◌, ◌≤◌, [], true, false, Some, None, IfOk, IfErr, MatchOption, MatchResult, vec_capacity};
 ghost use Rattle.wm_view.specs.Histories.{is_ready};
 ghost use Rattle.wm_since.specs.Answers.{clock_of as clock_of_history};
 ghost use Rattle.wm_since.specs.Cursors.{CursorList};
@@ -23,8 +23,8 @@ use crate::locked_root::{
 use crate::retention::Retention;
 use crate::starts::start_of;
 use crate::triggers::{
-    Defined, LockedTriggers, StandingTriggers, StartEnded, StartPermit, StartsOver, TriggersEnded,
-    TriggersFull,
+    Defined, LockedTriggers, StandingTriggers, StartEnded, StartPermit, StartRefused, StartsOver,
+    TriggersEnded, TriggersFull,
 };
 use crate::viewer_pool::{PoolEmpty, ViewerPool};
 use crate::work::Work;
@@ -35,7 +35,7 @@ use wm_disk::{NoMemory, Refusal};
 use wm_lines::{Inquiry, Progress};
 use wm_names::{RootPath, Subtree};
 use wm_registry::Trigger;
-use wm_share::{Naming, Pool, RootKeeper, Shown, Viewer};
+use wm_share::{Naming, Pool, RootKeeper, ShareId, Shown, Viewer};
 use wm_since::{Cursors, Query};
 use wm_triggers::DefinedTrigger;
 
@@ -51,6 +51,10 @@ pub struct HallEnded {
 pub struct RootHall<J: Naming, K: Wait + Drop> {
     pub path: RootPath,
     pub number: u64,
+    /// The share that its keeper and its viewers are of.
+    pub share: ShareId,
+    /// When its deleted paths are forgotten.
+    pub retention: Retention,
     pub work: Work,
     triggers: Mutex<LockedTriggers>,
     /// The start of a trigger is over.
@@ -73,13 +77,17 @@ impl<J: Naming, K: Wait + Drop> RootHall<J, K> {
         pool: Pool<J>,
         retention: Retention,
     ) -> Result<RootHall<J, K>, NoMemory>
-        ensures { IfOk result (λ hall. (hall.path ≡ path.now) × (hall.number ≡ number)) }
+        requires { pool.share ≡ keeper.published.share }
+        ensures { IfOk result (λ hall. (hall.path ≡ path.now) × (hall.number ≡ number) × (hall.share ≡ keeper.published.share) × (hall.retention ≡ retention)) }
     {
+        let share = pool.share();
         let (path, work, cursors, triggers) = fittings(alloc, path)?;
         let (root, last) = LockedRoot::new(keeper, retention);
         Ok(RootHall {
             path,
             number,
+            share,
+            retention,
             work,
             triggers: Mutex::new(triggers),
             started: Condvar::new(),
@@ -98,7 +106,7 @@ impl<J: Naming, K: Wait + Drop> RootHall<J, K> {
         number: u64,
         trigger: Trigger,
     ) -> Result<Defined, TriggersFull>
-        ensures { MatchResult result (DefinesTrigger self.now.number (record { number = number; trigger = trigger })) (AreTriggersFull self.now.number) }
+        ensures { MatchResult result (DefinesTrigger self.now.number (record { number = number; trigger = trigger })) (AreTriggersFull self.now.number trigger.name) }
     {
         let one = DefinedTrigger { number, trigger };
         let defined = self.triggers.lock(rt).define(self.number, one);
@@ -136,14 +144,20 @@ impl<J: Naming, K: Wait + Drop> RootHall<J, K> {
     }
 
     /// The triggers as they are defined now. `NoMemory`.
-    pub fn defined<R: Wait>(&self, rt: &R, alloc: Global) -> Result<StandingTriggers, NoMemory> {
-        self.triggers.lock(rt).defined(alloc)
+    pub fn defined<R: Wait>(&self, rt: &R, alloc: Global) -> Result<StandingTriggers, NoMemory>
+        ensures { IfOk result (λ standing. standing.root ≡ self.now.number) }
+    {
+        self.triggers.lock(rt).defined(self.number, alloc)
     }
 
     /// That a trigger may be started now: this definition stands, and the root is watched. Its start is under way then until the
-    /// permit is given back.
-    pub fn begin_start<R: Wait>(&self, rt: &R, one: DefinedTrigger) -> Option<StartPermit>
-        ensures { IfSome result (λ permit. permit ≡ record { root = self.now.number; one = one }) }
+    /// permit is given back. Refused if the definition doesn't stand any longer.
+    pub fn begin_start<R: Wait>(
+        &self,
+        rt: &R,
+        one: DefinedTrigger,
+    ) -> Result<StartPermit, StartRefused>
+        ensures { MatchResult result (λ permit. permit ≡ record { root = self.now.number; one = one }) (λ refused. (refused.root ≡ self.now.number) × (refused.one.value ≡ one)) }
     {
         self.triggers.lock(rt).begin(self.number, one)
     }
@@ -160,9 +174,10 @@ impl<J: Naming, K: Wait + Drop> RootHall<J, K> {
 
     /// As [`Work::crawl`].
     pub fn crawl<R: Wait>(&self, rt: &R, subtree: Subtree) -> Result<Crawled, Refusal>
+        ensures told { IfOk result (λ crawled. (crawled.root ≡ self.now.number) × (crawled.part ≡ subtree)) }
         ensures refused { IfErr result (λ e. (e ≡ Refusal.NoMemory) ⊎ (e ≡ Refusal.Exhausted)) }
     {
-        self.work.crawl(rt, subtree)
+        self.work.crawl(rt, self.number, subtree)
     }
 
     /// Waits until a crawl of the root is asked for, which has begun then; there is none at the end.
@@ -213,12 +228,16 @@ impl<J: Naming, K: Wait + Drop> RootHall<J, K> {
         found: Reading,
     ) -> HandedIn
         requires { found.root ≡ self.now.number }
-        ensures root { result.root ≡ self.now.number }
+        ensures root { (result.root ≡ self.now.number) × (result.part ≡ found.listing.subtree) }
         ensures reported { IfOk result.ended (IsReadingReported (S.may_read seconds.now) found.begun_at) }
     {
         let mut root = self.root.lock(rt);
+        let part = found.part();
         let performed = root.take_in(alloc, seconds.second(), found);
-        let handed_in = self.last.lock(rt).keep_reading(performed, self.number);
+        let handed_in = self
+            .last
+            .lock(rt)
+            .keep_reading(performed, self.number, part);
         drop(root);
         let _count = self.work.notify(rt);
         handed_in

@@ -31,7 +31,8 @@ pub use retention::Retention;
 pub use starts::start_of;
 pub use step::Step;
 pub use triggers::{
-    Defined, StandingTriggers, StartEnded, StartPermit, StartsOver, TriggersEnded, TriggersFull,
+    Defined, StandingTriggers, StartEnded, StartPermit, StartRefused, StartsOver, TriggersEnded,
+    TriggersFull,
 };
 pub use viewer_pool::PoolEmpty;
 pub use work::Work;

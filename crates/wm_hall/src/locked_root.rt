@@ -14,19 +14,23 @@ ghost use Rattle.wm_hall.specs.Readings.{IsUnread, NotesIf, clock_last, pairs_in
 ghost use Rattle.wm_hall.specs.RootStates.{IsLast, IsOperated, root_state};
 ghost use Rattle.wm_share.specs.PublishedLists.{Begins, EndsWith, PublishedList};
 
+mod handed_in;
 mod reading;
 
 use crate::backlog::{Backlog, age_out, moment_of, operate as operate_alone, publish_backlog};
 use crate::change::Change;
 use crate::retention::Retention;
+pub use handed_in::HandedIn;
 pub use reading::{Begun, CrawlRefused, CrawlTools, GivenUp, Reading, Unread};
 use reading::{note_if, observed_in, recrawl_by};
 use std::alloc::Global;
 use std::marker::Model;
+use std::snapshot::Snapshot;
 use std::sync::Wait;
 use wm_clock::ClockId;
 use wm_disk::Refusal;
 use wm_lines::Progress;
+use wm_names::Subtree;
 use wm_reading::Observed;
 use wm_share::{Listed, Naming, RootKeeper, Told, Viewer};
 use wm_view::Op;
@@ -53,39 +57,6 @@ pub(crate) struct LastPublished<J: Naming> {
 pub(crate) struct Performed<J: Naming> {
     last: Option<Told<J>>,
     ended: Result<Progress, Refusal>,
-}
-
-/// How a reading ended that was handed in: what was published last makes it, when it has kept what that published. Contracts see the
-/// root's number with it, and the floor of its view if that rose.
-#[derive(Drop)]
-pub struct HandedIn {
-    root: u64,
-    ended: Result<Progress, Refusal>,
-    forgot: Option<u64>,
-}
-
-impl Model for HandedIn {
-    ghost use Rattle.wm_hall.specs.Performed.{ReadingEnd};
-
-    ghost Value = { ReadingEnd };
-
-    ghost view = { λ h. record { root = h.root; ended = h.ended; forgot = h.forgot } };
-}
-
-impl HandedIn {
-    /// How it ended.
-    pub fn ended(&self) -> Result<Progress, Refusal>
-        ensures { result ≡ self.now.ended }
-    {
-        self.ended
-    }
-
-    /// The tick of the last deletion that was forgotten, if anything was forgotten that was deleted later than all before it.
-    pub fn forgot(&self) -> Option<u64>
-        ensures { result ≡ self.now.forgot }
-    {
-        self.forgot
-    }
 }
 
 /// A change of a root was performed or refused, and what it published has been kept: what was published last makes it. Contracts see
@@ -359,14 +330,20 @@ impl<J: Naming> LastPublished<J> {
         (ended, changed)
     }
 
-    /// As `keep`, of a reading of the root of a number that was handed in.
-    pub(crate) fn keep_reading(&mut self, performed: Performed<J>, number: u64) -> HandedIn
+    /// As `keep`, of a reading of a part of the root of a number that was handed in.
+    pub(crate) fn keep_reading(
+        &mut self,
+        performed: Performed<J>,
+        number: u64,
+        part: Snapshot<Subtree>,
+    ) -> HandedIn
         ensures kept { self.new.told ≡ option_or performed.last self.old.told }
-        ensures ended { result ≡ record { root = number; ended = performed.ended; forgot = risen_floor self.old.told self.new.told } }
+        ensures ended { result ≡ record { root = number; part = part.value; ended = performed.ended; forgot = risen_floor self.old.told self.new.told } }
     {
         let (ended, forgot) = self.keep(performed);
         HandedIn {
             root: number,
+            part,
             ended,
             forgot,
         }

@@ -1,7 +1,8 @@
 //! The triggers of a root, as they lie under their lock: what changes them, and what may be started.
 //! Definitions: specs/Tables.antt of wm_triggers. Tests: serve_tests/src/triggers.rt.
-ghost use Rattle.std.specs.Prelude.{◌≡◌, ◌≤◌, true, false, length, IfErr, IfOk, OnOk, MatchOption};
+ghost use Rattle.std.specs.Prelude.{◌≡◌, ◌≤◌, true, false, length, IfErr, IfOk, OnOk, MatchResult};
 ghost use Rattle.wm_registry.specs.Limits.{max_triggers};
+ghost use Rattle.wm_triggers.specs.Definitions.{is_defined};
 ghost use Rattle.wm_triggers.specs.Tables.{empty_table, may_begin, may_reply, table_begun, table_ended, table_idle, table_with, table_without};
 
 use crate::step::Step;
@@ -49,19 +50,21 @@ impl Model for TriggersFull {
     ghost view = { λ f. record { root = f.root; table = f.table.value } };
 }
 
-/// The triggers of a root as its table has them: the table alone makes it.
+/// The triggers of a root as its table has them: the table alone makes it. Contracts see the number of the root, and the table.
 #[derive(Drop)]
 pub struct StandingTriggers {
+    root: u64,
+    table: Snapshot<TriggerTable>,
     all: DefinedTriggers,
+    ghost same: { all ≡ table.value.defined },
 }
 
 impl Model for StandingTriggers {
-    ghost use Rattle.std.specs.Prelude.{List};
-    ghost use Rattle.wm_triggers.specs.declared.defined_trigger.DefinedTrigger.{DefinedTrigger};
+    ghost use Rattle.wm_hall.specs.TriggerSteps.{RootTable};
 
-    ghost Value = { List DefinedTrigger };
+    ghost Value = { RootTable };
 
-    ghost view = { λ s. s.all };
+    ghost view = { λ s. record { root = s.root; table = s.table.value } };
 }
 
 /// That the program of a trigger may be started: the table alone says so. Its start is under way until the permit is given back, and nobody
@@ -77,6 +80,16 @@ impl Model for StartPermit {
     ghost Value = { PermittedStart };
 
     ghost view = { λ p. record { root = p.root; one = p.one.value } };
+}
+
+/// That the program of a trigger may not be started: its definition doesn't stand, or its root has ended, as the table alone says. Contracts
+/// see the number of the root, the definition, and the table.
+#[derive(Drop)]
+pub struct StartRefused {
+    root: u64,
+    one: Snapshot<DefinedTrigger>,
+    table: Snapshot<TriggerTable>,
+    ghost refused: { may_begin one.value table.value ≡ false },
 }
 
 /// The start that was permitted is over: the table alone makes it. Contracts see the number of the root, and the definition.
@@ -129,7 +142,7 @@ impl Model for StartsOver {
 impl StandingTriggers {
     /// The definitions.
     pub fn definitions(&self) -> &DefinedTriggers
-        ensures { result.now ≡ self.now }
+        ensures { result.now ≡ self.now.table.defined }
     {
         &self.all
     }
@@ -148,7 +161,7 @@ impl LockedTriggers {
     pub(crate) fn define(&mut self, root: u64, one: DefinedTrigger) -> Result<Defined, TriggersFull>
         ensures told { IfOk result (λ defined. defined ≡ record { root = root; table = record { before = self.old.table; after = self.new.table } }) }
         ensures ok { OnOk result (self.new.table ≡ table_with one self.old.table) }
-        ensures refused { IfErr result (λ full. (self.new ≡ self.old) × (full ≡ record { root = root; table = self.old.table }) × (max_triggers ≤ length self.old.table.defined)) }
+        ensures refused { IfErr result (λ full. (self.new ≡ self.old) × (full ≡ record { root = root; table = self.old.table }) × (max_triggers ≤ length self.old.table.defined) × (is_defined one.trigger.name self.old.table.defined ≡ false)) }
     {
         let before = Snapshot::of(&self.table);
         let DefinedTrigger { number, trigger } = one;
@@ -208,24 +221,34 @@ impl LockedTriggers {
         }
     }
 
-    /// The triggers as they are defined now. `NoMemory`.
-    pub(crate) fn defined(&self, alloc: Global) -> Result<StandingTriggers, NoMemory>
-        ensures { IfOk result (λ standing. standing ≡ self.now.table.defined) }
+    /// The triggers of the root of this number as they are defined now. `NoMemory`.
+    pub(crate) fn defined(&self, root: u64, alloc: Global) -> Result<StandingTriggers, NoMemory>
+        ensures { IfOk result (λ standing. standing ≡ record { root = root; table = self.now.table }) }
     {
         let all = self.table.defined().copy(alloc)?;
-        Ok(StandingTriggers { all })
+        let table = Snapshot::of(&self.table);
+        Ok(StandingTriggers { root, table, all })
     }
 
     /// That this definition's program may be started now in the root of this number, as `TriggerTable::begin`.
-    pub(crate) fn begin(&mut self, root: u64, one: DefinedTrigger) -> Option<StartPermit>
-        ensures permit { MatchOption result (may_begin one self.old.table ≡ false) (λ permit. (may_begin one self.old.table ≡ true) × (permit ≡ record { root = root; one = one })) }
+    pub(crate) fn begin(
+        &mut self,
+        root: u64,
+        one: DefinedTrigger,
+    ) -> Result<StartPermit, StartRefused>
+        ensures permit { MatchResult result (λ permit. (may_begin one self.old.table ≡ true) × (permit ≡ record { root = root; one = one })) (λ refused. (may_begin one self.old.table ≡ false) × (refused.root ≡ root) × (refused.one.value ≡ one)) }
         ensures begun { self.new.table ≡ table_begun one self.old.table }
     {
         let permitted = Snapshot::of(&one);
+        let table = Snapshot::of(&self.table);
         if !self.table.begin(one) {
-            return None;
+            return Err(StartRefused {
+                root,
+                one: permitted,
+                table,
+            });
         }
-        Some(StartPermit {
+        Ok(StartPermit {
             root,
             one: permitted,
         })

@@ -1,6 +1,6 @@
 //! What the workers of a root are asked: crawls, and to look whether a trigger is due.
 //! Tests: serve_tests/src/crawls.rt.
-ghost use Rattle.std.specs.Prelude.{◌≡◌, ◌⊎◌, true, IfErr, MatchResult};
+ghost use Rattle.std.specs.Prelude.{◌≡◌, ◌⊎◌, true, IfErr, IfOk, MatchResult};
 
 use crate::asked::{Asked, BegunCrawl, ChangeCount, CrawlEnded, Crawled, NoWork, Ticket};
 use std::alloc::Global;
@@ -44,10 +44,16 @@ impl Work {
         ended
     }
 
-    /// Asks for a crawl of a part, and waits for the end of one that began after that: what the crawl or the view refuses, and
+    /// Asks for a crawl of a part of the root, which has this number, and waits for the end of one that began after that: what the crawl or the view refuses, and
     /// `NotWatched` if the root isn't watched any longer or the server closes. Not asked for are `NoMemory`, and `Exhausted` after
     /// 2^64 - 1 crawls.
-    pub(crate) fn crawl<R: Wait>(&self, rt: &R, subtree: Subtree) -> Result<Crawled, Refusal>
+    pub(crate) fn crawl<R: Wait>(
+        &self,
+        rt: &R,
+        root: u64,
+        subtree: Subtree,
+    ) -> Result<Crawled, Refusal>
+        ensures told { IfOk result (λ crawled. (crawled.root ≡ root) × (crawled.part ≡ subtree)) }
         ensures refused { IfErr result (λ e. (e ≡ Refusal.NoMemory) ⊎ (e ≡ Refusal.Exhausted)) }
     {
         let mut asked = self.asked.lock(rt);
@@ -57,7 +63,7 @@ impl Work {
         let mut asked = self.notified.wait_while(rt, asked, |asked| {
             asked.is_pending(number) && !asked.has_ended()
         });
-        Ok(asked.collected(ticket))
+        Ok(asked.collected(root, &subtree, ticket))
     }
 
     /// Waits until a crawl of the root, which has this number, is asked for, which has begun then; there is none at the end.

@@ -11,6 +11,7 @@ use super::{LastPublished, LockedRoot};
 use crate::backlog::tick_of;
 use std::alloc::Global;
 use std::marker::Model;
+use std::snapshot::Snapshot;
 use std::sync::Wait;
 use std::thread::Threads;
 use wm_crawler::{Folders, Turnstile, crawl_root};
@@ -145,6 +146,13 @@ impl Reading {
         ensures { result ≡ self.now.root }
     {
         self.begun.root()
+    }
+
+    /// The part that was read.
+    pub(crate) fn part(&self) -> Snapshot<Subtree>
+        ensures { result.value ≡ self.now.listing.subtree }
+    {
+        Snapshot::of(self.listing.subtree())
     }
 }
 
