@@ -1,5 +1,5 @@
 -- How the registry was looked at, as the session's seat knows it.
-use Rattle.std.specs.Prelude.{◌≡◌, ℕ, Option, Some, None}
+use Rattle.std.specs.Prelude.{◌≡◌, ◌≢◌, ℕ, Option, Some, None}
 use Rattle.wm_names.specs.Paths.{Path}
 use Rattle.wm_registry.specs.Roots.{State, root_at}
 use Rattle.wm_groupcommit.specs.declared.seat.Seat.{Seat}
@@ -18,3 +18,7 @@ IsShownTo old registry now = (new : Seat) × (now ≡ Some new) × IsRegistryAft
 -- no root of the path is watched, after all that the seat had seen
 abbrev pub IsUnwatchedAfter : Path → Option Seat → Option Seat → Type 0
 IsUnwatchedAfter path old now = (registry : State) × IsShownTo old registry now × (root_at path registry ≡ None)
+
+-- a root of the path is watched, after all that the seat had seen
+abbrev pub IsWatchedAfter : Path → Option Seat → Option Seat → Type 0
+IsWatchedAfter path old now = (registry : State) × IsShownTo old registry now × (root_at path registry ≢ None)

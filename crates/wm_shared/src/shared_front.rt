@@ -1,6 +1,6 @@
 //! The front of a session that shares a desk and roots with others: what is known of a call is what the session's own seat and viewers
 //! tell. Definitions: specs/MetShared.antt. Tests: shared_tests/src/fronts.rt.
-ghost use Rattle.std.specs.Prelude.{◌≡◌, ◌⊎◌, Some, false, IfOk, IfErr, MatchBool, MatchOption, MatchResult};
+ghost use Rattle.std.specs.Prelude.{◌≡◌, ◌⊎◌, Some, false, IfOk, IfErr, OnOk, MatchBool, MatchOption, MatchResult};
 ghost use Rattle.std.specs.Arc.{arc_value};
 ghost use Rattle.std.specs.List.{list_any};
 ghost use Rattle.wm_disk.specs.declared.refusal.Refusal.TheVariants.{BadArguments as bad_arguments};
@@ -11,7 +11,7 @@ ghost use Rattle.wm_shared.specs.RootsSeen.{IsSeenMore, is_viewer_of, unless_unw
 ghost use Rattle.wm_groupcommit.specs.Books.{IsFailed};
 ghost use Rattle.wm_groupcommit.specs.declared.seat.Seat.{Seat as seats};
 ghost use Rattle.wm_shared.specs.Commands.{IsSatOn, IsWitnessed, IsStandingFollowed, KeepsSeat, SeatGoesOn};
-ghost use Rattle.wm_shared.specs.Looks.{IsLookedAt, IsUnwatchedAfter};
+ghost use Rattle.wm_shared.specs.Looks.{IsLookedAt, IsUnwatchedAfter, IsWatchedAfter};
 
 use crate::due::answer_of;
 use crate::place::Place;
@@ -162,6 +162,7 @@ fn confirm<T: Registrar, H: FollowingRoots<J, K>, J: Naming, K: Wait + Copy + Dr
     path: &RootPath,
 ) -> Result<(), Refusal>
     ensures keeps { KeepsSeat place.old place.new }
+    ensures watched { OnOk result (IsWatchedAfter path.now place.old place.new) }
     ensures refused { IfErr result (λ e. (e ≡ Refusal.NoMemory) ⊎ ((e ≡ Refusal.NotWatched) × IsUnwatchedAfter path.now place.old place.new)) }
 {
     let (registry, _) = look_followed(rt, roots, place)?;
