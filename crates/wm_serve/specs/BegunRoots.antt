@@ -8,7 +8,7 @@ use Rattle.wm_registry.specs.declared.root.Root.{Root}
 use Rattle.wm_hall.specs.TriggerSteps.{DefinesTrigger, RootStep}
 use Rattle.wm_serve.specs.FollowedRoots.{FillsRoot, PutsRoot}
 use Rattle.wm_serve.specs.UnstartedWorkers.{WorkerList}
-use Rattle.wm_serve.specs.WatchedRoots.{RootName, WatchedRoots, root_name}
+use Rattle.wm_serve.specs.WatchedRoots.{HallName, WatchedRoots, root_name}
 use Rattle.wm_serve.specs.declared.begun_roots.BegunRoot.{BegunRoot}
 use Rattle.wm_serve.specs.declared.begun_roots.BegunRoots.{BegunRoots}
 use Rattle.wm_serve.specs.declared.begun_roots.MadeHall.{MadeHall}
@@ -30,31 +30,31 @@ module _ {H : Type 0} where
   abbrev pub BeginsTable : List (BegunRoot H) → ℕ → WatchedRoots H → WorkerList → WatchedRoots H → WorkerList → Type 0
   BeginsTable all next old u new u' = (mid : WatchedRoots H) × PutsAll all old u mid u' × (new ≡ record mid { next = max mid.next next })
 
--- `name` is the path and the number of a hall
-module _ {H : Type 0} (name : H → RootName) where
-  -- The root has its path and its number, and so has its hall, in which each of its triggers was defined.
-  abbrev pub IsRootBegun : Path × Root → BegunRoot H → Type 0
-  IsRootBegun entry begun =
+-- `name` is what a hall says of its root
+module _ {H : Type 0} (name : H → HallName) where
+  -- The root has its path and its number, and so has its hall, which is of the incarnation, and in which each of its triggers was defined.
+  abbrev pub IsRootBegun : (incarnation : ℕ) → Path × Root → BegunRoot H → Type 0
+  IsRootBegun incarnation entry begun =
       (root_name begun.root ≡ record { path = entry.0; number = entry.1.number })
-      × (option_map name begun.root.hall ≡ Some (record { path = entry.0; number = entry.1.number }))
+      × (option_map name begun.root.hall ≡ Some (record { path = entry.0; number = entry.1.number; incarnation = incarnation }))
       × AreDefined entry.1.number 0 entry.1.triggers begun.triggers.items
 
-  abbrev pub AreRootsBegun : List (Path × Root) → List (BegunRoot H) → Type 0
-  AreRootsBegun [] [] = Unit {0}
-  AreRootsBegun [] (begun ∷ all) = ⊥
-  AreRootsBegun (entry ∷ entries) [] = ⊥
-  AreRootsBegun (entry ∷ entries) (begun ∷ all) = IsRootBegun entry begun × AreRootsBegun entries all
+  abbrev pub AreRootsBegun : (incarnation : ℕ) → List (Path × Root) → List (BegunRoot H) → Type 0
+  AreRootsBegun incarnation [] [] = Unit {0}
+  AreRootsBegun incarnation [] (begun ∷ all) = ⊥
+  AreRootsBegun incarnation (entry ∷ entries) [] = ⊥
+  AreRootsBegun incarnation (entry ∷ entries) (begun ∷ all) = IsRootBegun incarnation entry begun × AreRootsBegun incarnation entries all
 
   -- All roots of a registry stand in the table, after so many commands.
   abbrev pub BeginsRoots : State → ℕ → BegunRoots H → Type 0
   BeginsRoots registry count begun =
       (begun.turn.after ≡ record { incarnation = registry.incarnation; count = count })
-      × (all : List (BegunRoot H)) × AreRootsBegun registry.roots all
+      × (all : List (BegunRoot H)) × AreRootsBegun registry.incarnation registry.roots all
       × BeginsTable all registry.next begun.table.roots.before begun.table.unstarted.before begun.table.roots.after begun.table.unstarted.after
 
-  -- The root of the path, which had no hall, has one with its number and its triggers, as a registry has them after so many commands.
+  -- The root of the path, which had no hall, has one of the registry's incarnation with its number and its triggers, as the registry has them after so many commands.
   abbrev pub IsHallMade : Path → State → ℕ → MadeHall H → Type 0
   IsHallMade path registry count made =
       (root : Root) × (root_at path registry ≡ Some root) × AreDefined root.number count root.triggers made.triggers.items
-      × (hall : H) × (name hall ≡ record { path = path; number = root.number })
+      × (hall : H) × (name hall ≡ record { path = path; number = root.number; incarnation = registry.incarnation })
       × FillsRoot root.number hall made.table.roots.before made.table.unstarted.before made.table.roots.after made.table.unstarted.after

@@ -14,7 +14,7 @@ use Rattle.wm_serve.specs.BegunRoots.{IsHallMade}
 use Rattle.wm_serve.specs.FollowedRoots.{FollowsCommand, IsStepOf, left_to_halls, numbered_roots}
 use Rattle.wm_serve.specs.Turns.{TakesTurn}
 use Rattle.wm_serve.specs.WakeFlags.{NotifiesAll}
-use Rattle.wm_serve.specs.WatchedRoots.{FindsHall, RootName, has_path}
+use Rattle.wm_serve.specs.WatchedRoots.{FindsHall, HallName, has_path}
 use Rattle.wm_serve.specs.declared.followed_command.AppliedCommand.{AppliedCommand}
 use Rattle.wm_serve.specs.declared.followed_command.ChangedHall.{ChangedHall}
 use Rattle.wm_serve.specs.declared.followed_command.EndedHall.{EndedHall}
@@ -27,13 +27,13 @@ use Rattle.wm_serve.specs.declared.followed_roots.Followed.{Followed}
 use Rattle.wm_serve.specs.declared.followed_roots.Followed.TheVariants.{Nothing, Ended, Defined, Deleted}
 use Rattle.wm_serve.specs.declared.found_hall.FoundHall.{FoundHall}
 
--- a hall's path and number
-abbrev pub hall_name : {J K : Type 0} → RootHall J K → RootName
-hall_name hall = record { path = hall.path; number = hall.number }
+-- a hall's path and number, and the incarnation of its share
+abbrev pub hall_name : {J K : Type 0} → RootHall J K → HallName
+hall_name hall = record { path = hall.path; number = hall.number; incarnation = hall.share.incarnation }
 
 -- in the root this trigger was defined by the command of the number, or it is full
 abbrev pub DefinesBy : (number : ℕ) → Definition → (root : ℕ) → Result RootStep RootTable → Type 0
-DefinesBy number trigger root defined = MatchResult defined (DefinesTrigger root (record { number = number; trigger = trigger })) (AreTriggersFull root)
+DefinesBy number trigger root defined = MatchResult defined (DefinesTrigger root (record { number = number; trigger = trigger })) (AreTriggersFull root trigger.name)
 
 -- in the root the trigger of this name was deleted
 abbrev pub DeletesNamed : List ℕ → (root : ℕ) → Result RootStep RootTable → Type 0
@@ -59,12 +59,12 @@ module _ {H V : Type 0} (value : H → V) where
       IfOk found.hall (FindsHall value path found.table.value.roots)
       × IfErr found.hall (λ e. e ≡ NotWatched → list_any (has_path path) found.table.value.roots ≡ false)
 
--- `name` is the path and the number of a hall
-module _ {H V : Type 0} (value : H → V) (name : V → RootName) where
-  -- a hall was made for a root that the command adds, by its path and the number that the hall has
-  abbrev pub IsMadeFor : Command → ℕ × H → Type 0
-  IsMadeFor (Watch path) made = name (value made.1) ≡ record { path = path; number = made.0 }
-  IsMadeFor _ made = ⊥
+-- `name` is what a hall says of its root
+module _ {H V : Type 0} (value : H → V) (name : V → HallName) where
+  -- a hall of the incarnation was made for a root that the command adds, by its path and the number that the hall has
+  abbrev pub IsMadeFor : (incarnation : ℕ) → Command → ℕ × H → Type 0
+  IsMadeFor incarnation (Watch path) made = name (value made.1) ≡ record { path = path; number = made.0; incarnation = incarnation }
+  IsMadeFor incarnation _ made = ⊥
 
   abbrev pub hall_number : H → ℕ
   hall_number hall = (name (value hall)).number
@@ -85,7 +85,7 @@ module _ {H V : Type 0} (value : H → V) (name : V → RootName) where
   IsMadeUp path (Made made) = (h : HistoryState) × (count : ℕ) × IsHallMade (λ hall. name (value hall)) path (last_state h) count made
 
 -- `flags` is the number of wake flags
-module _ {H V : Type 0} (value : H → V) (name : V → RootName) (flags : ℕ) where
+module _ {H V : Type 0} (value : H → V) (name : V → HallName) (flags : ℕ) where
   -- the workers of the hall find nothing to do, none of its triggers begins any more, and each wake flag was notified
   abbrev pub IsHallEnded : H → EndedHall H → Type 0
   IsHallEnded hall ended = (ended.hall ≡ hall) × (ended.ended.work ≡ true) × EndsTriggers (name (value hall)).number ended.ended.triggers × NotifiesAll flags (name (value hall)).number ended.notified
@@ -105,15 +105,15 @@ module _ {H V : Type 0} (value : H → V) (name : V → RootName) (flags : ℕ) 
   FollowsInHall number (Deleted path named) (Over ended) = ⊥
   FollowsInHall number (Deleted path named) (Changed changed) = ChangesHall value name path (DeletesNamed named) changed
 
-  -- The table followed the command, and then what was left to do about a hall was done.
-  abbrev pub AppliesCommand : ℕ → Command → AppliedCommand H → Type 0
-  AppliesCommand number command applied =
-      ((made : Option (ℕ × H)) × MatchOption made (Unit {0}) (IsMadeFor value name command)
+  -- The table followed the command, with a hall of the incarnation if it adds a root, and then what was left to do about a hall was done.
+  abbrev pub AppliesCommand : (incarnation number : ℕ) → Command → AppliedCommand H → Type 0
+  AppliesCommand incarnation number command applied =
+      ((made : Option (ℕ × H)) × MatchOption made (Unit {0}) (IsMadeFor value name incarnation command)
       × FollowsCommand command made applied.table.roots.before applied.table.unstarted.before applied.table.roots.after applied.table.unstarted.after)
       × IsStepOf command (numbered_roots applied.table.roots.before) (numbered_roots applied.table.roots.after)
       × FollowsInHall number (left_to_halls command applied.table.roots.before.roots) applied.hall
 
-  -- That in the command's turn, and then the starts were awaited that it had to await.
+  -- That in the command's turn, with the incarnation that the turn has, and then the starts were awaited that it had to await.
   abbrev pub HasFollowed : ℕ → Command → FollowedCommand H → Type 0
   HasFollowed number command followed =
-      AppliesCommand number command followed.applied × TakesTurn number followed.turn × AwaitsStarts value name followed.applied.hall followed.starts
+      AppliesCommand followed.turn.before.incarnation number command followed.applied × TakesTurn number followed.turn × AwaitsStarts value name followed.applied.hall followed.starts

@@ -2,6 +2,7 @@ pub mod AcceptQueues
 pub mod AdmissionLines
 pub mod BegunRoots
 pub mod CrawlLines
+pub mod CrawlOutcomes
 pub mod FollowedCommands
 pub mod FollowedRoots
 pub mod LogEvents

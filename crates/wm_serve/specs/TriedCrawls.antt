@@ -3,6 +3,7 @@ use Rattle.std.specs.Prelude.{◌≡◌, ℕ, true, Option, Some, None, Result, 
 use Rattle.wm_disk.specs.declared.refusal.Refusal.{Refusal}
 use Rattle.wm_disk.specs.declared.refusal.Refusal.TheVariants.{BadClock, NotWatched}
 use Rattle.wm_lines.specs.declared.progress.Progress.{Progress}
+use Rattle.wm_names.specs.declared.subtree.Subtree.{Subtree}
 use Rattle.wm_serve.specs.declared.crawl.NoCrawl.{NoCrawl}
 use Rattle.wm_serve.specs.declared.crawl.NoCrawl.TheVariants.{Ended, NoHall}
 use Rattle.wm_serve.specs.declared.supervisor.WorkerEnd.{WorkerEnd}
@@ -31,12 +32,12 @@ try_end (HandedIn handed_in) = handed_in.ended
 try_end (NotHandedIn none) = Err NotWatched
 try_end (GivenUp refused given_up) = Err refused
 
--- each thing that a try came to is of the root of the number
-abbrev pub IsTryOf : ℕ → Tried → Type 0
-IsTryOf root (NotBegun none) = none ≡ root
-IsTryOf root (HandedIn handed_in) = handed_in.root ≡ root
-IsTryOf root (NotHandedIn none) = none ≡ root
-IsTryOf root (GivenUp refused given_up) = MatchResult given_up (λ over. over.root ≡ root) (λ none. none ≡ root)
+-- each thing that a try came to is of the root of the number, and what was handed in is of the part
+abbrev pub IsTryOf : ℕ → Subtree → Tried → Type 0
+IsTryOf root part (NotBegun none) = none ≡ root
+IsTryOf root part (HandedIn handed_in) = (handed_in.root ≡ root) × (handed_in.part ≡ part)
+IsTryOf root part (NotHandedIn none) = none ≡ root
+IsTryOf root part (GivenUp refused given_up) = MatchResult given_up (λ over. over.root ≡ root) (λ none. none ≡ root)
 
 -- the last of one or two tries
 abbrev pub last_try : Tried → Option Tried → Tried

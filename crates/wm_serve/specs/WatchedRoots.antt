@@ -50,6 +50,12 @@ pub record RootName : Type 0 where
   pub path : Path
   pub number : ℕ
 
+-- what a hall says of its root: besides, how often the server had begun when the root's view was made
+pub record HallName : Type 0 where
+  pub path : Path
+  pub number : ℕ
+  pub incarnation : ℕ
+
 abbrev pub root_name : {H : Type 0} → WatchedRoot H → RootName
 root_name root = record { path = root.path; number = root.number }
 

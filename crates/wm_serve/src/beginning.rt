@@ -81,7 +81,7 @@ impl<T: ServerDesk, J: Naming, K: Wait + Clock + Copy + Drop> Shared<T, J, K> {
         alloc: Global,
         registry: &Registry,
     ) -> Result<Vec<BegunRoot<Arc<RootHall<J, K>>>>, NoMemory>
-        ensures { IfOk result (λ all. AreRootsBegun (λ hall. hall_name (arc_value hall)) registry.now.roots all.items) }
+        ensures { IfOk result (λ all. AreRootsBegun (λ hall. hall_name (arc_value hall)) registry.now.incarnation registry.now.roots all.items) }
     {
         let mut all = Vec::new(alloc);
         for (path, root) in registry.roots().iter() {
@@ -90,7 +90,7 @@ impl<T: ServerDesk, J: Naming, K: Wait + Clock + Copy + Drop> Shared<T, J, K> {
         Ok(all)
     }
 
-    /// A root with its hall and its triggers.
+    /// A root with its hall, of the incarnation, and its triggers.
     fn begun_root<R: Wait>(
         &self,
         rt: &R,
@@ -99,7 +99,7 @@ impl<T: ServerDesk, J: Naming, K: Wait + Clock + Copy + Drop> Shared<T, J, K> {
         path: &RootPath,
         root: &Root,
     ) -> Result<BegunRoot<Arc<RootHall<J, K>>>, NoMemory>
-        ensures { IfOk result (IsRootBegun (λ hall. hall_name (arc_value hall)) (path.now, root.now)) }
+        ensures { IfOk result (IsRootBegun (λ hall. hall_name (arc_value hall)) incarnation (path.now, root.now)) }
     {
         let hall = self.new_hall(rt, alloc, path, incarnation, root.number)?;
         let triggers = define_all(rt, alloc, &hall, 0, root.triggers.as_slice())?;

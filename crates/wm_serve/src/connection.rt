@@ -6,18 +6,21 @@ ghost use Rattle.wm_serve.specs.WakeFlags.{slot_count};
 
 use crate::log_events::{is_cut_off, reports_store_failure};
 use crate::registrar::ServerDesk;
+use crate::replaced::{Replaced, replace};
 use crate::sent_lines::{Answered, SentDue, answer_line, send, send_due};
 use crate::shared::Shared;
+use crate::slot_learnt::{SlotLearnt, learn_in};
 use crate::step::Step;
+use crate::vacant::Vacant;
 use crate::wake_flag::FlagStep;
 use crate::wake_state::with_bit;
 use std::alloc::Global;
+use std::io;
 use std::net::Shutdown;
 use std::os::unix::net::UnixStream;
 use std::snapshot::Snapshot;
 use std::sync::{Arc, Mutex, Wait};
 use std::time::Clock;
-use std::{io, mem};
 use wm_disk::NoMemory;
 use wm_hall::{RootHall, Seconds};
 use wm_log::What;
@@ -171,64 +174,54 @@ impl<'a, T: ServerDesk, J: Naming, K: Wait + Clock + Copy + Drop> Connection<'a,
     }
 }
 
-/// No session is in a slot, as its lock shows.
-#[derive(Drop)]
-pub struct Vacant<'a, T: ServerDesk, J: Naming, K: Wait + Clock + Copy + Drop> {
-    seen: Snapshot<Option<Connection<'a, T, J, K>>>,
-}
-
-/// The connection that a slot had before, with the step by which it came out.
-#[derive(Drop)]
-pub struct Replaced<'a, T: ServerDesk, J: Naming, K: Wait + Clock + Copy + Drop> {
-    pub connection: Option<Connection<'a, T, J, K>>,
-    pub step: Step<Option<Connection<'a, T, J, K>>>,
-}
-
-impl<'a, T: ServerDesk, J: Naming, K: Wait + Clock + Copy + Drop> Replaced<'a, T, J, K> {
-    /// The connection.
-    pub fn into_connection(self) -> Option<Connection<'a, T, J, K>>
-        ensures { result ≡ self.entry.connection }
-    {
-        let Replaced {
-            connection,
-            step: _,
-        } = self;
-        connection
-    }
-}
-
-/// That the session of a slot answered a line, and that the roots which it has subscriptions on were noted, if the slot has a wake flag.
+/// That the session of the slot of this number answered a line, and that the roots which it has subscriptions on were noted, if the slot
+/// has a wake flag.
 #[derive(Drop)]
 pub struct SlotAnswer<'l, 'a, T: ServerDesk, J: Naming, K: Wait + Clock + Copy + Drop> {
+    slot: usize,
     pub here: AnsweredHere<'l, 'a, T, J, K>,
     pub noted: Option<FlagStep>,
 }
 
 impl<T: ServerDesk, J: Naming, K: Wait + Clock + Copy + Drop> SlotAnswer<'_, '_, T, J, K> {
+    /// The slot's number.
+    pub fn slot(&self) -> usize
+        ensures { result ≡ self.now.slot }
+    {
+        self.slot
+    }
+
     /// Whether the reply was sent.
     pub fn into_sent(self) -> io::Result<()>
         ensures { result ≡ self.entry.here.answered.sent }
     {
-        let SlotAnswer { here, noted: _ } = self;
-        let AnsweredHere { answered, ended: _ } = here;
+        let AnsweredHere { answered, ended: _ } = self.here;
         answered.into_sent()
     }
 }
 
-/// A line, or that memory ran out for it, was sent alone to a slot's session, unless that failed or none is there: the slot alone makes it.
+/// A line, or that memory ran out for it, was sent alone to a slot's session, unless that failed or none is there: the slot of this number
+/// alone makes it.
 #[derive(Drop)]
 pub struct SentAlone {
+    slot: usize,
     line: Snapshot<Result<Vec<u8>, NoMemory>>,
     sent: io::Result<()>,
 }
 
 impl SentAlone {
+    /// The slot's number.
+    pub fn slot(&self) -> usize
+        ensures { result ≡ self.now.slot }
+    {
+        self.slot
+    }
+
     /// Whether it was sent.
     pub fn into_sent(self) -> io::Result<()>
         ensures { result ≡ self.sent }
     {
-        let SentAlone { line: _, sent } = self;
-        sent
+        self.sent
     }
 }
 
@@ -239,25 +232,10 @@ pub struct SlotUpdate<'a, T: ServerDesk, J: Naming, K: Wait + Clock + Copy + Dro
     updated: Result<UpdatedHere<'a, T, J, K>, Vacant<'a, T, J, K>>,
 }
 
-/// Puts another connection, or none, in the place of what is there.
-fn replace<'a, T: ServerDesk, J: Naming, K: Wait + Clock + Copy + Drop>(
-    place: &mut Option<Connection<'a, T, J, K>>,
-    other: Option<Connection<'a, T, J, K>>,
-) -> Replaced<'a, T, J, K>
-    ensures connection { result.connection ≡ place.old }
-    ensures step { result.step ≡ record { before = place.old; after = other.entry } }
-{
-    let before = Snapshot::of(place);
-    let connection = mem::replace(place, other);
-    Replaced {
-        connection,
-        step: Step::taken(before, place),
-    }
-}
-
 /// The session that is there, if one is, answers a line: with the roots that it has subscriptions on then, as their bits.
 fn answer_in<'l, 'a, R: Wait, T: ServerDesk, J: Naming, K: Wait + Clock + Copy + Drop>(
     place: &mut Option<Connection<'a, T, J, K>>,
+    slot: usize,
     rt: &R,
     alloc: Global,
     shared: &Shared<T, J, K>,
@@ -267,11 +245,11 @@ fn answer_in<'l, 'a, R: Wait, T: ServerDesk, J: Naming, K: Wait + Clock + Copy +
     ensures subscriptions { IfOk result (λ answer. answer.0.answered.session.before.subscriptions ≡ answer.0.ended.subscriptions.after.value.subscriptions) }
     ensures viewers { IfOk result (λ answer. answer.0.answered.session.before.front.viewers ≡ answer.0.ended.viewers.after.value) }
     ensures roots { IfOk result (λ answer. AddsBitsOf 0 answer.0.answered.session.after.subscriptions answer.1) }
-    ensures vacant { IfErr result (λ vacant. (vacant.seen.value ≡ None) × (place.old ≡ None)) }
+    ensures vacant { IfErr result (λ vacant. (vacant.slot ≡ slot) × (place.old ≡ None)) }
 {
     let seen = Snapshot::of(place);
     let Some(one) = place else {
-        return Err(Vacant { seen });
+        return Err(Vacant::of(slot, seen));
     };
     let answered = one.answer(rt, alloc, shared, line);
     let roots = one.subscribed(rt, shared);
@@ -281,18 +259,19 @@ fn answer_in<'l, 'a, R: Wait, T: ServerDesk, J: Naming, K: Wait + Clock + Copy +
 /// What is due to the session that is there is sent, if one is.
 fn update_in<'a, R: Wait, T: ServerDesk, J: Naming, K: Wait + Clock + Copy + Drop>(
     place: &mut Option<Connection<'a, T, J, K>>,
+    slot: usize,
     rt: &R,
     alloc: Global,
     shared: &Shared<T, J, K>,
 ) -> Result<UpdatedHere<'a, T, J, K>, Vacant<'a, T, J, K>>
     ensures subscriptions { IfOk result (λ here. here.sent.session.before.subscriptions ≡ here.ended.subscriptions.after.value.subscriptions) }
     ensures viewers { IfOk result (λ here. here.sent.session.before.front.viewers ≡ here.ended.viewers.after.value) }
-    ensures vacant { IfErr result (λ vacant. (vacant.seen.value ≡ None) × (place.old ≡ None)) }
+    ensures vacant { IfErr result (λ vacant. (vacant.slot ≡ slot) × (place.old ≡ None)) }
 {
     let seen = Snapshot::of(place);
     match place {
         Some(one) => Ok(one.send_updates(rt, alloc, shared)),
-        None => Err(Vacant { seen }),
+        None => Err(Vacant::of(slot, seen)),
     }
 }
 
@@ -342,21 +321,26 @@ impl<'a, T: ServerDesk, J: Naming, K: Wait + Clock + Copy + Drop> Slot<'a, T, J,
         shared: &Shared<T, J, K>,
         line: &'l [u8],
     ) -> Result<SlotAnswer<'l, 'a, T, J, K>, Vacant<'a, T, J, K>>
-        ensures line { IfOk result (λ answer. answer.here.answered.line.value.now ≡ line.now) }
+        ensures line { IfOk result (λ answer. (answer.slot ≡ self.now.number) × (answer.here.answered.line.value.now ≡ line.now)) }
         ensures subscriptions { IfOk result (λ answer. answer.here.answered.session.before.subscriptions ≡ answer.here.ended.subscriptions.after.value.subscriptions) }
         ensures viewers { IfOk result (λ answer. answer.here.answered.session.before.front.viewers ≡ answer.here.ended.viewers.after.value) }
         ensures noted { IfOk result (λ answer. MatchOption answer.noted (slot_count ≤ self.now.number) (λ flag. (flag.slot ≡ self.now.number) × AddsBitsOf 0 answer.here.answered.session.after.subscriptions flag.step.after.roots)) }
+        ensures vacant { IfErr result (λ vacant. vacant.slot ≡ self.now.number) }
     {
         let mut connection = self.connection.lock(rt);
-        let (here, roots) = answer_in(&mut *connection, rt, alloc, shared, line)?;
+        let (here, roots) = answer_in(&mut *connection, self.number, rt, alloc, shared, line)?;
         drop(connection);
         let noted = shared.note(rt, self.number, roots);
-        Ok(SlotAnswer { here, noted })
+        Ok(SlotAnswer {
+            slot: self.number,
+            here,
+            noted,
+        })
     }
 
     /// Sends a line alone, or that memory ran out for it.
     pub fn send<R: Wait>(&self, rt: &R, line: &Result<Vec<u8>, NoMemory>) -> SentAlone
-        ensures { result.line.value ≡ line.now }
+        ensures { (result.slot ≡ self.now.number) × (result.line.value ≡ line.now) }
     {
         let bytes = match line {
             Ok(bytes) => Ok(bytes.as_slice()),
@@ -367,16 +351,17 @@ impl<'a, T: ServerDesk, J: Naming, K: Wait + Clock + Copy + Drop> Slot<'a, T, J,
             None => Ok(()),
         };
         SentAlone {
+            slot: self.number,
             line: Snapshot::of(line),
             sent,
         }
     }
 
     /// The session's viewer of a root learns what was published of it.
-    pub fn learn<R: Wait>(&self, rt: &R, hall: &RootHall<J, K>) {
-        if let Some(one) = &mut *self.connection.lock(rt) {
-            let _learnt = one.session.front.learn(hall);
-        }
+    pub fn learn<R: Wait>(&self, rt: &R, hall: &RootHall<J, K>) -> SlotLearnt<'a, T, J, K>
+        ensures { (result.slot ≡ self.now.number) × (result.root ≡ hall.now.number) }
+    {
+        learn_in(&mut *self.connection.lock(rt), self.number, hall)
     }
 
     /// Sends what is due to the session that is there, if one is.
@@ -389,11 +374,17 @@ impl<'a, T: ServerDesk, J: Naming, K: Wait + Clock + Copy + Drop> Slot<'a, T, J,
         ensures slot { result.slot ≡ self.now.number }
         ensures subscriptions { IfOk result.updated (λ here. here.sent.session.before.subscriptions ≡ here.ended.subscriptions.after.value.subscriptions) }
         ensures viewers { IfOk result.updated (λ here. here.sent.session.before.front.viewers ≡ here.ended.viewers.after.value) }
-        ensures vacant { IfErr result.updated (λ vacant. vacant.seen.value ≡ None) }
+        ensures vacant { IfErr result.updated (λ vacant. vacant.slot ≡ self.now.number) }
     {
         SlotUpdate {
             slot: self.number,
-            updated: update_in(&mut *self.connection.lock(rt), rt, alloc, shared),
+            updated: update_in(
+                &mut *self.connection.lock(rt),
+                self.number,
+                rt,
+                alloc,
+                shared,
+            ),
         }
     }
 }

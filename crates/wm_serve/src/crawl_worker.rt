@@ -24,7 +24,7 @@ fn crawl_once<
     F: Folders + Sync,
     G: Turnstile + Sync,
 >(rt: &R, alloc: Global, server: &H, tools: &CrawlTools<'_, F, G>, asked: &Crawl) -> Tried
-    ensures { IsTryOf asked.now.root result }
+    ensures { IsTryOf asked.now.root asked.now.subtree result }
 {
     let begun = match server.begin_reading(rt, alloc, asked.root()) {
         Ok(begun) => begun,
@@ -63,7 +63,7 @@ fn try_again<
     first: &Tried,
 ) -> Option<Tried>
     ensures again { IsTriedAgain first.now result }
-    ensures root { IfSome result (IsTryOf asked.now.root) }
+    ensures root { IfSome result (IsTryOf asked.now.root asked.now.subtree) }
 {
     if !tries_again(&first.ended()) {
         return None;
@@ -89,7 +89,7 @@ fn run_crawl<
     G: Turnstile + Sync,
 >(rt: &R, alloc: Global, server: &H, tools: &CrawlTools<'_, F, G>, asked: Crawl) -> TriedCrawl
     ensures again { IsTriedAgain result.first result.second }
-    ensures root { IsTryOf asked.root result.first × IfSome result.second (IsTryOf asked.root) }
+    ensures root { IsTryOf asked.root asked.subtree result.first × IfSome result.second (IsTryOf asked.root asked.subtree) }
     ensures reported { MatchResult result.reported (λ crawl. crawl ≡ record { root = asked.root; ticket = asked.ticket; ended = try_end (last_try result.first result.second) }) (λ none. none ≡ asked.root) }
 {
     let folders = NotedFolders::new(rt, tools.folders);

@@ -102,7 +102,7 @@ impl<T: ServerDesk, J: Naming, K: Wait + Clock + Copy + Drop> Shared<T, J, K> {
         command: Command,
     ) -> AppliedCommand<Arc<RootHall<J, K>>>
         requires { is_out_of_turn number following.now ≡ false }
-        ensures { AppliesCommand arc_value hall_name (length self.now.wakes.items) number command result }
+        ensures { AppliesCommand arc_value hall_name (length self.now.wakes.items) following.now.incarnation number command result }
     {
         let made = self.hall_for(rt, alloc, following.incarnation(), &command);
         let FollowedInTable { step, left } = self.follow_in_table(rt, command, made);
@@ -112,7 +112,7 @@ impl<T: ServerDesk, J: Naming, K: Wait + Clock + Copy + Drop> Shared<T, J, K> {
         }
     }
 
-    /// A hall for the root that a command adds, with the number that it is made for; `None` if the command adds none, or memory ran
+    /// A hall of the incarnation for the root that a command adds, with the number that it is made for; `None` if the command adds none, or memory ran
     /// out for it.
     fn hall_for<R: Wait>(
         &self,
@@ -121,7 +121,7 @@ impl<T: ServerDesk, J: Naming, K: Wait + Clock + Copy + Drop> Shared<T, J, K> {
         incarnation: u64,
         command: &Command,
     ) -> Option<(u64, Arc<RootHall<J, K>>)>
-        ensures { MatchOption result (Unit {0}) (IsMadeFor arc_value hall_name command.now) }
+        ensures { MatchOption result (Unit {0}) (IsMadeFor arc_value hall_name incarnation command.now) }
     {
         match command {
             Command::Watch(path) => {
@@ -250,7 +250,7 @@ impl<T: ServerDesk, J: Naming, K: Wait + Clock + Copy + Drop> Shared<T, J, K> {
         if number != Some(root.number) {
             return Err(Refusal::NotWatched);
         }
-        let hall = self.new_hall(rt, alloc, path, following.incarnation(), root.number)?;
+        let hall = self.new_hall(rt, alloc, path, registry.incarnation(), root.number)?;
         let triggers = define_all(
             rt,
             alloc,

@@ -53,13 +53,20 @@ pub fn crawl_failure(ended: &Result<Progress, Refusal>) -> Option<Refusal>
     }
 }
 
+/// Whether a call of a socket failed since it took too long.
+pub fn took_too_long(error: &io::Error) -> bool
+    ensures { IsTrue result ↔ ((error_kind error.now ≡ ErrorKind.WouldBlock) ⊎ (error_kind error.now ≡ ErrorKind.TimedOut)) }
+{
+    matches!(error.kind(), ErrorKind::WouldBlock | ErrorKind::TimedOut)
+}
+
 /// Whether a client was cut off, since it didn't read: what was sent to it failed since it took too long.
 pub fn is_cut_off(sent: &io::Result<()>) -> bool
     ensures { MatchResult sent.now (λ _. result ≡ false) (λ e. IsTrue result ↔ ((error_kind e ≡ ErrorKind.WouldBlock) ⊎ (error_kind e ≡ ErrorKind.TimedOut))) }
 {
     match sent {
         Ok(()) => false,
-        Err(error) => matches!(error.kind(), ErrorKind::WouldBlock | ErrorKind::TimedOut),
+        Err(error) => took_too_long(error),
     }
 }
 

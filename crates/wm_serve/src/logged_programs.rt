@@ -1,6 +1,7 @@
 //! Programs whose ends are logged.
 //! Tests: tools/quick_log.py.
-ghost use Rattle.std.specs.Prelude.{◌≡◌};
+ghost use Rattle.std.specs.Prelude.{◌≡◌, None, Some, IfOk, MatchOption, string_bytes};
+ghost use Rattle.wm_serve.specs.LogEvents.{IsLoggedRun};
 ghost use Rattle.wm_serve.specs.LoggedParts.{programs_behind};
 
 use crate::event_log::EventLog;
@@ -9,6 +10,7 @@ use std::alloc::Global;
 use std::sync::Wait;
 use std::time::Clock;
 use wm_disk::NoMemory;
+use wm_log::What;
 use wm_names::RootPath;
 use wm_registry::Trigger;
 use wm_triggers::{NotRun, Permit, ProgramEnd, Programs, Run};
@@ -21,6 +23,21 @@ pub struct LoggedPrograms<'p, 'l, P, K> {
     clock: K,
 }
 
+/// What is logged of a run of a trigger of a root, with the path of the root.
+fn event_of(
+    alloc: Global,
+    root: &RootPath,
+    trigger: &Trigger,
+    ended: &Result<ProgramEnd, NotRun>,
+) -> Result<Option<(String, What)>, NoMemory>
+    ensures { IfOk result (λ event. MatchOption event (IsLoggedRun trigger.now.name ended.now None) (λ logged. (string_bytes logged.0 ≡ root.now) × IsLoggedRun trigger.now.name ended.now (Some logged.1))) }
+{
+    match run_event(alloc, trigger.name(), ended)? {
+        Some(what) => Ok(Some((String::from_str(alloc, root.as_str())?, what))),
+        None => Ok(None),
+    }
+}
+
 impl<'p, 'l, P: Programs, K: Wait + Clock> LoggedPrograms<'p, 'l, P, K> {
     /// These programs, whose ends are logged.
     pub fn new(programs: &'p P, log: &'l EventLog, clock: K) -> LoggedPrograms<'p, 'l, P, K>
@@ -31,21 +48,6 @@ impl<'p, 'l, P: Programs, K: Wait + Clock> LoggedPrograms<'p, 'l, P, K> {
             log,
             clock,
         }
-    }
-
-    /// Notes what a run of a trigger came to, as of [`run_event`].
-    fn note(
-        &self,
-        alloc: Global,
-        root: &RootPath,
-        trigger: &Trigger,
-        ended: &Result<ProgramEnd, NotRun>,
-    ) -> Result<(), NoMemory> {
-        if let Some(what) = run_event(alloc, trigger.name(), ended)? {
-            let root = String::from_str(alloc, root.as_str())?;
-            self.log.note(&self.clock, Some(root), what);
-        }
-        Ok(())
     }
 }
 
@@ -68,7 +70,9 @@ impl<P: Programs, K: Wait + Clock> Programs for LoggedPrograms<'_, '_, P, K> {
             Err(not_run) => Err(*not_run),
         };
         // what memory runs out for isn't logged
-        let _noted = self.note(alloc, root, trigger, &ended);
+        if let Ok(Some((root, what))) = event_of(alloc, root, trigger, &ended) {
+            self.log.note(&self.clock, Some(root), what);
+        }
         ran
     }
 }

@@ -1,15 +1,17 @@
 //! Folders that note which of them couldn't be read, for the log.
 //! Definitions: specs/LoggedParts.antt. Tests: tools/quick_log.py.
-ghost use Rattle.std.specs.Prelude.{◌≡◌, IfOk, string_bytes};
-ghost use Rattle.wm_serve.specs.LoggedParts.{folders_behind, whole_path};
+ghost use Rattle.std.specs.Prelude.{◌≡◌};
+ghost use Rattle.wm_serve.specs.LoggedParts.{NotesFirst, folders_behind};
 
 use crate::event_log::EventLog;
+use crate::failed_place::FailedPlace;
 use crate::log_events::crawl_failure;
+use crate::step::Step;
 use std::alloc::Global;
 use std::sync::{Mutex, Wait};
 use std::time::Clock;
 use wm_crawler::{Dir, Folders, Turnstile};
-use wm_disk::{NoMemory, Refusal};
+use wm_disk::Refusal;
 use wm_lines::Progress;
 use wm_log::What;
 use wm_names::{Meta, RelPath, RootPath, Subtree};
@@ -19,7 +21,7 @@ use wm_names::{Meta, RelPath, RootPath, Subtree};
 pub struct NotedFolders<'r, 'a, R: Wait, F> {
     rt: &'r R,
     folders: &'a F,
-    failed: Mutex<Option<String>>,
+    failed: Mutex<FailedPlace>,
 }
 
 /// A turnstile that is lent to one crawl.
@@ -34,18 +36,6 @@ impl<G: Turnstile> Turnstile for LentTurnstile<'_, G> {
     }
 }
 
-/// The whole path of a place below a root.
-fn whole_path(alloc: Global, root: &RootPath, place: &Subtree) -> Result<String, NoMemory>
-    ensures { IfOk result (λ path. string_bytes path ≡ whole_path root.now place.now) }
-{
-    let mut text = String::from_str(alloc, root.as_str())?;
-    if let Subtree::Below(path) = place {
-        text.push('/')?;
-        text.push_str(path.as_str())?;
-    }
-    Ok(text)
-}
-
 impl<'r, 'a, R: Wait, F: Folders> NotedFolders<'r, 'a, R, F> {
     /// These folders, of which none has failed.
     pub fn new(rt: &'r R, folders: &'a F) -> NotedFolders<'r, 'a, R, F>
@@ -54,22 +44,21 @@ impl<'r, 'a, R: Wait, F: Folders> NotedFolders<'r, 'a, R, F> {
         NotedFolders {
             rt,
             folders,
-            failed: Mutex::new(None),
+            failed: Mutex::new(FailedPlace::none()),
         }
     }
 
     /// Notes a place that couldn't be read, if it is the first one. Without memory for its path it isn't noted.
-    fn note(&self, alloc: Global, root: &RootPath, place: &Subtree) {
-        let mut failed = self.failed.lock(self.rt);
-        if failed.is_none() {
-            *failed = whole_path(alloc, root, place).ok();
-        }
+    fn note(&self, alloc: Global, root: &RootPath, place: &Subtree) -> Step<FailedPlace>
+        ensures { NotesFirst root.now place.now result.before result.after }
+    {
+        self.failed.lock(self.rt).note(alloc, root, place)
     }
 
     /// Notes a path of which the system can't say what stands there.
     fn note_path(&self, alloc: Global, root: &RootPath, path: &RelPath) {
         if let Ok(path) = path.copy() {
-            self.note(alloc, root, &Subtree::Below(path));
+            let _noted = self.note(alloc, root, &Subtree::Below(path));
         }
     }
 
@@ -120,7 +109,7 @@ impl<R: Wait, F: Folders> Folders for NotedFolders<'_, '_, R, F> {
     ) -> Result<Option<Dir>, Refusal> {
         let read = self.folders.read_dir(alloc, root, folder);
         if matches!(read, Err(Refusal::DeviceFailed)) {
-            self.note(alloc, root, folder);
+            let _noted = self.note(alloc, root, folder);
         }
         read
     }

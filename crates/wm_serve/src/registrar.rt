@@ -5,6 +5,7 @@ ghost use Rattle.wm_groupcommit.specs.Seats.{IsFlusherOf};
 
 use crate::store_closed::{StoreClosed, StoreUnclosed};
 use crate::unstarted_workers::{NoWorker, UnstartedWorkers};
+use crate::workers_end::WorkersEnded;
 use std::sync::{Mutex, Wait};
 use std::thread;
 use std::time::{Clock, Duration};
@@ -33,8 +34,8 @@ pub trait ServerDesk: Registrar {
         unstarted: &Mutex<UnstartedWorkers>,
     ) -> Result<NothingLeft, NoFlusher>;
 
-    /// Closes the store, refused as that is. Nothing is committed any longer.
-    fn close<R: Wait>(&self, rt: &R) -> Result<StoreClosed, StoreUnclosed>;
+    /// Closes the store, refused as that is, once the workers have ended. Nothing is committed any longer.
+    fn close<R: Wait>(&self, rt: &R, ended: &WorkersEnded) -> Result<StoreClosed, StoreUnclosed>;
 }
 
 /// Commits what is submitted. The flusher may end if nothing was left, after no worker was started any longer.
@@ -83,7 +84,7 @@ impl<D: Disk + Drop> ServerDesk for Desk<D> {
         unreachable!()
     }
 
-    fn close<R: Wait>(&self, rt: &R) -> Result<StoreClosed, StoreUnclosed> {
+    fn close<R: Wait>(&self, rt: &R, _ended: &WorkersEnded) -> Result<StoreClosed, StoreUnclosed> {
         match Desk::close(self, rt) {
             Ok(closed) => Ok(StoreClosed::by(&closed)),
             Err(unclosed) => Err(StoreUnclosed::by(&unclosed)),

@@ -1,8 +1,11 @@
 //! `serve`: the whole server, from its state file and its socket to the close of the file.
 //! Tests: serve_tests/src/restarts.rt.
-ghost use Rattle.std.specs.Prelude.{◌≡◌, true, IfOk};
+ghost use Rattle.std.specs.Prelude.{◌≡◌, true, IfErr, IfOk};
+ghost use Rattle.wm_file.specs.FileDisks.{IsJustOpened};
+ghost use Rattle.wm_groupcommit.specs.Seats.{IsNewDesk};
 ghost use Rattle.wm_lines.specs.KeptExpressions.{have_expressions as have_expressions_lem};
 ghost use Rattle.wm_serve.specs.SlotThreads.{HasServed};
+ghost use Rattle.wm_store.specs.Openings.{IsBegun};
 
 use crate::admission::Acceptor;
 use crate::log_worker::{LogPlace, LoggedService, serve_logged};
@@ -17,6 +20,7 @@ use std::fs::{File, Files};
 use std::io::{Print, Write};
 use std::marker::Brand;
 use std::net::Net;
+use std::snapshot::Snapshot;
 use std::sync::Wait;
 use std::thread::Threads;
 use std::time::Clock;
@@ -63,15 +67,22 @@ pub struct Tools<'a, F, G, P, L> {
     pub log: &'a L,
 }
 
+/// That a server which had this desk has served its sessions, its workers were ended, and its store was closed: [`serve_shared`] alone makes it.
+#[derive(Drop)]
+struct DeskServed<T> {
+    desk: Snapshot<T>,
+    closed: ServerClosed,
+}
+
 /// A server has served so many sessions, its workers were ended, and its store was closed.
 #[derive(Drop)]
 pub struct Served {
-    closed: ServerClosed,
+    over: DeskServed<Desk<FileDisk<Unknown>>>,
 }
 
 /// Serves a state file on a socket until so many sessions have ended. The socket is removed then, unless another file
 /// stands at its path by now. What happens meanwhile that `wm_log` has a line for is logged, unless it is to be quiet; an output that fails
-/// ends no server.
+/// ends no server. What is served is a new desk over the store that was opened.
 ///
 /// Refused before anybody is admitted: `DeviceFailed` if the file can't be opened, has another owner or fails, if a server listens on
 /// the socket, something else stands there or it can't be made, and if the writer fails; `Damaged` if the file
@@ -92,7 +103,8 @@ pub fn serve<
     settings: Settings,
     writer: &mut W,
 ) -> Result<Served, Refusal>
-    ensures { IfOk result (λ served. HasServed settings.sessions served.closed.served) }
+    ensures served { IfOk result (λ served. HasServed settings.sessions served.over.closed.served) }
+    ensures store { IfOk result (λ served. (disk : _) × (store : _) × IsJustOpened disk × (⟦<FileDisk<Unknown> as Disk>⟧.honest store.disk → IsBegun ⟦<FileDisk<Unknown> as Disk>⟧ disk store) × IsNewDesk served.over.desk.value store) }
 {
     let store = open_file(rt, alloc, paths.file)?;
     let Ok((listener, took_over)) = listen(rt, paths.socket) else {
@@ -132,13 +144,16 @@ pub fn serve<
     drop(listener);
     remove(rt, paths.socket, own);
     match served {
-        Ok(closed) => Ok(Served { closed }),
+        Ok(over) => Ok(Served { over }),
         Err(refusal) => Err(refusal),
     }
 }
 
 /// A desk over the store, which is dropped if memory runs out.
-fn desk_over<D: Disk + Drop>(alloc: Global, store: Store<D>) -> Result<Desk<D>, Refusal> {
+fn desk_over<D: Disk + Drop>(alloc: Global, store: Store<D>) -> Result<Desk<D>, Refusal>
+    ensures ok { IfOk result (λ desk. IsNewDesk desk store) }
+    ensures refused { IfErr result (λ e. e ≡ Refusal.NoMemory) }
+{
     match Desk::new(alloc, store) {
         Ok(desk) => Ok(desk),
         Err((refusal, store)) => {
@@ -155,7 +170,9 @@ fn shared_over<D: Disk + Drop, J: Naming, K: Wait + Clock + Copy + Drop>(
     desk: Desk<D>,
     shares: Shares<J>,
     retention: Retention,
-) -> Result<Shared<Desk<D>, J, K>, NoMemory> {
+) -> Result<Shared<Desk<D>, J, K>, NoMemory>
+    ensures { IfOk result (λ shared. shared.desk ≡ desk) }
+{
     match Shared::new(alloc, keeping, desk, shares, retention) {
         Ok(shared) => Ok(shared),
         Err((NoMemory, desk)) => {
@@ -182,10 +199,11 @@ fn serve_over<
     opened: Opened,
     service: &LoggedService<'_, '_, F, G, P, L>,
     writer: &mut W,
-) -> Result<ServerClosed, Refusal>
+) -> Result<DeskServed<Desk<D>>, Refusal>
     requires expressions { have_expressions_lem store.registry ≡ true }
     requires book { opened.seen.book ≡ J.book }
-    ensures { IfOk result (λ closed. HasServed service.now.service.acceptor.sessions closed.served) }
+    ensures served { IfOk result (λ over. HasServed service.now.service.acceptor.sessions over.closed.served) }
+    ensures store { IfOk result (λ over. IsNewDesk over.desk.value store) }
 {
     let desk = desk_over(alloc, store)?;
     let shares: Shares<J> = Shares::new(opened);
@@ -212,12 +230,15 @@ fn serve_shared<
     shared: &Shared<T, J, K>,
     service: &LoggedService<'_, '_, F, G, P, L>,
     writer: &mut W,
-) -> Result<ServerClosed, Refusal>
-    ensures { IfOk result (λ closed. HasServed service.now.service.acceptor.sessions closed.served) }
+) -> Result<DeskServed<T>, Refusal>
+    ensures served { IfOk result (λ over. HasServed service.now.service.acceptor.sessions over.closed.served) }
+    ensures desk { IfOk result (λ over. over.desk.value ≡ shared.now.desk) }
 {
     let begun = RootsBegun::by(&shared.begin(rt, alloc)?);
     let slots = Slots::new(alloc, shared, &begun)?;
     let served = serve_logged(rt, alloc, &slots, service, writer);
     drop(slots);
-    closed(begun, served)
+    let desk = Snapshot::of(&shared.desk);
+    let closed = closed(begun, served)?;
+    Ok(DeskServed { desk, closed })
 }

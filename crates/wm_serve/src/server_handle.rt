@@ -88,7 +88,7 @@ pub trait ServerHandle {
         found: Reading,
     ) -> Result<TakenIn, NoHall>
         requires { found.root ≡ root }
-        ensures { MatchResult result (λ taken. (taken.handed_in.root ≡ root) × NotifiesAll (flags self.now) root taken.notified) (λ none. none ≡ root) };
+        ensures { MatchResult result (λ taken. (taken.handed_in.root ≡ root) × (taken.handed_in.part ≡ found.listing.subtree) × NotifiesAll (flags self.now) root taken.notified) (λ none. none ≡ root) };
 
     /// The crawl of a ticket has ended so.
     fn crawled<R: Wait>(

@@ -1,20 +1,22 @@
 //! The sessions of a slot, one after the other: their lines and their replies.
 //! Tests: serve_tests/src/sessions.rt.
-ghost use Rattle.std.specs.Prelude.{◌≡◌, true, IfOk};
+ghost use Rattle.std.specs.Prelude.{◌≡◌, ◌⊎◌, true, IfErr, IfOk, MatchResult};
 ghost use Rattle.wm_lines.specs.Replies.{reply_bytes};
+ghost use Rattle.wm_serve.specs.CrawlOutcomes.{IsAwaited, IsCrawlRead, IsNotAsked, IsToldOf};
 ghost use Rattle.wm_serve.specs.SentLines.{crawl_reply};
+ghost use Rattle.wm_serve.specs.WatchedRoots.{MayHaveHad};
 
 use crate::accept_queue::NoSession;
 use crate::connection::{Connection, SentAlone, Slot};
-use crate::log_events::is_cut_off;
-use crate::read_lines::{CrawlRequest, LineServed, NextLine, next_line};
+use crate::crawl_outcome::{AwaitedCrawl, CrawlOutcome, crawl_end};
+use crate::log_events::took_too_long;
+use crate::read_lines::{LineServed, LinesBroken, LinesEnded, NextLine, next_line};
 use crate::registrar::ServerDesk;
 use crate::requests::crawl_asked;
 use crate::sent_lines::crawl_line;
 use crate::shared::Shared;
-use crate::waiting_sessions::{NextSession, SlotTaken};
+use crate::waiting_sessions::{NextSession, SessionServed};
 use std::alloc::Global;
-use std::io;
 use std::io::BufReader;
 use std::net::Shutdown;
 use std::os::unix::net::UnixStream;
@@ -31,23 +33,41 @@ use wm_shared::{Place, SharedFront, Viewers};
 /// How long a client may leave a reply unread before its session ends.
 const WRITE_SECONDS: u64 = 10;
 
-/// Waits for the end of a crawl. The session's viewer learns of it.
-fn crawl<R: Wait, T: ServerDesk, J: Naming, K: Wait + Clock + Copy + Drop>(
+/// Asks a root for a crawl, and waits for its end. Then the slot's session learns what was published of the root.
+fn crawl<'a, R: Wait, T: ServerDesk, J: Naming, K: Wait + Clock + Copy + Drop>(
     rt: &R,
     alloc: Global,
     shared: &Shared<T, J, K>,
-    slot: &Slot<'_, T, J, K>,
+    slot: &Slot<'a, T, J, K>,
     root: &RootPath,
     subtree: Subtree,
-) -> Result<Progress, Refusal> {
+) -> CrawlOutcome<'a, T, J, K>
+    ensures awaited { IfOk result (λ awaited. (awaited.learnt.slot ≡ slot.now.number) × MayHaveHad root.now awaited.learnt.root × IsToldOf awaited.learnt.root subtree awaited.crawled) }
+    ensures refused { IfErr result (λ e. (e ≡ Refusal.NotWatched) ⊎ (e ≡ Refusal.NoMemory)) }
+{
     let hall = shared.hall(rt, alloc, root)?;
-    let ended = match hall.crawl(rt, subtree) {
-        Ok(crawled) => crawled.into_result(),
-        Err(refusal) => Err(refusal),
-    };
-    slot.learn(rt, &hall);
+    let crawled = hall.crawl(rt, subtree);
+    let learnt = slot.learn(rt, &hall);
     drop(hall);
-    ended
+    Ok(AwaitedCrawl { crawled, learnt })
+}
+
+/// What a line comes to that asks for a crawl, or that isn't read, as it was read.
+fn crawl_outcome<'a, R: Wait, T: ServerDesk, J: Naming, K: Wait + Clock + Copy + Drop>(
+    rt: &R,
+    alloc: Global,
+    shared: &Shared<T, J, K>,
+    slot: &Slot<'a, T, J, K>,
+    line: &[u8],
+    asked: Result<(RootPath, Subtree), Refusal>,
+) -> CrawlOutcome<'a, T, J, K>
+    requires { IsCrawlRead line.now asked }
+    ensures { MatchResult result (λ awaited. (awaited.learnt.slot ≡ slot.now.number) × IsAwaited line.now awaited.learnt.root awaited.crawled) (IsNotAsked line.now) }
+{
+    match asked {
+        Ok((root, subtree)) => crawl(rt, alloc, shared, slot, &root, subtree),
+        Err(refusal) => Err(refusal),
+    }
 }
 
 /// Sends the reply to a request for a crawl.
@@ -57,7 +77,8 @@ fn send_ended<R: Wait, T: ServerDesk, J: Naming, K: Wait + Clock + Copy + Drop>(
     slot: &Slot<'_, T, J, K>,
     ended: Result<Progress, Refusal>,
 ) -> SentAlone
-    ensures { IfOk result.line.value (λ line. line.items ≡ reply_bytes (crawl_reply ended)) }
+    ensures slot { result.slot ≡ slot.now.number }
+    ensures line { IfOk result.line.value (λ line. line.items ≡ reply_bytes (crawl_reply ended)) }
 {
     let line = crawl_line(alloc, ended);
     slot.send(rt, &line)
@@ -71,7 +92,7 @@ fn serve_line<'l, R: Wait, T: ServerDesk, J: Naming, K: Wait + Clock + Copy + Dr
     slot: &Slot<'_, T, J, K>,
     line: &'l [u8],
 ) -> LineServed<'l>
-    ensures { result.line.value.now ≡ line.now }
+    ensures { (result.line.value.now ≡ line.now) × (result.slot ≡ slot.now.number) }
 {
     let Some(asked) = crawl_asked(alloc, line) else {
         return match slot.answer(rt, alloc, shared, line) {
@@ -79,15 +100,12 @@ fn serve_line<'l, R: Wait, T: ServerDesk, J: Naming, K: Wait + Clock + Copy + Dr
             Err(vacant) => LineServed::vacant(line, vacant),
         };
     };
-    let request = CrawlRequest::of(line, &asked);
-    let ended = match asked {
-        Ok((root, subtree)) => crawl(rt, alloc, shared, slot, &root, subtree),
-        Err(refusal) => Err(refusal),
-    };
-    LineServed::replied(request, send_ended(rt, alloc, slot, ended))
+    let outcome = crawl_outcome(rt, alloc, shared, slot, line, asked);
+    let reply = send_ended(rt, alloc, slot, crawl_end(&outcome));
+    LineServed::replied(line, outcome, reply)
 }
 
-/// Answers the lines of a reader until they end or its socket fails.
+/// Answers the lines of a reader until they end, it fails, or a reply can't be sent.
 fn serve_lines_of<R: Wait, T: ServerDesk, J: Naming, K: Wait + Clock + Copy + Drop>(
     rt: &R,
     alloc: Global,
@@ -95,33 +113,36 @@ fn serve_lines_of<R: Wait, T: ServerDesk, J: Naming, K: Wait + Clock + Copy + Dr
     slot: &Slot<'_, T, J, K>,
     reader: &mut BufReader<&UnixStream>,
     line: &mut Vec<u8>,
-) -> io::Result<()> {
+) -> Result<LinesEnded, LinesBroken> {
     for _ in rt.forever() {
         match next_line(reader, line)? {
-            NextLine::End => return Ok(()),
+            NextLine::End(ended) => return Ok(ended),
             NextLine::Lost(lost) => lost.served(slot.send(rt, &Err(NoMemory)))?,
             NextLine::Line(unanswered) => {
                 unanswered.served(serve_line(rt, alloc, shared, slot, line))?
             }
         }
     }
-    Ok(())
+    unreachable!()
 }
 
-/// Answers a session's lines until it ends or its socket fails.
+/// Answers a session's lines until they end, its socket fails, or a reply can't be sent. A client that was cut off is logged.
 fn serve_lines<R: Wait, T: ServerDesk, J: Naming, K: Wait + Clock + Copy + Drop>(
     rt: &R,
     alloc: Global,
     shared: &Shared<T, J, K>,
     slot: &Slot<'_, T, J, K>,
-    stream: &UnixStream,
-) -> io::Result<()> {
-    let mut reader = BufReader::new(alloc, stream)?;
+    reader: &mut BufReader<&UnixStream>,
+) -> Result<LinesEnded, LinesBroken> {
     let mut line = Vec::new(alloc);
-    let served = serve_lines_of(rt, alloc, shared, slot, &mut reader, &mut line);
+    let lines = serve_lines_of(rt, alloc, shared, slot, reader, &mut line);
     drop(line);
-    drop(reader);
-    served
+    if let Err(broken) = &lines {
+        if took_too_long(broken.error()) {
+            shared.log.note(&shared.keeping, None, What::CutOff);
+        }
+    }
+    lines
 }
 
 /// Gives a viewer back to its root, if that is there still.
@@ -157,36 +178,36 @@ fn both_ends(alloc: Global, stream: UnixStream) -> Option<(Arc<UnixStream>, Arc<
     Some((stream, other))
 }
 
-/// One session in a slot. The place at the desk comes back, and that the session has the slot until it leaves.
+/// One session in a slot, until its lines end. The place at the desk comes back.
 fn serve_session<'a, R: Wait, T: ServerDesk, J: Naming, K: Wait + Clock + Copy + Drop>(
     rt: &R,
     alloc: Global,
     shared: &'a Shared<T, J, K>,
     slot: &Slot<'a, T, J, K>,
     place: Place<'a, T>,
-    next: NextSession,
-) -> (Place<'a, T>, SlotTaken) {
-    let NextSession { stream, taken } = next;
+    stream: UnixStream,
+) -> (Place<'a, T>, Option<Result<LinesEnded, LinesBroken>>) {
     let _timed = stream.set_write_timeout(Some(Duration::from_secs(WRITE_SECONDS)));
     let Some((stream, other)) = both_ends(alloc, stream) else {
-        return (place, taken);
+        return (place, None);
+    };
+    let Ok(mut reader) = BufReader::new(alloc, &*stream) else {
+        return (place, None);
     };
     let front = SharedFront::new(shared.keeping, alloc, place, shared);
     let connection = Connection::new(alloc, Session::new(alloc, front), other);
     drop(slot.open(rt, connection).into_connection());
-    let ended = serve_lines(rt, alloc, shared, slot, &stream);
-    if is_cut_off(&ended) {
-        shared.log.note(&shared.keeping, None, What::CutOff);
-    }
+    let lines = serve_lines(rt, alloc, shared, slot, &mut reader);
+    drop(reader);
     let _ = stream.shutdown(Shutdown::Both);
     drop(stream);
     let _noted = shared.note(rt, slot.number, 0);
     let Some(connection) = slot.close(rt).into_connection() else {
-        return (Place::new(&shared.desk), taken);
+        return (Place::new(&shared.desk), Some(lines));
     };
     let (place, viewers) = connection.into_session().into_front().into_parts();
     give_all_back(rt, shared, viewers);
-    (place, taken)
+    (place, Some(lines))
 }
 
 /// The sessions of the slot of this number were served, until none came any longer: the slot alone makes it.
@@ -209,9 +230,10 @@ pub fn serve_sessions<'a, R: Wait, T: ServerDesk, J: Naming, K: Wait + Clock + C
     for _ in rt.forever() {
         match shared.waiting.next(rt) {
             Ok(next) => {
-                let (left, taken) = serve_session(rt, alloc, shared, slot, place, next);
+                let NextSession { stream, taken } = next;
+                let (left, lines) = serve_session(rt, alloc, shared, slot, place, stream);
                 place = left;
-                let _left = shared.waiting.leave(rt, taken);
+                let _left = shared.waiting.leave(rt, SessionServed { taken, lines });
             }
             Err(none) => {
                 drop(place);

@@ -1,10 +1,11 @@
 //! What all threads of a server share: the desk, the watched roots, a wake flag for each connection slot, and the sessions that
 //! wait for one.
 //! Definitions: specs/WatchedRoots.antt. Tests: serve_tests/src/sessions.rt.
-ghost use Rattle.std.specs.Prelude.{◌≡◌, ◌⊎◌, ◌≤◌, false, length, IfOk, IfErr, IfSome, MatchBool, MatchOption};
+ghost use Rattle.std.specs.Prelude.{◌≡◌, ◌⊎◌, ◌≤◌, false, length, IfOk, IfErr, IfSome, MatchBool, MatchOption, MatchResult};
 ghost use Rattle.std.specs.Arc.{arc_value};
 ghost use Rattle.std.specs.List.{list_any};
 ghost use Rattle.wm_names.specs.Paths.{Path};
+ghost use Rattle.wm_serve.specs.FollowedCommands.{hall_name};
 ghost use Rattle.wm_serve.specs.FollowedRoots.{FillsRoot, FollowsCommand, IsStepOf, left_to_halls, numbered_roots};
 ghost use Rattle.wm_serve.specs.WakeFlags.{AreSlotFlags, HasWaited, noted_flag, slot_count};
 ghost use Rattle.wm_serve.specs.WatchedRoots.{FindsHall, MayHaveHad, MayHaveLacked, MayHaveLackedNumber, has_path};
@@ -63,7 +64,9 @@ impl<T: ServerDesk, J: Naming, K: Wait + Clock + Copy + Drop> Shared<T, J, K> {
         desk: T,
         shares: Shares<J>,
         retention: Retention,
-    ) -> Result<Shared<T, J, K>, (NoMemory, T)> {
+    ) -> Result<Shared<T, J, K>, (NoMemory, T)>
+        ensures { MatchResult result (λ shared. shared.desk ≡ desk) (λ refused. refused.1 ≡ desk) }
+    {
         let Ok((wakes, roots)) = fittings(alloc) else {
             return Err((NoMemory, desk));
         };
@@ -84,7 +87,9 @@ impl<T: ServerDesk, J: Naming, K: Wait + Clock + Copy + Drop> Shared<T, J, K> {
     }
 
     /// The desk, once each thread has ended.
-    pub fn into_desk(self) -> T {
+    pub fn into_desk(self) -> T
+        ensures { result ≡ self.desk }
+    {
         let Shared {
             keeping: _,
             desk,
@@ -153,7 +158,7 @@ impl<T: ServerDesk, J: Naming, K: Wait + Clock + Copy + Drop> Shared<T, J, K> {
         }
     }
 
-    /// A hall for a root, with no triggers yet.
+    /// A hall for a root, of the incarnation, with no triggers yet.
     pub fn new_hall<R: Wait>(
         &self,
         rt: &R,
@@ -162,7 +167,8 @@ impl<T: ServerDesk, J: Naming, K: Wait + Clock + Copy + Drop> Shared<T, J, K> {
         incarnation: u64,
         number: u64,
     ) -> Result<Arc<RootHall<J, K>>, NoMemory>
-        ensures { IfOk result (λ hall. ((arc_value hall).path ≡ path.now) × ((arc_value hall).number ≡ number)) }
+        ensures name { IfOk result (λ hall. hall_name (arc_value hall) ≡ record { path = path.now; number = number; incarnation = incarnation }) }
+        ensures retention { IfOk result (λ hall. (arc_value hall).retention ≡ self.now.retention) }
     {
         let mut shares = self.shares.lock(rt);
         let Ok((keeper, pool)) = shares.share(self.keeping, alloc, incarnation, number) else {

@@ -230,6 +230,7 @@ impl<'a, T: ServerDesk, J: Naming, K: Wait + Clock + Copy + Drop> ServerHandle
 
     fn close<R: Wait>(&self, rt: &R) -> (WorkersEnded, Result<StoreClosed, StoreUnclosed>) {
         let workers = self.shared.end_workers(rt);
-        (workers, self.shared.desk.close(rt))
+        let closed = self.shared.desk.close(rt, &workers);
+        (workers, closed)
     }
 }

@@ -10,7 +10,7 @@ ghost use Rattle.wm_serve.specs.TriggerWork.{EachInTurn, FailsAt, IsNotDone, Run
 use std::alloc::Global;
 use std::sync::Wait;
 use wm_disk::{NoMemory, Refusal};
-use wm_hall::{Learnt, NoWork, RootHall, StartEnded, StartPermit};
+use wm_hall::{Learnt, NoWork, RootHall, StandingTriggers, StartEnded, StartPermit};
 use wm_share::{Naming, Viewer};
 use wm_triggers::{
     DefinedTrigger, DefinedTriggers, DefinitionRuns, NotRun, Permit, Programs, Run, TriggerRuns,
@@ -44,7 +44,7 @@ impl<R: Wait, J: Naming, K: Wait + Drop> Permit for StandingPermit<'_, R, J, K> 
 
     fn begin(&self) -> Option<StartPermit> {
         let one = self.one.copy().ok()?;
-        self.hall.begin_start(self.rt, one)
+        self.hall.begin_start(self.rt, one).ok()
     }
 
     fn end(&self, given: StartPermit) -> StartEnded {
@@ -181,7 +181,14 @@ fn run_round<R: Wait, J: Naming, K: Wait + Drop, P: Programs>(
     run_each(rt, alloc, root, viewer, runs)
 }
 
-/// A round of the triggers that are defined now, once the viewer has learnt what was published last.
+/// A round of triggers: those that stood, and how it ended.
+#[derive(Drop)]
+struct Round {
+    standing: StandingTriggers,
+    ended: Result<(), NotDone>,
+}
+
+/// A round of the triggers that are defined now, once the viewer has learnt what was published last. `NoMemory` for their definitions.
 fn run_all<R: Wait, J: Naming, K: Wait + Drop, P: Programs>(
     rt: &R,
     alloc: Global,
@@ -189,14 +196,15 @@ fn run_all<R: Wait, J: Naming, K: Wait + Drop, P: Programs>(
     learnt: Learnt,
     viewer: &mut Viewer<J>,
     runs: &mut TriggerRuns,
-) -> Result<(), NotDone> {
+) -> Result<Round, NoMemory>
+    ensures root { IfOk result (λ round. round.standing.root ≡ root.now.hall.now.number) }
+    ensures each { IfOk result (λ round. (runs.new ≡ runs.old) ⊎ EachInTurn (RunsOrStays (RunsToEnd (P.has_run root.now.programs.now)) root.now.hall.now.path) viewer.old.list (map (kept_for runs.old) round.standing.table.defined) runs.new viewer.new.list) }
+    ensures same { OnErr result (runs.new ≡ runs.old) }
+{
     drop(learnt);
-    let Ok(defined) = root.hall.defined(rt, alloc) else {
-        return Err(NotDone::Refused(Refusal::NoMemory));
-    };
-    let met = run_round(rt, alloc, root, viewer, defined.definitions(), runs);
-    drop(defined);
-    met
+    let standing = root.hall.defined(rt, alloc)?;
+    let ended = run_round(rt, alloc, root, viewer, standing.definitions(), runs);
+    Ok(Round { standing, ended })
 }
 
 /// Runs the triggers with each change, until the root isn't watched any longer. Without a viewer it runs none.

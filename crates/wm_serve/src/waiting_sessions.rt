@@ -4,6 +4,7 @@ ghost use Rattle.std.specs.Prelude.{◌≡◌, [], true, MatchResult};
 ghost use Rattle.wm_serve.specs.AcceptQueues.{IsAdmitted, IsFirstSession, closed_queue, left_queue, opened_queue};
 
 use crate::accept_queue::{AcceptQueue, NoSession};
+use crate::read_lines::{LinesBroken, LinesEnded};
 use crate::step::Step;
 use std::alloc::Global;
 use std::os::unix::net::UnixStream;
@@ -27,6 +28,12 @@ pub struct Admission {
 /// That a session has a slot from now on, by what the queue did. It is to be given up as the session leaves ([`WaitingSessions::leave`]).
 pub struct SlotTaken {
     step: QueueStep,
+}
+
+/// That a session had its slot until its lines ended or were broken off; `None` if memory ran out before its first line.
+pub struct SessionServed {
+    pub taken: SlotTaken,
+    pub lines: Option<Result<LinesEnded, LinesBroken>>,
 }
 
 /// A session that has a slot from now on.
@@ -112,9 +119,10 @@ impl WaitingSessions {
     }
 
     /// A session that had a slot has ended.
-    pub fn leave<R: Wait>(&self, rt: &R, taken: SlotTaken) -> QueueStep
+    pub fn leave<R: Wait>(&self, rt: &R, served: SessionServed) -> QueueStep
         ensures { result.after ≡ left_queue result.before }
     {
+        let SessionServed { taken, lines: _ } = served;
         let SlotTaken { step: _ } = taken;
         let mut queue = self.queue.lock(rt);
         let before = Snapshot::of(&*queue);
