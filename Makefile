@@ -22,8 +22,8 @@ SOURCES := crates.txt $(shell find crates -name out -prune -o -type f \( -name '
 
 help:
 	@echo "make test          the whole gate: each proof from nothing, edits that must be refused, tests, programs, and each growth of"
-	@echo "                   memory refused in three sessions, and quick-use (rt, python3, cc; some two hours on two processors)"
-	@echo "make edits         the edits that must be refused and that the gate leaves out for its time (tools/edits; rt, some three hours)"
+	@echo "                   memory refused in three sessions, and quick-use (rt, python3, cc; some two hours on four processors)"
+	@echo "make edits         the edits that must be refused and that the gate leaves out for its time (tools/edits; rt, some four hours)"
 	@echo "make lint          what the gate doesn't see: no definition's name in the specs of two crates, and no use of another crate's proofs/ (sh, awk; at once)"
 	@echo "make build         builds the programs, crates side by side (rt, python3; up to 45 minutes the first time, since it proves them)"
 	@echo "make run           serves SOCKET=$(SOCKET) over STATE=$(STATE), which it makes where it isn't there, and tells what to try next"

@@ -1,7 +1,7 @@
 #!/bin/sh
 # The gate: `rt ci`, then the sweep of growths of memory and the quick part of rough use over the programs that it proved and built. It prints at its end what all took of the processors.
-# The last line is that of `rt ci`, and the status is 0 if all are well. Three checks at once, each by one job: beside three others a check
-# takes nearly twice the processor where two processors share a core, so four at once end no sooner.
+# The last line is that of `rt ci`, and the status is 0 if all are well. A check for each processor, four at most, each by one job: several
+# jobs for one check take more of the processors in all, and each check takes up to five GB.
 # usage: tools/gate.sh
 set -eu
 cd "$(dirname "$0")/.."
@@ -13,7 +13,7 @@ processors() {
     read -r quota period < /sys/fs/cgroup/cpu.max
     if [ "$quota" != max ] && [ $((quota / period)) -lt "$found" ]; then found=$((quota / period)); fi
   fi
-  echo $((found < 1 ? 1 : found > 3 ? 3 : found))
+  echo $((found < 1 ? 1 : found > 4 ? 4 : found))
 }
 
 RT_JOBS=${RT_JOBS:-$(processors)}
