@@ -25,7 +25,7 @@ help:
 	@echo "                   memory refused in three sessions, and quick-use (rt, python3, cc; some two hours on four processors)"
 	@echo "make edits         the edits that must be refused and that the gate leaves out for its time (tools/edits; rt, some four hours)"
 	@echo "make lint          what the gate doesn't see: no definition's name in the specs of two crates, and no use of another crate's proofs/ (sh, awk; at once)"
-	@echo "make build         builds the programs, crates side by side (rt, python3; up to 45 minutes the first time, since it proves them)"
+	@echo "make build         builds the programs, crates side by side (rt, python3; over an hour the first time on four processors, since it proves them)"
 	@echo "make run           serves SOCKET=$(SOCKET) over STATE=$(STATE), which it makes where it isn't there, and tells what to try next"
 	@echo "                   (it and all below build what they run first, by rt; only clients, bench-peer, bench-feed and bench-plots use the network)"
 	@echo "make lines         answers request lines from standard input over STATE=$(STATE)"
