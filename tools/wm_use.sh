@@ -124,6 +124,21 @@ says 2 "wm: FOLDER/work/a.c: no such folder; a PATTERN stands behind DIR, as in 
 says 1 "wm: FOLDER/work: no watched folder has it; 'wm watch FOLDER/work' watches it" wm files
 says 0 'FOLDER/work' wm watch
 says 0 'FOLDER/work' wm list
+
+# A root that a client watches by a symlink is unwatched as it is listed, and not the folder that it leads to.
+cat > "$folder/watch.py" <<'END'
+import json, socket, sys
+session = socket.socket(socket.AF_UNIX)
+session.connect(sys.argv[1])
+session.sendall(json.dumps(["watch", sys.argv[2]]).encode() + b"\n")
+session.makefile().readline()
+END
+ln -s work "$folder/link"
+python3 "$folder/watch.py" "$XDG_RUNTIME_DIR/watchmand/socket" "$folder/link"
+says 0 $'FOLDER/link\nFOLDER/work' bash -c 'wm list | sort'
+says 0 '' wm unwatch "$folder/link"
+says 0 'FOLDER/work' wm list
+rm "$folder/link"
 touch lib/a.c lib/a.h library/b.c
 says 0 $'file\nlib\nlib/a.c\nlib/a.h\nlibrary\nlibrary/b.c' bash -c 'wm files | sort'
 says 0 $'lib/a.c\nlibrary/b.c' bash -c "wm files . '*.c' | sort"

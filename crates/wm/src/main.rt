@@ -16,7 +16,7 @@ mod starting;
 mod watches;
 
 use crate::failure::Failure;
-use crate::places::{folder, gone_folder, server_places};
+use crate::places::{folder, server_places};
 use crate::server::Server;
 use std::io::ErrorKind;
 use std::process::ExitCode;
@@ -30,8 +30,7 @@ fn about_folder(server: &Server<'_>, order: &Order) -> Result<u8, Failure> {
         None => None,
     };
     if order.verb == Verb::Unwatch {
-        let dir = gone_folder(server.rt, named)?;
-        return watches::unwatch(server, &dir);
+        return watches::unwatch(server, named);
     }
     let dir = folder(server.rt, named, order.verb.pattern_example())?;
     match order.verb {

@@ -70,7 +70,7 @@ pub fn server_places(rt: &HostRuntime, named: Option<&str>) -> Result<Places, Fa
 }
 
 /// A path as it is from the system's root.
-fn whole(rt: &HostRuntime, path: &str) -> Result<String, Failure> {
+pub fn whole(rt: &HostRuntime, path: &str) -> Result<String, Failure> {
     let alloc = rt.alloc();
     if path.starts_with('/') {
         return Ok(String::from_str(alloc, path)?);

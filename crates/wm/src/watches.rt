@@ -4,6 +4,7 @@ use crate::failure::Failure;
 use crate::feed_looks::is_ready;
 use crate::feeds::is_fed;
 use crate::place::{place_of, roots};
+use crate::places::{gone_folder, whole};
 use crate::server::{Reply, Server};
 use std::fs;
 use wm_client::root_number_of;
@@ -18,10 +19,23 @@ pub fn watch(server: &Server<'_>, dir: &str) -> Result<u8, Failure> {
     Ok(0)
 }
 
-/// Handles `unwatch`: of the root that is the folder itself.
-pub fn unwatch(server: &Server<'_>, dir: &str) -> Result<u8, Failure> {
-    let json = root_line(server.rt.alloc(), "watch-del", dir)?;
-    let _line = server.line(dir, json)?;
+/// The root that is named: the listed one of this path if there is one, also a symlink's, and else that of the folder itself.
+fn named_root(server: &Server<'_>, named: Option<&str>) -> Result<String, Failure> {
+    let rt = server.rt;
+    let path = whole(rt, named.unwrap_or("."))?;
+    for root in &roots(server)? {
+        if root.as_str() == path.as_str().trim_end_matches('/') {
+            return Ok(String::from_str(rt.alloc(), root.as_str())?);
+        }
+    }
+    gone_folder(rt, named)
+}
+
+/// Handles `unwatch`: of the root that is named.
+pub fn unwatch(server: &Server<'_>, named: Option<&str>) -> Result<u8, Failure> {
+    let root = named_root(server, named)?;
+    let json = root_line(server.rt.alloc(), "watch-del", &root)?;
+    let _line = server.line(&root, json)?;
     Ok(0)
 }
 
