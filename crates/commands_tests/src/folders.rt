@@ -1,6 +1,6 @@
 //! Which root holds a folder, and the names of its files from there.
 use crate::checks::check;
-use wm_commands::{holder_of, name_in, reported_name};
+use wm_commands::{holder_of, name_in, named_root, reported_name};
 use wm_names::RootPath;
 
 /// A folder, and which of `/a`, `/a/b`, `/a/b/c` and `/ab` holds it.
@@ -30,6 +30,34 @@ fn holders_of_the_table(rt: HostRuntime) {
     for (dir, wanted) in HOLDERS {
         let found = holder_of(&roots, dir).map(|root| root.as_str());
         check!(rt; found == *wanted, dir);
+    }
+}
+
+/// A path, the folder to which it leads, and which of `/a`, `/link` and `/a/b` is meant, or the folder.
+const NAMED: &[(&str, &str, &str)] = &[
+    ("/a", "/a", "/a"),
+    ("/a/", "/a", "/a"),
+    ("/link", "/a", "/link"),
+    ("/link//", "/a", "/link"),
+    ("/a/b", "/real/b", "/a/b"),
+    ("/a/b/../b", "/a/b", "/a/b"),
+    ("/other", "/a", "/a"),
+    ("/links", "/c", "/c"),
+    ("/link/x", "/a/x", "/a/x"),
+    ("/", "/", "/"),
+];
+
+#[test]
+fn named_of_the_table(rt: HostRuntime) {
+    let alloc = rt.alloc();
+    let mut roots = Vec::new(alloc);
+    for text in ["/a", "/link", "/a/b"] {
+        roots
+            .push(RootPath::read(alloc, text).expect(&rt, "root"))
+            .expect(&rt, "memory");
+    }
+    for (path, folder, wanted) in NAMED {
+        check!(rt; named_root(&roots, path, folder) == *wanted, (path, folder));
     }
 }
 

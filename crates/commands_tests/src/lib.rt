@@ -2,6 +2,8 @@
 #![tactic(auto)]
 
 #[cfg(test)]
+mod advice;
+#[cfg(test)]
 mod answers;
 #[cfg(test)]
 mod checks;
@@ -10,9 +12,13 @@ mod feedings;
 #[cfg(test)]
 mod folders;
 #[cfg(test)]
+mod patterns;
+#[cfg(test)]
 mod presences;
 #[cfg(test)]
 mod questions;
+#[cfg(test)]
+mod root_looks;
 #[cfg(test)]
 mod runs;
 #[cfg(test)]

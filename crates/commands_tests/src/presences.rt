@@ -1,21 +1,70 @@
 //! What `wm up` does by what it found at the socket, and when a person is told that a wait goes on.
 use crate::checks::check;
-use wm_commands::{Presence, StartStep, UpStep, is_progress_due, start_step, up_step};
+use wm_commands::{
+    Presence, ServerProcess, StartStep, UpStep, is_progress_due, start_step, up_step,
+};
 
-/// What a look found, whether it is late, and what is done.
-const STEPS: &[(Presence, bool, UpStep)] = &[
-    (Presence::Answered, false, UpStep::Keep),
-    (Presence::Answered, true, UpStep::Keep),
-    (Presence::Silent, false, UpStep::LookAgain),
-    (Presence::Silent, true, UpStep::Start),
-    (Presence::Absent, false, UpStep::Start),
-    (Presence::Absent, true, UpStep::Start),
+/// What a look found, which process serves the socket, whether it is late, and what is done.
+const STEPS: &[(Presence, ServerProcess, bool, UpStep)] = &[
+    (
+        Presence::Answered,
+        ServerProcess::Missing,
+        false,
+        UpStep::Keep,
+    ),
+    (
+        Presence::Answered,
+        ServerProcess::Missing,
+        true,
+        UpStep::Keep,
+    ),
+    (Presence::Answered, ServerProcess::Own, true, UpStep::Keep),
+    (
+        Presence::Silent,
+        ServerProcess::Missing,
+        false,
+        UpStep::LookAgain,
+    ),
+    (
+        Presence::Silent,
+        ServerProcess::Missing,
+        true,
+        UpStep::Start,
+    ),
+    (
+        Presence::Silent,
+        ServerProcess::Own,
+        false,
+        UpStep::LookAgain,
+    ),
+    (
+        Presence::Absent,
+        ServerProcess::Missing,
+        false,
+        UpStep::Start,
+    ),
+    (
+        Presence::Absent,
+        ServerProcess::Missing,
+        true,
+        UpStep::Start,
+    ),
+    (Presence::Absent, ServerProcess::Own, false, UpStep::Replace),
+    (Presence::Absent, ServerProcess::Own, true, UpStep::Replace),
+    (
+        Presence::Absent,
+        ServerProcess::Foreign,
+        false,
+        UpStep::LookAgain,
+    ),
+    (Presence::Absent, ServerProcess::Foreign, true, UpStep::Tell),
 ];
 
 #[test]
 fn steps_of_the_table(rt: HostRuntime) {
-    for (presence, is_late, wanted) in STEPS {
-        check!(rt; up_step(*presence, *is_late) == *wanted, (presence, is_late));
+    for (presence, process, is_late, wanted) in STEPS {
+        let step = up_step(*presence, *process, *is_late);
+        check!(rt; step == *wanted, (presence, process, is_late));
     }
 }
 

@@ -90,6 +90,25 @@ fn asked(alloc: Global, words: &Words) -> Result<String, AllocError> {
     }
 }
 
+/// A pattern that the server refuses, and how the fault that is shown begins.
+const REFUSED: &[(&str, &str)] = &[
+    ("[ab].c", "error: '[ab].c': [ can't stand in a PATTERN"),
+    ("a\\b", "error: 'a\\b': \\ can't stand in a PATTERN"),
+];
+
+#[test]
+fn refused_patterns_are_named(rt: HostRuntime) {
+    let alloc = rt.alloc();
+    for (pattern, wanted) in REFUSED {
+        let words = Words::read(alloc, &["files", ".", "*.h", pattern]).expect(&rt, "words");
+        let is_named = match &words {
+            Words::Shown { text, status } => *status == 2 && text.as_str().starts_with(*wanted),
+            Words::Ordered(_) => false,
+        };
+        check!(rt; is_named, pattern);
+    }
+}
+
 #[test]
 fn words_of_the_table(rt: HostRuntime) {
     let alloc = rt.alloc();

@@ -1,5 +1,6 @@
 -- Which watched root holds a folder, and by which name a file of the root is reported from that folder.
-use Rattle.std.specs.Prelude.{◌≡◌, ◌≤◌, ◌∷◌, ◌++◌, ◌&&◌, ◌==◌, ℕ, Bool, true, false, List, [], Option, None, Some, All, Contains, length, nat_le, take, drop, if◌then◌else◌}
+use Rattle.std.specs.Prelude.{◌≡◌, ◌⊎◌, ◌≤◌, ◌∷◌, ◌++◌, ◌&&◌, ◌==◌, ℕ, Bool, true, false, List, [], Option, None, Some, All, Contains, length, nat_le, take, drop, if◌then◌else◌}
+use Rattle.std.specs.List.{list_all}
 use Rattle.std.specs.Str.{bytes_eq}
 use Rattle.wm_names.specs.Paths.{Path}
 
@@ -29,6 +30,15 @@ abbrev pub IsHolderOf : List Path → Path → Option Path → Type 0
 IsHolderOf roots dir None = All (λ root. holds_folder root dir ≡ false) roots
 IsHolderOf roots dir (Some holder) = Contains roots holder × (holds_folder holder dir ≡ true)
     × All (λ root. holds_folder root dir ≡ true → length root ≤ length holder) roots
+
+-- the path is the root's, perhaps with slashes behind it
+abbrev pub names_root : (root path : Path) → Bool
+names_root root path = bytes_eq (take (length root) path) root && list_all (λ b. b == 47) (drop (length root) path)
+
+-- A listed path names its own root, also if it is a symlink; any other path names the folder to which it leads.
+abbrev pub IsNamedRoot : List Path → (path folder : Path) → Path → Type 0
+IsNamedRoot roots path folder root = (Contains roots root × (names_root root path ≡ true))
+    ⊎ (All (λ one. names_root one path ≡ false) roots × (root ≡ folder))
 
 -- The name of a path in a folder; none if the path isn't in the folder.
 abbrev pub IsNameIn : (folder path : Path) → Option Path → Type 0

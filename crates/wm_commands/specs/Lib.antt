@@ -2,6 +2,8 @@ pub mod CommandAnswers
 pub mod CommandRuns
 pub mod Feedings
 pub mod Folders
+pub mod Patterns
 pub mod Presences
 pub mod Progresses
 pub mod Questions
+pub mod RootLooks

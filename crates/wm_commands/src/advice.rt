@@ -29,10 +29,15 @@ pub fn advice_of(refusal: Refusal) -> &'static str {
 pub const NO_SESSION: &str =
     "all of the server's 31 sessions are taken (17 TooMany); try later, or end what holds them, as 'wm run' and feeds do";
 
-/// What a refusal of a question about a root tells of the root. `None` if it is named by itself.
-pub fn root_status(refusal: Refusal) -> Option<&'static str> {
+/// What a refusal of a question about a root tells of the root. `None` if it is named by itself. A root is stuck if a folder below it
+/// can't be read, and no feed runs.
+pub fn root_status(refusal: Refusal, is_stuck: bool) -> Option<&'static str> {
     match refusal {
-        Refusal::NotReady => Some("not crawled yet"),
+        Refusal::NotReady => Some(if is_stuck {
+            "not crawled, since a folder below it can't be read; a feed passes it over: 'wm up' starts one"
+        } else {
+            "not crawled yet"
+        }),
         Refusal::NotWatched => Some("no longer watched"),
         _ => None,
     }
@@ -46,3 +51,6 @@ pub fn unreadable_advice(is_running: bool) -> &'static str {
         "a feed passes it over: 'wm up' starts one"
     }
 }
+
+/// What to do if a folder can't be read.
+pub const READ_ADVICE: &str = "give the server's user the right to read it ('chmod u+rx')";

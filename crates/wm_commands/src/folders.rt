@@ -1,7 +1,7 @@
-//! Which watched root holds a folder, and how the root's files are named from there. Definitions: specs/Folders.
+//! Which watched root holds a folder or is named by a path, and how the root's files are named from there. Definitions: specs/Folders.
 //! Tests: commands_tests/src/folders.rt.
 ghost use Rattle.std.specs.Prelude.{◌≡◌, IfOk, option_map, string_bytes};
-ghost use Rattle.wm_commands.specs.Folders.{IsHolderOf, IsNameIn, better_root, ends_component, holds_folder, longer_root, name_in, path_behind, path_in, reported_name};
+ghost use Rattle.wm_commands.specs.Folders.{IsHolderOf, IsNameIn, IsNamedRoot, better_root, ends_component, holds_folder, longer_root, name_in, names_root, path_behind, path_in, reported_name};
 
 use std::alloc::Global;
 use wm_disk::NoMemory;
@@ -61,6 +61,29 @@ pub fn holder_of<'a>(roots: &'a [RootPath], dir: &str) -> Option<&'a RootPath>
         best = better(best, root, dir);
     }
     best
+}
+
+/// Whether a path is that of a root, perhaps with slashes behind it.
+fn names(root: &RootPath, path: &str) -> bool
+    ensures { result ≡ names_root root.now path.now }
+{
+    match path.as_bytes().strip_prefix(root.as_str().as_bytes()) {
+        Some(rest) => rest.iter().all(|b| *b == b'/'),
+        None => false,
+    }
+}
+
+/// The root that is meant by a path, which leads to a folder: the listed root of this path if there is one, also a symlink's, and else
+/// the folder.
+pub fn named_root<'a>(roots: &'a [RootPath], path: &str, folder: &'a str) -> &'a str
+    ensures { IsNamedRoot roots.now path.now folder.now result.now }
+{
+    for root in roots {
+        if names(root, path) {
+            return root.as_str();
+        }
+    }
+    folder
 }
 
 /// What follows a start of a path.

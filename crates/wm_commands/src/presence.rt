@@ -1,7 +1,7 @@
 //! What a look at a server's socket found, and what `wm up` does then. Definitions: specs/Presences.
 //! Tests: commands_tests/src/presences.rt.
 ghost use Rattle.std.specs.Prelude.{◌≡◌};
-ghost use Rattle.wm_commands.specs.Presences.{start_step, up_step};
+ghost use Rattle.wm_commands.specs.Presences.{absent_step, start_step, up_step};
 
 /// What a look at a server's socket found.
 #[derive(Clone, Copy, Debug, PartialEq, Eq)]
@@ -14,6 +14,17 @@ pub enum Presence {
     Absent,
 }
 
+/// Which process serves a socket, by what the system says of its processes.
+#[derive(Clone, Copy, Debug, PartialEq, Eq)]
+pub enum ServerProcess {
+    /// None does.
+    Missing,
+    /// One that `wm up` started, and that made its socket.
+    Own,
+    /// Another one.
+    Foreign,
+}
+
 /// What `wm up` does once it looked for a server.
 #[derive(Clone, Copy, Debug, PartialEq, Eq)]
 pub enum UpStep {
@@ -23,15 +34,31 @@ pub enum UpStep {
     LookAgain,
     /// It starts a server.
     Start,
+    /// It ends the server that has lost its socket, and starts another.
+    Replace,
+    /// It says that a server has lost its socket.
+    Tell,
+}
+
+/// What `wm up` does if nothing takes a connection. A server that runs all the same has lost its socket, or is about to make it.
+fn absent_step(process: ServerProcess, is_late: bool) -> UpStep
+    ensures { result ≡ absent_step process is_late }
+{
+    match (process, is_late) {
+        (ServerProcess::Missing, _) => UpStep::Start,
+        (ServerProcess::Own, _) => UpStep::Replace,
+        (ServerProcess::Foreign, true) => UpStep::Tell,
+        (ServerProcess::Foreign, false) => UpStep::LookAgain,
+    }
 }
 
 /// What `wm up` does after a look. A server is kept only if it answered; one that is silent is looked at again until it is late.
-pub fn up_step(presence: Presence, is_late: bool) -> UpStep
-    ensures { result ≡ up_step presence is_late }
+pub fn up_step(presence: Presence, process: ServerProcess, is_late: bool) -> UpStep
+    ensures { result ≡ up_step presence process is_late }
 {
     match presence {
         Presence::Answered => UpStep::Keep,
-        Presence::Absent => UpStep::Start,
+        Presence::Absent => absent_step(process, is_late),
         Presence::Silent => {
             if is_late {
                 UpStep::Start
