@@ -3,7 +3,7 @@
 use clap::ArgMatches;
 use serde_json::Value;
 use std::alloc::Global;
-use wm_commands::{Style, since_text};
+use wm_commands::{Style, pattern_fault, since_text};
 use wm_disk::NoMemory;
 
 /// The commands.
@@ -164,15 +164,17 @@ fn style_of(matches: &ArgMatches<'_>) -> Style {
     }
 }
 
-/// Whether each pattern can be asked for: `[` and a backslash stand in none.
-fn are_patterns(patterns: &[String]) -> bool {
+/// What is wrong with the first pattern that the server refuses. `None` if it refuses none.
+fn refused_pattern(alloc: Global, patterns: &[String]) -> Result<Option<String>, NoMemory> {
     for pattern in patterns {
-        let bytes = pattern.as_bytes();
-        if bytes.contains(&b'[') || bytes.contains(&b'\\') {
-            return false;
+        if let Some(fault) = pattern_fault(pattern) {
+            let (pattern, name) = (pattern.as_str(), fault.name());
+            return Ok(Some(format!(in alloc;
+                "'{pattern}': {name} can't stand in a PATTERN, which has * ? and **; write ? for any byte, or a PATTERN for each name"
+            )?));
         }
     }
-    true
+    Ok(None)
 }
 
 /// What a command is about.
@@ -186,13 +188,14 @@ fn target_of(alloc: Global, matches: &ArgMatches<'_>) -> Result<Target, NoMemory
 fn question_of(
     alloc: Global,
     matches: &ArgMatches<'_>,
-) -> Result<Result<Question, &'static str>, NoMemory> {
+) -> Result<Result<Question, String>, NoMemory> {
     let Some(own) = own_of(alloc, matches.get_str("expr"))? else {
-        return Ok(Err("the value of --expr is no JSON, as '[\"suffix\",\"c\"]'"));
+        let what = "the value of --expr is no JSON, as '[\"suffix\",\"c\"]'";
+        return Ok(Err(String::from_str(alloc, what)?));
     };
     let patterns = all(alloc, matches, "PATTERN")?;
-    if !are_patterns(&patterns) {
-        return Ok(Err("a PATTERN has * ? and **, and can't have [ or \\"));
+    if let Some(what) = refused_pattern(alloc, &patterns)? {
+        return Ok(Err(what));
     }
     let since = since_of(alloc, matches)?;
     Ok(Ok(Question {
@@ -207,9 +210,10 @@ fn question_of(
 fn program_of(
     alloc: Global,
     matches: &ArgMatches<'_>,
-) -> Result<Result<Program, &'static str>, NoMemory> {
+) -> Result<Result<Program, String>, NoMemory> {
     let Some(settle) = settle_of(matches.get_str("settle")) else {
-        return Ok(Err("MS isn't a whole number from 0 to 4294967295"));
+        let what = "MS isn't a whole number from 0 to 4294967295";
+        return Ok(Err(String::from_str(alloc, what)?));
     };
     let words = all(alloc, matches, "COMMAND")?;
     Ok(Ok(Program { words, settle }))
@@ -220,7 +224,7 @@ pub(crate) fn order_of(
     alloc: Global,
     verb: Verb,
     matches: &ArgMatches<'_>,
-) -> Result<Result<Order, &'static str>, NoMemory> {
+) -> Result<Result<Order, String>, NoMemory> {
     let question = match question_of(alloc, matches)? {
         Ok(question) => question,
         Err(what) => return Ok(Err(what)),

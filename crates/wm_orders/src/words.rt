@@ -37,7 +37,7 @@ const STATUSES: &str =
 
 Exit status:
   0  done
-  1  the server refused, a program can't be started, or the output can't be written
+  1  the server refused, the folder can't be read, a program can't be started, or the output can't be written
   2  the words aren't understood, or DIR is no folder
   3  no server answers";
 
@@ -148,7 +148,7 @@ fn chosen(alloc: Global, matches: &ArgMatches<'_>) -> Result<Words, NoMemory> {
     };
     match order_of(alloc, verb, inner)? {
         Ok(order) => Ok(Words::Ordered(order)),
-        Err(what) => fault(alloc, what),
+        Err(what) => fault(alloc, &what),
     }
 }
 
