@@ -100,18 +100,20 @@ os.rename(sys.argv[1] + ".new", sys.argv[1])
 session = taking.accept()[0]
 session.makefile().readline()
 session.sendall(b'{"roots":["/tmp"],"version":"w1"}\n')
-for _ in range(2):
+while True:
     session.close()
     session = taking.accept()[0]
     session.sendall(b'{"error":"17 TooMany","version":"w1"}\n')
 END
 python3 "$folder/full.py" "$folder/full" &
+full=$!
 made_socket "$folder/full"
 taken="all of the server's 31 sessions are taken (17 TooMany); try later, or end what holds them, as 'wm run' and feeds do"
 says 0 "server: FOLDER/full
 no feed runs: 'wm up' starts one
 /tmp: not known: $taken" wm status --socket "$folder/full"
 says 1 "wm: FOLDER/full: $taken" wm list --socket "$folder/full"
+kill "$full"
 
 says 2 'wm: FOLDER/work/tpyo: no such folder' wm watch tpyo
 touch file
@@ -139,6 +141,27 @@ says 0 $'FOLDER/link\nFOLDER/work' bash -c 'wm list | sort'
 says 0 '' wm unwatch "$folder/link"
 says 0 'FOLDER/work' wm list
 rm "$folder/link"
+
+# A root that is a file is named as one.
+python3 "$folder/watch.py" "$XDG_RUNTIME_DIR/watchmand/socket" "$folder/work/file"
+says 0 "FOLDER/work/file: is a file, and no folder: 'wm unwatch' ends its watch" bash -c 'wm status | tail -1'
+says 0 '' wm unwatch file
+
+# A server whose socket was removed is replaced if 'wm up' started it.
+rm "$XDG_RUNTIME_DIR/watchmand/socket"
+says 3 "wm: $socket: no server answers (no such file); 'wm up' starts one" wm list
+says 0 "wm: $socket: the socket of the running server (pid $(cat "$XDG_STATE_HOME/watchmand/watchmand.pid")) is gone, so that server is ended
+a server was started at $socket" wm up
+says 0 'FOLDER/work' wm list
+watchmand format "$folder/foreign" > "$folder/formatted"
+(cd "$folder" && exec watchmand serve foreign lost) > "$folder/served" &
+foreign=$!
+made_socket "$folder/lost"
+rm "$folder/lost"
+says 3 "wm: FOLDER/lost: a server runs (pid $foreign) without its socket; 'kill $foreign' ends it, and 'wm up' starts another, if systemd doesn't" \
+    wm up --socket "$folder/lost"
+kill "$foreign"
+wait "$foreign" || true
 touch lib/a.c lib/a.h library/b.c
 says 0 $'file\nlib\nlib/a.c\nlib/a.h\nlibrary\nlibrary/b.c' bash -c 'wm files | sort'
 says 0 $'lib/a.c\nlibrary/b.c' bash -c "wm files . '*.c' | sort"
@@ -147,9 +170,18 @@ says 0 'lib/a.c' wm files . 'lib/*.c'
 says 0 'a.c' wm files lib '*.c'
 says 0 'a.c' bash -c "wm files -0 lib '*.c' | tr '\\0' '\\n'"
 says 0 'lib' wm files . --expr '["allof",["type","d"],["name","lib"]]'
-says 2 "error: a PATTERN has * ? and **, and can't have [ or \\
+fault="can't stand in a PATTERN, which has * ? and **; write ? for any byte, or a PATTERN for each name
 
-For more information, try '--help'." wm files . '[a]'
+For more information, try '--help'."
+says 2 "error: '[ab].c': [ $fault" wm files . '*.h' '[ab].c'
+says 2 "error: 'a\\.c': \\ $fault" wm files . 'a\.c'
+says 0 "wm: '*.{c,h}': braces stand for themselves in a PATTERN; write '*.c' '*.h' in its place" wm files . '*.{c,h}'
+says 0 "wm: '{a,b}.{c,h}': braces stand for themselves in a PATTERN; write one for each name in its place
+lib/a.h" wm files . '{a,b}.{c,h}' '*.h'
+touch 'lib/{a,b}'
+says 0 "wm: '{a,b}': braces stand for themselves in a PATTERN; write 'a' 'b' in its place
+lib/{a,b}" wm files . '{a,b}'
+rm 'lib/{a,b}'
 says 1 "wm: FOLDER/work: the server refused: 8 BadExpression; --expr takes allof anyof not true false name suffix type exists empty size match, as QUERIES.md has them" wm files . --expr '["sufix","c"]'
 says 2 "wm: FOLDER/work/*.c: no such folder; a PATTERN stands behind DIR, as in 'wm files . PATTERN'" wm files '*.c'
 says 0 $'wm: FOLDER/work/lib: a fresh answer: all that is there, and not what was deleted\na.c\na.h' bash -c 'wm changes lib --since @test | sort'
@@ -230,21 +262,50 @@ says 0 $'wmfeed ended\nwatchmand ended' wm down
 says 0 "no wmfeed of 'wm up' runs
 no watchmand of 'wm up' runs" wm down
 
-# A folder that a user can't read, or in which there is one.
+# A folder that a user can't read, or in which there is one: that is said at once, and not once a first crawl failed.
 user() { if [ "$(id -u)" = 0 ]; then setpriv --reuid 65534 --regid 65534 --clear-groups "$@"; else "$@"; fi; }
-theirs() { user env XDG_STATE_HOME="$folder/user/state" WATCHMAND_SOCKET="$folder/user/socket" "$folder/bin/wm" "$@"; }
-mkdir -p "$folder/user/whole" "$folder/user/part/inner"
+theirs() { user env XDG_STATE_HOME="$folder/user/state" WATCHMAND_SOCKET="$folder/user/socket" timeout 8 "$folder/bin/wm" "$@"; }
+mkdir -p "$folder/user/whole" "$folder/user/part/inner" "$folder/user/part/open"
+touch "$folder/user/part/open/a"
 chmod 0 "$folder/user/whole" "$folder/user/part/inner"
 if [ "$(id -u)" = 0 ]; then chown -R 65534:65534 "$folder/user"; fi
 says 0 $'a server was started at FOLDER/user/socket\na feed was started' theirs up
-says 0 'FOLDER/user/whole' theirs watch "$folder/user/whole"
-says 1 "wm: FOLDER/user/whole: the folder can't be read (no permission)" theirs files "$folder/user/whole"
+unread="the folder can't be read (no permission)"
+advice="give the server's user the right to read it ('chmod u+rx')"
+says 0 "FOLDER/user/whole
+wm: FOLDER/user/whole: $unread; $advice; it is watched, and listed once it can be read" theirs watch "$folder/user/whole"
+says 0 "server: FOLDER/user/socket
+FOLDER/user/whole: $unread; $advice" theirs status
+says 1 "wm: FOLDER/user/whole: $unread; $advice" theirs files "$folder/user/whole"
+says 1 "wm: FOLDER/user/whole: $unread; $advice" theirs changes --since @a "$folder/user/whole"
+says 1 "wm: FOLDER/user/whole: $unread; $advice" theirs wait "$folder/user/whole"
+says 1 "wm: FOLDER/user/whole: $unread; $advice" theirs run "$folder/user/whole" -- true
+says 0 '' theirs unwatch "$folder/user/whole"
+says 0 "FOLDER/user/part
+wm: FOLDER/user/part/inner: $unread; what is in it isn't listed" theirs watch "$folder/user/part"
+says 0 $'inner\nopen\nopen/a' bash -c "$(declare -f user theirs); folder=$folder; theirs files '$folder/user/part' | sort"
+says 0 "server: FOLDER/user/socket
+FOLDER/user/part: ready, fed
+wm: FOLDER/user/part/inner: $unread; what is in it isn't listed" theirs status
 kill "$(cat "$folder/user/state/watchmand/wmfeed.pid")"
-says 0 'FOLDER/user/part' theirs watch "$folder/user/part"
-says 1 "wm: FOLDER/user/part: a folder in it can't be read (13 DeviceFailed); a feed passes it over: 'wm up' starts one" \
-    theirs files "$folder/user/part"
+says 0 '' theirs unwatch "$folder/user/part"
+for number in 1 2 3 4; do user mkdir -m 0 "$folder/user/part/open/$number"; done
+says 0 "FOLDER/user/part
+wm: FOLDER/user/part/inner: $unread; what is in it isn't listed
+wm: FOLDER/user/part/open/1: $unread; what is in it isn't listed
+wm: FOLDER/user/part/open/2: $unread; what is in it isn't listed
+wm: FOLDER/user/part: and 2 more folders below it can't be read" theirs watch "$folder/user/part"
+says 0 "server: FOLDER/user/socket
+no feed runs: 'wm up' starts one
+FOLDER/user/part: not crawled, since a folder below it can't be read; a feed passes it over: 'wm up' starts one
+wm: FOLDER/user/part/inner: $unread; what is in it isn't listed
+wm: FOLDER/user/part/open/1: $unread; what is in it isn't listed
+wm: FOLDER/user/part/open/2: $unread; what is in it isn't listed
+wm: FOLDER/user/part: and 2 more folders below it can't be read" theirs status
+says 1 "wm: FOLDER/user/part: no feed runs, so it is crawled for this question; 'wm up' starts a feed
+wm: FOLDER/user/part/inner: $unread; a feed passes it over: 'wm up' starts one" theirs files "$folder/user/part"
 says 0 $'no wmfeed of \'wm up\' runs\nwatchmand ended' theirs down
-chmod 700 "$folder/user/whole" "$folder/user/part/inner"
+chmod -R 700 "$folder/user/whole" "$folder/user/part"
 
 # A first crawl that lasts, and then a recrawl: a person is told that it goes on.
 cat > "$folder/slow.py" <<'END'

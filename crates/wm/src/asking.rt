@@ -6,6 +6,7 @@ use crate::feeds::is_fed;
 use crate::listening::read_answer;
 use crate::place::{Place, expression_of, place_of};
 use crate::server::{Reply, Server};
+use crate::unreadable::note_stale;
 use serde_json::Value;
 use wm_commands::{Feeding, query_line, root_line, shown_of};
 use wm_orders::Order;
@@ -19,10 +20,10 @@ fn crawl_instead(server: &Server<'_>, root: &str, is_running: bool) -> Result<()
 
 /// Waits until the server knows all that happened in a root so far: by its feed, and else by a crawl.
 pub fn sync(server: &Server<'_>, root: &str) -> Result<(), Failure> {
-    await_crawl(server, root)?;
     if !is_fed(server.rt, server.socket, false)? {
         return crawl_instead(server, root, false);
     }
+    await_crawl(server, root)?;
     let json = root_line(server.rt.alloc(), "clock", root)?;
     match server.ask(json, Some(root))? {
         Reply::Line(_) => Ok(()),
@@ -61,6 +62,7 @@ pub fn list(server: &Server<'_>, dir: String, order: &Order) -> Result<u8, Failu
         None => None,
     };
     let line = answer_line(server, &place, order, since, order.style.is_json)?;
+    note_stale(server, &place.root)?;
     if since.is_some() && !order.style.is_json {
         note_fresh(server, &place, &line)?;
     }

@@ -1,13 +1,14 @@
 //! Crawls that are waited for.
 
-use crate::failure::{Failure, cause_of, failed};
+use crate::failure::{Failure, failed};
 use crate::feeds::is_fed;
 use crate::server::{Reply, Server};
+use crate::unreadable::{root_seen, unreadable_below, unreadable_root};
 use std::io::{BufRead, BufReader, IsTerminal, Write};
+use std::thread;
 use std::time::{Duration, Instant};
-use std::{fs, thread};
 use wm_client::refusal_of;
-use wm_commands::{is_progress_due, root_line, unreadable_advice};
+use wm_commands::{CrawlStep, RootSeen, crawl_step, is_progress_due, root_line, unreadable_advice};
 use wm_disk::Refusal;
 
 /// How long a root that isn't ready is left alone, in milliseconds.
@@ -65,16 +66,18 @@ fn is_crawled(server: &Server<'_>, root: &str) -> Result<bool, Failure> {
     }
 }
 
-/// Waits until a root was crawled, and tells a person so. A crawl that isn't done after ten seconds may have been refused, so another
-/// one is asked for, which says why.
+/// Waits until a root was crawled, and tells a person so. A root that can't be read is a failure at once. A crawl that isn't done after
+/// ten seconds may have been refused, so another one is asked for, which says why.
 pub fn await_crawl(server: &Server<'_>, root: &str) -> Result<(), Failure> {
     let mut progress = Progress::begin(server, "first crawl")?;
     for looks in 0..u64::MAX {
-        if is_crawled(server, root)? {
-            break;
-        }
-        if looks == LOOKS_BEFORE_CRAWL {
-            crawl_told(server, root, &mut progress)?;
+        let is_crawled = is_crawled(server, root)?;
+        let seen = root_seen(server.rt, root);
+        match crawl_step(is_crawled, seen, looks == LOOKS_BEFORE_CRAWL) {
+            CrawlStep::Done => break,
+            CrawlStep::GiveUp => return Err(unreadable_root(server, root)?),
+            CrawlStep::AskForCrawl => crawl_told(server, root, &mut progress)?,
+            CrawlStep::LookAgain => {}
         }
         progress.tell(server, root)?;
         thread::sleep(server.rt, Duration::from_millis(PAUSE));
@@ -126,23 +129,28 @@ fn crawled(server: &Server<'_>, root: &str, line: &[u8]) -> Result<(), Failure> 
         return Ok(());
     }
     match refusal_of(line) {
-        Some(Refusal::DeviceFailed) => Err(unreadable(server, root)?),
+        Some(Refusal::DeviceFailed) => Err(uncrawled(server, root)?),
         Some(Refusal::TooMany) => Err(server.no_session()),
         refusal => Err(server.refused(root, refusal, str::from_utf8(line).unwrap_or(""))),
     }
 }
 
 /// The failure of a root that can't be crawled, since it or a folder in it can't be read.
-fn unreadable(server: &Server<'_>, root: &str) -> Result<Failure, Failure> {
+fn uncrawled(server: &Server<'_>, root: &str) -> Result<Failure, Failure> {
     let alloc = server.rt.alloc();
-    if let Err(error) = fs::read_dir(server.rt, root) {
-        let cause = cause_of(&error);
-        let text = format!(in alloc; "{root}: the folder can't be read ({cause})")?;
-        return Ok(failed(1, text));
+    if root_seen(server.rt, root) == RootSeen::Unreadable {
+        return unreadable_root(server, root);
     }
     let advice = unreadable_advice(is_fed(server.rt, server.socket, false)?);
-    let text = format!(in alloc;
-        "{root}: a folder in it can't be read (13 DeviceFailed); {advice}"
-    )?;
+    let unread = unreadable_below(server, root, Instant::now(server.rt)?)?;
+    let text = match unread.first() {
+        Some(first) => {
+            let (path, cause) = (first.path.as_str(), first.cause);
+            format!(in alloc; "{path}: the folder can't be read ({cause}); {advice}")?
+        }
+        None => format!(in alloc;
+            "{root}: a folder in it can't be read (13 DeviceFailed); {advice}"
+        )?,
+    };
     Ok(failed(1, text))
 }

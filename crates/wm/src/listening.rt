@@ -54,6 +54,18 @@ pub fn read_answer(
     }
 }
 
+/// The names that the line of an answer lists, below the root. `None` if it is no answer.
+pub fn read_names(server: &Server<'_>, line: &str) -> Result<Option<Vec<String>>, Failure> {
+    let alloc = server.rt.alloc();
+    let Ok(value) = Value::from_str(alloc, line) else {
+        return Ok(None);
+    };
+    match answer_of(alloc, &value)? {
+        Some(answer) => Ok(Some(answer.names)),
+        None => Ok(None),
+    }
+}
+
 /// Whether a line says that something changed below the folder.
 fn is_change(server: &Server<'_>, place: &Place, line: &[u8]) -> Result<bool, Failure> {
     match read_answer(server, place, line)? {

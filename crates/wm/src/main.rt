@@ -7,15 +7,20 @@ mod failure;
 mod feed_looks;
 mod feeds;
 mod listening;
+mod lost_socket;
+mod notes;
 mod place;
 mod places;
 mod processes;
 mod running;
 mod server;
+mod started;
 mod starting;
+mod unreadable;
 mod watches;
 
 use crate::failure::Failure;
+use crate::notes::note_braces;
 use crate::places::{folder, server_places};
 use crate::server::Server;
 use std::io::ErrorKind;
@@ -33,6 +38,7 @@ fn about_folder(server: &Server<'_>, order: &Order) -> Result<u8, Failure> {
         return watches::unwatch(server, named);
     }
     let dir = folder(server.rt, named, order.verb.pattern_example())?;
+    note_braces(server, &order.question.patterns)?;
     match order.verb {
         Verb::Watch => watches::watch(server, &dir),
         Verb::Wait => running::wait(server, dir, order),
@@ -55,7 +61,7 @@ fn obey(rt: &HostRuntime, order: &Order) -> Result<u8, Failure> {
     };
     match order.verb {
         Verb::Up => starting::up(&server, &places),
-        Verb::Down => starting::down(&server, &places),
+        Verb::Down => started::down(&server, &places),
         Verb::List => watches::list(&server),
         Verb::Status => watches::status(&server),
         _ => about_folder(&server, order),

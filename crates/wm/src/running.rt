@@ -6,6 +6,7 @@ use crate::feed_looks::FeedLooks;
 use crate::listening::{await_change, read_answer};
 use crate::place::{Place, place_of};
 use crate::server::Server;
+use crate::unreadable::note_stale;
 use std::io::Write;
 use std::process::{Child, Command, Stdio};
 use std::thread;
@@ -34,6 +35,7 @@ fn answer(
 pub fn wait(server: &Server<'_>, dir: String, order: &Order) -> Result<u8, Failure> {
     let place = place_of(server, dir)?;
     let now = answer(server, &place, order, None)?;
+    note_stale(server, &place.root)?;
     let since = Some(now.clock.as_str());
     let mut feed = FeedLooks::new();
     await_change(server, &place, order, since, &mut feed)?;

@@ -1,19 +1,17 @@
-//! `wm up` and `wm down`: the server and the feed in the background.
+//! `wm up`: the server and the feed in the background.
 
 use crate::failure::{Failure, at_path, failed};
 use crate::feeds::is_fed;
+use crate::lost_socket::{end_unreachable, server_process, unreachable};
 use crate::places::Places;
-use crate::processes::{has_gone, is_program};
 use crate::server::Server;
+use crate::started::write_number;
 use std::fs::{DirBuilder, OpenOptions};
 use std::os::unix::fs::{DirBuilderExt, OpenOptionsExt};
 use std::process::{Child, Command, Stdio};
 use std::time::{Duration, Instant};
 use std::{env, fs, thread};
 use wm_commands::{StartStep, UpStep, start_step, up_step};
-
-/// How often it is looked whether a program has ended that was told to.
-const LOOKS: u32 = 200;
 
 /// How long it is waited between two looks, in milliseconds.
 const PAUSE: u64 = 25;
@@ -113,27 +111,6 @@ fn log_of(rt: &HostRuntime, places: &Places) -> Result<String, Failure> {
     Ok(format!(in rt.alloc(); "{state}/log")?)
 }
 
-/// The file with the number of a program that was started.
-fn number_file(rt: &HostRuntime, places: &Places, name: &str) -> Result<String, Failure> {
-    let state = places.state.as_str();
-    Ok(format!(in rt.alloc(); "{state}/{name}.pid")?)
-}
-
-/// Writes the number of a program down that was started and stays.
-fn write_number(
-    rt: &HostRuntime,
-    places: &Places,
-    name: &str,
-    child: &Child,
-) -> Result<(), Failure> {
-    let number = child.id();
-    let file = number_file(rt, places, name)?;
-    match fs::write(rt, file.as_str(), format!(in rt.alloc(); "{number}\n")?) {
-        Ok(()) => Ok(()),
-        Err(error) => Err(at_path(rt.alloc(), 1, &file, &error)),
-    }
-}
-
 /// Starts a program in a session of its own, whose output goes to the log.
 fn start(rt: &HostRuntime, places: &Places, name: &str, words: &[&str]) -> Result<Child, Failure> {
     let alloc = rt.alloc();
@@ -157,23 +134,6 @@ fn start(rt: &HostRuntime, places: &Places, name: &str, words: &[&str]) -> Resul
     match command.spawn(rt) {
         Ok(child) => Ok(child),
         Err(_) => Err(unstarted(rt, "setsid")),
-    }
-}
-
-/// The number of a program that was started and still runs. `None` if none does.
-fn running(rt: &HostRuntime, places: &Places, name: &str) -> Result<Option<String>, Failure> {
-    let alloc = rt.alloc();
-    let file = number_file(rt, places, name)?;
-    let Ok(text) = fs::read_to_string(rt, file.as_str()) else {
-        return Ok(None);
-    };
-    let number = text.as_str().trim();
-    let file = format!(in alloc; "/proc/{number}/cmdline")?;
-    match fs::read_to_string(rt, file.as_str()) {
-        Ok(words) if is_program(words.as_str(), name) => {
-            Ok(Some(String::from_str(alloc, number)?))
-        }
-        _ => Ok(None),
     }
 }
 
@@ -301,14 +261,21 @@ fn make_socket_folder(rt: &HostRuntime, socket: &str) -> Result<(), Failure> {
 }
 
 /// Whether a server is there that answers. What takes a connection without an answer is about to end, and is looked at for some seconds.
-fn is_served(server: &Server<'_>) -> Result<bool, Failure> {
+/// A server of `wm up` whose socket is gone is ended: nothing can reach it, and its state stays.
+fn is_served(server: &Server<'_>, places: &Places) -> Result<bool, Failure> {
     let begun = Instant::now(server.rt)?;
     for _ in 0..u64::MAX {
         let presence = server.presence()?;
+        let (process, number) = server_process(server, places, presence)?;
         let is_late = begun.elapsed(server.rt)?.as_secs() >= PATIENCE;
-        match up_step(presence, is_late) {
+        match up_step(presence, process, is_late) {
             UpStep::Keep => return Ok(true),
             UpStep::Start => return Ok(false),
+            UpStep::Replace => {
+                end_unreachable(server, &number)?;
+                return Ok(false);
+            }
+            UpStep::Tell => return Err(unreachable(server, &number)),
             UpStep::LookAgain => thread::sleep(server.rt, Duration::from_millis(PAUSE)),
         }
     }
@@ -320,7 +287,7 @@ pub fn up(server: &Server<'_>, places: &Places) -> Result<u8, Failure> {
     let rt = server.rt;
     make_folder(rt, &places.state)?;
     let socket = places.socket.as_str();
-    if is_served(server)? {
+    if is_served(server, places)? {
         println!(rt; "a server answers at {socket}")?;
     } else {
         make_socket_folder(rt, socket)?;
@@ -331,35 +298,5 @@ pub fn up(server: &Server<'_>, places: &Places) -> Result<u8, Failure> {
         start_feed(server, places)?;
         println!(rt; "a feed was started")?;
     }
-    Ok(0)
-}
-
-/// Ends a program that was started, and waits until it has ended.
-fn end(rt: &HostRuntime, places: &Places, name: &str) -> Result<(), Failure> {
-    let alloc = rt.alloc();
-    let Some(number) = running(rt, places, name)? else {
-        println!(rt; "no {name} of 'wm up' runs")?;
-        return Ok(());
-    };
-    let mut command = Command::new(alloc, "kill")?;
-    command.arg(number.as_str())?;
-    let _status = command.status(rt);
-    for _ in 0..LOOKS {
-        if has_gone(rt, &number, name)? {
-            println!(rt; "{name} ended")?;
-            return Ok(());
-        }
-        thread::sleep(rt, Duration::from_millis(PAUSE));
-    }
-    let text = format!(in alloc;
-        "{name}: process {number} doesn't end; 'kill -9 {number}' ends it, and loses nothing"
-    )?;
-    Err(failed(1, text))
-}
-
-/// Handles `down`.
-pub fn down(server: &Server<'_>, places: &Places) -> Result<u8, Failure> {
-    end(server.rt, places, "wmfeed")?;
-    end(server.rt, places, "watchmand")?;
     Ok(0)
 }

@@ -6,36 +6,40 @@ use crate::feeds::is_fed;
 use crate::place::{place_of, roots};
 use crate::places::{gone_folder, whole};
 use crate::server::{Reply, Server};
-use std::fs;
+use crate::unreadable::{name_unreadable, root_seen, unreadable_below, unreadable_text};
+use std::time::Instant;
 use wm_client::root_number_of;
-use wm_commands::{Feeding, NO_SESSION, root_line, root_status};
+use wm_commands::{Feeding, NO_SESSION, RootSeen, named_root, root_line, root_status};
 use wm_disk::Refusal;
+
+/// Says on standard error which folders of a root that was just watched can't be read. It stays watched, since they may be readable later.
+fn note_unreadable(server: &Server<'_>, dir: &str) -> Result<(), Failure> {
+    if root_seen(server.rt, dir) == RootSeen::Unreadable {
+        let text = unreadable_text(server, dir)?;
+        eprintln!(server.rt; "wm: {text}; it is watched, and listed once it can be read")?;
+        return Ok(());
+    }
+    let unread = unreadable_below(server, dir, Instant::now(server.rt)?)?;
+    name_unreadable(server, dir, &unread)
+}
 
 /// Handles `watch`.
 pub fn watch(server: &Server<'_>, dir: &str) -> Result<u8, Failure> {
     let json = root_line(server.rt.alloc(), "watch", dir)?;
     let _line = server.line(dir, json)?;
     println!(server.rt; "{dir}")?;
+    note_unreadable(server, dir)?;
     Ok(0)
-}
-
-/// The root that is named: the listed one of this path if there is one, also a symlink's, and else that of the folder itself.
-fn named_root(server: &Server<'_>, named: Option<&str>) -> Result<String, Failure> {
-    let rt = server.rt;
-    let path = whole(rt, named.unwrap_or("."))?;
-    for root in &roots(server)? {
-        if root.as_str() == path.as_str().trim_end_matches('/') {
-            return Ok(String::from_str(rt.alloc(), root.as_str())?);
-        }
-    }
-    gone_folder(rt, named)
 }
 
 /// Handles `unwatch`: of the root that is named.
 pub fn unwatch(server: &Server<'_>, named: Option<&str>) -> Result<u8, Failure> {
-    let root = named_root(server, named)?;
-    let json = root_line(server.rt.alloc(), "watch-del", &root)?;
-    let _line = server.line(&root, json)?;
+    let path = whole(server.rt, named.unwrap_or("."))?;
+    let folder = gone_folder(server.rt, named)?;
+    let roots = roots(server)?;
+    let root = named_root(&roots, &path, &folder);
+    let json = root_line(server.rt.alloc(), "watch-del", root)?;
+    let _line = server.line(root, json)?;
     Ok(0)
 }
 
@@ -63,18 +67,19 @@ fn crawled_status(
     }
 }
 
-/// What a refusal tells of a root.
+/// What a refusal tells of a root, which is stuck if no feed runs that passes over what can't be read.
 fn refused_status(
     server: &Server<'_>,
     refusal: Option<Refusal>,
     line: &str,
+    is_stuck: bool,
 ) -> Result<String, Failure> {
     let alloc = server.rt.alloc();
     let Some(refusal) = refusal else {
         let line = line.trim_end();
         return Ok(format!(in alloc; "the server refused: {line}")?);
     };
-    match root_status(refusal) {
+    match root_status(refusal, is_stuck) {
         Some(status) => Ok(String::from_str(alloc, status)?),
         None => {
             let name = refusal.text();
@@ -83,19 +88,58 @@ fn refused_status(
     }
 }
 
-/// Whether a root is crawled and fed, in a few words.
-fn status_of(server: &Server<'_>, root: &str, has_feed: bool) -> Result<String, Failure> {
+/// What the server says of a root, in a few words.
+fn answered_status(
+    server: &Server<'_>,
+    root: &str,
+    has_feed: bool,
+    is_stuck: bool,
+) -> Result<String, Failure> {
     let alloc = server.rt.alloc();
-    if fs::metadata(server.rt, root).is_err() {
-        let text = "no such folder: 'wm unwatch' ends its watch";
-        return Ok(String::from_str(alloc, text)?);
-    }
     match server.ask(root_line(alloc, "clock", root)?, None)? {
         Reply::Line(line) => Ok(String::from_str(alloc, crawled_status(server, &line, has_feed)?)?),
-        Reply::Refused(refusal, line) => refused_status(server, refusal, &line),
+        Reply::Refused(refusal, line) => refused_status(server, refusal, &line, is_stuck),
         Reply::NoSession => Ok(format!(in alloc; "not known: {NO_SESSION}")?),
         Reply::NoFeed => Ok(String::from_str(alloc, "unknown")?),
     }
+}
+
+/// Prints the status of a root that is a folder, and names the folders below it that can't be read on standard error.
+fn print_folder(
+    server: &Server<'_>,
+    root: &str,
+    has_feed: bool,
+    begun: Instant,
+) -> Result<(), Failure> {
+    let unread = unreadable_below(server, root, begun)?;
+    let is_stuck = !has_feed && !unread.is_empty();
+    let status = answered_status(server, root, has_feed, is_stuck)?;
+    println!(server.rt; "{root}: {status}")?;
+    name_unreadable(server, root, &unread)
+}
+
+/// Prints the status of a root.
+fn print_root(
+    server: &Server<'_>,
+    root: &str,
+    has_feed: bool,
+    begun: Instant,
+) -> Result<(), Failure> {
+    let rt = server.rt;
+    match root_seen(rt, root) {
+        RootSeen::Folder => return print_folder(server, root, has_feed, begun),
+        RootSeen::Unreadable => {
+            let text = unreadable_text(server, root)?;
+            println!(rt; "{text}")?;
+        }
+        RootSeen::NoFolder => {
+            println!(rt; "{root}: is a file, and no folder: 'wm unwatch' ends its watch")?;
+        }
+        RootSeen::Nothing => {
+            println!(rt; "{root}: no such folder: 'wm unwatch' ends its watch")?;
+        }
+    }
+    Ok(())
 }
 
 /// Handles `status`.
@@ -107,10 +151,9 @@ pub fn status(server: &Server<'_>) -> Result<u8, Failure> {
     if !has_feed {
         println!(server.rt; "no feed runs: 'wm up' starts one")?;
     }
+    let begun = Instant::now(server.rt)?;
     for root in &roots {
-        let root = root.as_str();
-        let status = status_of(server, root, has_feed)?;
-        println!(server.rt; "{root}: {status}")?;
+        print_root(server, root.as_str(), has_feed, begun)?;
     }
     Ok(0)
 }
