@@ -7,6 +7,7 @@ alone, and the others that text and then the further line. Exit status: 0 if all
 import fcntl
 import os
 import pty
+import select
 import shutil
 import socket
 import subprocess
@@ -17,18 +18,29 @@ NOBODY = 65534
 REFUSED = {13: "13 DeviceFailed", 14: "14 Damaged", 20: "20 Retired"}
 NO_REQUEST = "a request is one word, JSON, as in wmctl SOCKET '[\"watch-list\"]'; 'wm watch FOLDER' and 'wm --help' are for plain words\n"
 NO_ROOT = "is no root's path: it begins with / and has no part that is empty, . or ..; realpath prints such a path"
+NO_FOLDER = "no folder is there, so the root has no files"
+NO_PATTERN = "is no pattern of match: this has at most 1,024 bytes, and neither [ nor \\; * fits any bytes of a name, ? one byte, and ** any folders"
+NO_TYPE = "is no type of a file: these are f (a file), d (a folder), l (a link) and o (all else)"
+NO_WATCH = "the root isn't watched: 'wm watch ROOT' or [\"watch\",ROOT] watches it, and [\"watch-list\"] has those that are"
+NO_LIST = "a request is a list that begins with the name of a command, as [\"watch-list\"]"
+NO_SESSION = "all of the server's 31 sessions are taken: try later, or end what holds them, as 'wm run' and feeds do"
+NO_CRAWL = "the root isn't crawled yet: try again, or send [\"recrawl\",ROOT], which waits"
+NO_READING = "a folder of the root can't be read, and the server's log names it: give the server's user the right to it, or watch a folder below"
+BRACES = "has braces, which stand for themselves in a pattern: for a choice write a pattern each, as [\"anyof\",[\"match\",\"*.c\"],[\"match\",\"*.md\"]]"
+NO_FURTHER_LINES = "only a subscribe is followed by further lines: --follow waits until the server ends\n"
 LONG = "d" * 60 + "/" + "e" * 63 + "/socket"
 
 
 class Place:
-    """A folder with what the cases need, and a server on `sock` over `state`."""
+    """A folder with what the cases need, a server on `sock` over `state`, and one without root's rights on `theirs/sock`."""
 
     def __init__(self, watchmand):
         self.watchmand = watchmand
         self.dir = tempfile.mkdtemp(prefix="messages.", dir="/tmp")
         os.chmod(self.dir, 0o755)
-        for name in ("folder", "shut", "root"):
+        for name in ("folder", "shut", "root", "theirs", "theirs/dark"):
             os.mkdir(self.path(name))
+        os.symlink("root", self.path("link"))
         os.makedirs(self.path(os.path.dirname(LONG)))
         shutil.copy("/etc/passwd", self.path("passwd"))
         for name in ("plain", "empty", "secret"):
@@ -43,7 +55,7 @@ class Place:
             dead.bind(self.path("dead"))
         self.lock = open(self.path("taken"), "r+b")
         fcntl.flock(self.lock, fcntl.LOCK_EX)
-        self.server = subprocess.Popen([watchmand, "serve", "state", "sock"], cwd=self.dir, stdout=subprocess.PIPE)
+        self.server = subprocess.Popen([watchmand, "serve", "state", "sock", "--quiet"], cwd=self.dir, stdout=subprocess.PIPE)
         assert self.server.stdout.readline() == b"ready\n"
         subprocess.run([sys.argv[2], "sock", '["watch","%s"]' % self.path("root")], cwd=self.dir, check=True, stdout=subprocess.DEVNULL)
         with socket.socket(socket.AF_UNIX) as kept:
@@ -51,6 +63,18 @@ class Place:
         os.chmod(self.path("kept"), 0o000)
         os.chmod(self.path("secret"), 0o000)
         os.chmod(self.path("shut"), 0o555)
+        self.serve_theirs()
+
+    def serve_theirs(self):
+        """A server that can't read the folder theirs/dark, which it watches."""
+        rights = without_rights()
+        if rights:
+            os.chown(self.path("theirs"), NOBODY, NOBODY)
+        os.chmod(self.path("theirs/dark"), 0o000)
+        subprocess.run([self.watchmand, "format", "theirs/state"], cwd=self.dir, check=True, stdout=subprocess.DEVNULL, **rights)
+        words = [self.watchmand, "serve", "theirs/state", "theirs/sock", "--quiet"]
+        self.theirs = subprocess.Popen(words, cwd=self.dir, stdout=subprocess.PIPE, **rights)
+        assert self.theirs.stdout.readline() == b"ready\n"
 
     def path(self, name):
         return os.path.join(self.dir, name)
@@ -60,10 +84,16 @@ class Place:
             file.write(content)
 
     def close(self):
-        self.server.kill()
-        self.server.wait()
+        for server in (self.server, self.theirs):
+            server.kill()
+            server.wait()
         self.lock.close()
         shutil.rmtree(self.dir)
+
+
+def without_rights():
+    """What starts a program without root's rights, if this one has them."""
+    return dict(user=NOBODY, group=NOBODY, extra_groups=[]) if os.geteuid() == 0 else {}
 
 
 def watchmand_cases(place):
@@ -102,11 +132,11 @@ def watchmand_cases(place):
 
 def socket_cases():
     """A socket at which no server answers, the further line, and whether the case is run without root's rights."""
-    yield "nosock", "nosock: no such file (is the server running?)", False
+    yield "nosock", "no server answers at nosock (no such file): 'wm up' starts one, or 'watchmand serve STATE nosock'", False
     yield "nofolder/sock", "nofolder/sock: its folder isn't there", False
     yield "plain", "plain: this is no socket", False
     yield "folder", "folder: this is no socket", False
-    yield "dead", "dead: nobody listens there (is the server running?)", False
+    yield "dead", "no server answers at dead (nobody listens there): 'wm up' starts one, or 'watchmand serve STATE dead'", False
     yield "kept", "kept: there is no right to it", True
     yield LONG, f"socket: the path has {len(LONG)} bytes, at most 107", False
 
@@ -117,7 +147,11 @@ def request_cases(root):
     written = "such a request is written [%s]"
     yield asked % '{"expression":["sufix","c"]}', "8 BadExpression", '["sufix","c"] is no term of an expression'
     yield asked % '{"expression":["allof",["suffix","c"],["imatch","x"]]}', "8 BadExpression", '["imatch","x"] is no term of an expression'
-    yield asked % '{"expression":["not",["anyof","exists",["type","b"]]]}', "8 BadExpression", '["type","b"] is no term of an expression'
+    yield asked % '{"expression":["not",["anyof","exists",["type","b"]]]}', "8 BadExpression", f"'b' {NO_TYPE}"
+    yield asked % '{"expression":["match","[ab].c"]}', "8 BadExpression", f"'[ab].c' {NO_PATTERN}"
+    yield asked % '{"expression":["allof","exists",["match","a\\\\b","wholename"]]}', "8 BadExpression", f"'a\\b' {NO_PATTERN}"
+    yield asked % '{"expression":["match","*.c","path"]}', "8 BadExpression", '["match","*.c","path"] is no term of an expression'
+    yield asked % '{"expression":["type",["f"]]}', "8 BadExpression", '["type",["f"]] is no term of an expression'
     yield asked % '{"expression":["not"]}', "8 BadExpression", '["not"] is no term of an expression'
     yield asked % '{"fields":["name","mtime"]}', "9 BadField", '"mtime" is no field'
     yield asked % '{"fields":["name",7]}', "9 BadField", "7 is no field"
@@ -145,7 +179,14 @@ def request_cases(root):
     yield '["query","%s"]' % root, "3 BadArguments", written % '"query","/proj",{"fields":["name"]}'
     yield '["watch"]', "3 BadArguments", written % '"watch","/proj"'
     yield '["watch-list","all"]', "3 BadArguments", written % '"watch-list"'
-    yield '["clock","/not/watched"]', "5 NotWatched", ""
+    yield '["observe","%s"]' % root, "3 BadArguments", written % '"observe","/proj",[["gone.c",null]]'
+    yield '{"a":1}', "2 BadCommand", NO_LIST
+    yield "[]", "2 BadCommand", NO_LIST
+    yield '"watch-list"', "2 BadCommand", NO_LIST
+    for request in ('["clock","/not/watched"]', asked.replace(root, "/not/watched") % "{}", '["recrawl","/not/watched"]', '["trigger-list","/not/watched"]'):
+        yield request, "5 NotWatched", NO_WATCH
+    inside = "the path of a file or a folder in a root has no / at its ends, and no part that is empty, . or .."
+    yield '["recrawl","%s","/sub"]' % root, "4 BadPath", inside
 
 
 def run(place, words, explain, no_rights):
@@ -153,7 +194,7 @@ def run(place, words, explain, no_rights):
     env = {key: value for key, value in os.environ.items() if key != "WATCHMAND_EXPLAIN"}
     if explain:
         env["WATCHMAND_EXPLAIN"] = "1"
-    rights = dict(user=NOBODY, group=NOBODY, extra_groups=[]) if no_rights and os.geteuid() == 0 else {}
+    rights = without_rights() if no_rights else {}
     ended = subprocess.run(words, cwd=place.dir, env=env, stdin=subprocess.DEVNULL, capture_output=True, timeout=60, **rights)
     return ended.returncode, ended.stdout.decode(), ended.stderr.decode()
 
@@ -194,6 +235,119 @@ def check(checks, place, words, status, output, errors, further, no_rights):
     checks.same(f"{shown} (explained)", run(place, words, True, no_rights), (status, output, errors + further))
 
 
+def ask_until_ready(place, wmctl, root):
+    """Waits until a root was crawled; one of which no folder is there is crawled too."""
+    subprocess.run([wmctl, "sock", '["recrawl","%s"]' % root], cwd=place.dir, check=True, stdout=subprocess.DEVNULL)
+
+
+def check_answers(checks, place, wmctl, root, further):
+    """Questions about a root that succeed: the reply is that of a program that explains nothing, and then comes the further line."""
+    for request in ('["query","%s",{"fields":["name"]}]', '["since","%s","c:1:1:1"]', '["recrawl","%s"]', '["subscribe","%s","n",{}]', '["clock","%s"]'):
+        words = [wmctl, "sock", request % root]
+        status, output, errors = run(place, words, False, False)
+        checks.same(f"{request % root}", (status, errors), (0, ""))
+        checks.same(f"{request % root} (explained)", run(place, words, True, False), (0, output, further))
+
+
+def check_roots(checks, place, wmctl):
+    """What is said of a root's path if a request about it succeeds."""
+    file = "this is a file and no folder, so the root has no files"
+    link = f"a symbolic link leads to {place.path('root')}; the two paths are two roots, and 'wm watch' takes the latter"
+    for name, further in (("nothere", NO_FOLDER), ("plain", file), ("plain/sub", NO_FOLDER), ("fifo", file), ("root", ""), ("link", link), ("link/sub", link + "x")):
+        root = place.path(name)
+        if name == "link/sub":
+            os.mkdir(root)
+            further = f"a symbolic link leads to {place.path('root/sub')}; the two paths are two roots, and 'wm watch' takes the latter"
+        further = f"{root}: {further}" if further else ""
+        check(checks, place, [wmctl, "sock", '["watch","%s"]' % root], 0, '{"version":"w1","watch":"%s"}\n' % root, "", further, False)
+        ask_until_ready(place, wmctl, root)
+        is_said = name not in ("link", "link/sub")
+        check_answers(checks, place, wmctl, root, f"{further}\n" if further and is_said else "")
+    asked = '["query","%s",{"fields":["name"],"expression":%%s}]' % place.path("root")
+    for expression, further in (
+        ('["match","*.{c,md}"]', f"'*.{{c,md}}' {BRACES}\n"),
+        ('["allof","exists",["not",["match","a{1}","wholename"]]]', f"'a{{1}}' {BRACES}\n"),
+        ('["anyof",["match","*.c"],["match","*.md"]]', ""),
+        ('["name","a{1}"]', ""),
+    ):
+        words = [wmctl, "sock", asked % expression]
+        reply = run(place, words, False, False)
+        checks.same(f"{expression}", (reply[0], reply[2]), (0, ""))
+        checks.same(f"{expression} (explained)", run(place, words, True, False), (0, reply[1], further))
+
+
+def check_full(checks, place, wmctl):
+    """A session for which the server has no place, since 31 are held."""
+    held = []
+    for _ in range(31):
+        session = socket.socket(socket.AF_UNIX)
+        session.connect(place.path("sock"))
+        session.sendall(b'["version"]\n')
+        assert session.recv(100) == b'{"version":"w1"}\n'
+        held.append(session)
+    too_many = '{"error":"17 TooMany","version":"w1"}\n'
+    by_watch = "the server watches 256 roots, or all of its 31 sessions are taken: 'wm unwatch' what nobody needs, or try later"
+    for request, further in (('["watch-list"]', NO_SESSION), ('["recrawl","/x"]', NO_SESSION), ('["watch","/x"]', by_watch)):
+        check(checks, place, [wmctl, "sock", request], 1, too_many, "", further, False)
+    for session in held:
+        session.close()
+
+
+def check_unready(checks, place, wmctl):
+    """Refusals by what the server has: a root that can't be read, or in which a folder can't be read; no session; no feed."""
+    dark, over = place.path("theirs/dark"), place.path("theirs")
+    unreadable = f"{dark}: this folder can't be read: give the server's user the right to it, or watch a folder below"
+    for root, unready, unread in ((dark, unreadable, unreadable), (over, NO_CRAWL, NO_READING)):
+        run(place, [wmctl, "theirs/sock", '["watch","%s"]' % root], False, True)
+        for request, refusal, further in (("clock", "6 NotReady", unready), ("recrawl", "13 DeviceFailed", unread)):
+            words = [wmctl, "theirs/sock", '["%s","%s"]' % (request, root)]
+            check(checks, place, words, 1, '{"error":"%s","version":"w1"}\n' % refusal, "", further, True)
+    check_full(checks, place, wmctl)
+    no_feed = "no feed answered in time: 'wm up' or 'wmfeed sock' starts one, and --sync-timeout gives it more time; without one send [\"recrawl\",ROOT], and then ask"
+    synced = [wmctl, "sock", '["watch-list"]', "--sync-timeout", "50", "--sync"]
+    check(checks, place, [*synced, place.path("root")], 3, "", "wmctl: no feed\n", no_feed, False)
+    check(checks, place, [*synced, "/not/watched"], 1, '{"error":"5 NotWatched","version":"w1"}\n', "", NO_WATCH, False)
+    check(checks, place, [*synced, "proj"], 1, '{"error":"4 BadPath","version":"w1"}\n', "", f"'proj' {NO_ROOT}", False)
+
+
+def run_while_waiting(place, words, explain, awaited):
+    """Whether a program that goes on waiting has ended, its output and its errors, once so many bytes have come and then none for a second."""
+    env = {key: value for key, value in os.environ.items() if key != "WATCHMAND_EXPLAIN"}
+    if explain:
+        env["WATCHMAND_EXPLAIN"] = "1"
+    child = subprocess.Popen(words, cwd=place.dir, env=env, stdin=subprocess.DEVNULL, stdout=subprocess.PIPE, stderr=subprocess.PIPE)
+    texts = {child.stdout: b"", child.stderr: b""}
+    streams = list(texts)
+    while streams:
+        has_come = sum(len(text) for text in texts.values()) >= awaited
+        ready, _, _ = select.select(streams, [], [], 1 if has_come else 20)
+        if not ready:
+            break
+        for stream in ready:
+            part = os.read(stream.fileno(), 4096)
+            texts[stream] += part
+            if not part:
+                streams.remove(stream)
+    has_ended = child.poll() is not None
+    child.kill()
+    child.wait()
+    return has_ended, texts[child.stdout].decode(), texts[child.stderr].decode()
+
+
+def check_waits(checks, place, wmctl):
+    """Lines that are awaited and don't come: what is said of them stands behind the reply, before the wait."""
+    root, nothere = place.path("root"), place.path("nothere")
+    subscribed = '["subscribe","%s","n",{"fields":["name"]}]'
+    no_folder = f"{nothere}: {NO_FOLDER}\n"
+    for request, further in (('["version"]', NO_FURTHER_LINES), (subscribed % root, ""), (subscribed % nothere, no_folder), ('["clock","%s"]' % nothere, no_folder + NO_FURTHER_LINES)):
+        words = [wmctl, "sock", request, "--follow", "2"]
+        plain = run_while_waiting(place, words, False, 1)
+        checks.same(f"{request} --follow", (plain[0], plain[2]), (False, ""))
+        awaited = len(plain[1]) + len(further)
+        checks.same(f"{request} --follow (explained)", run_while_waiting(place, words, True, awaited), (False, plain[1], further))
+    check(checks, place, [wmctl, "sock", '["wach"]', "--follow", "1"], 1, '{"error":"2 BadCommand","version":"w1"}\n', "", "'wach' is no command", False)
+
+
 def check_all(checks, place, watchmand, wmctl):
     for words, number, further, no_rights in watchmand_cases(place):
         check(checks, place, [watchmand, *words], 1, "", f"watchmand: {REFUSED[number]}\n", further, no_rights)
@@ -202,14 +356,13 @@ def check_all(checks, place, watchmand, wmctl):
     for request, refusal, further in request_cases(place.path("root")):
         reply = '{"error":"%s","version":"w1"}\n' % refusal
         check(checks, place, [wmctl, "sock", request], 1, reply, "", further, False)
-    for name, further in (("nothere", True), ("plain", True), ("plain/sub", True), ("root", False)):
-        root = place.path(name)
-        further = f"{root}: no folder is there, so the root has no files" if further else ""
-        check(checks, place, [wmctl, "sock", '["watch","%s"]' % root], 0, '{"version":"w1","watch":"%s"}\n' % root, "", further, False)
+    check_roots(checks, place, wmctl)
+    check_unready(checks, place, wmctl)
+    check_waits(checks, place, wmctl)
     nofile = "watchmand: 13 DeviceFailed\nnofile: no such file; 'watchmand format nofile' makes it\n"
     checks.same("lines nofile (terminal)", run_on_terminal(place, [watchmand, "lines", "nofile"]), nofile)
-    nosock = "wmctl: no reply\nnosock: no such file (is the server running?)\n"
-    checks.same("nosock (terminal)", run_on_terminal(place, [wmctl, "nosock", "[]"]), nosock)
+    nosock = "no server answers at nosock (no such file): 'wm up' starts one, or 'watchmand serve STATE nosock'\n"
+    checks.same("nosock (terminal)", run_on_terminal(place, [wmctl, "nosock", "[]"]), f"wmctl: no reply\n{nosock}")
     checks.same("wach (terminal)", run_on_terminal(place, [wmctl, "sock", '["wach"]']), "'wach' is no command\n")
     for words in (["watch", "/proj"], ["--follow", "1"]):
         status, output, errors = run(place, [wmctl, "sock", *words], False, False)
@@ -224,6 +377,11 @@ def check_all(checks, place, watchmand, wmctl):
 def check_feed(checks, place, wmfeed):
     for path, further, no_rights in socket_cases():
         check(checks, place, [wmfeed, path, place.path("root")], 3, "", "wmfeed: the server ended\n", further, no_rights)
+    for path, further, _ in list(socket_cases())[:2]:
+        told = f"wmfeed: {path}: the server ended\n"
+        checks.same(f"wmfeed {path}", run_while_waiting(place, [wmfeed, path], False, len(told)), (False, "", told))
+        explained = f"{further}\n{told}"
+        checks.same(f"wmfeed {path} (explained)", run_while_waiting(place, [wmfeed, path], True, len(explained)), (False, "", explained))
     for root in ("root", ".", "./root", place.path("root/")):
         check(checks, place, [wmfeed, "sock", root], 2, "", "wmfeed: ROOT is no root's path (4 BadPath)\n", f"'{root}' {NO_ROOT}", False)
     check(checks, place, [wmfeed, "sock", "--folow"], 2, "", run(place, [wmfeed, "sock", "--folow"], False, False)[2], "", False)

@@ -2,7 +2,7 @@
 use crate::checks::check;
 use std::alloc::Global;
 use std::process::Abort;
-use wm_parts::{explanation, root_explanation, root_to_crawl};
+use wm_parts::{explanation, root_explanation};
 
 /// Requests, and the line of each; an empty one if there is none.
 const ROWS: &[(&str, &str)] = &[
@@ -16,7 +16,15 @@ const ROWS: &[(&str, &str)] = &[
     ),
     (
         "[\"subscribe\",\"/r\",\"n\",{\"expression\":[\"not\",[\"anyof\",\"exists\",[\"type\",\"b\"]]]}]",
-        "[\"type\",\"b\"] is no term of an expression\n",
+        "'b' is no type of a file: these are f (a file), d (a folder), l (a link) and o (all else)\n",
+    ),
+    (
+        "[\"query\",\"/r\",{\"expression\":[\"match\",\"[ab].c\"]}]",
+        "'[ab].c' is no pattern of match: this has at most 1,024 bytes, and neither [ nor \\; * fits any bytes of a name, ? one byte, and ** any folders\n",
+    ),
+    (
+        "[\"query\",\"/r\",{\"expression\":[\"match\",\"*.c\",\"path\"]}]",
+        "[\"match\",\"*.c\",\"path\"] is no term of an expression\n",
     ),
     (
         "[\"trigger\",\"/r\",{\"command\":[\"true\"],\"expression\":[\"not\"],\"name\":\"n\"}]",
@@ -120,8 +128,21 @@ const ROWS: &[(&str, &str)] = &[
         "[\"recrawl\",\"/r\",7]",
         "such a request is written [\"recrawl\",\"/proj\"]\n",
     ),
+    (
+        "[\"observe\",\"/r\"]",
+        "such a request is written [\"observe\",\"/proj\",[[\"gone.c\",null]]]\n",
+    ),
+    (
+        "[\"listing\",\"/r\"]",
+        "such a request is written [\"listing\",\"/proj\",0,\"\",[]]\n",
+    ),
+    (
+        "[\"age-out\",\"/r\"]",
+        "such a request is written [\"age-out\",\"/proj\",3600]\n",
+    ),
     ("[\"recrawl\",\"/r\"]", ""),
     ("[\"watch-list\"]", ""),
+    ("{\"a\":1}", ""),
 ];
 
 /// Whether this is said of a request.
@@ -136,32 +157,6 @@ fn says(rt: &impl Abort, alloc: Global, json: &str, line: &str) -> bool {
 fn says_the_part_that_is_refused(rt: HostRuntime) {
     for (json, line) in ROWS {
         check!(rt; says(&rt, rt.alloc(), json, line), json);
-    }
-}
-
-/// Requests, and the root that a server is to crawl for each; an empty one if there is none.
-const ROOTS: &[(&str, &str)] = &[
-    ("[\"watch\",\"/r\"]", "/r"),
-    ("[\"recrawl\",\"/r/s\"]", "/r/s"),
-    ("[\"recrawl\",\"/r\",\"s\"]", "/r"),
-    ("[\"watch\",\"r\"]", ""),
-    ("[\"watch-del\",\"/r\"]", ""),
-    ("[\"clock\",\"/r\"]", ""),
-    ("[watch", ""),
-];
-
-/// Whether this is the root of a request.
-fn crawls(rt: &impl Abort, alloc: Global, json: &str, wanted: &str) -> bool {
-    match root_to_crawl(alloc, json).expect(rt, "memory") {
-        Some(root) => root.as_str() == wanted,
-        None => wanted.is_empty(),
-    }
-}
-
-#[test]
-fn finds_the_root_that_is_crawled(rt: HostRuntime) {
-    for (json, wanted) in ROOTS {
-        check!(rt; crawls(&rt, rt.alloc(), json, wanted), json);
     }
 }
 

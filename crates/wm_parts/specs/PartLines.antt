@@ -4,7 +4,7 @@ use Rattle.serde_json.specs.Data.{Data}
 use Rattle.serde_json.specs.Written.{compact_text, has_float}
 use Rattle.wm_disk.specs.declared.refusal.Refusal.{Refusal}
 use Rattle.wm_explain.specs.Shown.{shown_text}
-use Rattle.wm_parts.specs.RefusedParts.{PartSeen, command_seen, field_seen, form_seen, key_seen, refusing_part, root_seen, term_seen, value_seen}
+use Rattle.wm_parts.specs.RefusedParts.{PartSeen, command_seen, field_seen, form_seen, key_seen, letter_seen, pattern_seen, refusing_part, root_seen, term_seen, value_seen}
 use Rattle.wm_parts.specs.RefusedValues.{value_said}
 
 -- a name, and what is said of it
@@ -26,6 +26,8 @@ IsLineOf (root_seen path) line = line ≡ named_line (shown_text path) (codes "i
 IsLineOf (key_seen key) line = line ≡ named_line (shown_text key) (codes "is no key of such a request")
 IsLineOf (value_seen key d) line = has_float d ≡ false → line ≡ value_line (shown_text (compact_text d)) (value_said key)
 IsLineOf (term_seen d) line = has_float d ≡ false → line ≡ value_line (shown_text (compact_text d)) (codes "is no term of an expression")
+IsLineOf (pattern_seen text) line = line ≡ named_line (shown_text text) (codes "is no pattern of match: this has at most 1,024 bytes, and neither [ nor \\; * fits any bytes of a name, ? one byte, and ** any folders")
+IsLineOf (letter_seen text) line = line ≡ named_line (shown_text text) (codes "is no type of a file: these are f (a file), d (a folder), l (a link) and o (all else)")
 IsLineOf (field_seen d) line = has_float d ≡ false → line ≡ value_line (shown_text (compact_text d)) (codes "is no field")
 IsLineOf (form_seen form) line = line ≡ form_line form
 

@@ -1,5 +1,5 @@
 -- The part of a request that is the cause of its refusal.
-use Rattle.std.specs.Prelude.{◌||◌, ◌&&◌, ℕ, Bool, List, Option, None, Some, codes, is_some, option_and_then, option_map, if◌then◌else◌}
+use Rattle.std.specs.Prelude.{◌||◌, ◌&&◌, not, ℕ, Bool, List, Option, None, Some, codes, is_none, is_some, option_and_then, option_map, unwrap_or, if◌then◌else◌}
 use Rattle.std.specs.Option.{option_or}
 use Rattle.std.specs.Str.{bytes_eq}
 use Rattle.serde_json.specs.Data.{Data, Items, Members, item, member, no_items, no_members}
@@ -7,12 +7,12 @@ use Rattle.serde_json.specs.Find.{as_array, as_object, as_str, at, get}
 use Rattle.serde_json.specs.View.{view}
 use Rattle.wm_disk.specs.declared.refusal.Refusal.{Refusal}
 use Rattle.wm_disk.specs.declared.refusal.Refusal.TheVariants.{BadCommand, BadArguments, BadPath, BadClock, BadExpression, BadField, BadTrigger}
+use Rattle.wm_expr.specs.Patterns.{is_pattern}
+use Rattle.wm_expr.specs.Readings.{kept}
 use Rattle.wm_lines.specs.Arguments.{text_at}
 use Rattle.wm_lines.specs.QueryLines.{has_query_keys}
 use Rattle.wm_lines.specs.TriggerLines.{has_known_keys}
-use Rattle.wm_lines.specs.declared.recrawl.ServerRequest.{ServerRequest}
-use Rattle.wm_lines.specs.declared.recrawl.ServerRequest.TheVariants as requests
-use Rattle.wm_lines.specs.declared.request.Request.TheVariants.{Watch}
+use Rattle.wm_names.specs.Entries.{kind_of}
 use Rattle.wm_names.specs.Paths.{is_root_path}
 use Rattle.wm_since.specs.Fields.{field_of}
 use Rattle.wm_parts.specs.RefusedTerms.{refused_term_in}
@@ -31,6 +31,8 @@ pub data PartSeen : Type 0 where
   key_seen : List ℕ → PartSeen
   value_seen : Key → Data → PartSeen
   term_seen : Data → PartSeen
+  pattern_seen : List ℕ → PartSeen
+  letter_seen : List ℕ → PartSeen
   field_seen : Data → PartSeen
   form_seen : List ℕ → PartSeen
 
@@ -40,6 +42,8 @@ part_seen (parts.Root path) = root_seen path.now
 part_seen (parts.Key key) = key_seen key.now
 part_seen (parts.Value key value) = value_seen key (view value.now)
 part_seen (parts.Term value) = term_seen (view value.now)
+part_seen (parts.Pattern text) = pattern_seen text.now
+part_seen (parts.Letter text) = letter_seen text.now
 part_seen (parts.Field value) = field_seen (view value.now)
 part_seen (parts.Form form) = form_seen form.now
 
@@ -102,8 +106,26 @@ root_part d = option_and_then refused_root (text_at 1 d)
 abbrev pub key_part : Data → Option PartSeen
 key_part d = option_map key_seen (option_and_then (λ o. unknown_key_in o.0 o.1) (object_of d))
 
+-- the text of a `match` that is no pattern
+abbrev pub pattern_part : Data → Option PartSeen
+pattern_part d = option_map pattern_seen (kept (λ t. not (is_pattern t)) (text_at 1 d))
+
+-- the text of a `type` that is no kind's letter
+abbrev pub letter_part : Data → Option PartSeen
+letter_part d = option_map letter_seen (kept (λ t. is_none (kind_of t)) (text_at 1 d))
+
+abbrev pub wrong_text_of : Data → List ℕ → Option PartSeen
+wrong_text_of d word = if bytes_eq word (codes "match") then pattern_part d else (if bytes_eq word (codes "type") then letter_part d else None)
+
+abbrev pub wrong_text : Data → Option PartSeen
+wrong_text d = option_and_then (wrong_text_of d) (text_at 0 d)
+
+-- what is wrong in a term: its pattern, its letter, or else all of it
+abbrev pub inner_part : Data → PartSeen
+inner_part d = unwrap_or (wrong_text d) (term_seen d)
+
 abbrev pub term_part : Data → Option PartSeen
-term_part d = option_map term_seen (option_and_then refused_term_in (option_and_then (λ o. get (codes "expression") o.1) (object_of d)))
+term_part d = option_map inner_part (option_and_then refused_term_in (option_and_then (λ o. get (codes "expression") o.1) (object_of d)))
 
 abbrev pub field_part : Data → Option PartSeen
 field_part d = option_map field_seen (option_and_then first_unknown (option_and_then as_array (option_and_then (λ o. get (codes "fields") o.1) (object_of d))))
@@ -121,12 +143,6 @@ form_part d = option_map form_seen (option_and_then form_of (text_at 0 d))
 -- a key, a value that isn't of its kind, or else how such a request is written
 abbrev pub argument_part : Data → Option PartSeen
 argument_part d = option_or (key_part d) (option_or (value_part d) (form_part d))
-
--- the root that a request asks to crawl
-abbrev pub root_in : ServerRequest → Option (List ℕ)
-root_in (requests.Recrawl root subtree) = Some root
-root_in (requests.Common (Watch root)) = Some root
-root_in (requests.Common request) = None
 
 -- the part for which a request is refused so
 abbrev pub refusing_part : Refusal → Data → Option PartSeen

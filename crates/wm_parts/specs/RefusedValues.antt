@@ -79,4 +79,7 @@ form_of name =
     else (if bytes_eq name (codes "trigger-list") then Some (codes "[\"trigger-list\",\"/proj\"]")
     else (if bytes_eq name (codes "trigger-del") then Some (codes "[\"trigger-del\",\"/proj\",\"n\"]")
     else (if bytes_eq name (codes "recrawl") then Some (codes "[\"recrawl\",\"/proj\"]")
-    else None))))))))))))
+    else (if bytes_eq name (codes "observe") then Some (codes "[\"observe\",\"/proj\",[[\"gone.c\",null]]]")
+    else (if bytes_eq name (codes "listing") then Some (codes "[\"listing\",\"/proj\",0,\"\",[]]")
+    else (if bytes_eq name (codes "age-out") then Some (codes "[\"age-out\",\"/proj\",3600]")
+    else None)))))))))))))))

@@ -2,7 +2,7 @@
 ghost use Rattle.std.specs.Prelude.{◌≡◌, option_map};
 ghost use Rattle.wm_parts.specs.RefusedValues.{form_of};
 
-/// A request of the command of this name, as an example. `None` if a client has no use for the command, or there is none.
+/// A request of the command of this name, as an example. `None` if there is no such command.
 pub(crate) fn form_of(name: &str) -> Option<&'static str>
     ensures { option_map (λ t. t.now) result ≡ form_of name.now }
 {
@@ -20,6 +20,9 @@ pub(crate) fn form_of(name: &str) -> Option<&'static str>
         "trigger-list" => Some("[\"trigger-list\",\"/proj\"]"),
         "trigger-del" => Some("[\"trigger-del\",\"/proj\",\"n\"]"),
         "recrawl" => Some("[\"recrawl\",\"/proj\"]"),
+        "observe" => Some("[\"observe\",\"/proj\",[[\"gone.c\",null]]]"),
+        "listing" => Some("[\"listing\",\"/proj\",0,\"\",[]]"),
+        "age-out" => Some("[\"age-out\",\"/proj\",3600]"),
         _ => None,
     }
 }

@@ -1,5 +1,5 @@
 //! The line that says a part. Definitions: specs/PartLines. Tests: client_tests/src/parts.rt.
-ghost use Rattle.std.specs.Prelude.{◌≡◌, ◌++◌, IfOk, codes, false, option_and_then, option_map, string_bytes};
+ghost use Rattle.std.specs.Prelude.{◌≡◌, ◌++◌, IfOk, codes, false, option_map, string_bytes};
 ghost use Rattle.std.specs.Result.{result_err, result_ok};
 ghost use Rattle.serde_json.specs.Read.{read as read_text};
 ghost use Rattle.serde_json.specs.View.{view};
@@ -7,18 +7,17 @@ ghost use Rattle.serde_json.specs.Written.{compact_text, has_float};
 ghost use Rattle.wm_explain.specs.Shown.{shown_text};
 ghost use Rattle.wm_lines.specs.RecrawlLines.{server_request_of_line};
 ghost use Rattle.wm_parts.specs.PartLines.{IsLineOf, SaysOf, SaysPart, form_line, named_line, no_json, value_line};
-ghost use Rattle.wm_parts.specs.RefusedParts.{refused_root, refusing_part, part_seen, root_in};
+ghost use Rattle.wm_parts.specs.RefusedParts.{refused_root, refusing_part, part_seen};
 
 use crate::parts::{Part, part_in, refused_root};
 use serde_json::Value;
 use std::alloc::Global;
 use wm_disk::{NoMemory, Refusal};
 use wm_explain::shown;
-use wm_lines::{Request, ServerRequest};
-use wm_names::RootPath;
+use wm_lines::ServerRequest;
 
 /// The line of a name, and what is said of it.
-fn named_line(alloc: Global, name: &str, text: &str) -> Result<String, NoMemory>
+pub(crate) fn named_line(alloc: Global, name: &str, text: &str) -> Result<String, NoMemory>
     ensures { IfOk result (λ line. string_bytes line ≡ named_line (shown_text name.now) text.now) }
 {
     let name = shown(alloc, name)?;
@@ -42,7 +41,7 @@ fn form_line(alloc: Global, form: &str) -> Result<String, NoMemory>
 }
 
 /// The line of a request that is no JSON text; its reader stopped at this column.
-fn no_json_line(alloc: Global, column: usize) -> Result<String, NoMemory>
+pub(crate) fn no_json_line(alloc: Global, column: usize) -> Result<String, NoMemory>
     ensures { IfOk result (λ line. string_bytes line ≡ no_json column) }
 {
     let text = format!(in alloc;
@@ -65,13 +64,27 @@ fn line_of(alloc: Global, part: &Part<'_>) -> Result<String, NoMemory>
         Part::Key(key) => named_line(alloc, key, "is no key of such a request"),
         Part::Value(key, value) => value_line(alloc, value, key.said()),
         Part::Term(value) => value_line(alloc, value, "is no term of an expression"),
+        Part::Pattern(text) => named_line(
+            alloc,
+            text,
+            "is no pattern of match: this has at most 1,024 bytes, and neither [ nor \\; * fits any bytes of a name, ? one byte, and ** any folders",
+        ),
+        Part::Letter(text) => named_line(
+            alloc,
+            text,
+            "is no type of a file: these are f (a file), d (a folder), l (a link) and o (all else)",
+        ),
         Part::Field(value) => value_line(alloc, value, "is no field"),
         Part::Form(form) => form_line(alloc, form),
     }
 }
 
 /// The line that says the part of a refused request.
-fn said_of(alloc: Global, refusal: Refusal, value: &Value) -> Result<Option<String>, NoMemory>
+pub(crate) fn said_of(
+    alloc: Global,
+    refusal: Refusal,
+    value: &Value,
+) -> Result<Option<String>, NoMemory>
     ensures { IfOk result (λ r. SaysOf (refusing_part refusal (view value.now)) (option_map string_bytes r)) }
 {
     match part_in(alloc, refusal, value) {
@@ -91,7 +104,7 @@ pub fn root_explanation(alloc: Global, path: &str) -> Result<Option<String>, NoM
 }
 
 /// The JSON value that a text is, or the column at which its reader stopped.
-fn value_of(alloc: Global, json: &str) -> Result<Result<Value, usize>, NoMemory>
+pub(crate) fn value_of(alloc: Global, json: &str) -> Result<Result<Value, usize>, NoMemory>
     ensures { IfOk result (λ r. option_map view (result_ok r) ≡ read_text json.now) }
 {
     match Value::from_str(alloc, json) {
@@ -110,32 +123,6 @@ fn refusal_of(alloc: Global, json: &str) -> Result<Option<Refusal>, NoMemory>
         Ok(_) => Ok(None),
         Err(Refusal::NoMemory) => Err(NoMemory),
         Err(refusal) => Ok(Some(refusal)),
-    }
-}
-
-/// The root that a request asks to crawl.
-fn root_in(request: ServerRequest) -> Option<RootPath>
-    ensures { result ≡ root_in request }
-{
-    match request {
-        ServerRequest::Recrawl(root, _) => Some(root),
-        ServerRequest::Common(request) => match request {
-            Request::Watch(root) => Some(root),
-            _ => None,
-        },
-    }
-}
-
-/// The root that a server is asked to watch, or to crawl, by a request, one line without its newline. `None` if it is asked for something
-/// else, or refuses the request as it reads it.
-pub fn root_to_crawl(alloc: Global, json: &str) -> Result<Option<RootPath>, NoMemory>
-    ensures { IfOk result (λ r. r ≡ option_and_then root_in (result_ok (server_request_of_line (json.now ++ codes "\n")))) }
-{
-    let line = format!(in alloc; "{json}\n")?;
-    match ServerRequest::read(alloc, line.as_bytes()) {
-        Ok(request) => Ok(root_in(request)),
-        Err(Refusal::NoMemory) => Err(NoMemory),
-        Err(_) => Ok(None),
     }
 }
 

@@ -8,6 +8,7 @@ ghost use Rattle.wm_parts.specs.RefusedParts.{argument_part, asking_of, command_
 
 use crate::fields::first_unknown;
 use crate::forms::form_of;
+use crate::inner::inner_part;
 use crate::keys::{Asking, unknown_key_in};
 use crate::terms::term_in;
 use crate::values::{Key, refused_value};
@@ -29,6 +30,10 @@ pub enum Part<'a> {
     Value(Key, &'a Value),
     /// A term that is none.
     Term(&'a Value),
+    /// The text of a `match` that is no pattern.
+    Pattern(&'a str),
+    /// The text of a `type` that is no kind's letter.
+    Letter(&'a str),
     /// A field that isn't there.
     Field(&'a Value),
     /// How a request of the command is written.
@@ -36,7 +41,7 @@ pub enum Part<'a> {
 }
 
 /// The text at a place of an array.
-fn text_at(value: &Value, place: usize) -> Option<&str>
+pub(crate) fn text_at(value: &Value, place: usize) -> Option<&str>
     ensures { option_map (λ s. s.now) result ≡ text_at_lem place (view value.now) }
 {
     value.get(place)?.as_str()
@@ -65,7 +70,7 @@ fn asking_of(name: &str) -> Option<(Asking, usize)>
 }
 
 /// The object of a request, and whose it is.
-fn object_of(value: &Value) -> Option<(Asking, &Value)>
+pub(crate) fn object_of(value: &Value) -> Option<(Asking, &Value)>
     ensures { option_map (λ o. (o.0, view o.1.now)) result ≡ object_of (view value.now) }
 {
     let (asking, place) = asking_of(text_at(value, 0)?)?;
@@ -104,12 +109,12 @@ fn key_part(value: &Value) -> Option<Part<'_>>
     Some(Part::Key(unknown_key_in(asking, object)?))
 }
 
-/// The term for which a request's expression is refused.
+/// The term for which a request's expression is refused, or the text in it.
 fn term_part(alloc: Global, value: &Value) -> Option<Part<'_>>
     ensures { option_map part_seen result ≡ term_part (view value.now) }
 {
     let (_asking, object) = object_of(value)?;
-    Some(Part::Term(term_in(alloc, object.get("expression")?)?))
+    Some(inner_part(term_in(alloc, object.get("expression")?)?))
 }
 
 /// The first of a request's fields that isn't there.

@@ -20,7 +20,7 @@ fn is_expression(alloc: Global, value: &Value) -> bool
 }
 
 /// Whether terms stand behind a word.
-fn holds_terms(word: &str) -> bool
+pub(crate) fn holds_terms(word: &str) -> bool
     ensures { result ≡ holds_terms word.now }
 {
     match word {

@@ -1,0 +1,107 @@
+//! Writers that note what they were given. Tests: tools/quick_messages.py.
+
+use crate::explaining::answer_text;
+use std::alloc::Global;
+use std::fs::{File, Files};
+use std::io;
+use std::io::Write;
+use wm_client::{Request, refusal_of};
+use wm_disk::Refusal;
+
+/// A writer of replies, which are written a line in a call.
+#[derive(Drop)]
+pub struct Replies<'a, R, W, E> {
+    rt: &'a R,
+    alloc: Global,
+    request: Option<&'a Request>,
+    writer: W,
+    faults: E,
+    is_used: bool,
+    /// Which refusal the first reply is.
+    pub refusal: Option<Refusal>,
+}
+
+impl<'a, R: Files<File = File>, W: Write, E: Write> Replies<'a, R, W, E> {
+    /// A writer to which nothing was written. If there is a request, what is to be said of it goes to `faults` behind the first reply, if
+    /// that is no refusal.
+    pub fn new(
+        rt: &'a R,
+        alloc: Global,
+        request: Option<&'a Request>,
+        writer: W,
+        faults: E,
+    ) -> Replies<'a, R, W, E> {
+        Replies {
+            rt,
+            alloc,
+            request,
+            writer,
+            faults,
+            is_used: false,
+            refusal: None,
+        }
+    }
+
+    /// Says what is to be said behind the first reply, once.
+    fn say_further(&mut self) {
+        let Some(request) = self.request.take() else {
+            return;
+        };
+        if self.refusal.is_some() {
+            return;
+        }
+        if let Ok(text) = answer_text(self.rt, self.alloc, request) {
+            // If it can't be said, the reply is there all the same.
+            let _said = self.faults.write_all(text.as_bytes());
+        }
+    }
+}
+
+impl<R: Files<File = File>, W: Write, E: Write> Write for Replies<'_, R, W, E> {
+    fn write(&mut self, bytes: &[u8]) -> io::Result<usize> {
+        if !self.is_used {
+            self.is_used = true;
+            self.refusal = refusal_of(bytes);
+        }
+        let count = self.writer.write(bytes)?;
+        if count == bytes.len() {
+            self.say_further();
+        }
+        Ok(count)
+    }
+
+    fn flush(&mut self) -> io::Result<()> {
+        self.writer.flush()
+    }
+}
+
+/// A writer of faults.
+#[derive(Drop)]
+pub struct Faults<W> {
+    writer: W,
+    /// Whether it was written that no feed answered.
+    pub lacks_feed: bool,
+}
+
+impl<W: Write> Faults<W> {
+    /// A writer to which nothing was written.
+    pub fn new(writer: W) -> Faults<W> {
+        Faults {
+            writer,
+            lacks_feed: false,
+        }
+    }
+}
+
+impl<W: Write> Write for Faults<W> {
+    fn write(&mut self, bytes: &[u8]) -> io::Result<usize> {
+        if bytes == b"wmctl: no feed\n".as_slice() {
+            self.lacks_feed = true;
+        }
+        self.writer.write(bytes)
+    }
+
+    fn flush(&mut self) -> io::Result<()> {
+        self.writer.flush()
+    }
+}
