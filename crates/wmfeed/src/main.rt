@@ -8,6 +8,7 @@ use std::process::ExitCode;
 use std::time::Instant;
 use std::{env, io};
 use wm_client::wmfeed;
+use wm_disk::NoMemory;
 use wm_feeder::Inotify;
 use wm_findings::is_wanted;
 
@@ -21,23 +22,36 @@ fn run(rt: &HostRuntime, words: &[&str]) -> io::Result<u8> {
     Ok(wmfeed(rt.alloc(), &feeder, words, &mut printer, &mut faults))
 }
 
-/// Handles the words, and explains a failure if that is wanted. An error is that of memory, or of a word that isn't UTF-8.
-fn run_explained(rt: &HostRuntime) -> io::Result<u8> {
-    let alloc = rt.alloc();
-    let args: Vec<String> = env::args(rt)?.skip(1).collect(alloc)?;
-    let words: Vec<&str> = args.iter().map(|word| word.as_str()).collect(alloc)?;
-    let status = run(rt, &words)?;
-    if is_wanted(rt, rt.stderr().is_terminal()) {
-        if let Ok(Some(line)) = explaining::line_of(rt, alloc, status, &words) {
-            // If it can't be written, the status says what happened.
-            let _written = rt.eprint(line.as_str());
-        }
+/// Writes a line. If it can't be written, the status says what happened.
+fn write_line(rt: &HostRuntime, line: Result<Option<String>, NoMemory>) {
+    if let Ok(Some(line)) = line {
+        let _written = rt.eprint(line.as_str());
     }
+}
+
+/// Handles the words, and explains what is waited for, and a failure. An error is that of memory.
+fn run_explained(rt: &HostRuntime, words: &[&str]) -> io::Result<u8> {
+    let alloc = rt.alloc();
+    write_line(rt, explaining::wait_line(rt, alloc, words));
+    let status = run(rt, words)?;
+    write_line(rt, explaining::line_of(rt, alloc, status, words));
     Ok(status)
 }
 
+/// Handles the program's words, with explanations if they are wanted. An error is that of memory, or of a word that isn't UTF-8.
+fn run_words(rt: &HostRuntime) -> io::Result<u8> {
+    let alloc = rt.alloc();
+    let args: Vec<String> = env::args(rt)?.skip(1).collect(alloc)?;
+    let words: Vec<&str> = args.iter().map(|word| word.as_str()).collect(alloc)?;
+    if is_wanted(rt, rt.stderr().is_terminal()) {
+        run_explained(rt, &words)
+    } else {
+        run(rt, &words)
+    }
+}
+
 fn main(rt: HostRuntime) -> io::Result<ExitCode> {
-    let (status, told) = match run_explained(&rt) {
+    let (status, told) = match run_words(&rt) {
         Ok(status) => return Ok(ExitCode::from(status)),
         Err(error) if error.kind() == ErrorKind::OutOfMemory => (1, "wmfeed: 16 NoMemory"),
         Err(_) => (2, "wmfeed: a word isn't UTF-8"),
