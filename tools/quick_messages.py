@@ -235,7 +235,7 @@ def check(checks, place, words, status, output, errors, further, no_rights):
     checks.same(f"{shown} (explained)", run(place, words, True, no_rights), (status, output, errors + further))
 
 
-def ask_until_ready(place, wmctl, root):
+def wait_for_crawl(place, wmctl, root):
     """Waits until a root was crawled; one of which no folder is there is crawled too."""
     subprocess.run([wmctl, "sock", '["recrawl","%s"]' % root], cwd=place.dir, check=True, stdout=subprocess.DEVNULL)
 
@@ -252,17 +252,22 @@ def check_answers(checks, place, wmctl, root, further):
 def check_roots(checks, place, wmctl):
     """What is said of a root's path if a request about it succeeds."""
     file = "this is a file and no folder, so the root has no files"
-    link = f"a symbolic link leads to {place.path('root')}; the two paths are two roots, and 'wm watch' takes the latter"
-    for name, further in (("nothere", NO_FOLDER), ("plain", file), ("plain/sub", NO_FOLDER), ("fifo", file), ("root", ""), ("link", link), ("link/sub", link + "x")):
+    link = "a symbolic link leads to %s; the two paths are two roots, and 'wm watch' takes the latter"
+    os.mkdir(place.path("root/sub"))
+    for name, further, is_lasting in (
+        ("nothere", NO_FOLDER, True),
+        ("plain", file, True),
+        ("plain/sub", NO_FOLDER, True),
+        ("fifo", file, True),
+        ("root", "", True),
+        ("link", link % place.path("root"), False),
+        ("link/sub", link % place.path("root/sub"), False),
+    ):
         root = place.path(name)
-        if name == "link/sub":
-            os.mkdir(root)
-            further = f"a symbolic link leads to {place.path('root/sub')}; the two paths are two roots, and 'wm watch' takes the latter"
         further = f"{root}: {further}" if further else ""
         check(checks, place, [wmctl, "sock", '["watch","%s"]' % root], 0, '{"version":"w1","watch":"%s"}\n' % root, "", further, False)
-        ask_until_ready(place, wmctl, root)
-        is_said = name not in ("link", "link/sub")
-        check_answers(checks, place, wmctl, root, f"{further}\n" if further and is_said else "")
+        wait_for_crawl(place, wmctl, root)
+        check_answers(checks, place, wmctl, root, f"{further}\n" if further and is_lasting else "")
     asked = '["query","%s",{"fields":["name"],"expression":%%s}]' % place.path("root")
     for expression, further in (
         ('["match","*.{c,md}"]', f"'*.{{c,md}}' {BRACES}\n"),
