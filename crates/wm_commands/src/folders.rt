@@ -1,6 +1,7 @@
 //! Which watched root holds a folder or is named by a path, and how the root's files are named from there. Definitions: specs/Folders.
 //! Tests: commands_tests/src/folders.rt.
-ghost use Rattle.std.specs.Prelude.{◌≡◌, IfOk, option_map, string_bytes};
+ghost use Rattle.std.specs.Prelude.{◌≡◌, ◌==◌, IfOk, option_map, string_bytes};
+ghost use Rattle.std.specs.List.{list_all};
 ghost use Rattle.wm_commands.specs.Folders.{IsHolderOf, IsNameIn, IsNamedRoot, better_root, ends_component, holds_folder, longer_root, name_in, names_root, path_behind, path_in, reported_name};
 
 use std::alloc::Global;
@@ -63,12 +64,19 @@ pub fn holder_of<'a>(roots: &'a [RootPath], dir: &str) -> Option<&'a RootPath>
     best
 }
 
+/// Whether bytes are slashes alone.
+fn are_slashes(rest: &[u8]) -> bool
+    ensures { result ≡ list_all (λ b. b == 47) rest.now }
+{
+    rest.iter().all(|b| *b == b'/')
+}
+
 /// Whether a path is that of a root, perhaps with slashes behind it.
 fn names(root: &RootPath, path: &str) -> bool
     ensures { result ≡ names_root root.now path.now }
 {
     match path.as_bytes().strip_prefix(root.as_str().as_bytes()) {
-        Some(rest) => rest.iter().all(|b| *b == b'/'),
+        Some(rest) => are_slashes(rest),
         None => false,
     }
 }

@@ -1,0 +1,6 @@
+use Rattle.std.proofs.Common.{arith}
+use Rattle.wm_commands.proofs.Round.{is_found}
+use Rattle.wm_commands.proofs.patterns.opened.Goals as goal
+
+pub returns-clause-found : goal.returns-clause-found
+returns-clause-found c = is_found 123 c.args.pattern.now c.split_once.result c.split_once.ensures.cases (omega arith)
