@@ -1,8 +1,8 @@
 -- The listed root that a path names, with one root more to look at.
 use Rattle.std.proofs.Common.{◌≡◌, ◌<◌, ◌+◌, ℕ, false, List, [], ◌∷◌, ◌++◌, length, take, get_or, sym, ap, subst, ◌∙◌}
-use Rattle.std.specs.List.{All, Contains}
+use Rattle.std.specs.List.{All}
 use Rattle.std.proofs.lemmas.List.{take_more}
-use Rattle.std.proofs.lemmas.List.Elements.{All-push, Contains-get_or}
+use Rattle.std.proofs.lemmas.List.Elements.{All-push}
 use Rattle.wm_names.specs.Paths.{Path}
 use Rattle.wm_commands.specs.Folders.{names_root}
 
@@ -13,6 +13,3 @@ module _ (roots : List Path) (i : ℕ) (root : Path) where
   none_next path lt is other none =
       let next : take (i + 1) roots ≡ take i roots ++ root ∷ [] = take_more roots i root lt ∙ ap (λ one. take i roots ++ one ∷ []) (sym is) in
       subst (λ (some : List Path). All (λ one. names_root one path ≡ false) some) (sym next) (All-push (λ one. names_root one path ≡ false) (take i roots) root none other)
-
-  pub is_listed : i < length roots → root ≡ get_or roots i root → Contains roots root
-  is_listed lt is = subst (λ (one : Path). Contains roots one) (sym is) (Contains-get_or roots i root lt)

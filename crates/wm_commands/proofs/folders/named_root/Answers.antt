@@ -12,5 +12,5 @@ loop-root-preserved c = none_next c.args.roots.now c.loop-root.root-index c.root
 pub returns : goal.returns
 returns c =
     let end : length c.args.roots.now ≤ c.loop-root.root-index = grind (arith, c.loop-root-test.false) in
-    let whole = take_all c.args.roots.now c.loop-root.root-index end in
+    let whole = take_all c.loop-root.root-index c.args.roots.now end in
     inr (subst (λ (some : List Path). All (λ one. names_root one c.args.path.now ≡ false) some) whole c.loop-root.invariant, refl)
