@@ -6,8 +6,14 @@ use Rattle.wm_explain.specs.declared.lines.Cause.{Cause}
 use Rattle.wm_explain.specs.declared.lines.Cause.TheVariants.{Fixed}
 use Rattle.wm_explain.specs.declared.lines.Trouble.TheVariants.{NoServer, Unserved}
 
+abbrev pub no_answer : (socket cause : List ℕ) → List ℕ
+no_answer socket cause = socket ++ codes " (" ++ cause ++ codes "): "
+
+abbrev pub start_said : (socket : List ℕ) → List ℕ
+start_said socket = codes "'wm up' starts one, or 'watchmand serve STATE " ++ socket ++ codes "'\n"
+
 abbrev pub no_server : (socket cause : List ℕ) → List ℕ
-no_server socket cause = codes "no server answers at " ++ socket ++ codes " (" ++ cause ++ codes "): 'wm up' starts one, or 'watchmand serve STATE " ++ socket ++ codes "'\n"
+no_server socket cause = (codes "no server answers at " ++ no_answer socket cause) ++ start_said socket
 
 -- a server may be started if nobody listens; any other cause has its own line
 abbrev pub server_line : List ℕ → Cause → List ℕ

@@ -70,7 +70,10 @@ fn braced_list(items: &[Value], levels: u8) -> Option<&str>
     let [first, parts @ ..] = items else {
         return None;
     };
-    braced_behind(first.as_str()?, parts, levels)
+    match first.as_str() {
+        Some(word) => braced_behind(word, parts, levels),
+        None => None,
+    }
 }
 
 /// The same of a term, whose parts stand at most so deep.

@@ -28,14 +28,13 @@ fn said_of_root(alloc: Global, root: &str, text: &str) -> Result<String, NoMemor
     Ok(format!(in alloc; "{root}: {text}\n")?)
 }
 
-/// The line of a root in whose path a symbolic link is.
-fn link_said(alloc: Global, root: &str, folder: &str) -> Result<String, NoMemory>
-    ensures { IfOk result (λ line. string_bytes line ≡ link_said (shown_text root.now) (shown_text folder.now)) }
+/// What is said of a root in whose path a symbolic link is.
+fn link_said(alloc: Global, folder: &str) -> Result<String, NoMemory>
+    ensures { IfOk result (λ text. string_bytes text ≡ link_said (shown_text folder.now)) }
 {
-    let root = shown(alloc, root)?;
     let folder = shown(alloc, folder)?;
     let text = format!(in alloc;
-        "{root}: a symbolic link leads to {folder}; the two paths are two roots, and 'wm watch' takes the latter\n"
+        "a symbolic link leads to {folder}; the two paths are two roots, and 'wm watch' takes the latter"
     )?;
     Ok(text)
 }
@@ -60,6 +59,9 @@ pub fn root_line(alloc: Global, root: &str, found: RootFound<'_>) -> Result<Stri
             root,
             "this folder can't be read: give the server's user the right to it, or watch a folder below",
         ),
-        RootFound::Link(folder) => link_said(alloc, root, folder),
+        RootFound::Link(folder) => {
+            let text = link_said(alloc, folder)?;
+            said_of_root(alloc, root, text.as_str())
+        }
     }
 }

@@ -1,21 +1,38 @@
 //! The line of a socket at which no server answers. Definitions: specs/ServerLines. Tests: client_tests/src/hints.rt.
 ghost use Rattle.std.specs.Prelude.{◌≡◌, IfOk, string_bytes};
 ghost use Rattle.wm_explain.specs.Shown.{shown_text};
-ghost use Rattle.wm_parts.specs.ServerLines.{no_feed_line, no_server, server_line};
+ghost use Rattle.wm_parts.specs.ServerLines.{no_answer, no_feed_line, no_server, server_line, start_said};
 
 use std::alloc::Global;
 use wm_disk::NoMemory;
 use wm_explain::{Cause, Trouble, line_of, shown};
 
+/// A socket, and why no server answers there.
+fn no_answer(alloc: Global, socket: &str, cause: &str) -> Result<String, NoMemory>
+    ensures { IfOk result (λ text. string_bytes text ≡ no_answer (shown_text socket.now) cause.now) }
+{
+    let socket = shown(alloc, socket)?;
+    Ok(format!(in alloc; "{socket} ({cause}): ")?)
+}
+
+/// How a server is started at a socket.
+fn start_said(alloc: Global, socket: &str) -> Result<String, NoMemory>
+    ensures { IfOk result (λ text. string_bytes text ≡ start_said (shown_text socket.now)) }
+{
+    let socket = shown(alloc, socket)?;
+    Ok(format!(in alloc; "'wm up' starts one, or 'watchmand serve STATE {socket}'\n")?)
+}
+
 /// The line of a socket at which no server answers, for this cause.
 fn no_server(alloc: Global, socket: &str, cause: &str) -> Result<String, NoMemory>
     ensures { IfOk result (λ line. string_bytes line ≡ no_server (shown_text socket.now) cause.now) }
 {
-    let socket = shown(alloc, socket)?;
-    let text = format!(in alloc;
-        "no server answers at {socket} ({cause}): 'wm up' starts one, or 'watchmand serve STATE {socket}'\n"
-    )?;
-    Ok(text)
+    let why = no_answer(alloc, socket, cause)?;
+    let start = start_said(alloc, socket)?;
+    let mut line = String::from_str(alloc, "no server answers at ")?;
+    line.push_str(why.as_str())?;
+    line.push_str(start.as_str())?;
+    Ok(line)
 }
 
 /// The line that says why no server answers at a socket, and what to do.
