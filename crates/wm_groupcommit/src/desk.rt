@@ -281,15 +281,15 @@ fn receive_shown<R: Wait>(
     rt: &R,
     replies: &mut ReplyReceiver,
     seen: &mut u64,
-    _shown: Shown,
+    shown: Shown,
 ) -> Result<(Registry, u64), NoMemory>
-    requires own { replies.old.seat ≡ Some _shown.seat }
+    requires own { replies.old.seat ≡ Some shown.seat }
     ensures seat { replies.new.seat ≡ replies.old.seat }
     ensures later { IsLater replies.old replies.new.base replies.new.list }
     ensures ok { IfOk result (λ r. LookAnswered replies.old replies.new seen.old seen.new r.0 r.1) }
     ensures err { OnErr result ((seen.new ≡ seen.old) × Unlooked replies.old replies.new seen.old) }
 {
-    let (registry, at) = sleep_for(rt, replies).into_shown();
+    let (registry, at) = sleep_for(rt, replies).into_shown(shown);
     if at < *seen {
         return Err(NoMemory);
     }

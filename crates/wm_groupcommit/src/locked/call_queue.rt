@@ -20,8 +20,7 @@ pub type CallQueue = RuledSegQueue<Call, CallView, Merges>;
 /// What one seat, or the flusher, knows of it.
 pub type CallPass = SegPass<Call, CallView>;
 
-/// Calls that one step has taken from the queue. Only `pop` makes it.
-#[derive(Drop)]
+/// Calls that one step has taken from the queue. Only `pop` makes it, and it is given up as they are answered.
 pub struct PoppedCalls {
     calls: Vec<Call>,
 }

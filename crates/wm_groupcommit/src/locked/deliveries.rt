@@ -1,6 +1,7 @@
 //! The rule of a seat's reply queue.
 //! Definitions: specs/ReplyQueues.antt. Tests: file_tests/src/desk/rows.rt.
 
+use super::shown::Shown;
 use crate::history::History;
 use crate::queued::{Answer, Call};
 use crossbeam_queue::protocol::{Lesson, Outcome, Protocol, Split};
@@ -34,10 +35,11 @@ impl Delivery {
         answer
     }
 
-    /// The registry that is shown, if one is, and after how many commands it stood so.
-    pub fn into_shown(self) -> (Option<Registry>, u64)
+    /// The registry that is shown, if one is, and after how many commands it stood so: for one that was handed over.
+    pub fn into_shown(self, shown: Shown) -> (Option<Registry>, u64)
         ensures { (result.0 ≡ self.registry) × (result.1 ≡ self.answer.at) }
     {
+        let Shown { seat: _ } = shown;
         let Delivery {
             answer,
             seen: _,
