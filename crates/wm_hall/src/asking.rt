@@ -1,6 +1,6 @@
 //! Questions of a root, as a viewer answers them: the replies of `query`, `since` and `clock`.
 //! Definitions: `answer_to` of wm_since, `history` of wm_share. Tests: serve_tests/src/halls.rt and sessions.rt.
-ghost use Rattle.std.specs.Prelude.{◌≡◌, ◌⊎◌, ◌++◌, ◌≤◌, true, false, Some, IfOk, IfErr, OnErr, vec_capacity};
+ghost use Rattle.std.specs.Prelude.{◌≡◌, ◌⊎◌, ◌++◌, ◌≤◌, [], true, false, Some, IfOk, IfErr, OnErr, vec_capacity};
 ghost use Rattle.wm_expr.specs.Meanings.{holds};
 ghost use Rattle.wm_view.specs.Histories.{is_ready};
 ghost use Rattle.wm_since.specs.Answers.{answer_to, clock_of as clock_of_history, question, from_clock};
@@ -12,7 +12,7 @@ use std::alloc::Global;
 use std::marker::Model;
 use std::snapshot::Snapshot;
 use wm_clock::{ClockId, CursorName};
-use wm_disk::Refusal;
+use wm_disk::{NoMemory, Refusal};
 use wm_lines::{Expression, reply};
 use wm_share::{Naming, Viewer};
 use wm_since::{Cursors, Every, Fields, Query, Since};
@@ -57,17 +57,6 @@ impl CursorClock {
     }
 }
 
-/// Where a cursor of the root of a number stands.
-pub(crate) fn cursor_clock(root: u64, cursors: &Cursors, name: &CursorName) -> CursorClock
-    ensures { result ≡ record { root = root; name = name.now; clock = cursor_at name.now cursors.now } }
-{
-    CursorClock {
-        root,
-        name: Snapshot::of(name),
-        clock: cursors.clock(name),
-    }
-}
-
 /// Appends the answer to a question, and gives its clock. `NotReady` before the first whole listing, `NoPlace` if the root is
 /// gone, and `NoMemory`; nothing is appended then.
 pub(crate) fn tell<J: Naming>(
@@ -89,41 +78,76 @@ pub(crate) fn tell<J: Naming>(
     Ok(answer.clock)
 }
 
-/// Appends the answer to a question since a cursor's clock, and moves the cursor to the answer's. It is refused as `tell` is, and
-/// `TooMany` where there is no room for a new cursor; no cursor is moved then. Where the cursor stands then is given.
-pub(crate) fn tell_by<J: Naming>(
-    alloc: Global,
-    viewer: &mut Viewer<J>,
-    cursors: &mut Cursors,
-    asked: CursorQuestion,
-    out: &mut Vec<u8>,
-) -> Result<CursorClock, Refusal>
-    ensures seen { Begins viewer.old.list viewer.new.list }
-    ensures told { IfOk result (λ _. out.new.items ≡ out.old.items ++ line_text (query_reply asked.question.fields (answer_to (holds asked.question.query.test) (history viewer.new.list) (record { since = from_clock (cursor_at asked.name cursors.old); empty_on_fresh = asked.question.query.empty_on_fresh })))) }
-    ensures ready { IfOk result (λ _. (is_ready (history viewer.new.list) ≡ true) × (has_room asked.name cursors.old ≡ true)) }
-    ensures moved { IfOk result (λ at. (at ≡ record { root = asked.root; name = asked.name; clock = Some (clock_of_history (history viewer.new.list)) }) × (cursors.new ≡ moved_to asked.name (clock_of_history (history viewer.new.list)) cursors.old)) }
-    ensures refused { IfErr result (λ e. (e ≡ Refusal.NoMemory) ⊎ ((e ≡ Refusal.NoPlace) × (viewer.new ≡ disconnected viewer.old)) ⊎ ((e ≡ Refusal.NotReady) × (is_ready (history viewer.new.list) ≡ false)) ⊎ ((e ≡ Refusal.TooMany) × (is_ready (history viewer.new.list) ≡ true) × (has_room asked.name cursors.old ≡ false))) }
-    ensures err { OnErr result ((out.new.items ≡ out.old.items) × (cursors.new ≡ cursors.old)) }
-    ensures room { vec_capacity out.old ≤ vec_capacity out.new }
-{
-    let CursorQuestion {
-        root,
-        name,
-        mut question,
-    } = asked;
-    question.query.since = Since::from_clock(cursors.clock(&name));
-    let has_room = cursors.has_room(&name);
-    match tell_with_room(alloc, viewer, has_room, &question, out) {
-        Ok(clock) => {
-            let moved = Snapshot::of(&name);
-            cursors.moved(name, clock);
-            Ok(CursorClock {
-                root,
-                name: moved,
-                clock: Some(clock),
-            })
+/// The cursors of a root: a question by one of them alone moves it. Contracts see them as they stand.
+#[derive(Drop)]
+pub(crate) struct RootCursors {
+    cursors: Cursors,
+}
+
+impl Model for RootCursors {
+    ghost use Rattle.wm_since.specs.Cursors.{CursorList};
+
+    ghost Value = { CursorList };
+
+    ghost view = { λ c. c.cursors };
+}
+
+impl RootCursors {
+    /// None yet. `NoMemory`.
+    pub(crate) fn new(alloc: Global) -> Result<RootCursors, NoMemory>
+        ensures { IfOk result (λ made. made ≡ []) }
+    {
+        let cursors = Cursors::new(alloc)?;
+        Ok(RootCursors { cursors })
+    }
+
+    /// Where a cursor of the root of a number stands.
+    pub(crate) fn clock(&self, root: u64, name: &CursorName) -> CursorClock
+        ensures { result ≡ record { root = root; name = name.now; clock = cursor_at name.now self.now } }
+    {
+        CursorClock {
+            root,
+            name: Snapshot::of(name),
+            clock: self.cursors.clock(name),
         }
-        Err(refusal) => Err(refusal),
+    }
+
+    /// Appends the answer to a question since a cursor's clock, and moves the cursor to the answer's. It is refused as `tell` is, and
+    /// `TooMany` where there is no room for a new cursor; no cursor is moved then. Where the cursor stands then is given.
+    pub(crate) fn tell_by<J: Naming>(
+        &mut self,
+        alloc: Global,
+        viewer: &mut Viewer<J>,
+        asked: CursorQuestion,
+        out: &mut Vec<u8>,
+    ) -> Result<CursorClock, Refusal>
+        ensures seen { Begins viewer.old.list viewer.new.list }
+        ensures told { IfOk result (λ _. out.new.items ≡ out.old.items ++ line_text (query_reply asked.question.fields (answer_to (holds asked.question.query.test) (history viewer.new.list) (record { since = from_clock (cursor_at asked.name self.old); empty_on_fresh = asked.question.query.empty_on_fresh })))) }
+        ensures ready { IfOk result (λ _. (is_ready (history viewer.new.list) ≡ true) × (has_room asked.name self.old ≡ true)) }
+        ensures moved { IfOk result (λ at. (at ≡ record { root = asked.root; name = asked.name; clock = Some (clock_of_history (history viewer.new.list)) }) × (self.new ≡ moved_to asked.name (clock_of_history (history viewer.new.list)) self.old)) }
+        ensures refused { IfErr result (λ e. (e ≡ Refusal.NoMemory) ⊎ ((e ≡ Refusal.NoPlace) × (viewer.new ≡ disconnected viewer.old)) ⊎ ((e ≡ Refusal.NotReady) × (is_ready (history viewer.new.list) ≡ false)) ⊎ ((e ≡ Refusal.TooMany) × (is_ready (history viewer.new.list) ≡ true) × (has_room asked.name self.old ≡ false))) }
+        ensures err { OnErr result ((out.new.items ≡ out.old.items) × (self.new ≡ self.old)) }
+        ensures room { vec_capacity out.old ≤ vec_capacity out.new }
+    {
+        let CursorQuestion {
+            root,
+            name,
+            mut question,
+        } = asked;
+        question.query.since = Since::from_clock(self.cursors.clock(&name));
+        let has_room = self.cursors.has_room(&name);
+        match tell_with_room(alloc, viewer, has_room, &question, out) {
+            Ok(clock) => {
+                let moved = Snapshot::of(&name);
+                self.cursors.moved(name, clock);
+                Ok(CursorClock {
+                    root,
+                    name: moved,
+                    clock: Some(clock),
+                })
+            }
+            Err(refusal) => Err(refusal),
+        }
     }
 }
 

@@ -13,9 +13,7 @@ ghost use Rattle.wm_hall.specs.Starts.{names_cursor};
 ghost use Rattle.wm_hall.specs.TriggerSteps.{AreStartsOver, AreTriggersFull, DefinesTrigger, DeletesTrigger, EndsTriggers};
 
 use crate::asked::{BegunCrawl, CrawlEnded, Crawled, NoWork, Ticket};
-use crate::asking::{
-    CursorClock, CursorQuestion, Question, clock, cursor_clock, inquire_of, tell_by,
-};
+use crate::asking::{CursorClock, CursorQuestion, Question, RootCursors, clock, inquire_of};
 use crate::change::{Change, Seconds};
 use crate::locked_root::{
     Begun, Changed, GivenUp, HandedIn, LastPublished, Learnt, LockedRoot, Reading,
@@ -36,7 +34,7 @@ use wm_lines::{Inquiry, Progress};
 use wm_names::{RootPath, Subtree};
 use wm_registry::Trigger;
 use wm_share::{Naming, Pool, RootKeeper, ShareId, Shown, Viewer};
-use wm_since::{Cursors, Query};
+use wm_since::Query;
 use wm_triggers::DefinedTrigger;
 
 /// A root has ended: its workers have nothing more to do, and none of its triggers begins any more.
@@ -63,7 +61,7 @@ pub struct RootHall<J: Naming, K: Wait + Drop> {
     pool: Mutex<ViewerPool<J>>,
     /// It is taken under the root's lock, or alone: so a viewer learns without waiting for an operation.
     last: Mutex<LastPublished<J>>,
-    cursors: Mutex<Cursors>,
+    cursors: Mutex<RootCursors>,
 }
 
 impl<J: Naming, K: Wait + Drop> RootHall<J, K> {
@@ -309,7 +307,7 @@ impl<J: Naming, K: Wait + Drop> RootHall<J, K> {
     pub fn cursor<R: Wait>(&self, rt: &R, name: &CursorName) -> CursorClock
         ensures { (result.root ≡ self.now.number) × (result.name ≡ name.now) }
     {
-        cursor_clock(self.number, &self.cursors.lock(rt), name)
+        self.cursors.lock(rt).clock(self.number, name)
     }
 
     /// Appends the answer to what is asked, as a viewer sees the root. Questions by a cursor are answered one after the other.
@@ -348,7 +346,7 @@ impl<J: Naming, K: Wait + Drop> RootHall<J, K> {
                     question,
                 };
                 let mut cursors = self.cursors.lock(rt);
-                let moved = tell_by(alloc, viewer, &mut cursors, asked, out)?;
+                let moved = cursors.tell_by(alloc, viewer, asked, out)?;
                 Ok(Some(moved))
             }
             Some(ClockSpec::Clock(_))
@@ -366,14 +364,14 @@ impl<J: Naming, K: Wait + Drop> RootHall<J, K> {
 fn fittings(
     alloc: Global,
     path: &RootPath,
-) -> Result<(RootPath, Work, Cursors, LockedTriggers), NoMemory>
+) -> Result<(RootPath, Work, RootCursors, LockedTriggers), NoMemory>
     ensures path { IfOk result (λ made. made.0 ≡ path.now) }
     ensures cursors { IfOk result (λ made. made.2 ≡ []) }
     ensures triggers { IfOk result (λ made. made.3.table ≡ empty_table) }
 {
     let path = path.copy(alloc)?;
     let work = Work::new(alloc)?;
-    let cursors = Cursors::new(alloc)?;
+    let cursors = RootCursors::new(alloc)?;
     let triggers = LockedTriggers::new(alloc)?;
     Ok((path, work, cursors, triggers))
 }

@@ -51,9 +51,8 @@ pub(crate) struct LastPublished<J: Naming> {
     told: Option<Told<J>>,
 }
 
-/// How an operation ended: what was published last, if anything was, and where the view stands then. Only [`LastPublished`] reports
-/// it.
-#[derive(Drop)]
+/// How an operation ended: what was published last, if anything was, and where the view stands then. Nobody can drop it: only
+/// [`LastPublished`] reports it, and keeps what was published.
 pub(crate) struct Performed<J: Naming> {
     last: Option<Told<J>>,
     ended: Result<Progress, Refusal>,
