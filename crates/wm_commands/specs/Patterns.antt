@@ -9,12 +9,12 @@ use Rattle.wm_commands.specs.declared.patterns.PatternFault.TheVariants.{Bracket
 abbrev pub has_braces : List ℕ → Bool
 has_braces pattern = has_byte 123 pattern && (has_byte 44 pattern && has_byte 125 pattern)
 
-abbrev pub has_brace : List ℕ → Bool
-has_brace text = has_byte 123 text || has_byte 125 text
+abbrev pub has_any_brace : List ℕ → Bool
+has_any_brace text = has_byte 123 text || has_byte 125 text
 
 -- round and between two braces: the list has a comma, and no brace is left
 abbrev pub is_list_in : (front list back : List ℕ) → Bool
-is_list_in front list back = has_byte 44 list && not (has_brace front || (has_brace list || has_brace back))
+is_list_in front list back = has_byte 44 list && not (has_any_brace front || (has_any_brace list || has_any_brace back))
 
 -- the pattern is these three parts with a brace that opens and one that closes between them
 abbrev pub IsBraced : List ℕ → (front list back : List ℕ) → Type 0

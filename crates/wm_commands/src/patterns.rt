@@ -1,7 +1,7 @@
 //! Patterns that don't mean what a person may think. Definitions: specs/Patterns. Tests: commands_tests/src/patterns.rt.
 ghost use Rattle.std.specs.Prelude.{◌≡◌, ◌++◌, ◌∷◌, IfSome, is_some};
 ghost use Rattle.std.specs.List.{after_first, before_first};
-ghost use Rattle.wm_commands.specs.Patterns.{IsBraced, closes, has_brace, has_braces, has_one_list, is_list_in, opens, pattern_fault};
+ghost use Rattle.wm_commands.specs.Patterns.{IsBraced, closes, has_any_brace, has_braces, has_one_list, is_list_in, opens, pattern_fault};
 ghost use Rattle.wm_commands.specs.Questions.{has_byte};
 
 /// Whether a pattern has a list in braces, as a shell reads it. In a pattern braces stand for themselves.
@@ -24,8 +24,8 @@ pub struct Braces<'a> {
 }
 
 /// Whether a text has a brace.
-fn has_brace(text: &str) -> bool
-    ensures { result ≡ has_brace text.now }
+fn has_any_brace(text: &str) -> bool
+    ensures { result ≡ has_any_brace text.now }
 {
     let bytes = text.as_bytes();
     bytes.contains(&b'{') || bytes.contains(&b'}')
@@ -35,7 +35,8 @@ fn has_brace(text: &str) -> bool
 fn is_list_in(front: &str, list: &str, back: &str) -> bool
     ensures { result ≡ is_list_in front.now list.now back.now }
 {
-    list.as_bytes().contains(&b',') && !(has_brace(front) || has_brace(list) || has_brace(back))
+    list.as_bytes().contains(&b',')
+        && !(has_any_brace(front) || has_any_brace(list) || has_any_brace(back))
 }
 
 /// What stands in front of the first brace that opens, and behind it. `None` if there is none.
