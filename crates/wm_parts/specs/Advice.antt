@@ -24,12 +24,12 @@ at_failure kinds.Recrawl = codes "a folder of the root can't be read, and the se
 at_failure kind = codes "the server can't write its state file: look at the disk and at the server's log, start it again, and ask what is there by watch-list or trigger-list"
 
 -- the cause is in the request
-abbrev pub by_request : Refusal → List ℕ
-by_request refusals.BadLine = codes "a request is one line of JSON of at most 1,048,576 bytes"
-by_request refusals.BadCommand = codes "a request is a list that begins with the name of a command, as [\"watch-list\"]"
-by_request refusals.BadPath = codes "the path of a file or a folder in a root has no / at its ends, and no part that is empty, . or .."
-by_request refusals.BadClock = codes "the listing began at a tick that isn't the root's, or is no longer good: ask for the clock, and read the folder again"
-by_request refusal = codes "this wmctl and the server may be of two versions: 'wm down' and 'wm up' start the new one"
+abbrev pub advice_by_request : Refusal → List ℕ
+advice_by_request refusals.BadLine = codes "a request is one line of JSON of at most 1,048,576 bytes"
+advice_by_request refusals.BadCommand = codes "a request is a list that begins with the name of a command, as [\"watch-list\"]"
+advice_by_request refusals.BadPath = codes "the path of a file or a folder in a root has no / at its ends, and no part that is empty, . or .."
+advice_by_request refusals.BadClock = codes "the listing began at a tick that isn't the root's, or is no longer good: ask for the clock, and read the folder again"
+advice_by_request refusal = codes "this wmctl and the server may be of two versions: 'wm down' and 'wm up' start the new one"
 
 -- the cause is in the server
 abbrev pub by_server : Refusal → List ℕ
@@ -41,15 +41,15 @@ by_server refusals.Exhausted = codes "a counter of the state file is at its end:
 by_server refusals.NoMemory = codes "the server has no memory left: ask for fewer files, or later"
 by_server refusals.NoPlace = codes "the root is no longer watched, or too many sessions ask about it: try again"
 by_server refusals.OldVersion = codes "max_files_stdin needs a state file of version 2: leave it out, or 'watchmand migrate' the file"
-by_server refusal = by_request refusal
+by_server refusal = advice_by_request refusal
 
-abbrev pub advice : Refusal → RequestKind → List ℕ
-advice refusals.TooMany kind = at_too_many kind
-advice refusals.DeviceFailed kind = at_failure kind
-advice refusal kind = by_server refusal
+abbrev pub refusal_advice : Refusal → RequestKind → List ℕ
+refusal_advice refusals.TooMany kind = at_too_many kind
+refusal_advice refusals.DeviceFailed kind = at_failure kind
+refusal_advice refusal kind = by_server refusal
 
 abbrev pub advice_line : Refusal → RequestKind → List ℕ
-advice_line refusal kind = advice refusal kind ++ codes "\n"
+advice_line refusal kind = refusal_advice refusal kind ++ codes "\n"
 
 -- ---- the line of a refusal
 

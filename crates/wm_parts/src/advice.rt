@@ -1,6 +1,6 @@
 //! What to do at a refusal. Definitions: specs/Advice. Tests: client_tests/src/hints.rt.
 ghost use Rattle.std.specs.Prelude.{◌≡◌};
-ghost use Rattle.wm_parts.specs.Advice.{advice, at_failure, at_too_many, by_request, by_server};
+ghost use Rattle.wm_parts.specs.Advice.{refusal_advice, at_failure, at_too_many, advice_by_request, by_server};
 
 use crate::kinds::RequestKind;
 use wm_disk::Refusal;
@@ -43,8 +43,8 @@ fn at_failure(kind: RequestKind) -> &'static str
 }
 
 /// What to do at a refusal whose cause is in the request.
-fn by_request(refusal: Refusal) -> &'static str
-    ensures { result.now ≡ by_request refusal }
+fn advice_by_request(refusal: Refusal) -> &'static str
+    ensures { result.now ≡ advice_by_request refusal }
 {
     match refusal {
         Refusal::BadLine => "a request is one line of JSON of at most 1,048,576 bytes",
@@ -78,13 +78,13 @@ fn by_server(refusal: Refusal) -> &'static str
             "the root is no longer watched, or too many sessions ask about it: try again",
         Refusal::OldVersion =>
             "max_files_stdin needs a state file of version 2: leave it out, or 'watchmand migrate' the file",
-        _ => by_request(refusal),
+        _ => advice_by_request(refusal),
     }
 }
 
 /// What to do at a refusal of a request of this kind.
 pub(crate) fn advice_of(refusal: Refusal, kind: RequestKind) -> &'static str
-    ensures { result.now ≡ advice refusal kind }
+    ensures { result.now ≡ refusal_advice refusal kind }
 {
     match refusal {
         Refusal::TooMany => at_too_many(kind),
