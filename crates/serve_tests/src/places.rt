@@ -10,6 +10,7 @@ use std::{env, io};
 use wm_crawler::{SystemFolders, Turnstile};
 use wm_disk::Refusal;
 use wm_file::{FileDisk, Unknown};
+use wm_hall::Retention;
 use wm_serve::{ServerPaths, Settings, Tools, serve};
 use wm_triggers::SystemPrograms;
 
@@ -78,8 +79,10 @@ impl Place {
     ) -> Result<(), Refusal> {
         let settings = Settings {
             workers: 2,
-            gc_age: 43_200,
-            gc_interval: 86_400,
+            retention: Retention {
+                age_seconds: 43_200,
+                interval_seconds: 86_400,
+            },
             sessions,
             is_quiet: true,
         };

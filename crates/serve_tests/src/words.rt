@@ -68,8 +68,9 @@ fn asked(alloc: Global, words: &Words) -> Result<String, AllocError> {
             socket,
             settings,
         } => {
-            let (workers, age) = (settings.workers, settings.gc_age);
-            let (interval, sessions) = (settings.gc_interval, settings.sessions);
+            let (workers, sessions) = (settings.workers, settings.sessions);
+            let age = settings.retention.age_seconds;
+            let interval = settings.retention.interval_seconds;
             let is_quiet = settings.is_quiet;
             format!(in alloc;
                 "serve {file} {socket} {workers} {age} {interval} {sessions} {is_quiet}"

@@ -79,8 +79,8 @@ is_flag_set (Some text) = bytes_eq text (codes "true")
 pub record TellsSettings (workers_word age_word interval_word sessions_word quiet_word : Option Text) (s : Settings) : Type 0 where
   pub workers : TellsNumber 4 workers_word s.workers
   pub allowed : (1 ≤ s.workers) × (s.workers ≤ max_workers)
-  pub age : TellsNumber 43200 age_word s.gc_age
-  pub interval : TellsNumber 86400 interval_word s.gc_interval
+  pub age : TellsNumber 43200 age_word s.retention.age_seconds
+  pub interval : TellsNumber 86400 interval_word s.retention.interval_seconds
   pub sessions : TellsNumber endless sessions_word s.sessions
   pub quiet : s.is_quiet ≡ is_flag_set quiet_word
 

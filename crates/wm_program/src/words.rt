@@ -15,6 +15,7 @@ use clap::{Arg, ArgAction, ArgMatches, Command, Error};
 use std::alloc::Global;
 use wm_crawler::MAX_WORKERS;
 use wm_disk::NoMemory;
+use wm_hall::Retention;
 use wm_serve::Settings;
 use wm_server::words;
 
@@ -231,13 +232,14 @@ fn settings_of(
         (λ s. TellsSettings (word_text workers.entry) (word_text age.entry) (word_text interval.entry) (word_text sessions.entry) (word_text quiet.entry) s) }
 {
     let workers = workers_of(workers)?;
-    let gc_age = number_of(age, 43_200)?;
-    let gc_interval = number_of(interval, 86_400)?;
+    let retention = Retention {
+        age_seconds: number_of(age, 43_200)?,
+        interval_seconds: number_of(interval, 86_400)?,
+    };
     let sessions = number_of(sessions, u64::MAX)?;
     Some(Settings {
         workers,
-        gc_age,
-        gc_interval,
+        retention,
         sessions,
         is_quiet: is_flag_set(quiet),
     })

@@ -1,5 +1,5 @@
 -- A round of a root's triggers, one definition after another.
-use Rattle.std.proofs.Common.{◌≡◌, inl, inr, ◌<◌, ◌+◌, ℕ, List, [], ◌∷◌, ◌++◌, length, Option, Some, None, Result, Ok, Err, OnOk, refl, sym, ap, subst, arith, ◌∙◌, append_assoc, append-nil, length-append}
+use Rattle.std.proofs.Common.{◌≡◌, ◌⊎◌, inl, inr, ◌<◌, ◌+◌, ℕ, List, [], ◌∷◌, ◌++◌, length, Option, Some, None, Result, Ok, Err, IfOk, OnOk, refl, sym, ap, subst, arith, ◌∙◌, append_assoc, append-nil, length-append}
 use Rattle.std.specs.Prelude.{slice_get}
 use Rattle.std.specs.Option.{MatchOption}
 use mathlib.Core.List.{IsPrefix}
@@ -140,3 +140,27 @@ on_ok (Err refusal) a f = tt
 
 pub refused_ok : {E : Type 0} (A : Type 0) (refusal : E) (r : Result (Unit {0}) E) → r ≡ Err refusal → OnOk r A
 refused_ok A refusal r e = subst (λ t. OnOk t A) (sym e) tt
+
+-- ---- a round on a list that begins with an earlier one
+
+from_earlier : (Turn : History → KeptRuns → KeptRuns → Type 0) (seen mid last : PublishedList) (olds news : List KeptRuns)
+    → Begins seen mid → EachInTurn Turn mid olds news last → EachInTurn Turn seen olds news last
+from_earlier Turn seen mid last [] [] on h = longer seen mid last on h
+from_earlier Turn seen mid last [] (n ∷ news) on h = absurd h
+from_earlier Turn seen mid last (o ∷ olds) [] on h = absurd h
+from_earlier Turn seen mid last (o ∷ olds) (n ∷ news) on h = (h.0, longer seen mid h.0 on h.1, h.2, h.3)
+
+same_or_earlier : (Turn : History → KeptRuns → KeptRuns → Type 0) (seen mid last : PublishedList) (olds old news : List KeptRuns)
+    → Begins seen mid → (news ≡ old) ⊎ EachInTurn Turn mid olds news last → (news ≡ old) ⊎ EachInTurn Turn seen olds news last
+same_or_earlier Turn seen mid last olds old news on (inl same) = inl same
+same_or_earlier Turn seen mid last olds old news on (inr each) = inr (from_earlier Turn seen mid last olds news on each)
+
+pub each_earlier : {R E : Type 0} (Turn : History → KeptRuns → KeptRuns → Type 0) (seen mid last : PublishedList) (olds : R → List KeptRuns) (old news : List KeptRuns) (round : Result R E)
+    → Begins seen mid → IfOk round (λ r. (news ≡ old) ⊎ EachInTurn Turn mid (olds r) news last) → IfOk round (λ r. (news ≡ old) ⊎ EachInTurn Turn seen (olds r) news last)
+each_earlier Turn seen mid last olds old news (Ok r) on h = same_or_earlier Turn seen mid last (olds r) old news on h
+each_earlier Turn seen mid last olds old news (Err e) on h = tt
+
+pub ok_earlier : {R E F : Type 0} (Turn : History → KeptRuns → KeptRuns → Type 0) (seen mid last : PublishedList) (olds : R → List KeptRuns) (ended : R → Result (Unit {0}) F) (news : List KeptRuns) (round : Result R E)
+    → Begins seen mid → IfOk round (λ r. OnOk (ended r) (EachInTurn Turn mid (olds r) news last)) → IfOk round (λ r. OnOk (ended r) (EachInTurn Turn seen (olds r) news last))
+ok_earlier Turn seen mid last olds ended news (Ok r) on h = on_ok (ended r) h (λ each. from_earlier Turn seen mid last (olds r) news on each)
+ok_earlier Turn seen mid last olds ended news (Err e) on h = tt

@@ -108,7 +108,8 @@ module _ {H V : Type 0} (value : H → V) (name : V → HallName) (flags : ℕ) 
   -- The table followed the command, with a hall of the incarnation if it adds a root, and then what was left to do about a hall was done.
   abbrev pub AppliesCommand : (incarnation number : ℕ) → Command → AppliedCommand H → Type 0
   AppliesCommand incarnation number command applied =
-      ((made : Option (ℕ × H)) × MatchOption made (Unit {0}) (IsMadeFor value name incarnation command)
+      (applied.number ≡ number)
+      × ((made : Option (ℕ × H)) × MatchOption made (Unit {0}) (IsMadeFor value name incarnation command)
       × FollowsCommand command made applied.table.roots.before applied.table.unstarted.before applied.table.roots.after applied.table.unstarted.after)
       × IsStepOf command (numbered_roots applied.table.roots.before) (numbered_roots applied.table.roots.after)
       × FollowsInHall number (left_to_halls command applied.table.roots.before.roots) applied.hall

@@ -9,6 +9,7 @@ pub mod LogEvents
 pub mod LoggedParts
 pub mod NumberedHalls
 pub mod ReadLines
+pub mod SentAlone
 pub mod SentLines
 pub mod SlotThreads
 pub mod SubscribedRoots

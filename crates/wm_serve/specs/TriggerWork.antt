@@ -14,8 +14,8 @@ use Rattle.wm_triggers.specs.Due.{run_by, term_for}
 use Rattle.wm_triggers.specs.KeptRuns.{KeptRuns, started_at}
 use Rattle.wm_triggers.specs.declared.not_run.NotRun.TheVariants.{DeviceFailed}
 use Rattle.wm_triggers.specs.declared.program_end.ProgramEnd.{ProgramEnd}
-use Rattle.wm_serve.specs.declared.trigger_worker.NotDone.{NotDone}
-use Rattle.wm_serve.specs.declared.trigger_worker.NotDone.TheVariants.{Refused, Unstarted}
+use Rattle.wm_serve.specs.declared.trigger_rounds.NotDone.{NotDone}
+use Rattle.wm_serve.specs.declared.trigger_rounds.NotDone.TheVariants.{Refused, Unstarted}
 
 -- ---- one definition
 

@@ -41,6 +41,11 @@ impl Model for NoSession {
     ghost view = { λ n. n.is_closed };
 }
 
+/// The place of a session that has a slot: the queue alone makes it, and it is given up as the session leaves ([`AcceptQueue::leave`]).
+pub struct ServedPlace {
+    is_taken: (),
+}
+
 impl<T: Drop> AcceptQueue<T> {
     /// A queue of no slot: nobody is admitted yet.
     pub fn new(alloc: Global) -> AcceptQueue<T>
@@ -83,9 +88,9 @@ impl<T: Drop> AcceptQueue<T> {
         self.waiting.is_empty() && !self.is_closed
     }
 
-    /// Gives a slot the session that came first. Refused if none waits.
-    pub fn take(&mut self) -> Result<T, NoSession>
-        ensures { MatchResult result (λ session. IsFirstSession session self.old self.new) (λ none. (none ≡ self.old.is_closed) × (self.old.waiting ≡ []) × (self.new ≡ self.old)) }
+    /// Gives a slot the session that came first, with its place. Refused if none waits.
+    pub fn take(&mut self) -> Result<(T, ServedPlace), NoSession>
+        ensures { MatchResult result (λ taken. IsFirstSession taken.0 self.old self.new) (λ none. (none ≡ self.old.is_closed) × (self.old.waiting ≡ []) × (self.new ≡ self.old)) }
     {
         if self.waiting.is_empty() {
             return Err(NoSession {
@@ -94,13 +99,14 @@ impl<T: Drop> AcceptQueue<T> {
         }
         let session = self.waiting.remove(0);
         self.served += 1;
-        Ok(session)
+        Ok((session, ServedPlace { is_taken: () }))
     }
 
-    /// A session that had a slot has ended.
-    pub fn leave(&mut self)
+    /// A session that had a slot has ended: its place is free.
+    pub fn leave(&mut self, place: ServedPlace)
         ensures { self.new ≡ left_queue self.old }
     {
+        let ServedPlace { is_taken: () } = place;
         self.served = self.served.saturating_sub(1);
     }
 

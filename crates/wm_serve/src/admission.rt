@@ -2,11 +2,10 @@
 //! Tests: serve_tests/src/sessions.rt.
 ghost use Rattle.std.specs.Prelude.{◌≡◌, ◌⊎◌, ◌≤◌, ◌<◌, ◌+◌, ◌-◌, ◌^◌};
 
-use crate::admission_lines::send_turned_away;
+use crate::accepted_stream::AcceptedStream;
 use crate::counts::SessionsAdmitted;
 use crate::server_handle::ServerHandle;
-use crate::waiting_sessions::Admission;
-use std::os::unix::net::{UnixListener, UnixStream};
+use crate::socket::ServerSocket;
 use std::sync::Wait;
 use std::thread;
 use std::time::{Clock, Duration};
@@ -15,7 +14,7 @@ use wm_log::What;
 /// The socket that sessions come in by, and after how many of them none comes any longer.
 #[derive(Drop)]
 pub struct Acceptor<'a> {
-    pub listener: &'a UnixListener,
+    pub socket: &'a ServerSocket<'a>,
     pub sessions: u64,
 }
 
@@ -23,18 +22,19 @@ pub struct Acceptor<'a> {
 fn admit_one<R: Wait + Clock, H: ServerHandle>(
     rt: &R,
     server: &H,
-    stream: UnixStream,
+    stream: AcceptedStream,
     sessions: &mut SessionsAdmitted,
 )
     requires { sessions.old < 2 ^ 64 - 1 }
     ensures { (sessions.new ≡ sessions.old) ⊎ (sessions.new ≡ sessions.old + 1) }
 {
-    let Admission { admitted, step } = server.admit(rt, stream);
-    match admitted {
-        Ok(()) => sessions.add(step),
-        Err((refusal, stream)) => {
-            server.log().note(rt, None, What::SessionRefused(refusal));
-            let _sent = send_turned_away(refusal, &mut &stream);
+    match stream.admit(rt, server) {
+        Ok(step) => sessions.add(step),
+        Err(turned_away) => {
+            server
+                .log()
+                .note(rt, None, What::SessionRefused(turned_away.refusal()));
+            let _sent = turned_away.send();
         }
     }
 }
@@ -52,7 +52,7 @@ pub fn admit<R: Wait + Clock, H: ServerHandle>(
         if sessions.count() >= acceptor.sessions {
             return sessions;
         }
-        let Ok((stream, _)) = acceptor.listener.accept() else {
+        let Ok(stream) = acceptor.socket.accept() else {
             // No descriptor is left, or the like: others may end meanwhile.
             thread::sleep(rt, Duration::from_millis(20));
             continue;

@@ -7,7 +7,8 @@ ghost use Rattle.wm_serve.specs.WakeFlags.{slot_count};
 use crate::log_events::{is_cut_off, reports_store_failure};
 use crate::registrar::ServerDesk;
 use crate::replaced::{Replaced, replace};
-use crate::sent_lines::{Answered, SentDue, answer_line, send, send_due};
+use crate::sent_alone::{SentAlone, send_in};
+use crate::sent_lines::{Answered, SentDue, SentLine, answer_line, send, send_due};
 use crate::shared::Shared;
 use crate::slot_learnt::{SlotLearnt, learn_in};
 use crate::step::Step;
@@ -42,7 +43,6 @@ pub struct EndedDropped<'a, T: ServerDesk, J: Naming, K: Wait + Clock + Copy + D
 }
 
 /// That a session answered a line, once it had dropped what it had of roots that aren't watched any longer.
-#[derive(Drop)]
 pub struct AnsweredHere<'l, 'a, T: ServerDesk, J: Naming, K: Wait + Clock + Copy + Drop> {
     pub ended: EndedDropped<'a, T, J, K>,
     pub answered: Answered<'l, ServerFront<'a, T, J, K>>,
@@ -150,6 +150,13 @@ impl<'a, T: ServerDesk, J: Naming, K: Wait + Clock + Copy + Drop> Connection<'a,
         AnsweredHere { ended, answered }
     }
 
+    /// Sends a line alone, or that memory ran out for it.
+    pub fn send(&self, line: &Result<Vec<u8>, NoMemory>) -> SentLine
+        ensures { result.line.value ≡ line.now }
+    {
+        send(line, &mut &*self.stream)
+    }
+
     /// Sends what is due. A client that doesn't read it is cut off.
     fn send_updates<R: Wait>(
         &mut self,
@@ -175,8 +182,7 @@ impl<'a, T: ServerDesk, J: Naming, K: Wait + Clock + Copy + Drop> Connection<'a,
 }
 
 /// That the session of the slot of this number answered a line, and that the roots which it has subscriptions on were noted, if the slot
-/// has a wake flag.
-#[derive(Drop)]
+/// has a wake flag. It is given up for whether the reply was sent.
 pub struct SlotAnswer<'l, 'a, T: ServerDesk, J: Naming, K: Wait + Clock + Copy + Drop> {
     slot: usize,
     pub here: AnsweredHere<'l, 'a, T, J, K>,
@@ -195,33 +201,13 @@ impl<T: ServerDesk, J: Naming, K: Wait + Clock + Copy + Drop> SlotAnswer<'_, '_,
     pub fn into_sent(self) -> io::Result<()>
         ensures { result ≡ self.entry.here.answered.sent }
     {
-        let AnsweredHere { answered, ended: _ } = self.here;
+        let SlotAnswer {
+            slot: _,
+            here,
+            noted: _,
+        } = self;
+        let AnsweredHere { answered, ended: _ } = here;
         answered.into_sent()
-    }
-}
-
-/// A line, or that memory ran out for it, was sent alone to a slot's session, unless that failed or none is there: the slot of this number
-/// alone makes it.
-#[derive(Drop)]
-pub struct SentAlone {
-    slot: usize,
-    line: Snapshot<Result<Vec<u8>, NoMemory>>,
-    sent: io::Result<()>,
-}
-
-impl SentAlone {
-    /// The slot's number.
-    pub fn slot(&self) -> usize
-        ensures { result ≡ self.now.slot }
-    {
-        self.slot
-    }
-
-    /// Whether it was sent.
-    pub fn into_sent(self) -> io::Result<()>
-        ensures { result ≡ self.sent }
-    {
-        self.sent
     }
 }
 
@@ -342,19 +328,7 @@ impl<'a, T: ServerDesk, J: Naming, K: Wait + Clock + Copy + Drop> Slot<'a, T, J,
     pub fn send<R: Wait>(&self, rt: &R, line: &Result<Vec<u8>, NoMemory>) -> SentAlone
         ensures { (result.slot ≡ self.now.number) × (result.line.value ≡ line.now) }
     {
-        let bytes = match line {
-            Ok(bytes) => Ok(bytes.as_slice()),
-            Err(NoMemory) => Err(NoMemory),
-        };
-        let sent = match &*self.connection.lock(rt) {
-            Some(one) => send(bytes, &mut &*one.stream),
-            None => Ok(()),
-        };
-        SentAlone {
-            slot: self.number,
-            line: Snapshot::of(line),
-            sent,
-        }
+        send_in(&*self.connection.lock(rt), self.number, line)
     }
 
     /// The session's viewer of a root learns what was published of it.

@@ -39,9 +39,10 @@ pub enum FollowedInHall<H> {
     Changed(ChangedHall<H>),
 }
 
-/// What was done for a command in its turn.
+/// What was done for the command of a number in its turn.
 #[derive(Drop)]
 pub struct AppliedCommand<H> {
+    pub number: u64,
     pub table: TableStep<H>,
     pub hall: FollowedInHall<H>,
 }

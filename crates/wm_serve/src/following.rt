@@ -69,7 +69,7 @@ impl<T: ServerDesk, J: Naming, K: Wait + Clock + Copy + Drop> Shared<T, J, K> {
             |following| following.is_before(number),
         );
         let applied = self.apply(rt, alloc, &following, number, command);
-        let turn = following.follow(number);
+        let turn = following.follow(&applied);
         drop(following);
         self.followed.notify_all();
         let starts = await_starts(rt, &applied.hall);
@@ -107,6 +107,7 @@ impl<T: ServerDesk, J: Naming, K: Wait + Clock + Copy + Drop> Shared<T, J, K> {
         let made = self.hall_for(rt, alloc, following.incarnation(), &command);
         let FollowedInTable { step, left } = self.follow_in_table(rt, command, made);
         AppliedCommand {
+            number,
             table: step,
             hall: self.follow_in_hall(rt, number, left),
         }

@@ -7,6 +7,7 @@
 #![tactic(auto)]
 
 mod accept_queue;
+mod accepted_stream;
 mod admission;
 mod admission_lines;
 mod beginning;
@@ -35,6 +36,7 @@ mod requests;
 mod root_table;
 mod roots_begun;
 mod second;
+mod sent_alone;
 mod sent_lines;
 mod server;
 mod server_handle;
@@ -49,6 +51,7 @@ mod step;
 mod store_closed;
 mod supervisor;
 mod tried_crawl;
+mod trigger_rounds;
 mod trigger_worker;
 mod turn;
 mod unstarted_workers;

@@ -5,11 +5,13 @@ ghost use Rattle.std.specs.Result.{IsErr};
 ghost use Rattle.wm_lines.specs.Replies.{reply_bytes};
 ghost use Rattle.wm_serve.specs.CrawlOutcomes.{IsAwaited, IsNotAsked, outcome_end};
 ghost use Rattle.wm_serve.specs.ReadLines.{IsBrokenBy, IsNextLine, ReadsNext};
+ghost use Rattle.wm_serve.specs.SentAlone.{sent_end};
 ghost use Rattle.wm_serve.specs.SentLines.{crawl_reply};
 
-use crate::connection::{SentAlone, SlotAnswer};
+use crate::connection::SlotAnswer;
 use crate::crawl_outcome::CrawlOutcome;
 use crate::registrar::ServerDesk;
+use crate::sent_alone::SentAlone;
 use crate::vacant::Vacant;
 use std::io;
 use std::io::BufRead;
@@ -59,9 +61,8 @@ pub enum NextLine {
     End(LinesEnded),
 }
 
-/// A line was answered by the session of the slot of this number, unless that failed or no session is there any longer. Contracts see the
-/// line.
-#[derive(Drop)]
+/// A line was answered by the session of the slot of this number, unless that failed or no session is there any longer. It is given up for
+/// the line that was to be answered. Contracts see the line.
 pub struct LineServed<'l> {
     slot: usize,
     line: Snapshot<&'l [u8]>,
@@ -147,7 +148,7 @@ impl LostLine {
     /// It was answered that memory ran out for it.
     pub fn served(self, reply: SentAlone) -> Result<(), LinesBroken>
         requires { IsErr reply.line.value }
-        ensures { IsBrokenBy result reply.sent }
+        ensures { IsBrokenBy result (sent_end reply.sent) }
     {
         let LostLine { is_lost: () } = self;
         unless_broken(reply.into_sent())

@@ -36,19 +36,40 @@ pub fn send_no_memory<W: Write>(writer: &mut W) -> io::Result<()>
     writer.write_all(NO_MEMORY.as_bytes())
 }
 
-/// Sends a line, or that memory ran out for it.
-pub fn send<W: Write>(line: Result<&[u8], NoMemory>, writer: &mut W) -> io::Result<()>
-    ensures { OnOk result (MatchResult line.entry (λ bytes. Appends (W.contents writer.old) (W.contents writer.new) bytes.now) (λ _. Appends (W.contents writer.old) (W.contents writer.new) no_memory_bytes)) }
-{
-    match line {
-        Ok(bytes) => writer.write_all(bytes),
-        Err(NoMemory) => send_no_memory(writer),
+/// A line, or that memory ran out for it, was sent, unless the writer failed: [`send`] alone makes it, and it is given up for whether that
+/// succeeded. Contracts see the line.
+pub struct SentLine {
+    line: Snapshot<Result<Vec<u8>, NoMemory>>,
+    sent: io::Result<()>,
+}
+
+impl SentLine {
+    /// Whether it was sent.
+    pub fn into_sent(self) -> io::Result<()>
+        ensures { result ≡ self.sent }
+    {
+        let SentLine { line: _, sent } = self;
+        sent
     }
 }
 
-/// A session has answered a line, and the reply was sent, unless the writer failed: `answer_line` alone makes it. Contracts see the line, and
-/// the session before and after.
-#[derive(Drop)]
+/// Sends a line, or that memory ran out for it.
+pub fn send<W: Write>(line: &Result<Vec<u8>, NoMemory>, writer: &mut W) -> SentLine
+    ensures line { result.line.value ≡ line.now }
+    ensures sent { OnOk result.sent (MatchResult line.now (λ bytes. Appends (W.contents writer.old) (W.contents writer.new) bytes.items) (λ _. Appends (W.contents writer.old) (W.contents writer.new) no_memory_bytes)) }
+{
+    let sent = match line {
+        Ok(bytes) => writer.write_all(bytes),
+        Err(NoMemory) => send_no_memory(writer),
+    };
+    SentLine {
+        line: Snapshot::of(line),
+        sent,
+    }
+}
+
+/// A session has answered a line, and the reply was sent, unless the writer failed: `answer_line` alone makes it, and it is given up for
+/// whether that succeeded. Contracts see the line, and the session before and after.
 pub struct Answered<'l, F> {
     sent: io::Result<()>,
     line: Snapshot<&'l [u8]>,

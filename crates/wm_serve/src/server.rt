@@ -14,7 +14,7 @@ use crate::roots_begun::RootsBegun;
 use crate::server_threads::{ServerClosed, Service, closed};
 use crate::shared::Shared;
 use crate::slots::Slots;
-use crate::socket::{identity_of, listen, remove};
+use crate::socket::ServerSocket;
 use std::alloc::Global;
 use std::fs::{File, Files};
 use std::io::{Print, Write};
@@ -39,10 +39,8 @@ use wm_triggers::Programs;
 pub struct Settings {
     /// The threads of a crawl, 1 to 16.
     pub workers: usize,
-    /// The age of what is forgotten, in seconds.
-    pub gc_age: u64,
-    /// The seconds between two age-outs of a root.
-    pub gc_interval: u64,
+    /// When deleted paths are forgotten.
+    pub retention: Retention,
     /// After so many sessions it ends.
     pub sessions: u64,
     /// Whether it writes no log.
@@ -107,14 +105,13 @@ pub fn serve<
     ensures store { IfOk result (λ served. (disk : _) × (store : _) × IsJustOpened disk × (⟦<FileDisk<Unknown> as Disk>⟧.honest store.disk → IsBegun ⟦<FileDisk<Unknown> as Disk>⟧ disk store) × IsNewDesk served.over.desk.value store) }
 {
     let store = open_file(rt, alloc, paths.file)?;
-    let Ok((listener, took_over)) = listen(rt, paths.socket) else {
+    let Ok(socket) = ServerSocket::listen(rt, paths.socket) else {
         drop(store);
         return Err(Refusal::DeviceFailed);
     };
-    let own = identity_of(rt, paths.socket);
     let service = Service {
         acceptor: Acceptor {
-            listener: &listener,
+            socket: &socket,
             sessions: settings.sessions,
         },
         crawls: CrawlTools {
@@ -123,14 +120,11 @@ pub fn serve<
             workers: settings.workers,
         },
         programs: tools.programs,
-        retention: Retention {
-            age_seconds: settings.gc_age,
-            interval_seconds: settings.gc_interval,
-        },
+        retention: settings.retention,
     };
     let log = LogPlace {
         output: (!settings.is_quiet).then_some(tools.log),
-        taken_socket: took_over.then_some(paths.socket),
+        taken_socket: socket.replaced(),
     };
     let service = LoggedService { service, log };
     let served = serve_over::<FileDisk<Unknown>, Brand, R, F, G, P, L, W>(
@@ -141,8 +135,7 @@ pub fn serve<
         &service,
         writer,
     );
-    drop(listener);
-    remove(rt, paths.socket, own);
+    socket.remove(rt);
     match served {
         Ok(over) => Ok(Served { over }),
         Err(refusal) => Err(refusal),

@@ -7,12 +7,13 @@ ghost use Rattle.wm_serve.specs.SentLines.{crawl_reply};
 ghost use Rattle.wm_serve.specs.WatchedRoots.{MayHaveHad};
 
 use crate::accept_queue::NoSession;
-use crate::connection::{Connection, SentAlone, Slot};
+use crate::connection::{Connection, Slot};
 use crate::crawl_outcome::{AwaitedCrawl, CrawlOutcome, crawl_end};
 use crate::log_events::took_too_long;
 use crate::read_lines::{LineServed, LinesBroken, LinesEnded, NextLine, next_line};
 use crate::registrar::ServerDesk;
 use crate::requests::crawl_asked;
+use crate::sent_alone::SentAlone;
 use crate::sent_lines::crawl_line;
 use crate::shared::Shared;
 use crate::waiting_sessions::{NextSession, SessionServed};

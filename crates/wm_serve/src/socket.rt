@@ -2,6 +2,7 @@
 //! Tests: serve_tests/src/sockets.rt.
 ghost use Rattle.std.specs.Prelude.{◌≡◌, ◌&&◌};
 
+use crate::accepted_stream::AcceptedStream;
 use std::fs::{File, Files, Permissions};
 use std::io::ErrorKind;
 use std::net::Net;
@@ -53,15 +54,15 @@ fn bind<R: Net + Files<File = File>>(rt: &R, path: &str) -> io::Result<(UnixList
     }
 }
 
-/// The socket of a server: where it stands, and which one it is.
+/// Which file stands at a path.
 #[derive(Clone, Copy, Debug, PartialEq, Eq)]
-pub struct Identity {
+struct Identity {
     device: u64,
     inode: u64,
 }
 
 /// Which file stands at a path, if one does.
-pub fn identity_of<R: Files<File = File>>(rt: &R, path: &str) -> Option<Identity> {
+fn identity_of<R: Files<File = File>>(rt: &R, path: &str) -> Option<Identity> {
     let found = fs::symlink_metadata(rt, path).ok()?;
     Some(Identity {
         device: found.dev(),
@@ -69,18 +70,54 @@ pub fn identity_of<R: Files<File = File>>(rt: &R, path: &str) -> Option<Identity
     })
 }
 
-/// Removes the socket of a server that ends, unless another file stands at its path by now.
-pub fn remove<R: Files<File = File>>(rt: &R, path: &str, own: Option<Identity>) {
-    if own.is_some() && identity_of(rt, path) == own {
-        let _gone = fs::remove_file(rt, path);
-    }
+/// The socket of a server, which listens: where it stands, which file it was when it was made, and whether it replaced one. Nobody can drop
+/// it: it is removed at the end.
+pub struct ServerSocket<'a> {
+    listener: UnixListener,
+    path: &'a str,
+    own: Option<Identity>,
+    replaced: bool,
 }
 
-/// Makes the socket, for this user alone. A socket that nobody serves any longer is replaced: whether one was. An `Err` if a server
-/// listens there, something else stands there, or the socket can't be made; and if its rights can't be set: then it stays,
-/// and nobody serves it.
-pub fn listen<R: Net + Files<File = File>>(rt: &R, path: &str) -> io::Result<(UnixListener, bool)> {
-    let (listener, took_over) = bind(rt, path)?;
-    fs::set_permissions(rt, path, Permissions::from_mode(0o600))?;
-    Ok((listener, took_over))
+impl<'a> ServerSocket<'a> {
+    /// Makes the socket, for this user alone. A socket that nobody serves any longer is replaced. An `Err` if a server listens there,
+    /// something else stands there, or the socket can't be made; and if its rights can't be set: then it stays, and nobody serves it.
+    pub fn listen<R: Net + Files<File = File>>(
+        rt: &R,
+        path: &'a str,
+    ) -> io::Result<ServerSocket<'a>> {
+        let (listener, replaced) = bind(rt, path)?;
+        fs::set_permissions(rt, path, Permissions::from_mode(0o600))?;
+        let own = identity_of(rt, path);
+        Ok(ServerSocket {
+            listener,
+            path,
+            own,
+            replaced,
+        })
+    }
+
+    /// The path of the socket, if it replaced one.
+    pub fn replaced(&self) -> Option<&'a str> {
+        self.replaced.then_some(self.path)
+    }
+
+    /// The next stream that comes in.
+    pub fn accept(&self) -> io::Result<AcceptedStream> {
+        AcceptedStream::next(&self.listener)
+    }
+
+    /// Listens no longer, and removes the socket, unless another file stands at its path by now.
+    pub fn remove<R: Files<File = File>>(self, rt: &R) {
+        let ServerSocket {
+            listener,
+            path,
+            own,
+            replaced: _,
+        } = self;
+        drop(listener);
+        if own.is_some() && identity_of(rt, path) == own {
+            let _gone = fs::remove_file(rt, path);
+        }
+    }
 }

@@ -1,233 +1,49 @@
-//! The worker that runs the triggers of a root: which of them stand, which run is due, and that none is started once it was deleted, is decided
-//! by the machines of wm_triggers.
-//! Definitions: specs/TriggerWork.antt. Tests: serve_tests/src/triggers.rt.
-ghost use Rattle.std.specs.Prelude.{◌≡◌, ◌⊎◌, ◌<◌, true, false, length, map, IfErr, IfOk, IsErrOf, OnErr, OnOk};
-ghost use Rattle.wm_share.specs.PublishedLists.{Begins, disconnected, history};
-ghost use Rattle.wm_view.specs.Histories.{is_ready};
-ghost use Rattle.wm_triggers.specs.KeptRuns.{kept_for};
-ghost use Rattle.wm_serve.specs.TriggerWork.{EachInTurn, FailsAt, IsNotDone, RunsAt, RunsIfDue, RunsOrStays, RunsToEnd, due_for};
+//! The worker that runs the triggers of a root with each of its changes.
+//! Tests: serve_tests/src/triggers.rt.
+ghost use Rattle.std.specs.Prelude.{◌≡◌, true};
 
+use crate::trigger_rounds::{RootPrograms, TriggerRounds};
 use std::alloc::Global;
 use std::sync::Wait;
-use wm_disk::{NoMemory, Refusal};
-use wm_hall::{Learnt, NoWork, RootHall, StandingTriggers, StartEnded, StartPermit};
+use wm_hall::{NoWork, PoolEmpty, RootHall};
 use wm_share::{Naming, Viewer};
-use wm_triggers::{
-    DefinedTrigger, DefinedTriggers, DefinitionRuns, NotRun, Permit, Programs, Run, TriggerRuns,
-};
+use wm_triggers::Programs;
 
-/// A root, and what starts the programs of its triggers.
-#[derive(Drop)]
-struct RootPrograms<'a, J: Naming, K: Wait + Drop, P> {
-    hall: &'a RootHall<J, K>,
-    programs: &'a P,
-}
-
-/// The permit to start a definition of a trigger, which the root gives while the definition stands.
-#[derive(Drop)]
-struct StandingPermit<'a, R: Wait, J: Naming, K: Wait + Drop> {
-    rt: &'a R,
-    hall: &'a RootHall<J, K>,
-    one: DefinedTrigger,
-}
-
-impl<R: Wait, J: Naming, K: Wait + Drop> Permit for StandingPermit<'_, R, J, K> {
-    ghost use Rattle.std.specs.Prelude.{◌≡◌};
-
-    type Given = StartPermit;
-
-    type Ended = StartEnded;
-
-    ghost shows_given = { λ permit given. given ≡ record { root = permit.hall.now.number; one = permit.one } };
-
-    ghost shows_ended = { λ permit ended. ended ≡ record { root = permit.hall.now.number; one = permit.one } };
-
-    fn begin(&self) -> Option<StartPermit> {
-        let one = self.one.copy().ok()?;
-        self.hall.begin_start(self.rt, one).ok()
-    }
-
-    fn end(&self, given: StartPermit) -> StartEnded {
-        self.hall.end_start(self.rt, given)
-    }
-}
-
-/// The permit to start the definition of these runs in a root.
-fn permit_for<'a, R: Wait, J: Naming, K: Wait + Drop>(
-    rt: &'a R,
-    hall: &'a RootHall<J, K>,
-    one: &DefinitionRuns,
-) -> Result<StandingPermit<'a, R, J, K>, NoMemory>
-    ensures hall { IfOk result (λ permit. permit.hall.now ≡ hall.now) }
-    ensures definition { IfOk result (λ permit. permit.one ≡ record { number = one.now.number; trigger = one.now.trigger }) }
-{
-    let one = one.definition()?;
-    Ok(StandingPermit { rt, hall, one })
-}
-
-/// Why a run wasn't done.
-#[derive(Clone, Copy)]
-pub enum NotDone {
-    /// What it would list was refused.
-    Refused(Refusal),
-    /// Its program didn't run.
-    Unstarted(NotRun),
-}
-
-/// The run of a definition that is due, as the viewer sees the root: its files are those that changed since the last run that was
-/// started. `NotReady` before the first whole listing, `NoPlace` if the root is gone, and `NoMemory`.
-fn due_run<J: Naming>(
-    alloc: Global,
-    viewer: &mut Viewer<J>,
-    one: &DefinitionRuns,
-) -> Result<Option<Run>, Refusal>
-    ensures seen { Begins viewer.old.list viewer.new.list }
-    ensures due { IfOk result (λ run. run ≡ due_for one.now (history viewer.new.list)) }
-    ensures refused { IfErr result (λ e. (e ≡ Refusal.NoMemory) ⊎ ((e ≡ Refusal.NoPlace) × (viewer.new ≡ disconnected viewer.old)) ⊎ ((e ≡ Refusal.NotReady) × (is_ready (history viewer.new.list) ≡ false))) }
-{
-    let query = one.runs().ask(alloc)?;
-    let answer = viewer.answer(alloc, &query);
-    drop(query);
-    Ok(one.runs().run_of(answer?))
-}
-
-/// Starts the program of a run that is due, and waits for its end, however it ends: that its definition's start was permitted, and is over.
-/// `NotPermitted` if its definition doesn't stand any longer.
-fn start<R: Wait, J: Naming, K: Wait + Drop, P: Programs>(
-    rt: &R,
-    alloc: Global,
-    root: &RootPrograms<'_, J, K, P>,
-    one: &DefinitionRuns,
-    run: &Run,
-) -> Result<StartEnded, NotRun>
-    ensures ran { OnOk result (RunsToEnd (P.has_run root.now.programs.now) root.now.hall.now.path one.now.trigger run.now) }
-    ensures permitted { IfOk result (λ ended. ended ≡ record { root = root.now.hall.now.number; one = record { number = one.now.number; trigger = one.now.trigger } }) }
-    ensures failed { IsErrOf result NotRun.DeviceFailed → P.has_failed root.now.programs.now root.now.hall.now.path one.now.trigger run.now }
-{
-    let permit = permit_for(rt, root.hall, one)?;
-    let (_end, ended) = root
-        .programs
-        .run(alloc, &root.hall.path, one.trigger(), run, permit)?;
-    Ok(ended)
-}
-
-/// Runs the definition at a place if a run of it is due. It is refused as `due_run` and `start` are: its next run then lists the
-/// same files again.
-fn run_at<R: Wait, J: Naming, K: Wait + Drop, P: Programs>(
-    rt: &R,
-    alloc: Global,
-    root: &RootPrograms<'_, J, K, P>,
-    viewer: &mut Viewer<J>,
-    runs: &mut TriggerRuns,
-    place: usize,
-) -> Result<(), NotDone>
-    requires { place < length runs.old }
-    ensures seen { Begins viewer.old.list viewer.new.list }
-    ensures ran { OnOk result (RunsAt (RunsToEnd (P.has_run root.now.programs.now)) root.now.hall.now.path (history viewer.new.list) place runs.old runs.new) }
-    ensures same { OnErr result (runs.new ≡ runs.old) }
-    ensures refused { IfErr result (IsNotDone viewer.old viewer.new (FailsAt (P.has_failed root.now.programs.now) root.now.hall.now.path (history viewer.new.list) place runs.old)) }
-{
-    let one = runs.at(place);
-    let run = match due_run(alloc, viewer, one) {
-        Ok(Some(run)) => run,
-        Ok(None) => return Ok(()),
-        Err(refusal) => return Err(NotDone::Refused(refusal)),
-    };
-    match start(rt, alloc, root, one, &run) {
-        Ok(_ended) => {
-            runs.started(place, &run);
-            Ok(())
-        }
-        Err(not_run) => Err(NotDone::Unstarted(not_run)),
-    }
-}
-
-/// Runs each definition of which a run is due, one after another, whether or not others are done: why the last one wasn't that was not, if there is one.
-fn run_each<R: Wait, J: Naming, K: Wait + Drop, P: Programs>(
-    rt: &R,
-    alloc: Global,
-    root: &RootPrograms<'_, J, K, P>,
-    viewer: &mut Viewer<J>,
-    runs: &mut TriggerRuns,
-) -> Result<(), NotDone>
-    ensures each { EachInTurn (RunsOrStays (RunsToEnd (P.has_run root.now.programs.now)) root.now.hall.now.path) viewer.old.list runs.old runs.new viewer.new.list }
-    ensures ok { OnOk result (EachInTurn (RunsIfDue (RunsToEnd (P.has_run root.now.programs.now)) root.now.hall.now.path) viewer.old.list runs.old runs.new viewer.new.list) }
-{
-    let mut met = Ok(());
-    for place in 0..runs.len() {
-        if let Err(not_done) = run_at(rt, alloc, root, viewer, runs, place) {
-            met = Err(not_done);
-        }
-    }
-    met
-}
-
-/// A round: the runs of just these definitions are kept, and each of which a run is due is run, in their order. One that is refused is
-/// tried again with the next change.
-fn run_round<R: Wait, J: Naming, K: Wait + Drop, P: Programs>(
-    rt: &R,
-    alloc: Global,
-    root: &RootPrograms<'_, J, K, P>,
-    viewer: &mut Viewer<J>,
-    defined: &DefinedTriggers,
-    runs: &mut TriggerRuns,
-) -> Result<(), NotDone>
-    ensures each { (runs.new ≡ runs.old) ⊎ EachInTurn (RunsOrStays (RunsToEnd (P.has_run root.now.programs.now)) root.now.hall.now.path) viewer.old.list (map (kept_for runs.old) defined.now) runs.new viewer.new.list }
-    ensures ok { OnOk result (EachInTurn (RunsIfDue (RunsToEnd (P.has_run root.now.programs.now)) root.now.hall.now.path) viewer.old.list (map (kept_for runs.old) defined.now) runs.new viewer.new.list) }
-{
-    if let Err(refusal) = runs.keep(alloc, defined) {
-        return Err(NotDone::Refused(refusal));
-    }
-    run_each(rt, alloc, root, viewer, runs)
-}
-
-/// A round of triggers: those that stood, and how it ended.
-#[derive(Drop)]
-struct Round {
-    standing: StandingTriggers,
-    ended: Result<(), NotDone>,
-}
-
-/// A round of the triggers that are defined now, once the viewer has learnt what was published last. `NoMemory` for their definitions.
-fn run_all<R: Wait, J: Naming, K: Wait + Drop, P: Programs>(
-    rt: &R,
-    alloc: Global,
-    root: &RootPrograms<'_, J, K, P>,
-    learnt: Learnt,
-    viewer: &mut Viewer<J>,
-    runs: &mut TriggerRuns,
-) -> Result<Round, NoMemory>
-    ensures root { IfOk result (λ round. round.standing.root ≡ root.now.hall.now.number) }
-    ensures each { IfOk result (λ round. (runs.new ≡ runs.old) ⊎ EachInTurn (RunsOrStays (RunsToEnd (P.has_run root.now.programs.now)) root.now.hall.now.path) viewer.old.list (map (kept_for runs.old) round.standing.table.defined) runs.new viewer.new.list) }
-    ensures same { OnErr result (runs.new ≡ runs.old) }
-{
-    drop(learnt);
-    let standing = root.hall.defined(rt, alloc)?;
-    let ended = run_round(rt, alloc, root, viewer, standing.definitions(), runs);
-    Ok(Round { standing, ended })
-}
-
-/// Runs the triggers with each change, until the root isn't watched any longer. Without a viewer it runs none.
+/// Runs the triggers with each change, until the root isn't watched any longer.
 fn run_on_changes<R: Wait, J: Naming, K: Wait + Drop, P: Programs>(
     rt: &R,
     alloc: Global,
     root: &RootPrograms<'_, J, K, P>,
-    viewer: &mut Option<Viewer<J>>,
-    runs: &mut TriggerRuns,
+    viewer: Viewer<J>,
 ) -> NoWork
     ensures { result ≡ true }
 {
+    let mut rounds = TriggerRounds::new(alloc, viewer);
+    let mut last = None;
+    for _ in rt.forever() {
+        match rounds.next(rt, alloc, root, last) {
+            Ok(over) => last = Some(over),
+            Err(none) => return none,
+        }
+    }
+    unreachable!()
+}
+
+/// Waits until the root isn't watched any longer: without a viewer it runs no triggers.
+fn wait_without_viewer<R: Wait, J: Naming, K: Wait + Drop>(
+    rt: &R,
+    hall: &RootHall<J, K>,
+    empty: PoolEmpty,
+) -> NoWork
+    ensures { result ≡ true }
+{
+    drop(empty);
     let mut seen = None;
     for _ in rt.forever() {
-        match root.hall.work.next_change(rt, seen) {
+        match hall.work.next_change(rt, seen) {
             Ok(changes) => seen = Some(changes),
             Err(none) => return none,
         }
-        let Some(viewer) = viewer else {
-            continue;
-        };
-        let learnt = root.hall.teach(rt, viewer);
-        let _round = run_all(rt, alloc, root, learnt, viewer, runs);
     }
     unreachable!()
 }
@@ -241,11 +57,9 @@ pub fn run_triggers<R: Wait, J: Naming, K: Wait + Drop, P: Programs>(
 ) -> NoWork
     ensures { result ≡ true }
 {
-    let mut viewer = hall.lend(rt).ok();
-    let mut runs = TriggerRuns::new(alloc);
     let root = RootPrograms { hall, programs };
-    let none = run_on_changes(rt, alloc, &root, &mut viewer, &mut runs);
-    drop(runs);
-    drop(viewer);
-    none
+    match hall.lend(rt) {
+        Ok(viewer) => run_on_changes(rt, alloc, &root, viewer),
+        Err(empty) => wait_without_viewer(rt, hall, empty),
+    }
 }

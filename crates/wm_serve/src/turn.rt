@@ -3,6 +3,7 @@
 ghost use Rattle.std.specs.Prelude.{◌≡◌, max};
 ghost use Rattle.wm_serve.specs.Turns.{is_out_of_turn, is_short_of as is_short_of_lem};
 
+use crate::followed_command::AppliedCommand;
 use crate::step::Step;
 use std::marker::Model;
 use std::snapshot::Snapshot;
@@ -93,14 +94,14 @@ impl Following {
         self.count < count
     }
 
-    /// The command of this number was followed.
-    pub fn follow(&mut self, number: u64) -> Step<Following>
+    /// The command was followed that was applied.
+    pub fn follow<H>(&mut self, applied: &AppliedCommand<H>) -> Step<Following>
         ensures step { (result.before ≡ self.old) × (result.after ≡ self.new) }
-        ensures new { self.new ≡ record self.old { count = max self.old.count number } }
+        ensures new { self.new ≡ record self.old { count = max self.old.count applied.now.number } }
     {
         let before = Snapshot::of(&*self);
-        if self.count < number {
-            self.count = number;
+        if self.count < applied.number {
+            self.count = applied.number;
         }
         Step::taken(before, self)
     }

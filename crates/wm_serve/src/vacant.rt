@@ -17,6 +17,12 @@ pub struct Vacant<'a, T: ServerDesk, J: Naming, K: Wait + Clock + Copy + Drop> {
     ghost none: { seen.value ≡ None },
 }
 
+/// As [`Vacant`], which alone makes it, whatever a session has.
+#[derive(Drop)]
+pub struct NobodyThere {
+    slot: usize,
+}
+
 impl<'a, T: ServerDesk, J: Naming, K: Wait + Clock + Copy + Drop> Vacant<'a, T, J, K> {
     /// As it was seen under the lock.
     pub fn of(slot: usize, seen: Snapshot<Option<Connection<'a, T, J, K>>>) -> Vacant<'a, T, J, K>
@@ -31,5 +37,12 @@ impl<'a, T: ServerDesk, J: Naming, K: Wait + Clock + Copy + Drop> Vacant<'a, T, 
         ensures { result ≡ self.now.slot }
     {
         self.slot
+    }
+
+    /// The slot's number alone.
+    pub fn nobody(self) -> NobodyThere
+        ensures { result.slot ≡ self.entry.slot }
+    {
+        NobodyThere { slot: self.slot }
     }
 }

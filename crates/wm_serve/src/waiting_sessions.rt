@@ -3,7 +3,7 @@
 ghost use Rattle.std.specs.Prelude.{◌≡◌, [], true, MatchResult};
 ghost use Rattle.wm_serve.specs.AcceptQueues.{IsAdmitted, IsFirstSession, closed_queue, left_queue, opened_queue};
 
-use crate::accept_queue::{AcceptQueue, NoSession};
+use crate::accept_queue::{AcceptQueue, NoSession, ServedPlace};
 use crate::read_lines::{LinesBroken, LinesEnded};
 use crate::step::Step;
 use std::alloc::Global;
@@ -28,6 +28,7 @@ pub struct Admission {
 /// That a session has a slot from now on, by what the queue did. It is to be given up as the session leaves ([`WaitingSessions::leave`]).
 pub struct SlotTaken {
     step: QueueStep,
+    place: ServedPlace,
 }
 
 /// That a session had its slot until its lines ended or were broken off; `None` if memory ran out before its first line.
@@ -60,11 +61,11 @@ fn take(queue: &mut AcceptQueue<UnixStream>) -> Result<NextSession, NoSession>
     ensures { MatchResult result (λ next. (next.taken.step.before ≡ queue.old) × IsFirstSession next.stream queue.old next.taken.step.after) (λ none. (none ≡ queue.old.is_closed) × (queue.old.waiting ≡ [])) }
 {
     let before = Snapshot::of(queue);
-    let stream = queue.take()?;
+    let (stream, place) = queue.take()?;
     let step = Step::taken(before, queue);
     Ok(NextSession {
         stream,
-        taken: SlotTaken { step },
+        taken: SlotTaken { step, place },
     })
 }
 
@@ -123,10 +124,10 @@ impl WaitingSessions {
         ensures { result.after ≡ left_queue result.before }
     {
         let SessionServed { taken, lines: _ } = served;
-        let SlotTaken { step: _ } = taken;
+        let SlotTaken { step: _, place } = taken;
         let mut queue = self.queue.lock(rt);
         let before = Snapshot::of(&*queue);
-        queue.leave();
+        queue.leave(place);
         Step::taken(before, &*queue)
     }
 

@@ -2,8 +2,8 @@ use Rattle.std.proofs.Common.{◌≡◌, ◌<◌, ◌+◌, length, OnOk, arith, 
 use Rattle.wm_share.specs.PublishedLists.{history}
 use Rattle.wm_serve.specs.TriggerWork.{RunsIfDue, RunsOrStays, RunsToEnd}
 use Rattle.wm_serve.proofs.Rounds.{IsPartDone, all_done, next_done, none_done, on_ok, refused_ok, turn_ran, turn_ran_or, turn_stays}
-use Rattle.wm_serve.proofs.trigger_worker.run_each.Goals.{in-Err, in_default}
-use Rattle.wm_serve.proofs.trigger_worker.run_each.Goals as goal
+use Rattle.wm_serve.proofs.trigger_rounds.run_each.Goals.{in-Err, in_default}
+use Rattle.wm_serve.proofs.trigger_rounds.run_each.Goals as goal
 
 pub loop-place-init : goal.loop-place-init
 loop-place-init g c =

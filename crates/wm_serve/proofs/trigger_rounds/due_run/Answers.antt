@@ -5,7 +5,7 @@ use Rattle.wm_share.specs.PublishedLists.{history}
 use Rattle.wm_triggers.specs.Due.{run_by}
 use Rattle.wm_triggers.specs.TriggerRuns.{chosen_term, is_for, last_started}
 use Rattle.wm_serve.proofs.DueRuns.{due_by}
-use Rattle.wm_serve.proofs.trigger_worker.due_run.Goals as goal
+use Rattle.wm_serve.proofs.trigger_rounds.due_run.Goals as goal
 
 pub returns-clause-due : goal.returns-clause-due
 returns-clause-due g c =

@@ -1,7 +1,7 @@
 use Rattle.std.proofs.Common.{OnOk}
 use Rattle.wm_serve.specs.TriggerWork.{RunsIfDue, RunsOrStays, RunsToEnd}
 use Rattle.wm_serve.proofs.Rounds.{IsPartDone}
-use Rattle.wm_serve.proofs.trigger_worker.run_each.Given as goal
+use Rattle.wm_serve.proofs.trigger_rounds.run_each.Given as goal
 
 abbrev pub invariant-loop-place : goal.invariant-loop-place
 invariant-loop-place g l = record {
