@@ -14,9 +14,9 @@ use wm_client::{Request, SyncFiles, Words, wmctl};
 use wm_findings::is_wanted;
 
 /// Handles the words; if there is a request, what is to be said of its answer is written behind that. An error is that of memory.
-fn run(rt: &HostRuntime, words: &[&str], request: Option<&Request>) -> io::Result<Ended> {
+fn run(rt: &HostRuntime, words: &[&str], request: Option<Request>) -> io::Result<Ended> {
+    let mut printer = Replies::new(rt, rt.alloc(), request, io::writer(rt));
     let errors = rt.stderr();
-    let mut printer = Replies::new(rt, rt.alloc(), request, io::writer(rt), io::writer(&errors));
     let mut faults = Faults::new(io::writer(&errors));
     let system = SyncFiles {
         rt,
@@ -32,15 +32,17 @@ fn run(rt: &HostRuntime, words: &[&str], request: Option<&Request>) -> io::Resul
 }
 
 /// Handles the words, and explains a failure, or an answer that misleads.
-fn run_explained(rt: &HostRuntime, words: &[&str]) -> io::Result<u8> {
+fn run_explained(rt: &HostRuntime) -> io::Result<u8> {
     let alloc = rt.alloc();
-    let read = Words::read(alloc, words);
-    let request = match &read {
+    let args: Vec<String> = env::args(rt)?.skip(1).collect(alloc)?;
+    let words: Vec<&str> = args.iter().map(|word| word.as_str()).collect(alloc)?;
+    let request = match Words::read(alloc, &words) {
         Ok(Words::Talk(request)) => Some(request),
-        _ => None,
+        Ok(Words::Shown { text: _text, .. }) => None,
+        Err(_error) => None,
     };
-    let ended = run(rt, words, request)?;
-    if let Ok(Some(line)) = explaining::line_of(rt, alloc, ended, words) {
+    let ended = run(rt, &words, request)?;
+    if let Ok(Some(line)) = explaining::line_of(rt, alloc, ended, &words) {
         // If it can't be written, the status says what happened.
         let _written = rt.eprint(line.as_str());
     }
@@ -49,12 +51,12 @@ fn run_explained(rt: &HostRuntime, words: &[&str]) -> io::Result<u8> {
 
 /// Handles the program's words, with explanations if they are wanted. An error is that of memory, or of a word that isn't UTF-8.
 fn run_words(rt: &HostRuntime) -> io::Result<u8> {
+    if is_wanted(rt, rt.stderr().is_terminal()) {
+        return run_explained(rt);
+    }
     let alloc = rt.alloc();
     let args: Vec<String> = env::args(rt)?.skip(1).collect(alloc)?;
     let words: Vec<&str> = args.iter().map(|word| word.as_str()).collect(alloc)?;
-    if is_wanted(rt, rt.stderr().is_terminal()) {
-        return run_explained(rt, &words);
-    }
     let ended = run(rt, &words, None)?;
     Ok(ended.status)
 }

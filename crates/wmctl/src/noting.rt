@@ -2,7 +2,6 @@
 
 use crate::explaining::answer_text;
 use std::alloc::Global;
-use std::fs::{File, Files};
 use std::io;
 use std::io::Write;
 use wm_client::{Request, refusal_of};
@@ -10,33 +9,30 @@ use wm_disk::Refusal;
 
 /// A writer of replies, which are written a line in a call.
 #[derive(Drop)]
-pub struct Replies<'a, R, W, E> {
-    rt: &'a R,
+pub struct Replies<'a, W> {
+    rt: &'a HostRuntime,
     alloc: Global,
-    request: Option<&'a Request>,
+    request: Option<Request>,
     writer: W,
-    faults: E,
     is_used: bool,
     /// Which refusal the first reply is.
     pub refusal: Option<Refusal>,
 }
 
-impl<'a, R: Files<File = File>, W: Write, E: Write> Replies<'a, R, W, E> {
-    /// A writer to which nothing was written. If there is a request, what is to be said of it goes to `faults` behind the first reply, if
-    /// that is no refusal.
+impl<'a, W: Write> Replies<'a, W> {
+    /// A writer to which nothing was written. If there is a request, what is to be said of it goes to standard error behind the first
+    /// reply, if that is no refusal.
     pub fn new(
-        rt: &'a R,
+        rt: &'a HostRuntime,
         alloc: Global,
-        request: Option<&'a Request>,
+        request: Option<Request>,
         writer: W,
-        faults: E,
-    ) -> Replies<'a, R, W, E> {
+    ) -> Replies<'a, W> {
         Replies {
             rt,
             alloc,
             request,
             writer,
-            faults,
             is_used: false,
             refusal: None,
         }
@@ -50,14 +46,14 @@ impl<'a, R: Files<File = File>, W: Write, E: Write> Replies<'a, R, W, E> {
         if self.refusal.is_some() {
             return;
         }
-        if let Ok(text) = answer_text(self.rt, self.alloc, request) {
+        if let Ok(text) = answer_text(self.rt, self.alloc, &request) {
             // If it can't be said, the reply is there all the same.
-            let _said = self.faults.write_all(text.as_bytes());
+            let _said = self.rt.eprint(text.as_str());
         }
     }
 }
 
-impl<R: Files<File = File>, W: Write, E: Write> Write for Replies<'_, R, W, E> {
+impl<W: Write> Write for Replies<'_, W> {
     fn write(&mut self, bytes: &[u8]) -> io::Result<usize> {
         if !self.is_used {
             self.is_used = true;
