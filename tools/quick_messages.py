@@ -303,7 +303,9 @@ def check_unready(checks, place, wmctl):
     dark, over = place.path("theirs/dark"), place.path("theirs")
     unreadable = f"{dark}: this folder can't be read: give the server's user the right to it, or watch a folder below"
     for root, unready, unread in ((dark, unreadable, unreadable), (over, NO_CRAWL, NO_READING)):
-        run(place, [wmctl, "theirs/sock", '["watch","%s"]' % root], False, True)
+        watched = '{"version":"w1","watch":"%s"}\n' % root
+        further = unreadable if root == dark else ""
+        check(checks, place, [wmctl, "theirs/sock", '["watch","%s"]' % root], 0, watched, "", further, True)
         for request, refusal, further in (("clock", "6 NotReady", unready), ("recrawl", "13 DeviceFailed", unread)):
             words = [wmctl, "theirs/sock", '["%s","%s"]' % (request, root)]
             check(checks, place, words, 1, '{"error":"%s","version":"w1"}\n' % refusal, "", further, True)

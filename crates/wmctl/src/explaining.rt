@@ -73,7 +73,7 @@ fn link_line<R: Files<File = File>>(
     Ok(Some(root_line(alloc, root, RootFound::Link(folder.as_str()))?))
 }
 
-/// The line of the root of a request that succeeded: no folder is there, or it is watched by a symbolic link.
+/// The line of the root of a request that succeeded: no folder is there; or it can't be read, or is a link, and is to be watched.
 fn folder_line<R: Files<File = File>>(
     rt: &R,
     alloc: Global,
@@ -85,10 +85,13 @@ fn folder_line<R: Files<File = File>>(
     if let Some(found) = found_without_folder(rt, root.as_str()) {
         return Ok(Some(root_line(alloc, root.as_str(), found)?));
     }
-    if request_kind(alloc, json)? == RequestKind::Watch {
-        return link_line(rt, alloc, root.as_str());
+    if request_kind(alloc, json)? != RequestKind::Watch {
+        return Ok(None);
     }
-    Ok(None)
+    if is_unreadable(rt, root.as_str()) {
+        return Ok(Some(root_line(alloc, root.as_str(), RootFound::Unreadable)?));
+    }
+    link_line(rt, alloc, root.as_str())
 }
 
 /// The line of a request that succeeded, if its answer may mislead.
