@@ -11,8 +11,8 @@ ghost use Rattle.wm_groupcommit.specs.Submits.{LookAnswered, Submitted, Turned, 
 
 use crate::book::Book;
 use crate::locked::{
-    Accepted, CallQueue, Closed, Delivery, Flushed, Flusher, LockedDesk, NoFlusher, NoSeat,
-    RegistryCopy, ReplyReceiver, Room, Shown, Unclosed, is_empty, new_pass, push,
+    Accepted, CallQueue, ClosePermit, Closed, Delivery, Flushed, Flusher, LockedDesk, NoFlusher,
+    NoSeat, RegistryCopy, ReplyReceiver, Room, Shown, Unclosed, is_empty, new_pass, push,
 };
 use crate::queued::Call;
 use crate::receipt::Receipt;
@@ -44,9 +44,13 @@ pub struct Desk<D: Disk + Drop> {
 }
 
 impl<D: Disk + Drop> Desk<D> {
-    /// A desk over the store, which stays as it is, with no seat and no flusher yet. `16 NoMemory` hands the store back.
-    pub fn new(alloc: Global, store: Store<D>) -> Result<Desk<D>, (Refusal, Store<D>)>
-        ensures ok { IfOk result (λ desk. IsNewDesk desk store) }
+    /// A desk over the store, which stays as it is, with no seat and no flusher yet, and the one permit to close the store. `16 NoMemory`
+    /// hands the store back.
+    pub fn new(
+        alloc: Global,
+        store: Store<D>,
+    ) -> Result<(Desk<D>, ClosePermit), (Refusal, Store<D>)>
+        ensures ok { IfOk result (λ made. IsNewDesk made.0 store) }
         ensures err { IfErr result (λ e. (e.0 ≡ no_memory) × (e.1 ≡ store)) }
     {
         let book = Book::open(store);
@@ -54,14 +58,16 @@ impl<D: Disk + Drop> Desk<D> {
             return Err((Refusal::NoMemory, book.into_store()));
         };
         drop(pass);
-        let (locked, found) = under_lock(LockedDesk::new(alloc, book));
-        Ok(Desk {
+        let (locked, permit) = LockedDesk::new(alloc, book);
+        let (locked, found) = under_lock(locked);
+        let desk = Desk {
             queue,
             locked,
             found,
             sleeper: Parker::new(),
             alloc,
-        })
+        };
+        Ok((desk, permit))
     }
 
     /// The store, as the last flush left it.
@@ -80,10 +86,10 @@ impl<D: Disk + Drop> Desk<D> {
     /// Closes the store, and wakes the flusher's thread. What was submitted and isn't committed by then is
     /// answered `12 StoreFailed` at the next flush, or `16 NoMemory` where there is no room. It is refused as
     /// [`Store::close`] is.
-    pub fn close<R: Wait>(&self, rt: &R) -> Result<Closed<D>, Unclosed<D>>
+    pub fn close<R: Wait>(&self, rt: &R, permit: ClosePermit) -> Result<Closed<D>, Unclosed<D>>
         ensures { IfErr result (λ e. (e ≡ device_failed) ⊎ (e ≡ store_failed)) }
     {
-        let closed = close(&mut *self.locked.lock(rt));
+        let closed = close(&mut *self.locked.lock(rt), permit);
         self.sleeper.unpark();
         closed
     }
@@ -236,13 +242,16 @@ fn under_lock<D: Disk + Drop>(
 }
 
 /// Closes the store of the locked desk.
-fn close<D: Disk + Drop>(desk: &mut LockedDesk<D>) -> Result<Closed<D>, Unclosed<D>>
+fn close<D: Disk + Drop>(
+    desk: &mut LockedDesk<D>,
+    permit: ClosePermit,
+) -> Result<Closed<D>, Unclosed<D>>
     ensures ok { OnOk result (desk.new.book.store.closed ≡ true) }
     ensures refused { IfErr result (λ e. IsUnclosed D.Disk desk.old desk.new e) }
     ensures kinds { IfErr result (λ e. (e ≡ device_failed) ⊎ (e ≡ store_failed)) }
 {
     let before = Snapshot::of(desk);
-    match desk.close() {
+    match desk.close(permit) {
         Ok(()) => Ok(Closed::of(desk)),
         Err(refusal) => Err(Unclosed::of(refusal, before, desk)),
     }

@@ -15,6 +15,8 @@ mod same_commands;
 mod seat;
 
 pub use desk::Desk;
-pub use locked::{Accepted, Closed, Flushed, Flusher, NoFlusher, NoSeat, RegistryCopy, Unclosed};
-pub use receipt::{Receipt, Standing};
+pub use locked::{
+    Accepted, ClosePermit, Closed, Flushed, Flusher, NoFlusher, NoSeat, RegistryCopy, Unclosed,
+};
+pub use receipt::{CommandNumber, Receipt, Standing};
 pub use seat::Seat;

@@ -71,18 +71,25 @@ impl<D: Disk + Drop> Model for LockedDesk<D> {
     ghost invariant = { λ s. AllLater s.ends.items (Some s.book.base) s.book.list × IsCounted s.counts.items s.book.list × AreNumbered 0 s.ends.items × (length s.counts.items ≡ length s.ends.items) };
 }
 
+/// That the store of a desk may be closed. A new locked desk alone makes it, and the close uses it up.
+#[derive(Drop)]
+pub struct ClosePermit {
+    is_unused: (),
+}
+
 impl<D: Disk + Drop> LockedDesk<D> {
-    /// The book, with no seat and no flusher yet.
-    pub fn new(alloc: Global, book: Book<D>) -> LockedDesk<D>
+    /// The book, with no seat and no flusher yet, and the one permit to close the store.
+    pub fn new(alloc: Global, book: Book<D>) -> (LockedDesk<D>, ClosePermit)
         requires { book.list ≡ [] }
-        ensures { (result.book ≡ book) × (result.ends ≡ []) × (result.counts ≡ []) × (result.has_flusher ≡ false) }
+        ensures { (result.0.book ≡ book) × (result.0.ends ≡ []) × (result.0.counts ≡ []) × (result.0.has_flusher ≡ false) }
     {
-        LockedDesk {
+        let desk = LockedDesk {
             book,
             ends: Vec::new(alloc),
             counts: Vec::new(alloc),
             has_flusher: false,
-        }
+        };
+        (desk, ClosePermit { is_unused: () })
     }
 
     /// A new seat's number and its end of its reply queue. `NoPlace` where 64 were given, and `NoMemory`.
@@ -193,7 +200,7 @@ impl<D: Disk + Drop> LockedDesk<D> {
 
     /// Closes the store: from then on each call is answered `12`, or `16` where there is no room. It is refused
     /// as [`Store::close`] is.
-    pub fn close(&mut self) -> Result<(), Refusal>
+    pub fn close(&mut self, _permit: ClosePermit) -> Result<(), Refusal>
         ensures list { (self.new.book.base ≡ self.old.book.base) × (self.new.book.list ≡ self.old.book.list) }
         ensures rest { (self.new.ends ≡ self.old.ends) × (self.new.counts ≡ self.old.counts) × (self.new.has_flusher ≡ self.old.has_flusher) }
         ensures closed { OnOk result (self.new.book.store.closed ≡ true) }

@@ -13,13 +13,41 @@ use std::snapshot::Snapshot;
 use wm_disk::NoMemory;
 use wm_registry::{Command, Reply};
 
+/// The number of an accepted command, from 1. A submit alone makes it, once for each such command. Contracts see the number.
+#[derive(Drop)]
+pub struct CommandNumber {
+    number: u64,
+}
+
+impl Model for CommandNumber {
+    ghost use Rattle.std.specs.Prelude.{ℕ};
+
+    ghost Value = { ℕ };
+
+    ghost view = { λ n. n.number };
+}
+
+impl CommandNumber {
+    /// The number.
+    pub fn get(&self) -> u64
+        ensures { result ≡ self.now }
+    {
+        self.number
+    }
+}
+
 /// Where an answered command stands in the list of accepted commands.
 #[derive(Drop)]
 pub enum Standing {
     /// It was accepted, and has this number, from 1.
-    Stands { number: u64, command: Command },
+    Stands {
+        number: CommandNumber,
+        command: Command,
+    },
     /// It changed nothing after so many commands.
-    Unchanged { after: u64 },
+    Unchanged {
+        after: u64,
+    },
 }
 
 /// Where a command stood that was answered. A submit alone makes it.
@@ -59,7 +87,7 @@ impl Receipt {
         } = call;
         let standing = if reply.is_change() {
             Standing::Stands {
-                number: at + 1,
+                number: CommandNumber { number: at + 1 },
                 command,
             }
         } else {

@@ -32,7 +32,7 @@ fn mark(standing: &Standing) -> u64
     ensures { result ≡ mark_of standing.now }
 {
     match standing {
-        Standing::Stands { number, .. } => *number,
+        Standing::Stands { number, .. } => number.get(),
         Standing::Unchanged { after } => *after,
     }
 }

@@ -5,7 +5,7 @@ use std::alloc::Global;
 use std::process::Abort;
 use std::sync::Wait;
 use wm_disk::{MemDisk, Refusal};
-use wm_groupcommit::{Desk, Receipt};
+use wm_groupcommit::{ClosePermit, Desk, Receipt};
 use wm_names::RootPath;
 use wm_registry::{Command, Reply, Version};
 use wm_store::Store;
@@ -18,9 +18,17 @@ pub(crate) fn desk(rt: &impl Abort, alloc: Global) -> Kept {
     desk_over(rt, alloc, opened(rt, alloc, Version::Two))
 }
 
+/// A desk over a store on a new file of version 2, and the permit to close it.
+pub(crate) fn desk_to_close(rt: &impl Abort, alloc: Global) -> (Kept, ClosePermit) {
+    let store = opened(rt, alloc, Version::Two);
+    Desk::new(alloc, store).ok().expect(rt, "a desk")
+}
+
 /// A desk over this store.
 pub(crate) fn desk_over(rt: &impl Abort, alloc: Global, store: Store<MemDisk>) -> Kept {
-    Desk::new(alloc, store).ok().expect(rt, "a desk")
+    let (desk, permit) = Desk::new(alloc, store).ok().expect(rt, "a desk");
+    drop(permit);
+    desk
 }
 
 /// How many roots the desk's store watches at the end.

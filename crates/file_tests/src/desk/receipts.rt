@@ -82,7 +82,9 @@ fn watch_stands<R: Wait + Abort>(rt: &R, desk: &Kept, receipt: &Receipt) -> bool
 /// Whether the trigger's definition stands at that number, and then nothing is left of the receipt.
 fn stood_at(receipt: Receipt, wanted: u64, trigger: &Trigger) -> bool {
     match receipt.into_standing() {
-        Standing::Stands { number, command } => number == wanted && defines(&command, trigger),
+        Standing::Stands { number, command } => {
+            number.get() == wanted && defines(&command, trigger)
+        }
         Standing::Unchanged { .. } => false,
     }
 }

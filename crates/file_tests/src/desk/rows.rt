@@ -2,21 +2,23 @@
 ghost use Rattle.wm_groupcommit.specs.Seats.{IsSeatOf};
 
 use crate::checks::check;
-use crate::desk::desks::{Kept, desk, flush_for, is_watch, refusal_of, unwatch, watch};
+use crate::desk::desks::{
+    Kept, desk, desk_to_close, flush_for, is_watch, refusal_of, unwatch, watch,
+};
 use crate::store::open;
 use std::alloc::Global;
 use std::process::Abort;
 use std::sync::Wait;
 use std::thread::{Threads, join};
 use wm_disk::{Crashed, MemDisk, Refusal};
-use wm_groupcommit::{Receipt, Seat, Standing};
+use wm_groupcommit::{ClosePermit, Receipt, Seat, Standing};
 use wm_registry::{Command, Reply};
 use wm_store::Store;
 
 /// Whether the command that watches the path stands at that number.
 fn stands_at(standing: &Standing, wanted: u64, path: &str) -> bool {
     match standing {
-        Standing::Stands { number, command } => *number == wanted && is_watch(command, path),
+        Standing::Stands { number, command } => number.get() == wanted && is_watch(command, path),
         Standing::Unchanged { .. } => false,
     }
 }
@@ -75,12 +77,18 @@ fn assert_listed<R: Wait + Abort>(rt: &R, desk: &Kept, first: &Receipt, again: &
 }
 
 /// A `Begin`, and the watch of `/c` behind the desk's closing.
-fn ask_late<R: Wait + Abort>(rt: &R, alloc: Global, desk: &Kept, seat: &mut Seat)
+fn ask_late<R: Wait + Abort>(
+    rt: &R,
+    alloc: Global,
+    desk: &Kept,
+    permit: ClosePermit,
+    seat: &mut Seat,
+)
     requires { IsSeatOf desk.now seat.old }
 {
     let begin = desk.submit(rt, seat, Command::Begin).err();
     check!(rt; begin == Some(Refusal::BadArguments));
-    let closed = desk.close(rt);
+    let closed = desk.close(rt, permit);
     check!(rt; closed.is_ok());
     drop(closed);
     let c = watch(rt, alloc, "/c");
@@ -89,13 +97,13 @@ fn ask_late<R: Wait + Abort>(rt: &R, alloc: Global, desk: &Kept, seat: &mut Seat
 }
 
 /// Six commands from two seats.
-fn ask_both<R: Wait + Abort>(rt: &R, alloc: Global, desk: &Kept) {
+fn ask_both<R: Wait + Abort>(rt: &R, alloc: Global, desk: &Kept, permit: ClosePermit) {
     let mut one = desk.seat(rt).ok().expect(rt, "a seat");
     let mut two = desk.seat(rt).ok().expect(rt, "a second seat");
     let (first, again) = ask_twice(rt, alloc, desk, &mut one);
     ask_other(rt, alloc, desk, &mut two);
     assert_listed(rt, desk, &first, &again);
-    ask_late(rt, alloc, desk, &mut two);
+    ask_late(rt, alloc, desk, permit, &mut two);
     drop(first);
     drop(again);
     drop(two);
@@ -105,12 +113,12 @@ fn ask_both<R: Wait + Abort>(rt: &R, alloc: Global, desk: &Kept) {
 #[test]
 fn two_seats(rt: HostRuntime) {
     let alloc = rt.alloc();
-    let desk = desk(&rt, alloc);
+    let (desk, permit) = desk_to_close(&rt, alloc);
     let shared = &desk;
     let (total, ()) = join(
         &rt,
         || flush_for(&rt, shared, 6),
-        || ask_both(&rt, alloc, shared),
+        || ask_both(&rt, alloc, shared, permit),
     );
     drop(desk.into_store());
     check!(rt; total == 6, total);
@@ -121,7 +129,7 @@ type Numbers = [u64; 32];
 
 fn number_of(standing: &Standing) -> u64 {
     match standing {
-        Standing::Stands { number, .. } => *number,
+        Standing::Stands { number, .. } => number.get(),
         Standing::Unchanged { .. } => 0,
     }
 }
