@@ -64,6 +64,9 @@ set-at test change crawls i x y e at is = set_first test change crawls i x y (is
 pub gone-at : (test : AskedCrawl → Bool) (change : AskedCrawl → List AskedCrawl) (crawls : List AskedCrawl) (i : ℕ) (x y : AskedCrawl) → position test crawls ≡ Some i → x ≡ get_or crawls i x → change x ≡ [] → with_first test change crawls ≡ remove (set crawls i y) i
 gone-at test change crawls i x y e at is = gone_first test change crawls i x y (is_place test crawls i x e) at is
 
+pub passes-at : (test : AskedCrawl → Bool) (crawls : List AskedCrawl) (i : ℕ) (x : AskedCrawl) → position test crawls ≡ Some i → x ≡ get_or crawls i x → test x ≡ true
+passes-at test crawls i x e at = ap test at ∙ (is_place test crawls i x e).passes x
+
 pub find-at : (test : AskedCrawl → Bool) (crawls : List AskedCrawl) (i : ℕ) (x : AskedCrawl) → position test crawls ≡ Some i → x ≡ get_or crawls i x → find test crawls ≡ Some x
 find-at test crawls i x e at = find_first test crawls i x (is_place test crawls i x e) at
 

@@ -16,7 +16,13 @@ pub record AskedState : Type 0 where
   pub changes : ℕ  -- how often the view or the triggers may have changed
   pub has_ended : Bool  -- the root isn't watched any longer, or the server closes
 
--- the crawl of a ticket of the root of a number has ended so
+-- the crawl of a ticket of the root of a number has begun, of a part
+pub record CrawlBegun : Type 0 where
+  pub root : ℕ
+  pub ticket : ℕ
+  pub part : Subtree
+
+-- it has ended so
 pub record CrawlEnd : Type 0 where
   pub root : ℕ
   pub ticket : ℕ
@@ -28,6 +34,11 @@ pub record AwaitedEnd : Type 0 where
   pub part : Subtree
   pub ended : Result Progress Refusal
 
+-- the number of a ticket, and the part that was asked for
+pub record AskedTicket : Type 0 where
+  pub number : ℕ
+  pub part : Subtree
+
 -- each ticket is above the ones before it, and none is above the last
 abbrev pub TicketsRise : ℕ → List AskedCrawl → ℕ → Type 0
 TicketsRise before [] last = before ≤ last
@@ -37,14 +48,14 @@ TicketsRise before (crawl ∷ crawls) last = (before < crawl.ticket) × TicketsR
 
 -- it is asked for, and hasn't begun
 abbrev pub is_at_rest : Stage → Bool
-is_at_rest Waiting = true
+is_at_rest (Waiting part) = true
 is_at_rest Running = false
 is_at_rest (Done progress) = false
 is_at_rest (Refused e) = false
 
 -- it hasn't ended
 abbrev pub is_open : Stage → Bool
-is_open Waiting = true
+is_open (Waiting part) = true
 is_open Running = true
 is_open (Done progress) = false
 is_open (Refused e) = false
@@ -64,20 +75,28 @@ is_same_part Whole (Below other) = false
 is_same_part (Below top) Whole = false
 is_same_part (Below top) (Below other) = same_path top other
 
+-- it is asked for, of the part
+abbrev pub waits_for : Subtree → Stage → Bool
+waits_for part (Waiting own) = is_same_part own part
+waits_for part Running = false
+waits_for part (Done progress) = false
+waits_for part (Refused e) = false
+
 -- who asks for the part now may wait for this one: it is of the part, and hasn't begun
 abbrev pub serves : Subtree → AskedCrawl → Bool
-serves part crawl = is_waiting crawl && is_same_part crawl.subtree part
+serves part crawl = waits_for part crawl.stage
 
 -- ---- what happens to one crawl
 
 -- a new one, for which so many wait
 abbrev pub new_crawl : ℕ → Subtree → ℕ → AskedCrawl
-new_crawl ticket part waiters = record { ticket = ticket; subtree = part; stage = Waiting; waiters = waiters }
+new_crawl ticket part waiters = record { ticket = ticket; stage = Waiting part; waiters = waiters }
 
 -- one more waits for it
 abbrev pub one_more_waits : AskedCrawl → List AskedCrawl
 one_more_waits crawl = record crawl { waiters = min (crawl.waiters + 1) (2 ^ 64 - 1) } ∷ []
 
+-- it has begun: its part is given away
 abbrev pub running : AskedCrawl → List AskedCrawl
 running crawl = record crawl { stage = Running } ∷ []
 
@@ -96,7 +115,7 @@ collected crawl = if crawl.waiters - 1 == 0 then [] else record crawl { waiters 
 
 -- what who waited is told: nothing ended if the root isn't watched any longer
 abbrev pub stage_told : Stage → Result Progress Refusal
-stage_told Waiting = Err NotWatched
+stage_told (Waiting part) = Err NotWatched
 stage_told Running = Err NotWatched
 stage_told (Done progress) = Ok progress
 stage_told (Refused e) = Err e

@@ -9,4 +9,5 @@ pub mod Performed
 pub mod Readings
 pub mod RootStates
 pub mod Starts
+pub mod Tries
 pub mod TriggerSteps

@@ -1,5 +1,5 @@
 -- Readings of a root, what is observed meanwhile, and what was published since they began.
-use Rattle.std.specs.Prelude.{◌≡◌, ◌⊎◌, ℕ, Bool, true, false, List, Option, Some, None, Result, Ok, Err, nat_lt}
+use Rattle.std.specs.Prelude.{◌≡◌, ◌⊎◌, ℕ, ◌==◌, Bool, true, false, List, Option, Some, None, Result, Ok, Err, nat_lt, if◌then◌else◌}
 use Rattle.wm_disk.specs.declared.refusal.Refusal.{Refusal}
 use Rattle.wm_disk.specs.declared.refusal.Refusal.TheVariants.{BadClock, NoMemory}
 use Rattle.wm_names.specs.Paths.{Path}
@@ -22,14 +22,17 @@ abbrev pub clock_last : Option PublishedList → Option ClockId
 clock_last None = None
 clock_last (Some list) = clock_shown (history list)
 
--- the number of a root, and the tick at which it stood when a reading of it began
+-- the number and the path of a root, the number of a reading of it that has begun, and the tick at which the root stood then
 pub record ReadingBegun : Type 0 where
   pub root : ℕ
+  pub path : Path
+  pub number : ℕ
   pub tick : ℕ
 
--- what a reading found, the number of its root, and the tick at which that stood when the reading began
+-- what a reading of a number found, the number of its root, and the tick at which that stood when the reading began
 pub record Read : Type 0 where
   pub root : ℕ
+  pub number : ℕ
   pub begun_at : ℕ
   pub listing : Found
 
@@ -52,6 +55,10 @@ pairs_in _ = None
 abbrev pub Notes : Option (List (Path × Option Meta)) → Noted → Noted → Type 0
 Notes None old new = new ≡ old
 Notes (Some pairs) old new = new.incomplete ≡ false → (old.incomplete ≡ false) × ((p : Path) (read : Option Meta) → overlaid_state new p read ≡ last_told pairs p (overlaid_state old p read))
+
+-- what is noted for the reading of a number: nothing if another one has begun last
+abbrev pub notes_of : ℕ → ℕ → Option Noted → Option Noted
+notes_of number last notes = if number == last then notes else None
 
 -- what is noted of the pairs that were copied out of an operation; without memory for them the reading has to be done again
 abbrev pub IsNotedIf : {E : Type 0} → Result (Option (List (Path × Option Meta))) E → Option Noted → Option Noted → Type 0

@@ -3,9 +3,11 @@
 ghost use Rattle.std.specs.Prelude.{◌≡◌, ◌⊎◌, ◌+◌, ◌++◌, ◌∷◌, ◌^◌, ◌-◌, ◌%◌, ◌<◌, ◌==◌, [], true, false, cond, not, None, length, position, IfOk, IfErr, IfSome, MatchBool, MatchOption, MatchResult};
 ghost use Rattle.std.specs.List.{find, list_any, remove};
 ghost use Rattle.wm_names.specs.declared.subtree.Subtree.TheVariants.{Whole};
+ghost use Rattle.wm_hall.specs.declared.asked_crawl.Stage.TheVariants.{Waiting};
 ghost use Rattle.wm_hall.specs.AskedCrawls.{collected, ended_crawl, has_ticket, is_pending, is_waiting, new_crawl, one_more_waits, running, serves, crawl_told, with_first};
 
 use crate::asked_crawl::AskedCrawl;
+use crate::hall_gone::HallGone;
 use std::alloc::Global;
 use std::marker::Model;
 use std::snapshot::Snapshot;
@@ -62,36 +64,44 @@ impl Model for NoWork {
     ghost view = { λ n. n.has_ended };
 }
 
-/// The ticket of a crawl, for one who waits for its end or for who does the crawl: the root alone gives it. It is used up by what is told
-/// for it. Contracts see its number.
-#[derive(Drop)]
-pub struct Ticket {
+/// The ticket of a crawl, for one who asked for it and waits for its end: nobody can drop it. It is used up by what is told for it.
+/// Contracts see its number, and the part that was asked for.
+pub(crate) struct Ticket {
     number: u64,
+    part: Snapshot<Subtree>,
 }
 
 impl Model for Ticket {
-    ghost use Rattle.std.specs.Prelude.{ℕ};
+    ghost use Rattle.wm_hall.specs.AskedCrawls.{AskedTicket};
 
-    ghost Value = { ℕ };
+    ghost Value = { AskedTicket };
 
-    ghost view = { λ t. t.number };
+    ghost view = { λ t. record { number = t.number; part = t.part.value } };
 }
 
 impl Ticket {
     /// Its number.
     pub(crate) fn number(&self) -> u64
-        ensures { result ≡ self.now }
+        ensures { result ≡ self.now.number }
     {
         self.number
     }
 }
 
-/// A crawl of the root of a number that has begun, as it was asked for: the root alone makes it.
-#[derive(Drop)]
+/// A crawl of the root of a number that has begun, as it was asked for: the root alone makes it, and nobody can drop it. It is used up
+/// when its end is reported to the root. Contracts see its ticket and its part too.
 pub struct BegunCrawl {
     root: u64,
-    ticket: Ticket,
-    subtree: Result<Subtree, NoMemory>,
+    ticket: u64,
+    subtree: Subtree,
+}
+
+impl Model for BegunCrawl {
+    ghost use Rattle.wm_hall.specs.AskedCrawls.{CrawlBegun};
+
+    ghost Value = { CrawlBegun };
+
+    ghost view = { λ b. record { root = b.root; ticket = b.ticket; part = b.subtree } };
 }
 
 impl BegunCrawl {
@@ -102,11 +112,22 @@ impl BegunCrawl {
         self.root
     }
 
-    /// Its ticket and its part. `NoMemory` if the part couldn't be copied: the crawl has begun all the same.
-    pub fn into_parts(self) -> (Ticket, Result<Subtree, NoMemory>)
-        ensures { (result.0 ≡ self.ticket) × (result.1 ≡ self.subtree) }
+    /// Its part.
+    pub fn subtree(&self) -> &Subtree
+        ensures { result.now ≡ self.now.part }
     {
-        (self.ticket, self.subtree)
+        &self.subtree
+    }
+
+    /// It is over without a report, since its root has no hall any longer.
+    pub fn without_hall<N: HallGone>(self, _none: &N)
+        requires { N.gone _none.now ≡ self.root }
+    {
+        let BegunCrawl {
+            root: _,
+            ticket: _,
+            subtree: _,
+        } = self;
     }
 }
 
@@ -253,14 +274,17 @@ impl Asked {
     /// Asks for a crawl of a part, and tells its ticket: one more waits for its end. One that hasn't begun yet serves all who ask for
     /// the same part, and else there is a new one. `NoMemory`, and `Exhausted` after 2^64 - 1 tickets; nothing changes then.
     pub(crate) fn ask(&mut self, subtree: &Subtree) -> Result<Ticket, Refusal>
-        ensures joined { IfSome (find (serves subtree.now) self.old.crawls) (λ crawl. (result ≡ Ok crawl.ticket) × (self.new ≡ record self.old { crawls = with_first (serves subtree.now) one_more_waits self.old.crawls })) }
-        ensures added { find (serves subtree.now) self.old.crawls ≡ None → IfOk result (λ ticket. (ticket ≡ self.old.last_ticket + 1) × (self.new ≡ record self.old { crawls = self.old.crawls ++ new_crawl ticket subtree.now 1 ∷ []; last_ticket = ticket })) }
+        ensures joined { IfSome (find (serves subtree.now) self.old.crawls) (λ crawl. (result ≡ Ok (record { number = crawl.ticket; part = subtree.now })) × (self.new ≡ record self.old { crawls = with_first (serves subtree.now) one_more_waits self.old.crawls })) }
+        ensures added { find (serves subtree.now) self.old.crawls ≡ None → IfOk result (λ ticket. (ticket ≡ record { number = self.old.last_ticket + 1; part = subtree.now }) × (self.new ≡ record self.old { crawls = self.old.crawls ++ new_crawl ticket.number subtree.now 1 ∷ []; last_ticket = ticket.number })) }
         ensures refused { IfErr result (λ e. (self.new ≡ self.old) × ((e ≡ Refusal.NoMemory) ⊎ ((e ≡ Refusal.Exhausted) × (self.old.last_ticket ≡ 2 ^ 64 - 1)))) }
     {
         match place_to_join(&self.crawls, subtree) {
             Some(place) => {
                 let number = self.crawls[place].join();
-                Ok(Ticket { number })
+                Ok(Ticket {
+                    number,
+                    part: Snapshot::of(subtree),
+                })
             }
             None => self.add(subtree),
         }
@@ -268,22 +292,22 @@ impl Asked {
 
     /// A new crawl of a part, for which one waits, and its ticket. It is refused as `ask` is.
     fn add(&mut self, subtree: &Subtree) -> Result<Ticket, Refusal>
-        ensures added { IfOk result (λ ticket. (ticket ≡ self.old.last_ticket + 1) × (self.new ≡ record self.old { crawls = self.old.crawls ++ new_crawl ticket subtree.now 1 ∷ []; last_ticket = ticket })) }
+        ensures added { IfOk result (λ ticket. (ticket ≡ record { number = self.old.last_ticket + 1; part = subtree.now }) × (self.new ≡ record self.old { crawls = self.old.crawls ++ new_crawl ticket.number subtree.now 1 ∷ []; last_ticket = ticket.number })) }
         ensures refused { IfErr result (λ e. (self.new ≡ self.old) × ((e ≡ Refusal.NoMemory) ⊎ ((e ≡ Refusal.Exhausted) × (self.old.last_ticket ≡ 2 ^ 64 - 1)))) }
     {
         let Some(number) = self.last_ticket.checked_add(1) else {
             return Err(Refusal::Exhausted);
         };
+        let part = Snapshot::of(subtree);
         let subtree = subtree.copy()?;
         self.crawls.push(AskedCrawl::new(number, subtree, 1))?;
         self.last_ticket = number;
-        Ok(Ticket { number })
+        Ok(Ticket { number, part })
     }
 
-    /// Begins the first crawl that waits: its ticket and its part. If the part can't be copied it is `NoMemory`, and the crawl has
-    /// begun all the same.
-    fn begin(&mut self) -> Option<(u64, Result<Subtree, NoMemory>)>
-        ensures told { MatchOption (find is_waiting self.old.crawls) (result ≡ None) (λ crawl. MatchOption result ⊥ (λ begun. (begun.0 ≡ crawl.ticket) × IfOk begun.1 (λ part. part ≡ crawl.subtree))) }
+    /// Begins the first crawl that waits: its ticket, and its part, which is given away.
+    fn begin(&mut self) -> Option<(u64, Subtree)>
+        ensures told { MatchOption (find is_waiting self.old.crawls) (result ≡ None) (λ crawl. MatchOption result ⊥ (λ begun. (begun.0 ≡ crawl.ticket) × (crawl.stage ≡ Waiting begun.1))) }
         ensures begun { self.new ≡ record self.old { crawls = with_first is_waiting running self.old.crawls } }
     {
         match place_waiting(&self.crawls) {
@@ -292,11 +316,10 @@ impl Asked {
         }
     }
 
-    /// Begins the first crawl of the root, which has this number, that waits, as `begin`, unless the root has ended. Refused too if none
-    /// waits.
+    /// Begins the first crawl of the root, which has this number, that waits, unless the root has ended. Refused too if none waits.
     pub(crate) fn next_crawl(&mut self, root: u64) -> Result<BegunCrawl, NoWork>
         ensures root { IfOk result (λ begun. begun.root ≡ root) }
-        ensures begun { IfOk result (λ begun. (self.old.has_ended ≡ false) × IfSome (find is_waiting self.old.crawls) (λ crawl. (begun.ticket ≡ crawl.ticket) × IfOk begun.subtree (λ part. part ≡ crawl.subtree))) }
+        ensures begun { IfOk result (λ begun. (self.old.has_ended ≡ false) × MatchOption (find is_waiting self.old.crawls) ⊥ (λ crawl. (begun.ticket ≡ crawl.ticket) × (crawl.stage ≡ Waiting begun.part))) }
         ensures runs { self.new ≡ record self.old { crawls = cond self.old.has_ended self.old.crawls (with_first is_waiting running self.old.crawls) } }
         ensures none { IfErr result (λ none. (none ≡ self.old.has_ended) × ((self.old.has_ended ≡ true) ⊎ (list_any is_waiting self.old.crawls ≡ false))) }
     {
@@ -306,7 +329,7 @@ impl Asked {
         match self.begin() {
             Some((number, subtree)) => Ok(BegunCrawl {
                 root,
-                ticket: Ticket { number },
+                ticket: number,
                 subtree,
             }),
             None => Err(NoWork { has_ended: false }),
@@ -346,35 +369,38 @@ impl Asked {
         }
     }
 
-    /// As `end`, for the crawler of the root, which has this number.
+    /// As `end`, of a crawl that has begun.
     pub(crate) fn crawled(
         &mut self,
-        root: u64,
-        ticket: Ticket,
+        begun: BegunCrawl,
         ended: Result<Progress, Refusal>,
     ) -> CrawlEnded
-        ensures told { result ≡ record { root = root; ticket = ticket; ended = ended } }
-        ensures ended { self.new ≡ record self.old { crawls = with_first (has_ticket ticket) (ended_crawl ended) self.old.crawls } }
+        ensures told { result ≡ record { root = begun.root; ticket = begun.ticket; ended = ended } }
+        ensures ended { self.new ≡ record self.old { crawls = with_first (has_ticket begun.ticket) (ended_crawl ended) self.old.crawls } }
     {
-        let Ticket { number } = ticket;
-        self.end(number, ended);
+        let BegunCrawl {
+            root,
+            ticket,
+            subtree: _,
+        } = begun;
+        self.end(ticket, ended);
         CrawlEnded {
             root,
-            ticket: number,
+            ticket,
             ended,
         }
     }
 
-    /// As `collect`, for who asked for the part of the root, which has this number, and waited until the crawl ended, or the root.
-    pub(crate) fn collected(&mut self, root: u64, part: &Subtree, ticket: Ticket) -> Crawled
-        requires { (list_any (is_pending ticket) self.old.crawls ≡ false) ⊎ (self.old.has_ended ≡ true) }
-        ensures told { result ≡ record { root = root; part = part.now; ended = crawl_told (find (has_ticket ticket) self.old.crawls) } }
-        ensures left { self.new ≡ record self.old { crawls = with_first (has_ticket ticket) collected self.old.crawls } }
+    /// As `collect`, for who asked for a part of the root, which has this number, and waited until the crawl ended, or the root.
+    pub(crate) fn collected(&mut self, root: u64, ticket: Ticket) -> Crawled
+        requires { (list_any (is_pending ticket.number) self.old.crawls ≡ false) ⊎ (self.old.has_ended ≡ true) }
+        ensures told { result ≡ record { root = root; part = ticket.part; ended = crawl_told (find (has_ticket ticket.number) self.old.crawls) } }
+        ensures left { self.new ≡ record self.old { crawls = with_first (has_ticket ticket.number) collected self.old.crawls } }
     {
-        let Ticket { number } = ticket;
+        let Ticket { number, part } = ticket;
         Crawled {
             root,
-            part: Snapshot::of(part),
+            part,
             ended: self.collect(number),
         }
     }

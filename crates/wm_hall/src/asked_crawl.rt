@@ -1,17 +1,19 @@
 //! A crawl of a root that was asked for. Definitions: specs/AskedCrawls.antt. Tests: serve_tests/src/crawls.rt.
-ghost use Rattle.std.specs.Prelude.{◌≡◌, ◌∷◌, [], IfOk, MatchBool};
-ghost use Rattle.wm_hall.specs.AskedCrawls.{collected, ended_crawl, end_stage, is_at_rest, is_open, is_pending, is_same_part, new_crawl, one_more_waits, running, serves, stage_told};
+ghost use Rattle.std.specs.Prelude.{◌≡◌, ◌∷◌, [], true, MatchBool};
+ghost use Rattle.wm_hall.specs.AskedCrawls.{collected, ended_crawl, end_stage, is_at_rest, is_open, is_pending, is_same_part, new_crawl, one_more_waits, running, serves, stage_told, waits_for};
+ghost use Rattle.wm_hall.specs.declared.asked_crawl.Stage.TheVariants.{Waiting};
 
-use wm_disk::{NoMemory, Refusal};
+use std::mem;
+use wm_disk::Refusal;
 use wm_lines::Progress;
 use wm_names::Subtree;
 
 /// How far a crawl is.
-#[derive(Clone, Copy)]
+#[derive(Drop)]
 pub(crate) enum Stage {
-    /// It is asked for.
-    Waiting,
-    /// The crawler does it.
+    /// It is asked for, of this part.
+    Waiting(Subtree),
+    /// The crawler has it.
     Running,
     /// It has ended so, and what waits for it is still to be told.
     Done(Progress),
@@ -23,7 +25,17 @@ impl Stage {
         ensures { result ≡ is_at_rest self.now }
     {
         match self {
-            Stage::Waiting => true,
+            Stage::Waiting(_) => true,
+            Stage::Running | Stage::Done(_) | Stage::Refused(_) => false,
+        }
+    }
+
+    /// Whether it is asked for of the part.
+    fn waits_for(&self, subtree: &Subtree) -> bool
+        ensures { result ≡ waits_for subtree.now self.now }
+    {
+        match self {
+            Stage::Waiting(part) => is_same_part(part, subtree),
             Stage::Running | Stage::Done(_) | Stage::Refused(_) => false,
         }
     }
@@ -32,7 +44,7 @@ impl Stage {
         ensures { result ≡ is_open self.now }
     {
         match self {
-            Stage::Waiting | Stage::Running => true,
+            Stage::Waiting(_) | Stage::Running => true,
             Stage::Done(_) | Stage::Refused(_) => false,
         }
     }
@@ -46,13 +58,13 @@ impl Stage {
         }
     }
 
-    fn told(self) -> Result<Progress, Refusal>
-        ensures { result ≡ stage_told self }
+    fn told(&self) -> Result<Progress, Refusal>
+        ensures { result ≡ stage_told self.now }
     {
         match self {
-            Stage::Done(progress) => Ok(progress),
-            Stage::Refused(refusal) => Err(refusal),
-            Stage::Waiting | Stage::Running => Err(Refusal::NotWatched),
+            Stage::Done(progress) => Ok(*progress),
+            Stage::Refused(refusal) => Err(*refusal),
+            Stage::Waiting(_) | Stage::Running => Err(Refusal::NotWatched),
         }
     }
 }
@@ -72,7 +84,6 @@ fn is_same_part(one: &Subtree, other: &Subtree) -> bool
 #[derive(Drop)]
 pub(crate) struct AskedCrawl {
     pub(crate) ticket: u64,
-    subtree: Subtree,
     pub(crate) stage: Stage,
     /// How many sessions wait for its end.
     waiters: u64,
@@ -84,8 +95,7 @@ impl AskedCrawl {
     {
         AskedCrawl {
             ticket,
-            subtree,
-            stage: Stage::Waiting,
+            stage: Stage::Waiting(subtree),
             waiters,
         }
     }
@@ -94,7 +104,7 @@ impl AskedCrawl {
     pub(crate) fn serves(&self, subtree: &Subtree) -> bool
         ensures { result ≡ serves subtree.now self.now }
     {
-        self.stage.is_at_rest() && is_same_part(&self.subtree, subtree)
+        self.stage.waits_for(subtree)
     }
 
     pub(crate) fn is_pending(&self, ticket: u64) -> bool
@@ -112,13 +122,16 @@ impl AskedCrawl {
         self.ticket
     }
 
-    /// It runs. Its ticket and its part.
-    pub(crate) fn run(&mut self) -> (u64, Result<Subtree, NoMemory>)
-        ensures told { (result.0 ≡ self.old.ticket) × IfOk result.1 (λ part. part ≡ self.old.subtree) }
+    /// It runs: its ticket, and its part, which it has no longer.
+    pub(crate) fn run(&mut self) -> (u64, Subtree)
+        requires { is_at_rest self.old.stage ≡ true }
+        ensures told { (result.0 ≡ self.old.ticket) × (self.old.stage ≡ Waiting result.1) }
         ensures runs { running self.old ≡ self.new ∷ [] }
     {
-        self.stage = Stage::Running;
-        (self.ticket, self.subtree.copy())
+        match mem::replace(&mut self.stage, Stage::Running) {
+            Stage::Waiting(subtree) => (self.ticket, subtree),
+            Stage::Running | Stage::Done(_) | Stage::Refused(_) => unreachable!(),
+        }
     }
 
     /// It has ended so. Whether anybody waits for it.

@@ -1,6 +1,6 @@
 //! One watched root, shared by sessions and workers: its keeper, its viewers, its cursors and its triggers, each under a lock of
 //! its own. Tests: serve_tests/src/halls.rt and sessions.rt; without memory tools/growths.py.
-ghost use Rattle.std.specs.Prelude.{◌≡◌, ◌⊎◌, ◌≤◌, [], true, false, Some, None, IfOk, IfErr, MatchOption, MatchResult, vec_capacity};
+ghost use Rattle.std.specs.Prelude.{◌≡◌, ◌⊎◌, ◌≤◌, [], true, false, Some, None, Err, IfOk, IfErr, MatchOption, MatchResult, vec_capacity};
 ghost use Rattle.wm_view.specs.Histories.{is_ready};
 ghost use Rattle.wm_since.specs.Answers.{clock_of as clock_of_history};
 ghost use Rattle.wm_since.specs.Cursors.{CursorList};
@@ -10,9 +10,10 @@ ghost use Rattle.wm_hall.specs.ChangeSeen.{IsChangeSeen};
 ghost use Rattle.wm_hall.specs.Inquired.{IsInquired};
 ghost use Rattle.wm_hall.specs.Performed.{IsReadingReported};
 ghost use Rattle.wm_hall.specs.Starts.{names_cursor};
+ghost use Rattle.wm_hall.specs.Tries.{IsTryOf, try_end};
 ghost use Rattle.wm_hall.specs.TriggerSteps.{AreStartsOver, AreTriggersFull, DefinesTrigger, DeletesTrigger, EndsTriggers};
 
-use crate::asked::{BegunCrawl, CrawlEnded, Crawled, NoWork, Ticket};
+use crate::asked::{BegunCrawl, CrawlEnded, Crawled, NoWork};
 use crate::asking::{CursorClock, CursorQuestion, Question, RootCursors, clock, inquire_of};
 use crate::change::{Change, Seconds};
 use crate::locked_root::{
@@ -20,11 +21,12 @@ use crate::locked_root::{
 };
 use crate::retention::Retention;
 use crate::starts::start_of;
+use crate::tried::Tried;
 use crate::triggers::{
     Defined, LockedTriggers, StandingTriggers, StartEnded, StartPermit, StartRefused, StartsOver,
     TriggersEnded, TriggersFull,
 };
-use crate::viewer_pool::{PoolEmpty, ViewerPool};
+use crate::viewer_pool::{PoolEmpty, TakenBack, ViewerPool};
 use crate::work::Work;
 use std::alloc::Global;
 use std::sync::{Condvar, Mutex, Wait};
@@ -185,25 +187,30 @@ impl<J: Naming, K: Wait + Drop> RootHall<J, K> {
         self.work.next_crawl(rt, self.number)
     }
 
-    /// The crawl of a ticket has ended so.
-    pub fn crawled<R: Wait>(
-        &self,
-        rt: &R,
-        ticket: Ticket,
-        ended: Result<Progress, Refusal>,
-    ) -> CrawlEnded
-        ensures { result ≡ record { root = self.now.number; ticket = ticket; ended = ended } }
+    /// A crawl of the root that had begun has ended as this try of it did.
+    pub fn crawled<R: Wait, S>(&self, rt: &R, begun: BegunCrawl, last: &Tried<S>) -> CrawlEnded
+        requires root { begun.root ≡ self.now.number }
+        requires tried { IsTryOf begun.root begun.part last.now }
+        ensures { result ≡ record { root = begun.root; ticket = begun.ticket; ended = try_end last.now } }
     {
-        self.work.crawled(rt, self.number, ticket, ended)
+        self.work.crawled(rt, begun, last.ended())
+    }
+
+    /// A crawl of the root that had begun is over untried, since memory ran out for it.
+    pub fn crawl_untried<R: Wait>(&self, rt: &R, begun: BegunCrawl, _want: NoMemory) -> CrawlEnded
+        requires { begun.root ≡ self.now.number }
+        ensures { result ≡ record { root = begun.root; ticket = begun.ticket; ended = Err Refusal.NoMemory } }
+    {
+        self.work.crawled(rt, begun, Err(Refusal::NoMemory))
     }
 
     /// Begins a reading of the root, or of a part of it: what is observed from now on is noted until the reading is handed in or given
     /// up. One reading is under way at a time; an earlier one that wasn't handed in is given up.
     pub fn begin_reading<R: Wait>(&self, rt: &R, alloc: Global) -> Begun
-        ensures { result.root ≡ self.now.number }
+        ensures { (result.root ≡ self.now.number) × (result.path ≡ self.now.path) }
     {
         let mut root = self.root.lock(rt);
-        let begun = root.begin_reading(alloc, &self.last.lock(rt), self.number);
+        let begun = root.begin_reading(alloc, &self.last.lock(rt), self.number, &self.path);
         drop(root);
         begun
     }
@@ -276,8 +283,10 @@ impl<J: Naming, K: Wait + Drop> RootHall<J, K> {
     }
 
     /// Takes a viewer back.
-    pub fn take_back<R: Wait>(&self, rt: &R, viewer: Viewer<J>) {
-        self.pool.lock(rt).give(viewer);
+    pub fn take_back<R: Wait>(&self, rt: &R, viewer: Viewer<J>) -> TakenBack
+        ensures { result ≡ viewer.list.share.root }
+    {
+        self.pool.lock(rt).give(viewer)
     }
 
     /// A viewer learns what was published last.

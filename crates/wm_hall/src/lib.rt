@@ -12,27 +12,31 @@ mod asking;
 mod backlog;
 mod change;
 mod hall;
+mod hall_gone;
 mod locked_root;
 mod retention;
 mod starts;
 mod step;
+mod tried;
 mod triggers;
 mod viewer_pool;
 mod work;
 
-pub use asked::{BegunCrawl, ChangeCount, CrawlEnded, Crawled, NoWork, Ticket};
+pub use asked::{BegunCrawl, ChangeCount, CrawlEnded, Crawled, NoWork};
 pub use asking::CursorClock;
 pub use change::{Change, Seconds};
 pub use hall::{HallEnded, RootHall};
+pub use hall_gone::HallGone;
 pub use locked_root::{
     Begun, Changed, CrawlRefused, CrawlTools, GivenUp, HandedIn, Learnt, Reading, Unread,
 };
 pub use retention::Retention;
 pub use starts::start_of;
 pub use step::Step;
+pub use tried::Tried;
 pub use triggers::{
     Defined, StandingTriggers, StartEnded, StartPermit, StartRefused, StartsOver, TriggersEnded,
     TriggersFull,
 };
-pub use viewer_pool::PoolEmpty;
+pub use viewer_pool::{PoolEmpty, TakenBack};
 pub use work::Work;

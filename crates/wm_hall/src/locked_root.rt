@@ -10,7 +10,7 @@ ghost use Rattle.wm_hall.specs.ChangeSeen.{IsEnded};
 ghost use Rattle.wm_hall.specs.Changes.{op_at};
 ghost use Rattle.wm_hall.specs.Forgotten.{floor_last, if_greater, risen_floor};
 ghost use Rattle.wm_hall.specs.Performed.{IsOutcome, IsProgress};
-ghost use Rattle.wm_hall.specs.Readings.{IsUnread, NotesIf, clock_last, pairs_in};
+ghost use Rattle.wm_hall.specs.Readings.{IsUnread, NotesIf, clock_last, notes_of, pairs_in};
 ghost use Rattle.wm_hall.specs.RootStates.{IsLast, IsOperated, root_state};
 ghost use Rattle.wm_share.specs.PublishedLists.{Begins, EndsWith, PublishedList};
 
@@ -22,7 +22,7 @@ use crate::change::Change;
 use crate::retention::Retention;
 pub use handed_in::HandedIn;
 pub use reading::{Begun, CrawlRefused, CrawlTools, GivenUp, Reading, Unread};
-use reading::{note_if, observed_in, recrawl_by};
+use reading::{note_if, observed_in, recrawl_by, take_notes};
 use std::alloc::Global;
 use std::marker::Model;
 use std::snapshot::Snapshot;
@@ -42,6 +42,8 @@ pub(crate) struct LockedRoot<V: Drop> {
     keeper: V,
     backlog: Backlog,
     reading: Option<Observed>,
+    /// The number of the reading that began last.
+    last_reading: u64,
     retention: Retention,
 }
 
@@ -179,13 +181,14 @@ impl<V: Drop> LockedRoot<V> {
         keeper: V,
         retention: Retention,
     ) -> (LockedRoot<V>, LastPublished<J>)
-        ensures root { result.0 ≡ record { keeper = keeper; backlog = record { aged_at = None; has_pending = false; published_at = 0 }; reading = None; retention = retention } }
+        ensures root { result.0 ≡ record { keeper = keeper; backlog = record { aged_at = None; has_pending = false; published_at = 0 }; reading = None; last_reading = 0; retention = retention } }
         ensures last { result.1.told ≡ None }
     {
         let root = LockedRoot {
             keeper,
             backlog: Backlog::new(),
             reading: None,
+            last_reading: 0,
             retention,
         };
         (root, LastPublished { told: None })
@@ -218,17 +221,17 @@ impl<J: Naming, T: Listed<J> + Drop, R: Wait + Drop> LockedRoot<RootKeeper<J, T,
     }
 
     /// Hands in what a reading found at a second, with what was observed meanwhile in place of what was read, as `operate` does. The
-    /// reading is over. `BadClock` if it has to be done again: it is overtaken, an observation was left out, or no reading is under way.
+    /// reading is over. `BadClock` if it has to be done again: it is overtaken, an observation was left out, or it isn't under way.
     pub(crate) fn take_in(&mut self, alloc: Global, moment: u64, found: Reading) -> Performed<J>
-        ensures operated { ((noted : Noted) × (listing : Found) × (self.old.reading ≡ Some noted) × (noted.incomplete ≡ false) × IsOverlaid noted found.listing listing
+        ensures operated { ((noted : Noted) × (listing : Found) × (notes_of found.number self.old.last_reading self.old.reading ≡ Some noted) × (noted.incomplete ≡ false) × IsOverlaid noted found.listing listing
             × IsOperated self.old.retention (Recrawl moment found.begun_at listing) Refusal.BadClock (root_state self.old.keeper self.old.backlog) (root_state self.new.keeper self.new.backlog) result.last result.ended)
-            ⊎ ((e : Refusal) × (result.ended ≡ Err e) × IsUnread self.old.reading e × (root_state self.new.keeper self.new.backlog ≡ root_state self.old.keeper self.old.backlog)) }
+            ⊎ ((e : Refusal) × (result.ended ≡ Err e) × IsUnread (notes_of found.number self.old.last_reading self.old.reading) e × (root_state self.new.keeper self.new.backlog ≡ root_state self.old.keeper self.old.backlog)) }
         ensures ends { IfOk result.ended (λ p. (listing : Found) × EndsWith self.new.keeper.published.operations (Recrawl moment found.begun_at listing) × IsProgress self.new.keeper.published p) }
         ensures last { IsLast result.last self.old.keeper.published self.new.keeper.published }
         ensures used { self.new.reading ≡ None }
         ensures kept { self.new.retention ≡ self.old.retention }
     {
-        let observed = self.reading.take();
+        let observed = take_notes(&mut self.reading, self.last_reading, &found);
         match recrawl_by(alloc, observed, moment, found) {
             Ok(op) => operate(
                 &mut self.keeper,

@@ -42,6 +42,20 @@ impl PoolEmpty {
     }
 }
 
+/// A viewer was handed to the pool of a root: the pool alone says so. Contracts see the number of the viewer's root.
+#[derive(Drop)]
+pub struct TakenBack {
+    root: u64,
+}
+
+impl Model for TakenBack {
+    ghost use Rattle.std.specs.Prelude.{ℕ};
+
+    ghost Value = { ℕ };
+
+    ghost view = { λ t. t.root };
+}
+
 impl<J: Naming> ViewerPool<J> {
     pub(crate) fn new(pool: Pool<J>) -> ViewerPool<J>
         ensures { result.pool ≡ pool }
@@ -63,13 +77,16 @@ impl<J: Naming> ViewerPool<J> {
     }
 
     /// Takes a viewer back, as `Pool::give`.
-    pub(crate) fn give(&mut self, viewer: Viewer<J>)
+    pub(crate) fn give(&mut self, viewer: Viewer<J>) -> TakenBack
+        ensures viewer { result ≡ viewer.list.share.root }
         ensures share { self.new.pool.share ≡ self.old.pool.share }
         ensures given { viewer.list.share ≡ self.old.pool.share → self.old.pool.viewers < max_viewers → self.new.pool.viewers ≡ self.old.pool.viewers + 1 }
         ensures full { max_viewers ≤ self.old.pool.viewers → self.new.pool.viewers ≡ self.old.pool.viewers }
         ensures other { viewer.list.share ≢ self.old.pool.share → self.new.pool.viewers ≡ self.old.pool.viewers }
     {
+        let root = viewer.share().root;
         self.pool.give(viewer);
+        TakenBack { root }
     }
 }
 

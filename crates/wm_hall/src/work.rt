@@ -2,7 +2,7 @@
 //! Tests: serve_tests/src/crawls.rt.
 ghost use Rattle.std.specs.Prelude.{◌≡◌, ◌⊎◌, true, IfErr, IfOk, MatchResult};
 
-use crate::asked::{Asked, BegunCrawl, ChangeCount, CrawlEnded, Crawled, NoWork, Ticket};
+use crate::asked::{Asked, BegunCrawl, ChangeCount, CrawlEnded, Crawled, NoWork};
 use std::alloc::Global;
 use std::sync::{Condvar, Mutex, Wait};
 use wm_disk::{NoMemory, Refusal};
@@ -63,7 +63,8 @@ impl Work {
         let mut asked = self.notified.wait_while(rt, asked, |asked| {
             asked.is_pending(number) && !asked.has_ended()
         });
-        Ok(asked.collected(root, &subtree, ticket))
+        drop(subtree);
+        Ok(asked.collected(root, ticket))
     }
 
     /// Waits until a crawl of the root, which has this number, is asked for, which has begun then; there is none at the end.
@@ -76,18 +77,17 @@ impl Work {
         asked.next_crawl(root)
     }
 
-    /// The crawl of a ticket of the root, which has this number, has ended so.
+    /// A crawl that had begun has ended so.
     pub(crate) fn crawled<R: Wait>(
         &self,
         rt: &R,
-        root: u64,
-        ticket: Ticket,
+        begun: BegunCrawl,
         ended: Result<Progress, Refusal>,
     ) -> CrawlEnded
-        ensures { result ≡ record { root = root; ticket = ticket; ended = ended } }
+        ensures { result ≡ record { root = begun.root; ticket = begun.ticket; ended = ended } }
     {
         let mut asked = self.asked.lock(rt);
-        let crawl = asked.crawled(root, ticket, ended);
+        let crawl = asked.crawled(begun, ended);
         drop(asked);
         self.notified.notify_all();
         crawl

@@ -1,14 +1,15 @@
 //! A reading of the root by its crawler: what is observed meanwhile, and what is handed in at its end.
 //! Definitions: specs/Readings.antt; `IsOverlaid` of wm_reading. Tests: serve_tests/src/crawls.rt.
-ghost use Rattle.std.specs.Prelude.{◌≡◌, ◌≢◌, [], None, Some, IsSome, IfOk, IfErr, MatchOption, MatchResult, OnErr, true, false};
+ghost use Rattle.std.specs.Prelude.{◌≡◌, ◌≢◌, ◌+◌, ◌%◌, ◌^◌, [], None, Some, IsSome, IfOk, IfErr, MatchOption, MatchResult, OnErr, true, false};
 ghost use Rattle.wm_view.specs.Listings.{Found};
 ghost use Rattle.wm_view.specs.declared.op.Op.TheVariants.{Recrawl};
 ghost use Rattle.wm_crawler.specs.Crawls.{FailsIn, IsCrawl, IsReadable};
 ghost use Rattle.wm_reading.specs.Overlays.{IsOverlaid, Noted, noted as noted_all};
-ghost use Rattle.wm_hall.specs.Readings.{IsNotedIf, IsUnread, Notes, clock_last, pairs_in, tick_shown};
+ghost use Rattle.wm_hall.specs.Readings.{IsNotedIf, IsUnread, Notes, clock_last, notes_of, pairs_in, tick_shown};
 
 use super::{LastPublished, LockedRoot};
 use crate::backlog::tick_of;
+use crate::hall_gone::HallGone;
 use std::alloc::Global;
 use std::marker::Model;
 use std::snapshot::Snapshot;
@@ -31,10 +32,12 @@ pub struct CrawlTools<'a, F, G> {
 }
 
 /// A reading that has begun. What is observed from then on is noted until the reading's listing is handed in, or the reading is
-/// given up, which uses this up. Contracts see the root's number, and the tick at which it stood when the reading began.
-#[derive(Drop)]
+/// given up, which uses this up: nobody can drop it. Contracts see the root's number and path, the reading's own number, and the tick at
+/// which the root stood when the reading began.
 pub struct Begun {
     root: u64,
+    path: Snapshot<RootPath>,
+    number: u64,
     tick: u64,
 }
 
@@ -43,7 +46,7 @@ impl Model for Begun {
 
     ghost Value = { ReadingBegun };
 
-    ghost view = { λ b. record { root = b.root; tick = b.tick } };
+    ghost view = { λ b. record { root = b.root; path = b.path.value; number = b.number; tick = b.tick } };
 }
 
 /// The reading of a root that was under way, if one was, is given up: the root alone makes it. Contracts see the root's number, and
@@ -86,14 +89,12 @@ impl CrawlRefused {
 }
 
 /// A reading whose crawl was refused: it is to be given up.
-#[derive(Drop)]
 pub struct Unread {
     pub refused: CrawlRefused,
     pub begun: Begun,
 }
 
-/// What a reading of a root found, all of it since the reading began: it is made of a [`Begun`] by a crawl alone.
-#[derive(Drop)]
+/// What a reading of a root found, all of it since the reading began: it is made of a [`Begun`] by a crawl alone, and is to be handed in.
 pub struct Reading {
     begun: Begun,
     listing: Listing,
@@ -104,24 +105,31 @@ impl Model for Reading {
 
     ghost Value = { Read };
 
-    ghost view = { λ r. record { root = r.begun.root; begun_at = r.begun.tick; listing = r.listing } };
+    ghost view = { λ r. record { root = r.begun.root; number = r.begun.number; begun_at = r.begun.tick; listing = r.listing } };
 }
 
 impl<J: Naming, T: Listed<J> + Drop, R: Wait + Drop> LockedRoot<RootKeeper<J, T, R>> {
-    /// Begins a reading of the root, which has this number, at the tick that was published last: from now on what is observed is noted.
-    /// An earlier one that is under way is given up.
+    /// Begins the next reading of the root, which has this number and path, at the tick that was published last: from now on what is
+    /// observed is noted for it. An earlier one that is under way is given up.
     pub(crate) fn begin_reading(
         &mut self,
         alloc: Global,
         last: &LastPublished<J>,
         number: u64,
+        path: &RootPath,
     ) -> Begun
-        ensures begun { result ≡ record { root = number; tick = tick_shown (clock_last last.now.told) } }
-        ensures noted { self.new ≡ record self.old { reading = Some (noted_all []) } }
+        ensures begun { result ≡ record { root = number; path = path.now; number = self.new.last_reading; tick = tick_shown (clock_last last.now.told) } }
+        ensures noted { self.new ≡ record self.old { reading = Some (noted_all []); last_reading = (self.old.last_reading + 1) % 2 ^ 64 } }
     {
         self.reading = Some(Observed::new(alloc));
+        self.last_reading = self.last_reading.wrapping_add(1);
         let tick = tick_of(last.clock());
-        Begun { root: number, tick }
+        Begun {
+            root: number,
+            path: Snapshot::of(path),
+            number: self.last_reading,
+            tick,
+        }
     }
 
     /// Gives up the reading of the root, which has this number, that is under way.
@@ -130,7 +138,12 @@ impl<J: Naming, T: Listed<J> + Drop, R: Wait + Drop> LockedRoot<RootKeeper<J, T,
         ensures told { MatchOption self.old.reading (result.was_under_way ≡ false) (λ _. result.was_under_way ≡ true) }
         ensures given_up { self.new ≡ record self.old { reading = None } }
     {
-        drop(begun);
+        let Begun {
+            root: _,
+            path: _,
+            number: _,
+            tick: _,
+        } = begun;
         let was_under_way = self.reading.is_some();
         self.reading = None;
         GivenUp {
@@ -146,6 +159,15 @@ impl Reading {
         ensures { result ≡ self.now.root }
     {
         self.begun.root()
+    }
+
+    /// It is dropped, since its root has no hall any longer.
+    pub fn without_hall<N: HallGone>(self, none: &N)
+        requires { N.gone none.now ≡ self.root }
+    {
+        let Reading { begun, listing } = self;
+        drop(listing);
+        begun.without_hall(none);
     }
 
     /// The part that was read.
@@ -174,8 +196,20 @@ impl Begun {
         self.root
     }
 
-    /// Crawls a root, or a part of it, as `crawl_root` does, which begins after this reading did. A crawl that is refused gives the reading
-    /// back.
+    /// It is dropped, since its root has no hall any longer.
+    pub fn without_hall<N: HallGone>(self, _none: &N)
+        requires { N.gone _none.now ≡ self.root }
+    {
+        let Begun {
+            root: _,
+            path: _,
+            number: _,
+            tick: _,
+        } = self;
+    }
+
+    /// Crawls the root at its path, or a part of it, as `crawl_root` does, which begins after this reading did. A crawl that is refused gives
+    /// the reading back.
     pub fn crawl<R: Threads + Sync, F: Folders + Sync, G: Turnstile + Sync>(
         self,
         rt: &R,
@@ -184,7 +218,8 @@ impl Begun {
         root: &RootPath,
         subtree: &Subtree,
     ) -> Result<Reading, Unread>
-        ensures begun { IfOk result (λ found. (found.root ≡ self.root) × (found.begun_at ≡ self.tick)) }
+        requires { root.now ≡ self.path }
+        ensures begun { IfOk result (λ found. (found.root ≡ self.root) × (found.number ≡ self.number) × (found.begun_at ≡ self.tick)) }
         ensures part { IfOk result (λ found. found.listing.subtree ≡ subtree.now) }
         ensures files { IfOk result (λ found. F.stays tools.now.folders.now → IsCrawl (F.content tools.now.folders.now root.now) subtree.now found.listing.files) }
         ensures whole { IfOk result (λ _. F.stays tools.now.folders.now → IsReadable (F.content tools.now.folders.now root.now) subtree.now) }
@@ -283,6 +318,23 @@ pub(super) fn note_if(
     }
 }
 
+/// What was noted for a reading: nothing if another one has begun last. No reading is under way then.
+pub(super) fn take_notes(
+    notes: &mut Option<Observed>,
+    last_reading: u64,
+    found: &Reading,
+) -> Option<Observed>
+    ensures notes { result ≡ notes_of found.now.number last_reading notes.old }
+    ensures over { notes.new ≡ None }
+{
+    let taken = notes.take();
+    if found.begun.number == last_reading {
+        taken
+    } else {
+        None
+    }
+}
+
 /// The operation of a reading's end: its listing with what was observed meanwhile. `BadClock` if an observation was left out, or no
 /// reading is under way: it has to be done again; and `NoMemory`.
 pub(super) fn recrawl_by(
@@ -295,9 +347,15 @@ pub(super) fn recrawl_by(
     ensures refused { IfErr result (IsUnread observed) }
 {
     let Reading { begun, listing } = found;
+    let Begun {
+        root: _,
+        path: _,
+        number: _,
+        tick,
+    } = begun;
     let Some(observed) = observed else {
         return Err(Refusal::BadClock);
     };
     let listing = observed.overlaid(alloc, listing)?;
-    Ok(Op::Recrawl(moment, begun.tick, listing))
+    Ok(Op::Recrawl(moment, tick, listing))
 }

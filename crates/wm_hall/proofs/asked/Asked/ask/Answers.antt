@@ -15,7 +15,7 @@ pub returns-in-Some-clause-joined : goal.returns-in-Some-clause-joined
 returns-in-Some-clause-joined c =
     let found : position (serves c.args.subtree.now) c.self.inside.crawls.items ≡ Some c.in-Some.place = ap (position (serves c.args.subtree.now)) (sym c.deref.ensures.value) ∙ sym c.in-Some.ensures in
     if_found _ c.index_mut.result.now _ (found_state (serves c.args.subtree.now) c.self.inside.crawls.items c.self.inside.last_ticket c.self.inside.changes c.self.inside.has_ended c.args.self.now c.in-Some.place c.index_mut.result.now c.self.view_is found c.index_mut.ensures.value)
-    (ap (λ t. Ok t) c.join-number.ensures.told, changed (serves c.args.subtree.now) one_more_waits c.self.inside.crawls.items _ c.self.inside.last_ticket c.self.inside.changes c.self.inside.has_ended c.args.self.now c.self.view_is (set-at (serves c.args.subtree.now) one_more_waits c.self.inside.crawls.items c.in-Some.place c.index_mut.result.now c.join-number.new.self found c.index_mut.ensures.value c.join-number.ensures.joined))
+    (ap (λ part. Ok (record { number = c.join-number.result; part = part })) c.of.ensures ∙ ap (λ number. Ok (record { number = number; part = c.args.subtree.now })) c.join-number.ensures.told, changed (serves c.args.subtree.now) one_more_waits c.self.inside.crawls.items _ c.self.inside.last_ticket c.self.inside.changes c.self.inside.has_ended c.args.self.now c.self.view_is (set-at (serves c.args.subtree.now) one_more_waits c.self.inside.crawls.items c.in-Some.place c.index_mut.result.now c.join-number.new.self found c.index_mut.ensures.value c.join-number.ensures.joined))
 
 pub returns-in-Some-clause-added : goal.returns-in-Some-clause-added
 returns-in-Some-clause-added c =

@@ -1,9 +1,15 @@
 use Rattle.std.proofs.Common.{◌≡◌, Option, Some, None, List, position, sym, ap, subst, ◌∙◌, refl}
-use Rattle.std.specs.Prelude.{IfOk, MatchOption}
+use Rattle.std.specs.Prelude.{MatchOption}
 use Rattle.wm_hall.specs.AskedCrawls.{TicketsRise, is_waiting, running}
 use Rattle.wm_hall.specs.declared.asked_crawl.AskedCrawl.{AskedCrawl}
-use Rattle.wm_hall.proofs.Crawls.{changed, found_state, rise-first, running-keeps, set-at, unchanged_state, unfound_state}
+use Rattle.wm_hall.specs.declared.asked_crawl.Stage.TheVariants.{Waiting}
+use Rattle.wm_hall.proofs.Crawls.{changed, found_state, passes-at, rise-first, running-keeps, set-at, unchanged_state, unfound_state}
 use Rattle.wm_hall.proofs.asked.Asked.begin.Goals as goal
+
+pub run-requires : goal.run-requires
+run-requires c =
+    let found : position (is_waiting) c.self.inside.crawls.items ≡ Some c.in-Some.place = ap (position (is_waiting)) (sym c.deref.ensures.value) ∙ sym c.in-Some.ensures in
+    passes-at (is_waiting) c.self.inside.crawls.items c.in-Some.place c.index_mut.result.now found c.index_mut.ensures.value
 
 pub invariant_of-self : goal.invariant_of-self
 invariant_of-self c =
@@ -21,7 +27,7 @@ returns-in-Some-clause-begun c =
 pub returns-in-Some-clause-told : goal.returns-in-Some-clause-told
 returns-in-Some-clause-told c =
     let found : position (is_waiting) c.self.inside.crawls.items ≡ Some c.in-Some.place = ap (position (is_waiting)) (sym c.deref.ensures.value) ∙ sym c.in-Some.ensures in
-    subst (λ (o : Option AskedCrawl). MatchOption o (Some c.run.result ≡ None) (λ crawl. (c.run.result.0 ≡ crawl.ticket) × IfOk c.run.result.1 (λ part. part ≡ crawl.subtree)))
+    subst (λ (o : Option AskedCrawl). MatchOption o (Some c.run.result ≡ None) (λ crawl. (c.run.result.0 ≡ crawl.ticket) × (crawl.stage ≡ Waiting c.run.result.1)))
     (sym (found_state (is_waiting) c.self.inside.crawls.items c.self.inside.last_ticket c.self.inside.changes c.self.inside.has_ended c.args.self.now c.in-Some.place c.index_mut.result.now c.self.view_is found c.index_mut.ensures.value))
     c.run.ensures.told
 
