@@ -6,7 +6,7 @@ use std::process::Abort;
 use std::sync::Wait;
 use std::sync::atomic::{AtomicU64, Ordering};
 use wm_disk::{Disk, MemDisk};
-use wm_groupcommit::{Desk, Flusher};
+use wm_groupcommit::{ClosePermit, Desk, Flusher};
 use wm_session::open_store;
 
 /// A disk with a new file.
@@ -16,8 +16,8 @@ pub(crate) fn new_file(rt: &impl Abort, alloc: Global) -> MemDisk {
     disk
 }
 
-/// A desk over a new file.
-pub(crate) fn new_desk(rt: &impl Abort, alloc: Global) -> Desk<MemDisk> {
+/// A desk over a new file, and the permit to close it.
+pub(crate) fn new_desk(rt: &impl Abort, alloc: Global) -> (Desk<MemDisk>, ClosePermit) {
     let store = open_store(alloc, new_file(rt, alloc)).ok();
     let desk = Desk::new(alloc, store.expect(rt, "a store")).ok();
     desk.expect(rt, "a desk")

@@ -10,9 +10,9 @@ use std::process::Abort;
 use std::str;
 use std::sync::Wait;
 use std::sync::atomic::{AtomicU64, Ordering};
-use std::thread::join;
+use std::thread::{Threads, join};
 use wm_disk::MemDisk;
-use wm_groupcommit::Desk;
+use wm_groupcommit::{ClosePermit, Desk};
 use wm_session::{Front, Session};
 use wm_share::{Naming, Opened};
 use wm_shared::{Place, Roots, SharedFront, end_subscriptions};
@@ -129,13 +129,7 @@ fn sees_a_new_root<F: Front, G: Front, H: Roots<J, K>, J: Naming, K: Wait + Drop
 }
 
 /// Both sessions over one desk and its roots.
-fn both<J: Naming, R: Wait + Abort>(
-    rt: &R,
-    alloc: Global,
-    desk: &Desk<MemDisk>,
-    ends: &AtomicU64,
-    opened: Opened,
-)
+fn both<J: Naming, R: Wait + Abort>(rt: &R, alloc: Global, desk: &Desk<MemDisk>, opened: Opened)
     requires { opened.seen.book ≡ J.book }
 {
     let roots: Watched<J, &R> = Watched::new(alloc, rt, 0, opened);
@@ -149,26 +143,36 @@ fn both<J: Naming, R: Wait + Abort>(
     drop(other);
     drop(own);
     drop(roots);
+}
+
+/// As `both`, over a log of its own. Then the desk is closed.
+fn both_alone<R: Wait + Abort>(
+    rt: &R,
+    alloc: Global,
+    desk: &Desk<MemDisk>,
+    permit: ClosePermit,
+    ends: &AtomicU64,
+) {
+    both::<Brand, _>(rt, alloc, desk, Opened::new());
     ends.store(1, Ordering::SeqCst);
-    let closed = desk.close(rt);
+    let closed = desk.close(rt, permit);
     drop(closed.ok());
 }
 
-/// As `both`, over a log of its own.
-fn both_alone<R: Wait + Abort>(rt: &R, alloc: Global, desk: &Desk<MemDisk>, ends: &AtomicU64) {
-    both::<Brand, _>(rt, alloc, desk, ends, Opened::new());
+/// Both sessions in a thread, beside one that commits what they submit.
+fn subscriptions_end<R: Threads + Wait + Abort + Sync>(rt: &R, alloc: Global) {
+    let (desk, permit) = new_desk(rt, alloc);
+    let ends = AtomicU64::new(0);
+    let (own, end) = (&desk, &ends);
+    let ((), ()) = join(
+        rt,
+        || flush_until(rt, own, end),
+        || both_alone(rt, alloc, own, permit, end),
+    );
+    drop(desk.into_store());
 }
 
 #[test]
 fn subscriptions_end_with_their_root(rt: HostRuntime) {
-    let alloc = rt.alloc();
-    let desk = new_desk(&rt, alloc);
-    let ends = AtomicU64::new(0);
-    let (own, end) = (&desk, &ends);
-    let ((), ()) = join(
-        &rt,
-        || flush_until(&rt, own, end),
-        || both_alone(&rt, alloc, own, end),
-    );
-    drop(desk.into_store());
+    subscriptions_end(&rt, rt.alloc());
 }

@@ -12,7 +12,7 @@ use std::sync::Wait;
 use std::sync::atomic::{AtomicU64, Ordering};
 use std::thread::{Threads, join};
 use wm_disk::MemDisk;
-use wm_groupcommit::Desk;
+use wm_groupcommit::{ClosePermit, Desk};
 use wm_session::{Front, LocalFront, Session};
 use wm_share::{Naming, Opened};
 use wm_shared::{Place, SharedFront};
@@ -103,7 +103,6 @@ fn shared<J: Naming, R: Wait + Abort>(
     rt: &R,
     alloc: Global,
     desk: &Desk<MemDisk>,
-    ends: &AtomicU64,
     second: u64,
     opened: Opened,
 ) -> Vec<u8>
@@ -115,32 +114,34 @@ fn shared<J: Naming, R: Wait + Abort>(
     let replies = replies_of(rt, alloc, &mut session, 0);
     drop(session);
     drop(roots);
-    ends.store(1, Ordering::SeqCst);
-    let closed = desk.close(rt);
-    drop(closed.ok());
     replies
 }
 
-/// As `shared`, over a log of its own.
+/// As `shared`, over a log of its own. Then the desk is closed.
 fn shared_alone<R: Wait + Abort>(
     rt: &R,
     alloc: Global,
     desk: &Desk<MemDisk>,
+    permit: ClosePermit,
     ends: &AtomicU64,
     second: u64,
 ) -> Vec<u8> {
-    shared::<Brand, _>(rt, alloc, desk, ends, second, Opened::new())
+    let replies = shared::<Brand, _>(rt, alloc, desk, second, Opened::new());
+    ends.store(1, Ordering::SeqCst);
+    let closed = desk.close(rt, permit);
+    drop(closed.ok());
+    replies
 }
 
 /// Whether both fronts reply the same, if the roots are changed at that second or later.
 fn reply_the_same<R: Threads + Wait + Abort + Sync>(rt: &R, alloc: Global, second: u64) {
-    let desk = new_desk(rt, alloc);
+    let (desk, permit) = new_desk(rt, alloc);
     let ends = AtomicU64::new(0);
     let (own, end) = (&desk, &ends);
     let ((), replies) = join(
         rt,
         || flush_until(rt, own, end),
-        || shared_alone(rt, alloc, own, end, second),
+        || shared_alone(rt, alloc, own, permit, end, second),
     );
     drop(desk.into_store());
     let wanted = alone(rt, alloc, second);

@@ -4,6 +4,7 @@ ghost use Rattle.std.specs.Prelude.{◌≡◌, ◌⊎◌, IfErr};
 use std::alloc::Global;
 use std::sync::{Arc, Mutex, Wait};
 use wm_disk::Refusal;
+use wm_groupcommit::CommandNumber;
 use wm_hall::{Changed, Retention, RootHall, Seconds};
 use wm_names::RootPath;
 use wm_registry::Command;
@@ -192,7 +193,7 @@ impl<J: Naming, K: Wait + Copy + Drop> FollowingRoots<J, K> for Watched<J, K> {
 
     ghost shows_woken = { λ roots number shown. ⊤ };
 
-    fn follow<R: Wait>(&self, rt: &R, alloc: Global, _number: u64, command: Command) {
+    fn follow<R: Wait>(&self, rt: &R, alloc: Global, _number: CommandNumber, command: Command) {
         let mut followed = self.followed.lock(rt);
         match &command {
             Command::Watch(path) => add(alloc, self.keeping, &mut followed, path),

@@ -8,6 +8,7 @@ ghost use Rattle.wm_registry.specs.declared.command.Command.{Command};
 use std::alloc::Global;
 use std::sync::{Arc, Wait};
 use wm_disk::Refusal;
+use wm_groupcommit::CommandNumber;
 use wm_hall::{Changed, RootHall, Seconds};
 use wm_names::RootPath;
 use wm_registry::Command;
@@ -68,7 +69,7 @@ pub trait FollowingRoots<J: Naming, K: Wait + Drop>: Roots<J, K> {
         &self,
         rt: &R,
         alloc: Global,
-        number: u64,
+        number: CommandNumber,
         command: Command,
     ) -> Self::Followed
         ensures { shows_followed self.now number command result };
