@@ -2,3 +2,4 @@ pub mod EventQueues
 pub mod LogLaws
 pub mod LogLimits
 pub mod LogLines
+pub mod StartTexts

@@ -6,9 +6,11 @@ use Rattle.jiff_core.specs.declared.civil.datetime.DateTime.{DateTime}
 use Rattle.wm_disk.specs.Refusals.{refusal_text}
 use Rattle.wm_disk.specs.declared.refusal.Refusal.{Refusal}
 use Rattle.wm_explain.specs.Shown.{shown_text}
+use Rattle.wm_log.specs.StartTexts.{start_fault_text}
 use Rattle.wm_log.specs.declared.event.Event.{Event}
 use Rattle.wm_log.specs.declared.event.What.{What}
 use Rattle.wm_log.specs.declared.event.What.TheVariants.{TookSocket, CrawlFailed, NotStarted, Exited, Killed, SessionRefused, CutOff, Forgot, StoreFailed}
+use Rattle.wm_log.specs.declared.start_fault.StartFault.{StartFault}
 
 -- the first second that no timestamp has, behind the year 9999
 abbrev pub time_end : ℕ
@@ -35,10 +37,14 @@ abbrev pub crawl_text : Refusal → (folder : Option (List ℕ)) → List ℕ
 crawl_text refusal None = refused_text (codes "a crawl failed") refusal
 crawl_text refusal (Some folder) = refused_text (spaced (codes "a crawl failed at") (shown_text folder)) refusal
 
+-- the trigger that couldn't be started, and why
+abbrev pub unstarted_text : (name : List ℕ) → StartFault → List ℕ
+unstarted_text name fault = spaced (codes "couldn't start the trigger") (shown_text name) ++ codes ": " ++ start_fault_text fault
+
 abbrev pub what_text : What → List ℕ
 what_text (TookSocket path) = spaced (codes "took over the socket") (shown_text (string_bytes path))
 what_text (CrawlFailed refusal folder) = crawl_text refusal (option_map string_bytes folder)
-what_text (NotStarted name) = spaced (codes "couldn't start the trigger") (shown_text (string_bytes name))
+what_text (NotStarted name fault) = unstarted_text (string_bytes name) fault
 what_text (Exited name status) = of_trigger (shown_text (string_bytes name)) (text_number (codes "ended with status") status)
 what_text (Killed name signal) = of_trigger (shown_text (string_bytes name)) (text_number (codes "was ended by signal") signal)
 what_text (SessionRefused refusal) = refused_text (codes "refused a session") refusal

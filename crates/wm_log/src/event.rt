@@ -1,5 +1,6 @@
 //! What happened in a server. Definitions: specs/LogLines. Tests: leaf_tests/src/logs.rt.
 
+use crate::start_fault::StartFault;
 use wm_disk::Refusal;
 
 /// What happened.
@@ -9,8 +10,8 @@ pub enum What {
     TookSocket(String),
     /// A crawl was refused so; at this folder, if it is one that can't be read.
     CrawlFailed(Refusal, Option<String>),
-    /// The program of the trigger of this name couldn't be started.
-    NotStarted(String),
+    /// The program of the trigger of this name couldn't be started, for this cause.
+    NotStarted(String, StartFault),
     /// The program of the trigger of this name ended with this status.
     Exited(String, u8),
     /// The program of the trigger of this name was ended by this signal.

@@ -6,7 +6,7 @@
 //!
 //! | Of | Definitions |
 //! |---|---|
-//! | events, and the line of each | specs/LogLines.antt |
+//! | events, and the line of each | specs/LogLines.antt, and of a trigger that couldn't be started specs/StartTexts.antt |
 //! | which lines are let through | specs/LogLimits.antt, and a law of them specs/LogLaws.antt |
 //! | which events wait | specs/EventQueues.antt |
 //!
@@ -18,6 +18,7 @@ mod event_queue;
 mod laws;
 mod limiter;
 mod lines;
+mod start_fault;
 mod time;
 mod writing;
 
@@ -26,4 +27,5 @@ pub use event_queue::EventQueue;
 pub use laws::one_line_a_second;
 pub use limiter::LogLimiter;
 pub use lines::line_of;
+pub use start_fault::{StartCause, StartFault};
 pub use writing::write_event;

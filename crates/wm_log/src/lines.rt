@@ -2,9 +2,11 @@
 ghost use Rattle.std.specs.Prelude.{◌≡◌, IfOk, option_map, string_bytes};
 ghost use Rattle.wm_explain.specs.Shown.{shown_text};
 ghost use Rattle.wm_disk.specs.Refusals.{refusal_text};
-ghost use Rattle.wm_log.specs.LogLines.{IsLogLine, about, crawl_text, log_text, refused_text, spaced, of_trigger, what_text, text_number};
+ghost use Rattle.wm_log.specs.LogLines.{IsLogLine, about, crawl_text, log_text, refused_text, spaced, of_trigger, unstarted_text, what_text, text_number};
+ghost use Rattle.wm_log.specs.StartTexts.{start_fault_text};
 
 use crate::event::{Event, What};
+use crate::start_fault::StartFault;
 use crate::time::time_text;
 use std::alloc::Global;
 use wm_disk::{NoMemory, Refusal};
@@ -42,6 +44,24 @@ fn ended_text(alloc: Global, name: &str, how: &str, number: u8) -> Result<String
     joined(alloc, "the trigger", &said)
 }
 
+/// A program that couldn't be started, and why.
+fn fault_text(alloc: Global, fault: &StartFault) -> Result<String, NoMemory>
+    ensures { IfOk result (λ r. string_bytes r ≡ start_fault_text fault.now) }
+{
+    let program = shown(alloc, &fault.program)?;
+    let cause = fault.cause.text();
+    Ok(format!(in alloc; "{program}: {cause}")?)
+}
+
+/// The trigger that couldn't be started, and why.
+fn unstarted_text(alloc: Global, name: &str, fault: &StartFault) -> Result<String, NoMemory>
+    ensures { IfOk result (λ r. string_bytes r ≡ unstarted_text name.now fault.now) }
+{
+    let text = named_text(alloc, "couldn't start the trigger", name)?;
+    let fault = fault_text(alloc, fault)?;
+    Ok(format!(in alloc; "{text}: {fault}")?)
+}
+
 /// A text, and why something was refused.
 fn refused_text(alloc: Global, text: &str, refusal: Refusal) -> Result<String, NoMemory>
     ensures { IfOk result (λ r. string_bytes r ≡ refused_text text.now refusal) }
@@ -77,7 +97,7 @@ fn what_text(alloc: Global, what: &What) -> Result<String, NoMemory>
     match what {
         What::TookSocket(path) => named_text(alloc, "took over the socket", path),
         What::CrawlFailed(refusal, folder) => crawl_text(alloc, *refusal, folder),
-        What::NotStarted(name) => named_text(alloc, "couldn't start the trigger", name),
+        What::NotStarted(name, fault) => unstarted_text(alloc, name, fault),
         What::Exited(name, status) => ended_text(alloc, name, "ended with status", *status),
         What::Killed(name, signal) => ended_text(alloc, name, "was ended by signal", *signal),
         What::SessionRefused(refusal) => refused_text(alloc, "refused a session", *refusal),
