@@ -5,6 +5,8 @@
 #![tactic(auto)]
 
 #[cfg(test)]
+mod advice;
+#[cfg(test)]
 mod checks;
 #[cfg(test)]
 mod clocks;
@@ -18,5 +20,7 @@ mod heads;
 mod logs;
 #[cfg(test)]
 mod names;
+#[cfg(test)]
+mod places;
 #[cfg(test)]
 mod spellings;

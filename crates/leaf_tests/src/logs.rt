@@ -5,14 +5,14 @@ use std::io;
 use std::io::{ErrorKind, Write};
 use std::process::Abort;
 use wm_disk::Refusal;
-use wm_log::{Event, EventQueue, LogLimiter, What, line_of, write_event};
+use wm_log::{Event, EventQueue, LogLimiter, StartCause, StartFault, What, line_of, write_event};
 
 /// What happened, without memory of its own.
 #[derive(Clone, Copy)]
 enum Case {
     TookSocket(&'static str),
     CrawlFailed(Refusal, Option<&'static str>),
-    NotStarted(&'static str),
+    NotStarted(&'static str, &'static str, StartCause),
     Exited(&'static str, u8),
     Killed(&'static str, u8),
     SessionRefused(Refusal),
@@ -44,8 +44,44 @@ const LINES: &[(u64, Option<&str>, Case, &str)] = &[
     (
         1_796_083_199,
         Some("/r"),
-        Case::NotStarted("t"),
-        "2026-11-30T23:59:59Z /r: couldn't start the trigger t\n",
+        Case::NotStarted("t", "nosuch", StartCause::NoFile),
+        "2026-11-30T23:59:59Z /r: couldn't start the trigger t: nosuch: no such file\n",
+    ),
+    (
+        0,
+        None,
+        Case::NotStarted("t\n", "./a\nb", StartCause::NoPermission),
+        "1970-01-01T00:00:00Z couldn't start the trigger t\\x0a: ./a\\x0ab: no permission\n",
+    ),
+    (
+        0,
+        Some("/r"),
+        Case::NotStarted("t", "/r/x", StartCause::NoProgram),
+        "1970-01-01T00:00:00Z /r: couldn't start the trigger t: /r/x: the system can't run such a file\n",
+    ),
+    (
+        0,
+        Some("/r"),
+        Case::NotStarted("t", "cc", StartCause::TooLong),
+        "1970-01-01T00:00:00Z /r: couldn't start the trigger t: cc: its arguments are too long together\n",
+    ),
+    (
+        0,
+        Some("/r"),
+        Case::NotStarted("t", "cc", StartCause::NoProcess),
+        "1970-01-01T00:00:00Z /r: couldn't start the trigger t: cc: too many processes run\n",
+    ),
+    (
+        0,
+        Some("/r"),
+        Case::NotStarted("t", "cc", StartCause::NoMemory),
+        "1970-01-01T00:00:00Z /r: couldn't start the trigger t: cc: memory ran out\n",
+    ),
+    (
+        0,
+        Some("/r"),
+        Case::NotStarted("t", "", StartCause::Refused),
+        "1970-01-01T00:00:00Z /r: couldn't start the trigger t: : the system refused to start it\n",
     ),
     (
         1_796_083_200,
@@ -125,7 +161,10 @@ fn what(rt: &impl Abort, alloc: Global, case: Case) -> What {
         Case::CrawlFailed(refusal, folder) => {
             What::CrawlFailed(refusal, folder.map(|folder| text(rt, alloc, folder)))
         }
-        Case::NotStarted(name) => What::NotStarted(text(rt, alloc, name)),
+        Case::NotStarted(name, program, cause) => {
+            let program = text(rt, alloc, program);
+            What::NotStarted(text(rt, alloc, name), StartFault { program, cause })
+        }
         Case::Exited(name, status) => What::Exited(text(rt, alloc, name), status),
         Case::Killed(name, signal) => What::Killed(text(rt, alloc, name), signal),
         Case::SessionRefused(refusal) => What::SessionRefused(refusal),
@@ -187,13 +226,14 @@ impl Write for Closed {
 
 /// Events in turn, without a root.
 const WRITTEN: &[(u64, Case)] = &[
-    (0, Case::NotStarted("a")),
-    (0, Case::NotStarted("b")),
-    (0, Case::NotStarted("a")),
+    (0, Case::NotStarted("a", "x", StartCause::NoFile)),
+    (0, Case::NotStarted("b", "x", StartCause::NoFile)),
+    (0, Case::NotStarted("a", "x", StartCause::NoFile)),
+    (0, Case::NotStarted("a", "x", StartCause::NoPermission)),
     (0, Case::Exited("a", 1)),
     (0, Case::Exited("a", 2)),
-    (0, Case::NotStarted("b")),
-    (2, Case::NotStarted("b")),
+    (0, Case::NotStarted("b", "x", StartCause::NoFile)),
+    (2, Case::NotStarted("b", "x", StartCause::NoFile)),
 ];
 
 /// Writes those events, one to a writer that fails, and a later one.
@@ -214,11 +254,12 @@ fn write_turns(rt: &impl Abort, alloc: Global, written: &mut Vec<u8>) {
 fn writes_what_is_let_through(rt: HostRuntime) {
     let mut written = Vec::new(rt.alloc());
     write_turns(&rt, rt.alloc(), &mut written);
-    let wanted = "1970-01-01T00:00:00Z couldn't start the trigger a\n\
-        1970-01-01T00:00:00Z couldn't start the trigger b\n\
+    let wanted = "1970-01-01T00:00:00Z couldn't start the trigger a: x: no such file\n\
+        1970-01-01T00:00:00Z couldn't start the trigger b: x: no such file\n\
+        1970-01-01T00:00:00Z couldn't start the trigger a: x: no permission\n\
         1970-01-01T00:00:00Z the trigger a ended with status 1\n\
         1970-01-01T00:00:00Z the trigger a ended with status 2\n\
-        1970-01-01T00:00:02Z couldn't start the trigger b\n\
+        1970-01-01T00:00:02Z couldn't start the trigger b: x: no such file\n\
         1970-01-01T00:00:04Z cut off a client that didn't read\n";
     check!(rt; written.as_slice() == wanted.as_bytes());
 }

@@ -13,7 +13,7 @@ use std::{fs, io};
 use wm_explain::{Found, Head, Lock};
 
 /// The folder of a path.
-fn folder_of(path: &str) -> &str {
+pub(crate) fn folder_of(path: &str) -> &str {
     match Path::new(path).parent() {
         Some(folder) if !folder.as_str().is_empty() => folder.as_str(),
         _ => ".",

@@ -1,9 +1,9 @@
-//! Who has the lock of a file, by what the system lists of its locks. Tests: tools/quick_messages.py.
+//! Who has the lock of a file, by what the system lists of its locks, and where a server listens. Tests: tools/quick_messages.py.
 
 use std::alloc::{AllocError, Global};
 use std::fs::{File, Files, Metadata};
-use std::io;
-use std::os::unix::fs::MetadataExt;
+use std::os::unix::fs::{FileTypeExt, MetadataExt};
+use std::{fs, io};
 use wm_explain::Lock;
 
 /// The text of a file of the system's. `None` if it can't be read.
@@ -36,6 +36,47 @@ fn is_watchmand<R: Files<File = File>>(
         Some(name) => Ok(name.trim() == "watchmand"),
         None => Ok(false),
     }
+}
+
+/// A path of a process by its word: what doesn't begin with `/` begins in its working folder.
+fn path_by<R: Files<File = File>>(
+    rt: &R,
+    alloc: Global,
+    process: u32,
+    word: &str,
+) -> Option<String> {
+    if word.starts_with('/') {
+        return String::from_str(alloc, word).ok();
+    }
+    let link = format!(in alloc; "/proc/{process}/cwd").ok()?;
+    let folder = rt.read_link(alloc, link.as_str()).ok()?.into_string();
+    format!(in alloc; "{folder}/{word}").ok()
+}
+
+/// Whether a socket is at a path.
+fn is_socket<R: Files<File = File>>(rt: &R, path: &str) -> bool {
+    match fs::metadata(rt, path) {
+        Ok(at) => at.file_type().is_socket(),
+        Err(_) => false,
+    }
+}
+
+/// The socket of a server, by the arguments of its process: the path behind `serve` at which a socket is.
+pub(crate) fn socket_of<R: Files<File = File>>(
+    rt: &R,
+    alloc: Global,
+    process: u32,
+) -> Option<String> {
+    let file = format!(in alloc; "/proc/{process}/cmdline").ok()?;
+    let words = text_of(rt, alloc, &file)?;
+    for word in words.split('\0').skip(2) {
+        if let Some(path) = path_by(rt, alloc, process, word) {
+            if is_socket(rt, &path) {
+                return Some(path);
+            }
+        }
+    }
+    None
 }
 
 /// The lock that a process has. A process that isn't seen from here has the number 0.
