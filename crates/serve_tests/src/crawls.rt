@@ -109,6 +109,52 @@ fn operation_in_crawl(rt: HostRuntime) {
     check!(rt; told.contains("\"files\":[\"new\",\"a\",\"d\",\"d/b\"]"));
 }
 
+/// Unwatches a root while its crawl is held, and tells what is answered to who waits for that crawl. Then watches it again, lets the held
+/// crawl go on, and tells what is there.
+fn unwatch_meanwhile(
+    rt: &HostRuntime,
+    host: &impl Abort,
+    place: &Place,
+    gate: &Held,
+) -> (String, String) {
+    let root = place.root.as_str();
+    let mut client = Client::connect(rt, host, place.socket.as_str());
+    let mut other = Client::connect(rt, host, place.socket.as_str());
+    crawl_again(rt, host, &mut client, &mut other, root);
+    await_held(rt, gate);
+    ask_of(host, &mut client, "watch-del", root);
+    let told = other.line().expect(host, "a reply");
+    ask_of(host, &mut client, "watch", root);
+    gate.is_open.store(true, Ordering::SeqCst);
+    let there = names(rt, host, &mut client, root);
+    drop(other);
+    drop(client);
+    (told, there)
+}
+
+/// Who waits for a crawl is told at once that its root isn't watched any longer, and the end of that crawl troubles nobody.
+#[test]
+fn unwatched_in_crawl(rt: HostRuntime) {
+    let alloc = rt.alloc();
+    let place = Place::new(&rt, &rt, "serve_unwatched");
+    let gate = Held {
+        passed: AtomicU64::new(0),
+        is_open: AtomicBool::new(false),
+        gave_up: AtomicBool::new(false),
+    };
+    let (served, told) = thread::join(
+        &rt,
+        || place.serve(&rt, alloc, &gate, 2),
+        || unwatch_meanwhile(&rt, &rt, &place, &gate),
+    );
+    drop(place);
+    let (told, there) = told;
+    check!(rt; served.is_ok());
+    check!(rt; !gate.gave_up.load(Ordering::SeqCst));
+    check!(rt; told.as_str() == "{\"error\":\"5 NotWatched\",\"version\":\"w1\"}", told);
+    check!(rt; there.contains("\"files\":[\"a\",\"d\",\"d/b\"],\"is_fresh_instance\":true"), there);
+}
+
 /// Observes what a path has, or that it isn't there, and gives the reply.
 fn observe_as(
     rt: &HostRuntime,

@@ -12,7 +12,6 @@ use wm_disk::Refusal;
 use wm_file::{FileDisk, Unknown};
 use wm_hall::Retention;
 use wm_serve::{ServerPaths, Settings, Tools, serve};
-use wm_triggers::SystemPrograms;
 
 /// The files of a test's server.
 #[derive(Drop)]
@@ -22,7 +21,7 @@ pub struct Place {
     /// The absolute path of a folder that it may watch.
     pub root: String,
     folders: SystemFolders<HostRuntime>,
-    programs: SystemPrograms<HostRuntime>,
+    programs: HostRuntime,
     log: io::Stderr,
 }
 
@@ -64,7 +63,7 @@ impl Place {
             socket,
             root,
             folders: SystemFolders::new(rt.clone().expect(host, "a handle")),
-            programs: SystemPrograms::new(rt.clone().expect(host, "a handle")),
+            programs: rt.clone().expect(host, "a handle"),
             log: rt.stderr(),
         }
     }

@@ -47,6 +47,7 @@ const ASKED: &[(&[&str], &str)] = &[
     (&["serve", "f", "s", "--workers", "17"], "shown 2"),
     (&["serve", "f", "s", "--workers", "x"], "shown 2"),
     (&["serve", "f", "s", "--gc-age=-1"], "shown 2"),
+    (&["serve", "f", "s", "--gc-age", "-1"], "shown 2"),
     (&["serve", "f", "s", "--gc-age", "4294967296"], "shown 2"),
     (&["serve", "f", "s", "--gc-interval", ""], "shown 2"),
     (
@@ -78,6 +79,31 @@ fn asked(alloc: Global, words: &Words) -> Result<String, AllocError> {
         }
         Words::Plain => String::from_str(alloc, "plain"),
         Words::Shown { text: _, status } => format!(in alloc; "shown {status}"),
+    }
+}
+
+/// Words with a number that isn't one, or is none of those that are taken.
+const NO_NUMBERS: &[&[&str]] = &[
+    &["serve", "f", "s", "--workers", "-1"],
+    &["serve", "--gc-age", "-43200", "f", "s"],
+    &["serve", "f", "--gc-interval", "-0", "s"],
+    &["serve", "f", "s", "--quiet", "--sessions", "-1"],
+    &["serve", "f", "s", "--sessions=-1"],
+    &["serve", "f", "s", "--workers", "17"],
+];
+
+#[test]
+fn says_which_numbers_there_are(rt: HostRuntime) {
+    let wanted =
+        "error: N and S are whole numbers from 0 to 4294967295, and the workers are 1 to 16\n\n\
+        For more information, try '--help'.\n";
+    for words in NO_NUMBERS {
+        let read = Words::read(rt.alloc(), words).expect(&rt, "words");
+        let is_told = match &read {
+            Words::Shown { text, status: 2 } => text.as_str() == wanted,
+            _ => false,
+        };
+        check!(rt; is_told, words);
     }
 }
 

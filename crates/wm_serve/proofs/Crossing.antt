@@ -20,7 +20,6 @@ use Rattle.std.proofs.sync.Mutex.TheSendSync as MutexSent
 use Rattle.std.specs.contracts.alloc.Global
 use Rattle.std.specs.contracts.impls.GlobalAllocator.TheImpl as GlobalImpl
 use Rattle.std.specs.contracts.option.Option
-use Rattle.std.specs.contracts.os.unix.net.UnixStream
 use Rattle.std.specs.contracts.sync.Arc
 use Rattle.std.specs.contracts.sync.Mutex
 use Rattle.std.specs.contracts.vec.Vec
@@ -42,6 +41,7 @@ use Rattle.wm_shared.specs.contracts.place.Place.TheInside as PlaceInside
 use Rattle.wm_shared.specs.contracts.shared_front.SharedFront
 use Rattle.wm_shared.specs.declared.registrar.Registrar as Registrar
 use Rattle.wm_serve.proofs.SeatSent.{seat_send}
+use Rattle.wm_serve.proofs.client_lines.ClientWriter.TheSendSync as WriterSent
 use Rattle.wm_serve.specs.contracts.connection.Connection
 use Rattle.wm_serve.specs.contracts.connection.Slot
 use Rattle.wm_serve.specs.contracts.turn.Following
@@ -116,12 +116,6 @@ shared_sync T J K h g desk k k' =
 
 -- ---- the sessions
 
-stream_send : IsSend (Arc.the_row UnixStream.the_row Global.the_row GlobalImpl.ghosts)
-stream_send = search (crosses, sendable) depth 60 fits 20000
-
-page_send : IsSend (Vec.the_row Builtin.u8 Global.the_row GlobalImpl.ghosts)
-page_send = search (crosses, sendable) depth 60 fits 20000
-
 number_sync : IsSync Builtin.u64
 number_sync = search (crosses, sendable) depth 60 fits 20000
 
@@ -148,7 +142,7 @@ module _ (κ : NamedLft) (T J K : RattleType) (h : Registrar.Ghosts T.Denot) (g 
       declared_send (Session.the_type front) (as_row_send (row_field front) front_send, (search (crosses, Expressions.crosses, sendable) depth 60 fits 20000, tt))
 
   connection_send : IsSend (Connection.the_row κ T J K h g)
-  connection_send = declared_send (Connection.the_type κ T J K h g) (session_send, (stream_send, (page_send, tt)))
+  connection_send = declared_send (Connection.the_type κ T J K h g) (session_send, (WriterSent.the_send, tt))
 
   slot_sync : IsSync (Slot.the_row κ T J K h g)
   slot_sync =

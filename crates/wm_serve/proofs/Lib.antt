@@ -4,6 +4,7 @@ pub mod Crossing
 mod Begun
 mod Defining
 mod DueRuns
+pub mod LastTry
 mod Names
 mod Numbered
 mod Parting

@@ -1,6 +1,7 @@
 pub mod AcceptQueues
 pub mod AdmissionLines
 pub mod BegunRoots
+pub mod ClientLines
 pub mod CrawlLines
 pub mod CrawlOutcomes
 pub mod FollowedCommands
@@ -8,7 +9,6 @@ pub mod FollowedRoots
 pub mod LogEvents
 pub mod LoggedParts
 pub mod NumberedHalls
-pub mod ReadLines
 pub mod SentAlone
 pub mod SentLines
 pub mod SlotThreads

@@ -1,15 +1,17 @@
--- What the tries of a crawl come to.
-use Rattle.std.specs.Prelude.{◌≡◌, ℕ, true, Option, Some, None, Result, Ok, Err, IfOk, MatchResult}
-use Rattle.wm_disk.specs.declared.refusal.Refusal.{Refusal}
-use Rattle.wm_disk.specs.declared.refusal.Refusal.TheVariants.{BadClock, NotWatched}
-use Rattle.wm_lines.specs.declared.progress.Progress.{Progress}
+-- The tries of a crawl, and how the workers of roots end.
+use Rattle.std.specs.Prelude.{◌≡◌, ℕ, true, Option, Some, None, Err, IfOk, IfSome}
+use Rattle.wm_disk.specs.declared.refusal.Refusal.TheVariants.{BadClock}
 use Rattle.wm_names.specs.declared.subtree.Subtree.{Subtree}
+use Rattle.wm_hall.specs.Tries.{IsTryOf, try_end}
+use Rattle.wm_hall.specs.declared.tried.Tried.{Tried}
+use Rattle.wm_hall.specs.declared.tried.Tried.TheVariants.{GivenUp, HandedIn}
+use Rattle.wm_serve.specs.WakeFlags.{NotifiesAll}
+use Rattle.wm_serve.specs.declared.notified.NotifiedFlags.{NotifiedFlags}
 use Rattle.wm_serve.specs.declared.crawl.NoCrawl.{NoCrawl}
 use Rattle.wm_serve.specs.declared.crawl.NoCrawl.TheVariants.{Ended, NoHall}
+use Rattle.wm_serve.specs.declared.crawl.Tries.{Tries}
 use Rattle.wm_serve.specs.declared.supervisor.WorkerEnd.{WorkerEnd}
 use Rattle.wm_serve.specs.declared.supervisor.WorkerEnd.TheVariants.{Crawler as crawler_end, Triggers as triggers_end}
-use Rattle.wm_serve.specs.declared.tried_crawl.Tried.{Tried}
-use Rattle.wm_serve.specs.declared.tried_crawl.Tried.TheVariants.{GivenUp, HandedIn, NotBegun, NotHandedIn}
 use Rattle.wm_serve.specs.declared.unstarted_workers.Worker.{Worker}
 use Rattle.wm_serve.specs.declared.unstarted_workers.Worker.TheVariants.{Crawler, Triggers}
 
@@ -25,26 +27,25 @@ IsWithout (Crawler root) (triggers_end ended) = ⊥
 IsWithout (Triggers root) (crawler_end none) = ⊥
 IsWithout (Triggers root) (triggers_end ended) = IfOk ended (λ none. none ≡ true)
 
--- how a try ended: as what was handed in did, by what the crawl was refused with, or without the root
-abbrev pub try_end : Tried → Result Progress Refusal
-try_end (NotBegun none) = Err NotWatched
-try_end (HandedIn handed_in) = handed_in.ended
-try_end (NotHandedIn none) = Err NotWatched
-try_end (GivenUp refused given_up) = Err refused
+-- if anything was handed in, each of so many wake flags was notified of a change of the root
+abbrev pub IsNotified : ℕ → ℕ → Tried NotifiedFlags → Type 0
+IsNotified flags root (HandedIn handed_in notified) = NotifiesAll flags root notified
+IsNotified flags root (GivenUp refused given_up) = Unit {0}
 
--- each thing that a try came to is of the root of the number, and what was handed in is of the part
-abbrev pub IsTryOf : ℕ → Subtree → Tried → Type 0
-IsTryOf root part (NotBegun none) = none ≡ root
-IsTryOf root part (HandedIn handed_in) = (handed_in.root ≡ root) × (handed_in.part ≡ part)
-IsTryOf root part (NotHandedIn none) = none ≡ root
-IsTryOf root part (GivenUp refused given_up) = MatchResult given_up (λ over. over.root ≡ root) (λ none. none ≡ root)
+-- a try of a crawl of a part of the root, of which so many wake flags were notified
+abbrev pub IsNotifiedTry : ℕ → ℕ → Subtree → Tried NotifiedFlags → Type 0
+IsNotifiedTry flags root part tried = IsTryOf root part tried × IsNotified flags root tried
 
 -- the last of one or two tries
-abbrev pub last_try : Tried → Option Tried → Tried
+abbrev pub last_try : {S : Type 0} → Tried S → Option (Tried S) → Tried S
 last_try first None = first
 last_try first (Some second) = second
 
 -- there is a second try exactly if the first was overtaken
-abbrev pub IsTriedAgain : Tried → Option Tried → Type 0
+abbrev pub IsTriedAgain : {S : Type 0} → Tried S → Option (Tried S) → Type 0
 IsTriedAgain first None = try_end first ≡ Err BadClock → ⊥
 IsTriedAgain first (Some second) = try_end first ≡ Err BadClock
+
+-- each of one or two tries is of a part of the root, and so many wake flags were notified of it
+abbrev pub AreTriesOf : ℕ → ℕ → Subtree → Tries → Type 0
+AreTriesOf flags root part tries = IsNotifiedTry flags root part tries.first × IfSome tries.second (IsNotifiedTry flags root part)

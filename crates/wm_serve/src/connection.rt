@@ -1,14 +1,15 @@
 //! A connection slot: the session that two threads share, one of its lines and one of the lines that are due to it.
 //! Definitions: specs/SubscribedRoots.antt. Tests: serve_tests/src/sessions.rt.
-ghost use Rattle.std.specs.Prelude.{◌≡◌, ◌≤◌, IfOk, IfErr, MatchOption, None, Some};
+ghost use Rattle.std.specs.Prelude.{◌≡◌, ◌≤◌, IfOk, IfErr, IsSome, MatchOption, None, OnErr, Some};
 ghost use Rattle.wm_serve.specs.SubscribedRoots.{AddsBitsOf};
 ghost use Rattle.wm_serve.specs.WakeFlags.{slot_count};
 
+use crate::client_lines::{ClientStream, ClientWriter, StreamShut, UnansweredLine, UnsentReply};
 use crate::log_events::{is_cut_off, reports_store_failure};
 use crate::registrar::ServerDesk;
 use crate::replaced::{Replaced, replace};
 use crate::sent_alone::{SentAlone, send_in};
-use crate::sent_lines::{Answered, SentDue, SentLine, answer_line, send, send_due};
+use crate::sent_lines::{Answered, SentDue, SentLine};
 use crate::shared::Shared;
 use crate::slot_learnt::{SlotLearnt, learn_in};
 use crate::step::Step;
@@ -17,12 +18,9 @@ use crate::wake_flag::FlagStep;
 use crate::wake_state::with_bit;
 use std::alloc::Global;
 use std::io;
-use std::net::Shutdown;
-use std::os::unix::net::UnixStream;
 use std::snapshot::Snapshot;
 use std::sync::{Arc, Mutex, Wait};
 use std::time::Clock;
-use wm_disk::NoMemory;
 use wm_hall::{RootHall, Seconds};
 use wm_log::What;
 use wm_session::Session;
@@ -43,24 +41,25 @@ pub struct EndedDropped<'a, T: ServerDesk, J: Naming, K: Wait + Clock + Copy + D
 }
 
 /// That a session answered a line, once it had dropped what it had of roots that aren't watched any longer.
-pub struct AnsweredHere<'l, 'a, T: ServerDesk, J: Naming, K: Wait + Clock + Copy + Drop> {
+pub struct AnsweredHere<'a, T: ServerDesk, J: Naming, K: Wait + Clock + Copy + Drop> {
     pub ended: EndedDropped<'a, T, J, K>,
-    pub answered: Answered<'l, ServerFront<'a, T, J, K>>,
+    pub answered: Answered<ServerFront<'a, T, J, K>>,
 }
 
-/// That what was due to a session was sent, once it had dropped what it had of roots that aren't watched any longer.
+/// That what was due to a session was sent, or else its stream was shut, once it had dropped what it had of roots that aren't watched any
+/// longer.
 #[derive(Drop)]
 pub struct UpdatedHere<'a, T: ServerDesk, J: Naming, K: Wait + Clock + Copy + Drop> {
     pub ended: EndedDropped<'a, T, J, K>,
     pub sent: SentDue<ServerFront<'a, T, J, K>>,
+    pub shut: Option<StreamShut>,
 }
 
-/// A session with its socket, and the lines on their way.
+/// A session with what sends its client lines.
 #[derive(Drop)]
 pub struct Connection<'a, T: ServerDesk, J: Naming, K: Wait + Clock + Copy + Drop> {
     pub session: ServerSession<'a, T, J, K>,
-    stream: Arc<UnixStream>,
-    page: Vec<u8>,
+    writer: ClientWriter,
 }
 
 impl<'a, T: ServerDesk, J: Naming, K: Wait + Clock + Copy + Drop> Connection<'a, T, J, K> {
@@ -68,22 +67,17 @@ impl<'a, T: ServerDesk, J: Naming, K: Wait + Clock + Copy + Drop> Connection<'a,
     pub fn new(
         alloc: Global,
         session: ServerSession<'a, T, J, K>,
-        stream: Arc<UnixStream>,
+        stream: Arc<ClientStream>,
     ) -> Connection<'a, T, J, K> {
         Connection {
             session,
-            stream,
-            page: Vec::new(alloc),
+            writer: ClientWriter::new(alloc, stream),
         }
     }
 
     /// The session, once its socket is closed.
     pub fn into_session(self) -> ServerSession<'a, T, J, K> {
-        let Connection {
-            session,
-            stream: _,
-            page: _,
-        } = self;
+        let Connection { session, writer: _ } = self;
         session
     }
 
@@ -96,7 +90,7 @@ impl<'a, T: ServerDesk, J: Naming, K: Wait + Clock + Copy + Drop> Connection<'a,
     ) -> EndedDropped<'a, T, J, K>
         ensures before { result.subscriptions.before.value ≡ self.old.session }
         ensures subscriptions { result.subscriptions.after.value.subscriptions ≡ self.new.session.subscriptions }
-        ensures viewers { result.viewers.after.value ≡ self.new.session.front.viewers }
+        ensures front { self.new.session.front ≡ record self.old.session.front { viewers = result.viewers.after.value } }
     {
         let subscriptions = end_subscriptions(rt, alloc, shared, &mut self.session);
         let viewers = self.session.front.drop_ended();
@@ -121,40 +115,34 @@ impl<'a, T: ServerDesk, J: Naming, K: Wait + Clock + Copy + Drop> Connection<'a,
     }
 
     /// Answers a line, and sends the reply with what is due behind it.
-    fn answer<'l, R: Wait>(
+    fn answer<R: Wait>(
         &mut self,
         rt: &R,
         alloc: Global,
         shared: &Shared<T, J, K>,
-        line: &'l [u8],
-    ) -> AnsweredHere<'l, 'a, T, J, K>
-        ensures line { result.answered.line.value.now ≡ line.now }
+        unanswered: UnansweredLine,
+    ) -> AnsweredHere<'a, T, J, K>
+        ensures line { result.answered.line.value ≡ unanswered }
         ensures session { (result.ended.subscriptions.before.value ≡ self.old.session) × (result.answered.session.after ≡ self.new.session) }
         ensures subscriptions { result.answered.session.before.subscriptions ≡ result.ended.subscriptions.after.value.subscriptions }
-        ensures viewers { result.answered.session.before.front.viewers ≡ result.ended.viewers.after.value }
+        ensures front { result.answered.session.before.front ≡ record self.old.session.front { viewers = result.ended.viewers.after.value } }
     {
         let ended = self.drop_ended(rt, alloc, shared);
         let moment = shared.second();
-        let mut writer = &*self.stream;
-        let answered = answer_line(
-            alloc,
-            &mut self.session,
-            moment,
-            line,
-            &mut self.page,
-            &mut writer,
-        );
-        if reports_store_failure(&self.page) {
+        let answered = self
+            .writer
+            .answer(alloc, &mut self.session, moment, unanswered);
+        if reports_store_failure(self.writer.page()) {
             shared.log.note(&shared.keeping, None, What::StoreFailed);
         }
         AnsweredHere { ended, answered }
     }
 
-    /// Sends a line alone, or that memory ran out for it.
-    pub fn send(&self, line: &Result<Vec<u8>, NoMemory>) -> SentLine
-        ensures { result.line.value ≡ line.now }
+    /// Sends a reply alone.
+    pub fn send(&self, reply: UnsentReply) -> SentLine
+        ensures { result.line.value ≡ reply.line }
     {
-        send(line, &mut &*self.stream)
+        self.writer.send(reply)
     }
 
     /// Sends what is due. A client that doesn't read it is cut off.
@@ -166,30 +154,28 @@ impl<'a, T: ServerDesk, J: Naming, K: Wait + Clock + Copy + Drop> Connection<'a,
     ) -> UpdatedHere<'a, T, J, K>
         ensures session { (result.ended.subscriptions.before.value ≡ self.old.session) × (result.sent.session.after ≡ self.new.session) }
         ensures subscriptions { result.sent.session.before.subscriptions ≡ result.ended.subscriptions.after.value.subscriptions }
-        ensures viewers { result.sent.session.before.front.viewers ≡ result.ended.viewers.after.value }
+        ensures front { result.sent.session.before.front ≡ record self.old.session.front { viewers = result.ended.viewers.after.value } }
+        ensures shut { OnErr result.sent.sent (IsSome result.shut) }
     {
         let ended = self.drop_ended(rt, alloc, shared);
-        let mut writer = &*self.stream;
-        let sent = send_due(alloc, &mut self.session, &mut self.page, &mut writer);
+        let sent = self.writer.send_due(alloc, &mut self.session);
         if is_cut_off(sent.sent()) {
             shared.log.note(&shared.keeping, None, What::CutOff);
         }
-        if sent.sent().is_err() {
-            let _ = self.stream.shutdown(Shutdown::Both);
-        }
-        UpdatedHere { ended, sent }
+        let shut = self.writer.shut_unless_sent(sent.sent());
+        UpdatedHere { ended, sent, shut }
     }
 }
 
 /// That the session of the slot of this number answered a line, and that the roots which it has subscriptions on were noted, if the slot
 /// has a wake flag. It is given up for whether the reply was sent.
-pub struct SlotAnswer<'l, 'a, T: ServerDesk, J: Naming, K: Wait + Clock + Copy + Drop> {
+pub struct SlotAnswer<'a, T: ServerDesk, J: Naming, K: Wait + Clock + Copy + Drop> {
     slot: usize,
-    pub here: AnsweredHere<'l, 'a, T, J, K>,
+    pub here: AnsweredHere<'a, T, J, K>,
     pub noted: Option<FlagStep>,
 }
 
-impl<T: ServerDesk, J: Naming, K: Wait + Clock + Copy + Drop> SlotAnswer<'_, '_, T, J, K> {
+impl<T: ServerDesk, J: Naming, K: Wait + Clock + Copy + Drop> SlotAnswer<'_, T, J, K> {
     /// The slot's number.
     pub fn slot(&self) -> usize
         ensures { result ≡ self.now.slot }
@@ -219,25 +205,29 @@ pub struct SlotUpdate<'a, T: ServerDesk, J: Naming, K: Wait + Clock + Copy + Dro
 }
 
 /// The session that is there, if one is, answers a line: with the roots that it has subscriptions on then, as their bits.
-fn answer_in<'l, 'a, R: Wait, T: ServerDesk, J: Naming, K: Wait + Clock + Copy + Drop>(
+fn answer_in<'a, R: Wait, T: ServerDesk, J: Naming, K: Wait + Clock + Copy + Drop>(
     place: &mut Option<Connection<'a, T, J, K>>,
     slot: usize,
     rt: &R,
     alloc: Global,
     shared: &Shared<T, J, K>,
-    line: &'l [u8],
-) -> Result<(AnsweredHere<'l, 'a, T, J, K>, u64), Vacant<'a, T, J, K>>
-    ensures line { IfOk result (λ answer. answer.0.answered.line.value.now ≡ line.now) }
+    unanswered: UnansweredLine,
+) -> Result<(AnsweredHere<'a, T, J, K>, u64), Vacant<'a, T, J, K>>
+    ensures line { IfOk result (λ answer. answer.0.answered.line.value ≡ unanswered) }
     ensures subscriptions { IfOk result (λ answer. answer.0.answered.session.before.subscriptions ≡ answer.0.ended.subscriptions.after.value.subscriptions) }
-    ensures viewers { IfOk result (λ answer. answer.0.answered.session.before.front.viewers ≡ answer.0.ended.viewers.after.value) }
+    ensures front { IfOk result (λ answer. answer.0.answered.session.before.front ≡ record answer.0.ended.subscriptions.before.value.front { viewers = answer.0.ended.viewers.after.value }) }
+    ensures before { IfOk result (λ answer. MatchOption place.old ⊥ (λ one. answer.0.ended.subscriptions.before.value ≡ one.session)) }
+    ensures after { IfOk result (λ answer. MatchOption place.new ⊥ (λ one. answer.0.answered.session.after ≡ one.session)) }
     ensures roots { IfOk result (λ answer. AddsBitsOf 0 answer.0.answered.session.after.subscriptions answer.1) }
     ensures vacant { IfErr result (λ vacant. (vacant.slot ≡ slot) × (place.old ≡ None)) }
 {
     let seen = Snapshot::of(place);
     let Some(one) = place else {
-        return Err(Vacant::of(slot, seen));
+        let vacant = Vacant::of(slot, seen);
+        unanswered.leave(&vacant);
+        return Err(vacant);
     };
-    let answered = one.answer(rt, alloc, shared, line);
+    let answered = one.answer(rt, alloc, shared, unanswered);
     let roots = one.subscribed(rt, shared);
     Ok((answered, roots))
 }
@@ -251,7 +241,7 @@ fn update_in<'a, R: Wait, T: ServerDesk, J: Naming, K: Wait + Clock + Copy + Dro
     shared: &Shared<T, J, K>,
 ) -> Result<UpdatedHere<'a, T, J, K>, Vacant<'a, T, J, K>>
     ensures subscriptions { IfOk result (λ here. here.sent.session.before.subscriptions ≡ here.ended.subscriptions.after.value.subscriptions) }
-    ensures viewers { IfOk result (λ here. here.sent.session.before.front.viewers ≡ here.ended.viewers.after.value) }
+    ensures front { IfOk result (λ here. here.sent.session.before.front ≡ record here.ended.subscriptions.before.value.front { viewers = here.ended.viewers.after.value }) }
     ensures vacant { IfErr result (λ vacant. (vacant.slot ≡ slot) × (place.old ≡ None)) }
 {
     let seen = Snapshot::of(place);
@@ -300,21 +290,28 @@ impl<'a, T: ServerDesk, J: Naming, K: Wait + Clock + Copy + Drop> Slot<'a, T, J,
     }
 
     /// Answers a line, and notes the roots that lines may be due to the session of from now on. Refused if no session is there.
-    pub fn answer<'l, R: Wait>(
+    pub fn answer<R: Wait>(
         &self,
         rt: &R,
         alloc: Global,
         shared: &Shared<T, J, K>,
-        line: &'l [u8],
-    ) -> Result<SlotAnswer<'l, 'a, T, J, K>, Vacant<'a, T, J, K>>
-        ensures line { IfOk result (λ answer. (answer.slot ≡ self.now.number) × (answer.here.answered.line.value.now ≡ line.now)) }
+        unanswered: UnansweredLine,
+    ) -> Result<SlotAnswer<'a, T, J, K>, Vacant<'a, T, J, K>>
+        ensures line { IfOk result (λ answer. (answer.slot ≡ self.now.number) × (answer.here.answered.line.value ≡ unanswered)) }
         ensures subscriptions { IfOk result (λ answer. answer.here.answered.session.before.subscriptions ≡ answer.here.ended.subscriptions.after.value.subscriptions) }
-        ensures viewers { IfOk result (λ answer. answer.here.answered.session.before.front.viewers ≡ answer.here.ended.viewers.after.value) }
+        ensures front { IfOk result (λ answer. answer.here.answered.session.before.front ≡ record answer.here.ended.subscriptions.before.value.front { viewers = answer.here.ended.viewers.after.value }) }
         ensures noted { IfOk result (λ answer. MatchOption answer.noted (slot_count ≤ self.now.number) (λ flag. (flag.slot ≡ self.now.number) × AddsBitsOf 0 answer.here.answered.session.after.subscriptions flag.step.after.roots)) }
         ensures vacant { IfErr result (λ vacant. vacant.slot ≡ self.now.number) }
     {
         let mut connection = self.connection.lock(rt);
-        let (here, roots) = answer_in(&mut *connection, self.number, rt, alloc, shared, line)?;
+        let (here, roots) = answer_in(
+            &mut *connection,
+            self.number,
+            rt,
+            alloc,
+            shared,
+            unanswered,
+        )?;
         drop(connection);
         let noted = shared.note(rt, self.number, roots);
         Ok(SlotAnswer {
@@ -324,11 +321,12 @@ impl<'a, T: ServerDesk, J: Naming, K: Wait + Clock + Copy + Drop> Slot<'a, T, J,
         })
     }
 
-    /// Sends a line alone, or that memory ran out for it.
-    pub fn send<R: Wait>(&self, rt: &R, line: &Result<Vec<u8>, NoMemory>) -> SentAlone
-        ensures { (result.slot ≡ self.now.number) × (result.line.value ≡ line.now) }
+    /// Sends a reply of this slot alone.
+    pub fn send<R: Wait>(&self, rt: &R, reply: UnsentReply) -> SentAlone
+        requires { reply.slot ≡ self.now.number }
+        ensures { (result.slot ≡ self.now.number) × (result.reply.value ≡ reply) }
     {
-        send_in(&*self.connection.lock(rt), self.number, line)
+        send_in(&*self.connection.lock(rt), self.number, reply)
     }
 
     /// The session's viewer of a root learns what was published of it.
@@ -347,7 +345,7 @@ impl<'a, T: ServerDesk, J: Naming, K: Wait + Clock + Copy + Drop> Slot<'a, T, J,
     ) -> SlotUpdate<'a, T, J, K>
         ensures slot { result.slot ≡ self.now.number }
         ensures subscriptions { IfOk result.updated (λ here. here.sent.session.before.subscriptions ≡ here.ended.subscriptions.after.value.subscriptions) }
-        ensures viewers { IfOk result.updated (λ here. here.sent.session.before.front.viewers ≡ here.ended.viewers.after.value) }
+        ensures front { IfOk result.updated (λ here. here.sent.session.before.front ≡ record here.ended.subscriptions.before.value.front { viewers = here.ended.viewers.after.value }) }
         ensures vacant { IfErr result.updated (λ vacant. vacant.slot ≡ self.now.number) }
     {
         SlotUpdate {

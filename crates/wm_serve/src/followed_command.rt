@@ -6,6 +6,7 @@ use crate::found_hall::FoundHall;
 use crate::notified::NotifiedFlags;
 use crate::step::Step;
 use crate::turn::Following;
+use wm_groupcommit::CommandNumber;
 use wm_hall::{Defined, HallEnded, StartsOver, TriggersFull};
 
 /// A hall that has ended: its workers have nothing more to do, none of its triggers begins any more, and who waits for changes of its
@@ -42,7 +43,7 @@ pub enum FollowedInHall<H> {
 /// What was done for the command of a number in its turn.
 #[derive(Drop)]
 pub struct AppliedCommand<H> {
-    pub number: u64,
+    pub number: CommandNumber,
     pub table: TableStep<H>,
     pub hall: FollowedInHall<H>,
 }

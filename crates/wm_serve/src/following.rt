@@ -18,16 +18,16 @@ use crate::followed_command::{
     AppliedCommand, ChangedHall, EndedHall, FollowedCommand, FollowedInHall, MadeUp,
 };
 use crate::followed_roots::{Followed, FollowedInTable};
-use crate::notified::NotifiedFlags;
+use crate::notified::{NotifiedFlags, Published};
 use crate::registrar::ServerDesk;
 use crate::second::SystemSeconds;
 use crate::shared::Shared;
 use crate::turn::{FollowedCount, Following};
-use crate::wake_state::bit_of;
 use std::alloc::Global;
 use std::sync::{Arc, Wait};
 use std::time::Clock;
 use wm_disk::Refusal;
+use wm_groupcommit::CommandNumber;
 use wm_hall::{Changed, RootHall, Seconds, StartsOver};
 use wm_names::RootPath;
 use wm_registry::{Command, Trigger};
@@ -58,15 +58,16 @@ impl<T: ServerDesk, J: Naming, K: Wait + Clock + Copy + Drop> Shared<T, J, K> {
         &self,
         rt: &R,
         alloc: Global,
-        number: u64,
+        number: CommandNumber,
         command: Command,
     ) -> FollowedCommand<Arc<RootHall<J, K>>>
         ensures { HasFollowed arc_value hall_name (length self.now.wakes.items) number command result }
     {
+        let at = number.get();
         let mut following = self.followed.wait_while(
             rt,
             self.following.lock(rt),
-            |following| following.is_before(number),
+            |following| following.is_before(at),
         );
         let applied = self.apply(rt, alloc, &following, number, command);
         let turn = following.follow(&applied);
@@ -98,7 +99,7 @@ impl<T: ServerDesk, J: Naming, K: Wait + Clock + Copy + Drop> Shared<T, J, K> {
         rt: &R,
         alloc: Global,
         following: &Following,
-        number: u64,
+        number: CommandNumber,
         command: Command,
     ) -> AppliedCommand<Arc<RootHall<J, K>>>
         requires { is_out_of_turn number following.now ≡ false }
@@ -106,10 +107,11 @@ impl<T: ServerDesk, J: Naming, K: Wait + Clock + Copy + Drop> Shared<T, J, K> {
     {
         let made = self.hall_for(rt, alloc, following.incarnation(), &command);
         let FollowedInTable { step, left } = self.follow_in_table(rt, command, made);
+        let hall = self.follow_in_hall(rt, number.get(), left);
         AppliedCommand {
             number,
             table: step,
-            hall: self.follow_in_hall(rt, number, left),
+            hall,
         }
     }
 
@@ -161,7 +163,7 @@ impl<T: ServerDesk, J: Naming, K: Wait + Clock + Copy + Drop> Shared<T, J, K> {
         ensures { IsHallEnded arc_value hall_name (length self.now.wakes.items) hall result }
     {
         let ended = hall.end(rt);
-        let notified = self.notify(rt, bit_of(hall.number));
+        let notified = self.notify(rt, hall.number, Published::End(&ended));
         EndedHall {
             hall,
             ended,
@@ -324,7 +326,7 @@ impl<T: ServerDesk, J: Naming, K: Wait + Clock + Copy + Drop> FollowingRoots<J, 
         &self,
         rt: &R,
         alloc: Global,
-        number: u64,
+        number: CommandNumber,
         command: Command,
     ) -> FollowedCommand<Arc<RootHall<J, K>>> {
         self.follow_one(rt, alloc, number, command)
@@ -337,7 +339,8 @@ impl<T: ServerDesk, J: Naming, K: Wait + Clock + Copy + Drop> FollowingRoots<J, 
     fn wake<R: Wait>(&self, rt: &R, hall: &RootHall<J, K>, changed: Changed) -> NotifiedFlags {
         self.log
             .note_forgotten(&self.keeping, &hall.path, changed.forgot());
+        let notified = self.notify(rt, hall.number, Published::Change(&changed));
         drop(changed);
-        self.notify(rt, bit_of(hall.number))
+        notified
     }
 }

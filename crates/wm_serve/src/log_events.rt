@@ -1,26 +1,37 @@
 //! Which results are logged, and as what.
 //! Definitions: specs/LogEvents.antt. Tests: tools/quick_log.py.
-ghost use Rattle.std.specs.Prelude.{◌≡◌, ◌==◌, ◌⊎◌, ◌↔◌, IsTrue, IfOk, MatchResult, false};
+ghost use Rattle.std.specs.Prelude.{◌≡◌, ◌==◌, ◌⊎◌, ◌↔◌, IsTrue, IfOk, MatchResult, false, string_bytes};
 ghost use Rattle.std.specs.IoError.{error_kind};
 ghost use Rattle.std.specs.List.{starts_with};
 ghost use Rattle.wm_serve.specs.LogEvents.{IsLoggedCrawl, IsLoggedRun, store_failure_line};
 
+use crate::start_faults::FailedStart;
 use std::alloc::Global;
 use std::io;
 use std::io::ErrorKind;
 use wm_disk::{NoMemory, Refusal};
 use wm_lines::Progress;
-use wm_log::What;
+use wm_log::{StartCause, StartFault, What};
 use wm_triggers::{NotRun, ProgramEnd};
 
-/// What is logged of a run of the trigger of a name: that its program couldn't be started, or ended other than with 0. A start that wasn't
-/// permitted isn't logged: its definition doesn't stand any longer.
+/// A program that couldn't be started, and why.
+fn fault_of(alloc: Global, program: &str, cause: StartCause) -> Result<StartFault, NoMemory>
+    ensures program { IfOk result (λ fault. string_bytes fault.program ≡ program.now) }
+    ensures cause { IfOk result (λ fault. fault.cause ≡ cause) }
+{
+    let program = String::from_str(alloc, program)?;
+    Ok(StartFault { program, cause })
+}
+
+/// What is logged of a run of the trigger of a name: that its program couldn't be started, and why, or ended other than with 0. A start that
+/// wasn't permitted isn't logged: its definition doesn't stand any longer.
 pub fn run_event(
     alloc: Global,
     name: &str,
-    ended: &Result<ProgramEnd, NotRun>,
+    program: &str,
+    ended: &Result<ProgramEnd, FailedStart>,
 ) -> Result<Option<What>, NoMemory>
-    ensures { IfOk result (IsLoggedRun name.now ended.now) }
+    ensures { IfOk result (IsLoggedRun name.now program.now ended.now) }
 {
     match ended {
         Ok(ProgramEnd::Exited(0)) => Ok(None),
@@ -33,11 +44,14 @@ pub fn run_event(
             Ok(Some(What::Killed(name, *signal)))
         }
         Ok(ProgramEnd::Unknown) => Ok(None),
-        Err(NotRun::NotPermitted) => Ok(None),
-        Err(NotRun::DeviceFailed | NotRun::NoMemory) => {
-            let name = String::from_str(alloc, name)?;
-            Ok(Some(What::NotStarted(name)))
-        }
+        Err(failed) => match failed.not_run {
+            NotRun::NotPermitted => Ok(None),
+            NotRun::DeviceFailed | NotRun::NoMemory => {
+                let name = String::from_str(alloc, name)?;
+                let fault = fault_of(alloc, program, failed.cause)?;
+                Ok(Some(What::NotStarted(name, fault)))
+            }
+        },
     }
 }
 

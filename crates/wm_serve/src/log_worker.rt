@@ -6,6 +6,7 @@ ghost use Rattle.wm_serve.specs.SlotThreads.{HasServed};
 use crate::event_log::EventLog;
 use crate::server_handle::ServerHandle;
 use crate::server_threads::{ServerEnd, Service, end, serve_on};
+use crate::start_faults::StartFaults;
 use std::alloc::Global;
 use std::io::{Print, Write};
 use std::sync::Wait;
@@ -14,8 +15,8 @@ use std::time::Clock;
 use std::{io, thread};
 use wm_crawler::{Folders, Turnstile};
 use wm_disk::Refusal;
+use wm_groupcommit::ClosePermit;
 use wm_log::{LogLimiter, What, write_event};
-use wm_triggers::Programs;
 
 /// Where a server's log is written, and what happened before.
 #[derive(Drop)]
@@ -61,20 +62,21 @@ pub fn serve_logged<
     H: ServerHandle + Sync,
     F: Folders + Sync,
     G: Turnstile + Sync,
-    P: Programs + Sync,
+    P: StartFaults + Sync,
     L: Print + Sync,
     W: Write,
 >(
     rt: &R,
     alloc: Global,
     server: &H,
+    permit: ClosePermit,
     logged: &LoggedService<'_, '_, F, G, P, L>,
     writer: &mut W,
 ) -> ServerEnd
     ensures { IfOk result.served (HasServed logged.now.service.acceptor.sessions) }
 {
     let Some(output) = logged.log.output else {
-        return serve_on(rt, alloc, server, &logged.service, writer);
+        return serve_on(rt, alloc, server, permit, &logged.service, writer);
     };
     server.log().open(rt);
     note_socket(rt, alloc, server.log(), logged.log.taken_socket);
@@ -88,9 +90,9 @@ pub fn serve_logged<
                 .spawn(move || write_log(rt, alloc, server.log(), output))
                 .is_err()
             {
-                return end(rt, server, Err(Refusal::NoMemory));
+                return end(rt, server, permit, Err(Refusal::NoMemory));
             }
-            let served = serve_on(rt, alloc, server, &logged.service, writer);
+            let served = serve_on(rt, alloc, server, permit, &logged.service, writer);
             server.log().close(rt);
             served
         },

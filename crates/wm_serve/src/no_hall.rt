@@ -1,13 +1,14 @@
 //! The hall of a root by its number, for a worker of the root.
 //! Definitions: specs/NumberedHalls.antt. Tests: serve_tests/src/sessions.rt.
-ghost use Rattle.std.specs.Prelude.{◌≡◌, IfErr, IfOk, MatchOption};
+ghost use Rattle.std.specs.Prelude.{◌≡◌, ◌↔◌, IfErr, IfOk, IsTrue, MatchOption};
 ghost use Rattle.std.specs.Arc.{arc_value};
 ghost use Rattle.wm_serve.specs.NumberedHalls.{IsHallOf, IsHallSharing, LacksHall};
 
 use crate::root_table::RootTable;
 use std::marker::Model;
 use std::sync::{Arc, Wait};
-use wm_hall::RootHall;
+use wm_hall::{HallGone, RootHall};
+use wm_names::RootPath;
 use wm_share::Naming;
 
 /// There is no hall of a number for a worker: no root of the number has one, or too many hold it. `hall_numbered` alone makes it, out of
@@ -23,6 +24,10 @@ impl Model for NoHall {
     ghost Value = { ℕ };
 
     ghost view = { λ n. n.number };
+}
+
+impl HallGone for NoHall {
+    ghost gone = { λ n. n };
 }
 
 /// The hall of the root of a number, if it has one.
@@ -58,4 +63,28 @@ pub fn hall_numbered<J: Naming, K: Wait + Drop>(
         Ok(hall) => Ok(hall),
         Err(_) => Err(NoHall { number }),
     }
+}
+
+fn is_same_path(one: &RootPath, other: &RootPath) -> bool
+    ensures { IsTrue result ↔ (one.now ≡ other.now) }
+{
+    one == other
+}
+
+/// As [`hall_numbered`], of a root of this path too.
+pub fn hall_numbered_at<J: Naming, K: Wait + Drop>(
+    roots: &RootTable<Arc<RootHall<J, K>>>,
+    number: u64,
+    path: &RootPath,
+) -> Result<Arc<RootHall<J, K>>, NoHall>
+    ensures hall { IfOk result (λ hall. ((arc_value hall).number ≡ number) × ((arc_value hall).path ≡ path.now)) }
+    ensures none { IfErr result (λ none. none ≡ number) }
+{
+    let hall = hall_numbered(roots, number)?;
+    // each hall has the path of its root
+    if !is_same_path(&hall.path, path) {
+        drop(hall);
+        return Err(NoHall { number });
+    }
+    Ok(hall)
 }

@@ -4,7 +4,18 @@ ghost use Rattle.std.specs.Prelude.{◌≡◌, ◌+◌, ◌<◌, ◌^◌};
 ghost use Rattle.wm_serve.specs.WakeFlags.{HasNotified};
 
 use crate::wake_flag::FlagStep;
-use wm_hall::HandedIn;
+use wm_hall::{Changed, HallEnded, HandedIn};
+
+/// What was published of a root, of which the wake flags are notified behind it.
+#[derive(Clone, Copy)]
+pub enum Published<'a> {
+    /// What a crawl found.
+    Reading(&'a HandedIn),
+    /// A change by a session.
+    Change(&'a Changed),
+    /// The end of the root.
+    End(&'a HallEnded),
+}
 
 /// How many flags were notified that these roots, as their bits, have changed: those of the slots from the first one on, each by one step.
 #[derive(Drop)]
@@ -33,25 +44,5 @@ impl NotifiedFlags {
             roots: self.roots,
             count: self.count + 1,
         }
-    }
-}
-
-/// What a crawl found was handed in to a root, and then the wake flags were notified.
-#[derive(Drop)]
-pub struct TakenIn {
-    pub handed_in: HandedIn,
-    pub notified: NotifiedFlags,
-}
-
-impl TakenIn {
-    /// That it was handed in.
-    pub fn into_handed_in(self) -> HandedIn
-        ensures { result ≡ self.handed_in }
-    {
-        let TakenIn {
-            handed_in,
-            notified: _,
-        } = self;
-        handed_in
     }
 }

@@ -10,7 +10,7 @@ use std::sync::{Mutex, Wait};
 use std::thread;
 use std::time::{Clock, Duration};
 use wm_disk::{Disk, NoMemory};
-use wm_groupcommit::{Desk, Flushed, Flusher, NoFlusher, RegistryCopy};
+use wm_groupcommit::{ClosePermit, Desk, Flushed, Flusher, NoFlusher, RegistryCopy};
 use wm_shared::Registrar;
 
 /// The flusher has nothing left to do: a flush found no call, after no worker was started any longer.
@@ -35,7 +35,12 @@ pub trait ServerDesk: Registrar {
     ) -> Result<NothingLeft, NoFlusher>;
 
     /// Closes the store, refused as that is, once the workers have ended. Nothing is committed any longer.
-    fn close<R: Wait>(&self, rt: &R, ended: &WorkersEnded) -> Result<StoreClosed, StoreUnclosed>;
+    fn close<R: Wait>(
+        &self,
+        rt: &R,
+        permit: ClosePermit,
+        ended: &WorkersEnded,
+    ) -> Result<StoreClosed, StoreUnclosed>;
 }
 
 /// Commits what is submitted. The flusher may end if nothing was left, after no worker was started any longer.
@@ -84,8 +89,13 @@ impl<D: Disk + Drop> ServerDesk for Desk<D> {
         unreachable!()
     }
 
-    fn close<R: Wait>(&self, rt: &R, _ended: &WorkersEnded) -> Result<StoreClosed, StoreUnclosed> {
-        match Desk::close(self, rt) {
+    fn close<R: Wait>(
+        &self,
+        rt: &R,
+        permit: ClosePermit,
+        _ended: &WorkersEnded,
+    ) -> Result<StoreClosed, StoreUnclosed> {
+        match Desk::close(self, rt, permit) {
             Ok(closed) => Ok(StoreClosed::by(&closed)),
             Err(unclosed) => Err(StoreUnclosed::by(&unclosed)),
         }

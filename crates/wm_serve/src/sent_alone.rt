@@ -1,8 +1,9 @@
-//! A line that is sent alone to the session of a connection slot.
+//! A reply that is sent alone to the session of a connection slot.
 //! Definitions: specs/SentAlone.antt. Tests: serve_tests/src/crawls.rt.
 ghost use Rattle.std.specs.Prelude.{◌≡◌, None, IfErr, IfOk};
 ghost use Rattle.wm_serve.specs.SentAlone.{sent_end};
 
+use crate::client_lines::UnsentReply;
 use crate::connection::Connection;
 use crate::registrar::ServerDesk;
 use crate::sent_lines::SentLine;
@@ -11,14 +12,13 @@ use std::io;
 use std::snapshot::Snapshot;
 use std::sync::Wait;
 use std::time::Clock;
-use wm_disk::NoMemory;
 use wm_share::Naming;
 
-/// A line, or that memory ran out for it, was sent alone to a slot's session, unless that failed or none is there: [`send_in`] alone makes it,
-/// under the lock of the slot of this number, and it is given up for whether that failed.
+/// A reply was sent alone to a slot's session, unless that failed or none is there: [`send_in`] alone makes it, under the lock of the slot of
+/// this number, and it is given up for whether that failed. Contracts see the reply.
 pub struct SentAlone {
     slot: usize,
-    line: Snapshot<Result<Vec<u8>, NoMemory>>,
+    reply: Snapshot<UnsentReply>,
     sent: Result<SentLine, NobodyThere>,
 }
 
@@ -36,7 +36,7 @@ impl SentAlone {
     {
         let SentAlone {
             slot: _,
-            line: _,
+            reply: _,
             sent,
         } = self;
         match sent {
@@ -46,23 +46,29 @@ impl SentAlone {
     }
 }
 
-/// A line, or that memory ran out for it, is sent alone to the session that is there, if one is.
+/// A reply is sent alone to the session that is there, if one is.
 pub fn send_in<T: ServerDesk, J: Naming, K: Wait + Clock + Copy + Drop>(
     place: &Option<Connection<'_, T, J, K>>,
     slot: usize,
-    line: &Result<Vec<u8>, NoMemory>,
+    reply: UnsentReply,
 ) -> SentAlone
-    ensures of { (result.slot ≡ slot) × (result.line.value ≡ line.now) }
-    ensures sent { IfOk result.sent (λ one. one.line.value ≡ line.now) }
+    requires { reply.slot ≡ slot }
+    ensures of { (result.slot ≡ slot) × (result.reply.value ≡ reply) }
+    ensures sent { IfOk result.sent (λ one. one.line.value ≡ reply.line) }
     ensures nobody { IfErr result.sent (λ nobody. (nobody.slot ≡ slot) × (place.now ≡ None)) }
 {
+    let seen = Snapshot::of(&reply);
     let sent = match place {
-        Some(one) => Ok(one.send(line)),
-        None => Err(Vacant::of(slot, Snapshot::of(place)).nobody()),
+        Some(one) => Ok(one.send(reply)),
+        None => {
+            let vacant = Vacant::of(slot, Snapshot::of(place));
+            reply.leave(&vacant);
+            Err(vacant.nobody())
+        }
     };
     SentAlone {
         slot,
-        line: Snapshot::of(line),
+        reply: seen,
         sent,
     }
 }

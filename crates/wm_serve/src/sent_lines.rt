@@ -5,6 +5,7 @@ ghost use Rattle.std.specs.Io.KnownBytes.{Appends};
 ghost use Rattle.wm_lines.specs.Replies.{reply_bytes};
 ghost use Rattle.wm_serve.specs.SentLines.{SendsDue, SendsReply, crawl_reply, no_memory_bytes};
 
+use crate::client_lines::UnansweredLine;
 use crate::step::Step;
 use std::alloc::Global;
 use std::io;
@@ -70,16 +71,16 @@ pub fn send<W: Write>(line: &Result<Vec<u8>, NoMemory>, writer: &mut W) -> SentL
 
 /// A session has answered a line, and the reply was sent, unless the writer failed: `answer_line` alone makes it, and it is given up for
 /// whether that succeeded. Contracts see the line, and the session before and after.
-pub struct Answered<'l, F> {
+pub struct Answered<F> {
     sent: io::Result<()>,
-    line: Snapshot<&'l [u8]>,
+    line: Snapshot<UnansweredLine>,
     session: Step<Session<F>>,
 }
 
-impl<F> Answered<'_, F> {
+impl<F> Answered<F> {
     /// Whether the reply was sent.
     pub fn into_sent(self) -> io::Result<()>
-        ensures { result ≡ self.entry.sent }
+        ensures { result ≡ self.sent }
     {
         let Answered {
             sent,
@@ -92,27 +93,27 @@ impl<F> Answered<'_, F> {
 
 /// Answers a line, and sends the reply with what is due behind it. If memory runs out for the reply that is sent, and the session is as
 /// it was. An `Err` means that the writer failed: then a part may be sent.
-pub fn answer_line<'l, F: Front, W: Write>(
+pub fn answer_line<F: Front, W: Write>(
     alloc: Global,
     session: &mut Session<F>,
     moment: u64,
-    line: &'l [u8],
+    unanswered: &UnansweredLine,
     page: &mut Vec<u8>,
     writer: &mut W,
-) -> Answered<'l, F>
-    ensures line { result.line.value.now ≡ line.now }
+) -> Answered<F>
+    ensures line { result.line.value ≡ unanswered.now }
     ensures session { result.session ≡ record { before = session.old; after = session.new } }
-    ensures sent { OnOk result.sent (SendsReply F.met session.old.front session.old.subscriptions moment line.now (W.contents writer.old) (W.contents writer.new) session.new.front session.new.subscriptions) }
+    ensures sent { OnOk result.sent (SendsReply F.met session.old.front session.old.subscriptions moment unanswered.now.line.items (W.contents writer.old) (W.contents writer.new) session.new.front session.new.subscriptions) }
 {
     let before = Snapshot::of(session);
     page.clear();
-    let sent = match session.line(alloc, moment, line, page) {
+    let sent = match session.line(alloc, moment, unanswered.line(), page) {
         Ok(_) => writer.write_all(page),
         Err(NoMemory) => send_no_memory(writer),
     };
     Answered {
         sent,
-        line: Snapshot::of(&line),
+        line: Snapshot::of(unanswered),
         session: Step::taken(before, session),
     }
 }

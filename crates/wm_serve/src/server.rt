@@ -15,6 +15,7 @@ use crate::server_threads::{ServerClosed, Service, closed};
 use crate::shared::Shared;
 use crate::slots::Slots;
 use crate::socket::ServerSocket;
+use crate::start_faults::StartFaults;
 use std::alloc::Global;
 use std::fs::{File, Files};
 use std::io::{Print, Write};
@@ -27,12 +28,11 @@ use std::time::Clock;
 use wm_crawler::{Folders, Turnstile};
 use wm_disk::{Disk, NoMemory, Refusal};
 use wm_file::{FileDisk, Unknown};
-use wm_groupcommit::Desk;
+use wm_groupcommit::{ClosePermit, Desk};
 use wm_hall::{CrawlTools, Retention};
 use wm_session::open_file;
 use wm_share::{Naming, Opened, Shares};
 use wm_store::Store;
-use wm_triggers::Programs;
 
 /// How a server is to serve.
 #[derive(Clone, Copy)]
@@ -90,7 +90,7 @@ pub fn serve<
     R: Threads + Wait + Clock + Net + Files<File = File> + Sync,
     F: Folders + Sync,
     G: Turnstile + Sync,
-    P: Programs + Sync,
+    P: StartFaults + Sync,
     L: Print + Sync,
     W: Write,
 >(
@@ -142,13 +142,16 @@ pub fn serve<
     }
 }
 
-/// A desk over the store, which is dropped if memory runs out.
-fn desk_over<D: Disk + Drop>(alloc: Global, store: Store<D>) -> Result<Desk<D>, Refusal>
-    ensures ok { IfOk result (λ desk. IsNewDesk desk store) }
+/// A desk over the store, which is dropped if memory runs out, and the permit to close it.
+fn desk_over<D: Disk + Drop>(
+    alloc: Global,
+    store: Store<D>,
+) -> Result<(Desk<D>, ClosePermit), Refusal>
+    ensures ok { IfOk result (λ made. IsNewDesk made.0 store) }
     ensures refused { IfErr result (λ e. e ≡ Refusal.NoMemory) }
 {
     match Desk::new(alloc, store) {
-        Ok(desk) => Ok(desk),
+        Ok(made) => Ok(made),
         Err((refusal, store)) => {
             drop(store);
             Err(refusal)
@@ -182,7 +185,7 @@ fn serve_over<
     R: Threads + Wait + Clock + Net + Files<File = File> + Sync,
     F: Folders + Sync,
     G: Turnstile + Sync,
-    P: Programs + Sync,
+    P: StartFaults + Sync,
     L: Print + Sync,
     W: Write,
 >(
@@ -198,10 +201,10 @@ fn serve_over<
     ensures served { IfOk result (λ over. HasServed service.now.service.acceptor.sessions over.closed.served) }
     ensures store { IfOk result (λ over. IsNewDesk over.desk.value store) }
 {
-    let desk = desk_over(alloc, store)?;
+    let (desk, permit) = desk_over(alloc, store)?;
     let shares: Shares<J> = Shares::new(opened);
     let shared = shared_over(alloc, rt, desk, shares, service.service.retention)?;
-    let served = serve_shared(rt, alloc, &shared, service, writer);
+    let served = serve_shared(rt, alloc, &shared, permit, service, writer);
     drop(shared.into_desk().into_store());
     served
 }
@@ -214,13 +217,14 @@ fn serve_shared<
     R: Threads + Wait + Clock + Net + Files<File = File> + Sync,
     F: Folders + Sync,
     G: Turnstile + Sync,
-    P: Programs + Sync,
+    P: StartFaults + Sync,
     L: Print + Sync,
     W: Write,
 >(
     rt: &R,
     alloc: Global,
     shared: &Shared<T, J, K>,
+    permit: ClosePermit,
     service: &LoggedService<'_, '_, F, G, P, L>,
     writer: &mut W,
 ) -> Result<DeskServed<T>, Refusal>
@@ -229,7 +233,7 @@ fn serve_shared<
 {
     let begun = RootsBegun::by(&shared.begin(rt, alloc)?);
     let slots = Slots::new(alloc, shared, &begun)?;
-    let served = serve_logged(rt, alloc, &slots, service, writer);
+    let served = serve_logged(rt, alloc, &slots, permit, service, writer);
     drop(slots);
     let desk = Snapshot::of(&shared.desk);
     let closed = closed(begun, served)?;

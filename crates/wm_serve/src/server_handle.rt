@@ -2,19 +2,20 @@
 //! a lock comes back as a value that only what lies there makes.
 //! Definitions: specs/AcceptQueues.antt, specs/UnstartedWorkers.antt, specs/TriedCrawls.antt. Tests: serve_tests/src/sessions.rt.
 ghost use Rattle.std.specs.Prelude.{◌≡◌, ℕ, true, IfOk, IfErr, MatchResult};
+ghost use Rattle.wm_hall.specs.Tries.{IsTryOf, try_end};
 ghost use Rattle.wm_serve.specs.AcceptQueues.{IsAdmitted, closed_queue, opened_queue};
 ghost use Rattle.wm_serve.specs.SlotThreads.{IsServed, IsUpdated};
-ghost use Rattle.wm_serve.specs.TriedCrawls.{IsWithoutCrawl};
+ghost use Rattle.wm_serve.specs.TriedCrawls.{IsNotifiedTry, IsWithoutCrawl};
 ghost use Rattle.wm_serve.specs.UnstartedWorkers.{workers_after};
-ghost use Rattle.wm_serve.specs.WakeFlags.{NotifiesAll};
 
 use crate::crawl::{Crawl, NoCrawl};
 use crate::event_log::EventLog;
 use crate::no_hall::NoHall;
-use crate::notified::TakenIn;
+use crate::notified::NotifiedFlags;
 use crate::registrar::NothingLeft;
 use crate::sessions::SlotServed;
 use crate::slot_threads::SlotThreads;
+use crate::start_faults::StartFaults;
 use crate::step::Step;
 use crate::store_closed::{StoreClosed, StoreUnclosed};
 use crate::unstarted_workers::{NextWorker, NoWorker, UnstartedWorkers};
@@ -25,11 +26,9 @@ use std::alloc::Global;
 use std::os::unix::net::UnixStream;
 use std::sync::Wait;
 use std::time::Clock;
-use wm_disk::Refusal;
-use wm_groupcommit::NoFlusher;
-use wm_hall::{Begun, CrawlEnded, GivenUp, NoWork, Reading, Ticket};
-use wm_lines::Progress;
-use wm_triggers::Programs;
+use wm_groupcommit::{ClosePermit, NoFlusher};
+use wm_hall::{Begun, BegunCrawl, CrawlEnded, GivenUp, NoWork, Reading, Tried};
+use wm_names::RootPath;
 
 /// What the threads of a server share.
 pub trait ServerHandle {
@@ -68,40 +67,43 @@ pub trait ServerHandle {
 
     /// Waits for a crawl of the root of this number, which has begun then. Refused if the root isn't watched any longer.
     fn next_crawl<R: Wait>(&self, rt: &R, alloc: Global, root: u64) -> Result<Crawl, NoCrawl>
-        ensures { MatchResult result (λ crawl. crawl.root ≡ root) (IsWithoutCrawl root) };
+        ensures { MatchResult result (λ crawl. crawl.begun.root ≡ root) (IsWithoutCrawl root) };
 
-    /// Begins a reading of the root of this number.
-    fn begin_reading<R: Wait>(&self, rt: &R, alloc: Global, root: u64) -> Result<Begun, NoHall>
-        ensures { MatchResult result (λ begun. begun.root ≡ root) (λ none. none ≡ root) };
-
-    /// Gives up the reading of the root that is under way.
-    fn give_up_reading<R: Wait>(&self, rt: &R, root: u64, begun: Begun) -> Result<GivenUp, NoHall>
-        requires { begun.root ≡ root }
-        ensures { MatchResult result (λ given_up. given_up.root ≡ root) (λ none. none ≡ root) };
-
-    /// Hands in what a crawl of the root found, and notifies the wake flags of it.
-    fn take_in<R: Wait + Clock>(
+    /// Begins a reading of the root of this number and path.
+    fn begin_reading<R: Wait>(
         &self,
         rt: &R,
         alloc: Global,
         root: u64,
-        found: Reading,
-    ) -> Result<TakenIn, NoHall>
-        requires { found.root ≡ root }
-        ensures { MatchResult result (λ taken. (taken.handed_in.root ≡ root) × (taken.handed_in.part ≡ found.listing.subtree) × NotifiesAll (flags self.now) root taken.notified) (λ none. none ≡ root) };
+        path: &RootPath,
+    ) -> Result<Begun, NoHall>
+        ensures { MatchResult result (λ begun. (begun.root ≡ root) × (begun.path ≡ path.now)) (λ none. none ≡ root) };
 
-    /// The crawl of a ticket has ended so.
+    /// Gives up the reading of a root that is under way.
+    fn give_up_reading<R: Wait>(&self, rt: &R, begun: Begun) -> Result<GivenUp, NoHall>
+        ensures { MatchResult result (λ given_up. given_up.root ≡ begun.root) (λ none. none ≡ begun.root) };
+
+    /// Hands in what a crawl of a root found, and notifies the wake flags of it.
+    fn take_in<R: Wait + Clock>(
+        &self,
+        rt: &R,
+        alloc: Global,
+        found: Reading,
+    ) -> Result<Tried<NotifiedFlags>, NoHall>
+        ensures { MatchResult result (IsNotifiedTry (flags self.now) found.root found.listing.subtree) (λ none. none ≡ found.root) };
+
+    /// A crawl that had begun has ended as this try of it did.
     fn crawled<R: Wait>(
         &self,
         rt: &R,
-        root: u64,
-        ticket: Ticket,
-        ended: Result<Progress, Refusal>,
+        begun: BegunCrawl,
+        last: &Tried<NotifiedFlags>,
     ) -> Result<CrawlEnded, NoHall>
-        ensures { MatchResult result (λ crawl. crawl ≡ record { root = root; ticket = ticket; ended = ended }) (λ none. none ≡ root) };
+        requires { IsTryOf begun.root begun.part last.now }
+        ensures { MatchResult result (λ crawl. crawl ≡ record { root = begun.root; ticket = begun.ticket; ended = try_end last.now }) (λ none. none ≡ begun.root) };
 
     /// Runs the triggers of the root of this number, until it isn't watched any longer.
-    fn run_triggers<R: Wait, P: Programs>(
+    fn run_triggers<R: Wait, P: StartFaults>(
         &self,
         rt: &R,
         alloc: Global,
@@ -115,5 +117,9 @@ pub trait ServerHandle {
         ensures { result.after ≡ closed_queue result.before };
 
     /// Each thread ends that isn't a session's, and then the store is closed: refused as that is.
-    fn close<R: Wait>(&self, rt: &R) -> (WorkersEnded, Result<StoreClosed, StoreUnclosed>);
+    fn close<R: Wait>(
+        &self,
+        rt: &R,
+        permit: ClosePermit,
+    ) -> (WorkersEnded, Result<StoreClosed, StoreUnclosed>);
 }

@@ -11,6 +11,7 @@ use crate::server_handle::ServerHandle;
 use crate::slot_threads::{
     FlusherEnded, NoThread, ServesSlot, SlotThreads, UpdateThreads, UpdatesSlot,
 };
+use crate::start_faults::StartFaults;
 use crate::store_closed::{StoreClosed, StoreUnclosed};
 use crate::supervisor::supervise;
 use crate::unstarted_workers::NoWorker;
@@ -24,8 +25,8 @@ use std::thread::{JoinHandle, Scope, Threads};
 use std::time::Clock;
 use wm_crawler::{Folders, Turnstile};
 use wm_disk::Refusal;
+use wm_groupcommit::ClosePermit;
 use wm_hall::{CrawlTools, Retention};
-use wm_triggers::Programs;
 
 /// What a server works with.
 #[derive(Drop)]
@@ -67,11 +68,12 @@ pub struct ServerClosed {
 pub fn end<R: Wait, H: ServerHandle>(
     rt: &R,
     server: &H,
+    permit: ClosePermit,
     served: Result<SessionsServed, Refusal>,
 ) -> ServerEnd
     ensures { result.served ≡ served }
 {
-    let (workers, closed) = server.close(rt);
+    let (workers, closed) = server.close(rt, permit);
     ServerEnd {
         served,
         workers,
@@ -213,9 +215,16 @@ pub fn serve_on<
     H: ServerHandle + Sync,
     F: Folders + Sync,
     G: Turnstile + Sync,
-    P: Programs + Sync,
+    P: StartFaults + Sync,
     W: Write,
->(rt: &R, alloc: Global, server: &H, service: &Service<'_, F, G, P>, writer: &mut W) -> ServerEnd
+>(
+    rt: &R,
+    alloc: Global,
+    server: &H,
+    permit: ClosePermit,
+    service: &Service<'_, F, G, P>,
+    writer: &mut W,
+) -> ServerEnd
     ensures { IfOk result.served (HasServed service.now.acceptor.sessions) }
 {
     let acceptor = &service.acceptor;
@@ -229,15 +238,15 @@ pub fn serve_on<
         {
             let flusher = scope.spawn(move || FlusherEnded::by(&server.flush(rt)));
             let Ok(flusher) = flusher else {
-                return end(rt, server, Err(Refusal::NoMemory));
+                return end(rt, server, permit, Err(Refusal::NoMemory));
             };
             let supervisor = scope.spawn(move || supervise(rt, alloc, server, crawls, programs));
             let Ok(supervisor) = supervisor else {
-                return end(rt, server, Err(Refusal::NoMemory));
+                return end(rt, server, permit, Err(Refusal::NoMemory));
             };
             let updates = start_updates(scope, rt, alloc, server, flusher, supervisor);
             let served = serve_slots(rt, alloc, server, acceptor, updates, writer);
-            end(rt, server, served)
+            end(rt, server, permit, served)
         },
     )
 }

@@ -1,35 +1,30 @@
 //! The sessions of a slot, one after the other: their lines and their replies.
 //! Tests: serve_tests/src/sessions.rt.
 ghost use Rattle.std.specs.Prelude.{◌≡◌, ◌⊎◌, true, IfErr, IfOk, MatchResult};
-ghost use Rattle.wm_lines.specs.Replies.{reply_bytes};
 ghost use Rattle.wm_serve.specs.CrawlOutcomes.{IsAwaited, IsCrawlRead, IsNotAsked, IsToldOf};
-ghost use Rattle.wm_serve.specs.SentLines.{crawl_reply};
 ghost use Rattle.wm_serve.specs.WatchedRoots.{MayHaveHad};
 
 use crate::accept_queue::NoSession;
+use crate::client_lines::{
+    ClientReader, ClientStream, LineServed, LinesBroken, LinesEnded, NextLine, UnansweredLine,
+};
 use crate::connection::{Connection, Slot};
-use crate::crawl_outcome::{AwaitedCrawl, CrawlOutcome, crawl_end};
+use crate::crawl_outcome::{AwaitedCrawl, CrawlOutcome};
+use crate::given_back::give_back;
 use crate::log_events::took_too_long;
-use crate::read_lines::{LineServed, LinesBroken, LinesEnded, NextLine, next_line};
 use crate::registrar::ServerDesk;
 use crate::requests::crawl_asked;
-use crate::sent_alone::SentAlone;
-use crate::sent_lines::crawl_line;
 use crate::shared::Shared;
 use crate::waiting_sessions::{NextSession, SessionServed};
 use std::alloc::Global;
-use std::io::BufReader;
-use std::net::Shutdown;
-use std::os::unix::net::UnixStream;
 use std::sync::{Arc, Wait};
 use std::time::{Clock, Duration};
-use wm_disk::{NoMemory, Refusal};
-use wm_lines::Progress;
+use wm_disk::Refusal;
 use wm_log::What;
 use wm_names::{RootPath, Subtree};
 use wm_session::Session;
-use wm_share::{Naming, Viewer};
-use wm_shared::{Place, SharedFront, Viewers};
+use wm_share::Naming;
+use wm_shared::{Place, SharedFront};
 
 /// How long a client may leave a reply unread before its session ends.
 const WRITE_SECONDS: u64 = 10;
@@ -71,39 +66,26 @@ fn crawl_outcome<'a, R: Wait, T: ServerDesk, J: Naming, K: Wait + Clock + Copy +
     }
 }
 
-/// Sends the reply to a request for a crawl.
-fn send_ended<R: Wait, T: ServerDesk, J: Naming, K: Wait + Clock + Copy + Drop>(
-    rt: &R,
-    alloc: Global,
-    slot: &Slot<'_, T, J, K>,
-    ended: Result<Progress, Refusal>,
-) -> SentAlone
-    ensures slot { result.slot ≡ slot.now.number }
-    ensures line { IfOk result.line.value (λ line. line.items ≡ reply_bytes (crawl_reply ended)) }
-{
-    let line = crawl_line(alloc, ended);
-    slot.send(rt, &line)
-}
-
 /// Answers a line that was read. A crawl is awaited without the session, so that what is due is sent meanwhile.
-fn serve_line<'l, R: Wait, T: ServerDesk, J: Naming, K: Wait + Clock + Copy + Drop>(
+fn serve_line<R: Wait, T: ServerDesk, J: Naming, K: Wait + Clock + Copy + Drop>(
     rt: &R,
     alloc: Global,
     shared: &Shared<T, J, K>,
     slot: &Slot<'_, T, J, K>,
-    line: &'l [u8],
-) -> LineServed<'l>
-    ensures { (result.line.value.now ≡ line.now) × (result.slot ≡ slot.now.number) }
+    unanswered: UnansweredLine,
+) -> LineServed
+    ensures { result.slot ≡ slot.now.number }
 {
-    let Some(asked) = crawl_asked(alloc, line) else {
-        return match slot.answer(rt, alloc, shared, line) {
-            Ok(answer) => LineServed::answered(line, answer),
-            Err(vacant) => LineServed::vacant(line, vacant),
+    let Some(asked) = crawl_asked(alloc, unanswered.line()) else {
+        return match slot.answer(rt, alloc, shared, unanswered) {
+            Ok(answer) => LineServed::answered(answer),
+            Err(vacant) => LineServed::vacant(vacant),
         };
     };
-    let outcome = crawl_outcome(rt, alloc, shared, slot, line, asked);
-    let reply = send_ended(rt, alloc, slot, crawl_end(&outcome));
-    LineServed::replied(line, outcome, reply)
+    let outcome = crawl_outcome(rt, alloc, shared, slot, unanswered.line(), asked);
+    let reply = unanswered.crawl_reply(alloc, slot.number, &outcome);
+    drop(outcome);
+    LineServed::replied(slot.send(rt, reply))
 }
 
 /// Answers the lines of a reader until they end, it fails, or a reply can't be sent.
@@ -112,17 +94,15 @@ fn serve_lines_of<R: Wait, T: ServerDesk, J: Naming, K: Wait + Clock + Copy + Dr
     alloc: Global,
     shared: &Shared<T, J, K>,
     slot: &Slot<'_, T, J, K>,
-    reader: &mut BufReader<&UnixStream>,
-    line: &mut Vec<u8>,
+    reader: &mut ClientReader<'_>,
 ) -> Result<LinesEnded, LinesBroken> {
     for _ in rt.forever() {
-        match next_line(reader, line)? {
+        let served = match reader.next_line(alloc)? {
             NextLine::End(ended) => return Ok(ended),
-            NextLine::Lost(lost) => lost.served(slot.send(rt, &Err(NoMemory)))?,
-            NextLine::Line(unanswered) => {
-                unanswered.served(serve_line(rt, alloc, shared, slot, line))?
-            }
-        }
+            NextLine::Lost(lost) => LineServed::replied(slot.send(rt, lost.reply(slot.number))),
+            NextLine::Line(unanswered) => serve_line(rt, alloc, shared, slot, unanswered),
+        };
+        served.into_sent()?;
     }
     unreachable!()
 }
@@ -133,11 +113,9 @@ fn serve_lines<R: Wait, T: ServerDesk, J: Naming, K: Wait + Clock + Copy + Drop>
     alloc: Global,
     shared: &Shared<T, J, K>,
     slot: &Slot<'_, T, J, K>,
-    reader: &mut BufReader<&UnixStream>,
+    reader: &mut ClientReader<'_>,
 ) -> Result<LinesEnded, LinesBroken> {
-    let mut line = Vec::new(alloc);
-    let lines = serve_lines_of(rt, alloc, shared, slot, reader, &mut line);
-    drop(line);
+    let lines = serve_lines_of(rt, alloc, shared, slot, reader);
     if let Err(broken) = &lines {
         if took_too_long(broken.error()) {
             shared.log.note(&shared.keeping, None, What::CutOff);
@@ -146,34 +124,11 @@ fn serve_lines<R: Wait, T: ServerDesk, J: Naming, K: Wait + Clock + Copy + Drop>
     lines
 }
 
-/// Gives a viewer back to its root, if that is there still.
-fn give_back<R: Wait, T: ServerDesk, J: Naming, K: Wait + Clock + Copy + Drop>(
-    rt: &R,
-    shared: &Shared<T, J, K>,
-    viewer: Viewer<J>,
-) {
-    match shared.numbered(rt, viewer.share().root) {
-        Some(hall) => {
-            hall.take_back(rt, viewer);
-            drop(hall);
-        }
-        None => drop(viewer),
-    }
-}
-
-/// Gives the viewers of a session back.
-fn give_all_back<R: Wait, T: ServerDesk, J: Naming, K: Wait + Clock + Copy + Drop>(
-    rt: &R,
-    shared: &Shared<T, J, K>,
-    viewers: Viewers<J>,
-) {
-    for viewer in viewers.into_vec() {
-        give_back(rt, shared, viewer);
-    }
-}
-
 /// The socket for both threads of a session. `None` if memory runs out.
-fn both_ends(alloc: Global, stream: UnixStream) -> Option<(Arc<UnixStream>, Arc<UnixStream>)> {
+fn both_ends(
+    alloc: Global,
+    stream: ClientStream,
+) -> Option<(Arc<ClientStream>, Arc<ClientStream>)> {
     let stream = Arc::new(alloc, stream).ok()?;
     let other = Arc::try_clone(&stream).ok()?;
     Some((stream, other))
@@ -186,13 +141,13 @@ fn serve_session<'a, R: Wait, T: ServerDesk, J: Naming, K: Wait + Clock + Copy +
     shared: &'a Shared<T, J, K>,
     slot: &Slot<'a, T, J, K>,
     place: Place<'a, T>,
-    stream: UnixStream,
+    stream: ClientStream,
 ) -> (Place<'a, T>, Option<Result<LinesEnded, LinesBroken>>) {
-    let _timed = stream.set_write_timeout(Some(Duration::from_secs(WRITE_SECONDS)));
+    stream.set_write_timeout(Duration::from_secs(WRITE_SECONDS));
     let Some((stream, other)) = both_ends(alloc, stream) else {
         return (place, None);
     };
-    let Ok(mut reader) = BufReader::new(alloc, &*stream) else {
+    let Some(mut reader) = stream.reader(alloc) else {
         return (place, None);
     };
     let front = SharedFront::new(shared.keeping, alloc, place, shared);
@@ -200,14 +155,14 @@ fn serve_session<'a, R: Wait, T: ServerDesk, J: Naming, K: Wait + Clock + Copy +
     drop(slot.open(rt, connection).into_connection());
     let lines = serve_lines(rt, alloc, shared, slot, &mut reader);
     drop(reader);
-    let _ = stream.shutdown(Shutdown::Both);
+    let _shut = stream.shutdown();
     drop(stream);
     let _noted = shared.note(rt, slot.number, 0);
     let Some(connection) = slot.close(rt).into_connection() else {
         return (Place::new(&shared.desk), Some(lines));
     };
     let (place, viewers) = connection.into_session().into_front().into_parts();
-    give_all_back(rt, shared, viewers);
+    give_back(rt, shared, viewers);
     (place, Some(lines))
 }
 

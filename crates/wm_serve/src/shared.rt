@@ -7,19 +7,20 @@ ghost use Rattle.std.specs.List.{list_any};
 ghost use Rattle.wm_names.specs.Paths.{Path};
 ghost use Rattle.wm_serve.specs.FollowedCommands.{hall_name};
 ghost use Rattle.wm_serve.specs.FollowedRoots.{FillsRoot, FollowsCommand, IsStepOf, left_to_halls, numbered_roots};
-ghost use Rattle.wm_serve.specs.WakeFlags.{AreSlotFlags, HasWaited, noted_flag, slot_count};
+ghost use Rattle.wm_serve.specs.WakeFlags.{AreSlotFlags, HasWaited, NotifiesAll, noted_flag, slot_count};
 ghost use Rattle.wm_serve.specs.WatchedRoots.{FindsHall, MayHaveHad, MayHaveLacked, MayHaveLackedNumber, has_path};
 
 use crate::event_log::EventLog;
 use crate::followed_roots::{FollowedInTable, TableStep, fill_root_step, follow_command_step};
 use crate::found_hall::{FoundHall, find_hall};
-use crate::notified::NotifiedFlags;
+use crate::notified::{NotifiedFlags, Published};
 use crate::registrar::ServerDesk;
 use crate::root_table::RootTable;
 use crate::turn::Following;
 use crate::unstarted_workers::UnstartedWorkers;
 use crate::waiting_sessions::{SLOTS, WaitingSessions};
 use crate::wake_flag::{FlagStep, WakeFlag, Woken};
+use crate::wake_state::bit_of;
 use crate::workers_end::{WorkersEnded, close_flags, close_workers, end_halls};
 use std::alloc::Global;
 use std::sync::{Arc, Condvar, Mutex, Wait};
@@ -140,24 +141,6 @@ impl<T: ServerDesk, J: Naming, K: Wait + Clock + Copy + Drop> Shared<T, J, K> {
         }
     }
 
-    /// The hall of a root by its number.
-    pub fn numbered<R: Wait>(&self, rt: &R, number: u64) -> Option<Arc<RootHall<J, K>>>
-        ensures { IfSome result (λ hall. (arc_value hall).number ≡ number) }
-    {
-        let roots = self.roots.lock(rt);
-        let Some(hall) = &roots.numbered(number)?.hall else {
-            return None;
-        };
-        // each hall has the number of its root
-        if hall.number != number {
-            return None;
-        }
-        match Arc::try_clone(hall) {
-            Ok(hall) => Some(hall),
-            Err(_) => None,
-        }
-    }
-
     /// A hall for a root, of the incarnation, with no triggers yet.
     pub fn new_hall<R: Wait>(
         &self,
@@ -231,8 +214,16 @@ impl<T: ServerDesk, J: Naming, K: Wait + Clock + Copy + Drop> Shared<T, J, K> {
         self.roots.lock(rt).is_numbered(number)
     }
 
-    /// Lines may be due to each session that has a subscription on one of these roots, as their bits: each wake flag is notified.
-    pub fn notify<R: Wait>(&self, rt: &R, roots: u64) -> NotifiedFlags
+    /// Lines may be due to each session that has a subscription on the root of this number, since something was published of it: each wake
+    /// flag is notified.
+    pub fn notify<R: Wait>(&self, rt: &R, root: u64, _published: Published<'_>) -> NotifiedFlags
+        ensures { NotifiesAll (length self.now.wakes.items) root result }
+    {
+        self.notify_flags(rt, bit_of(root))
+    }
+
+    /// Each wake flag is notified of a change of these roots, as their bits.
+    fn notify_flags<R: Wait>(&self, rt: &R, roots: u64) -> NotifiedFlags
         ensures { (result.roots ≡ roots) × (result.count ≡ length self.now.wakes.items) }
     {
         let mut notified = NotifiedFlags::none(roots);

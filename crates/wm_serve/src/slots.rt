@@ -2,6 +2,7 @@
 //! Tests: serve_tests/src/sessions.rt.
 ghost use Rattle.std.specs.Prelude.{◌≡◌, ℕ, true, length, slice_get, Some, IfErr, IfOk, MatchResult};
 ghost use Rattle.std.specs.Arc.{arc_value};
+ghost use Rattle.wm_serve.specs.TriedCrawls.{IsNotifiedTry};
 ghost use Rattle.wm_serve.specs.UnstartedWorkers.{workers_after};
 ghost use Rattle.wm_serve.specs.WakeFlags.{slot_count};
 
@@ -9,8 +10,8 @@ use crate::connection::Slot;
 use crate::crawl::{Crawl, NoCrawl};
 use crate::event_log::EventLog;
 use crate::logged_programs::LoggedPrograms;
-use crate::no_hall::{NoHall, hall_numbered};
-use crate::notified::TakenIn;
+use crate::no_hall::{NoHall, hall_numbered, hall_numbered_at};
+use crate::notified::{NotifiedFlags, Published};
 use crate::registrar::{NothingLeft, ServerDesk};
 use crate::roots_begun::RootsBegun;
 use crate::second::SystemSeconds;
@@ -18,6 +19,7 @@ use crate::server_handle::ServerHandle;
 use crate::sessions::{SlotServed, serve_sessions};
 use crate::shared::Shared;
 use crate::slot_threads::SlotThreads;
+use crate::start_faults::StartFaults;
 use crate::step::Step;
 use crate::store_closed::{StoreClosed, StoreUnclosed};
 use crate::trigger_worker::run_triggers;
@@ -25,19 +27,17 @@ use crate::unstarted_workers::{NextWorker, NoWorker, UnstartedWorkers};
 use crate::updates::send_updates;
 use crate::waiting_sessions::{Admission, QueueStep, SLOTS};
 use crate::wake_flag::SlotUpdated;
-use crate::wake_state::bit_of;
 use crate::workers_end::WorkersEnded;
 use std::alloc::Global;
 use std::os::unix::net::UnixStream;
 use std::snapshot::Snapshot;
 use std::sync::{Arc, Wait};
 use std::time::Clock;
-use wm_disk::{NoMemory, Refusal};
-use wm_groupcommit::NoFlusher;
-use wm_hall::{Begun, CrawlEnded, GivenUp, NoWork, Reading, RootHall, Ticket};
-use wm_lines::Progress;
+use wm_disk::NoMemory;
+use wm_groupcommit::{ClosePermit, NoFlusher};
+use wm_hall::{Begun, BegunCrawl, CrawlEnded, GivenUp, NoWork, Reading, RootHall, Tried};
+use wm_names::RootPath;
 use wm_share::Naming;
-use wm_triggers::Programs;
 
 /// The next crawl of a hall's root, once one is asked for. One that memory runs out for is over. Refused if the root has ended.
 fn next_crawl<R: Wait, J: Naming, K: Wait + Drop>(
@@ -45,18 +45,37 @@ fn next_crawl<R: Wait, J: Naming, K: Wait + Drop>(
     alloc: Global,
     hall: &RootHall<J, K>,
 ) -> Result<Crawl, NoWork>
-    ensures { MatchResult result (λ crawl. (crawl.root ≡ hall.now.number) × (crawl.path ≡ hall.now.path)) (λ none. none ≡ true) }
+    ensures { MatchResult result (λ crawl. (crawl.begun.root ≡ hall.now.number) × (crawl.path ≡ hall.now.path)) (λ none. none ≡ true) }
 {
     for _ in rt.forever() {
         let begun = hall.next_crawl(rt)?;
         match Crawl::of(alloc, &hall.path, begun) {
             Ok(crawl) => return Ok(crawl),
-            Err((NoMemory, ticket)) => {
-                let _ended = hall.crawled(rt, ticket, Err(Refusal::NoMemory));
+            Err((want, begun)) => {
+                let _ended = hall.crawl_untried(rt, begun, want);
             }
         }
     }
     unreachable!()
+}
+
+/// Hands in what a crawl of a hall's root found at the system's second, and notifies the wake flags of it. What that forgot is logged.
+fn take_in<R: Wait + Clock, T: ServerDesk, J: Naming, K: Wait + Clock + Copy + Drop>(
+    rt: &R,
+    alloc: Global,
+    shared: &Shared<T, J, K>,
+    hall: &RootHall<J, K>,
+    found: Reading,
+) -> Tried<NotifiedFlags>
+    requires { found.root ≡ hall.now.number }
+    ensures { IsNotifiedTry (length shared.now.wakes.items) hall.now.number found.listing.subtree result }
+{
+    let handed_in = hall.take_in(rt, alloc, &SystemSeconds { rt }, found);
+    let notified = shared.notify(rt, hall.number, Published::Reading(&handed_in));
+    shared
+        .log
+        .note_forgotten(rt, &hall.path, handed_in.forgot());
+    Tried::HandedIn(handed_in, notified)
 }
 
 /// A worker was started, which isn't to be started any longer.
@@ -97,6 +116,19 @@ impl<'a, T: ServerDesk, J: Naming, K: Wait + Clock + Copy + Drop> Slots<'a, T, J
         ensures none { IfErr result (λ none. none ≡ root) }
     {
         hall_numbered(&self.shared.roots.lock(rt), root)
+    }
+
+    /// The hall of the root of a number and a path.
+    fn hall_at<R: Wait>(
+        &self,
+        rt: &R,
+        root: u64,
+        path: &RootPath,
+    ) -> Result<Arc<RootHall<J, K>>, NoHall>
+        ensures hall { IfOk result (λ hall. ((arc_value hall).number ≡ root) × ((arc_value hall).path ≡ path.now)) }
+        ensures none { IfErr result (λ none. none ≡ root) }
+    {
+        hall_numbered_at(&self.shared.roots.lock(rt), root, path)
     }
 }
 
@@ -163,54 +195,72 @@ impl<'a, T: ServerDesk, J: Naming, K: Wait + Clock + Copy + Drop> ServerHandle
         }
     }
 
-    fn begin_reading<R: Wait>(&self, rt: &R, alloc: Global, root: u64) -> Result<Begun, NoHall> {
-        let hall = self.hall(rt, root)?;
+    fn begin_reading<R: Wait>(
+        &self,
+        rt: &R,
+        alloc: Global,
+        root: u64,
+        path: &RootPath,
+    ) -> Result<Begun, NoHall> {
+        let hall = self.hall_at(rt, root, path)?;
         let begun = hall.begin_reading(rt, alloc);
         drop(hall);
         Ok(begun)
     }
 
-    fn give_up_reading<R: Wait>(&self, rt: &R, root: u64, begun: Begun) -> Result<GivenUp, NoHall> {
-        let hall = self.hall(rt, root)?;
-        let given_up = hall.give_up_reading(rt, begun);
-        drop(hall);
-        Ok(given_up)
+    fn give_up_reading<R: Wait>(&self, rt: &R, begun: Begun) -> Result<GivenUp, NoHall> {
+        match self.hall(rt, begun.root()) {
+            Ok(hall) => {
+                let given_up = hall.give_up_reading(rt, begun);
+                drop(hall);
+                Ok(given_up)
+            }
+            Err(none) => {
+                begun.without_hall(&none);
+                Err(none)
+            }
+        }
     }
 
     fn take_in<R: Wait + Clock>(
         &self,
         rt: &R,
         alloc: Global,
-        root: u64,
         found: Reading,
-    ) -> Result<TakenIn, NoHall> {
-        let hall = self.hall(rt, root)?;
-        let handed_in = hall.take_in(rt, alloc, &SystemSeconds { rt }, found);
-        let notified = self.shared.notify(rt, bit_of(root));
-        self.shared
-            .log
-            .note_forgotten(rt, &hall.path, handed_in.forgot());
-        drop(hall);
-        Ok(TakenIn {
-            handed_in,
-            notified,
-        })
+    ) -> Result<Tried<NotifiedFlags>, NoHall> {
+        match self.hall(rt, found.root()) {
+            Ok(hall) => {
+                let tried = take_in(rt, alloc, self.shared, &hall, found);
+                drop(hall);
+                Ok(tried)
+            }
+            Err(none) => {
+                found.without_hall(&none);
+                Err(none)
+            }
+        }
     }
 
     fn crawled<R: Wait>(
         &self,
         rt: &R,
-        root: u64,
-        ticket: Ticket,
-        ended: Result<Progress, Refusal>,
+        begun: BegunCrawl,
+        last: &Tried<NotifiedFlags>,
     ) -> Result<CrawlEnded, NoHall> {
-        let hall = self.hall(rt, root)?;
-        let crawl = hall.crawled(rt, ticket, ended);
-        drop(hall);
-        Ok(crawl)
+        match self.hall(rt, begun.root()) {
+            Ok(hall) => {
+                let crawl = hall.crawled(rt, begun, last);
+                drop(hall);
+                Ok(crawl)
+            }
+            Err(none) => {
+                begun.without_hall(&none);
+                Err(none)
+            }
+        }
     }
 
-    fn run_triggers<R: Wait, P: Programs>(
+    fn run_triggers<R: Wait, P: StartFaults>(
         &self,
         rt: &R,
         alloc: Global,
@@ -228,9 +278,13 @@ impl<'a, T: ServerDesk, J: Naming, K: Wait + Clock + Copy + Drop> ServerHandle
         self.shared.waiting.close(rt)
     }
 
-    fn close<R: Wait>(&self, rt: &R) -> (WorkersEnded, Result<StoreClosed, StoreUnclosed>) {
+    fn close<R: Wait>(
+        &self,
+        rt: &R,
+        permit: ClosePermit,
+    ) -> (WorkersEnded, Result<StoreClosed, StoreUnclosed>) {
         let workers = self.shared.end_workers(rt);
-        let closed = self.shared.desk.close(rt, &workers);
+        let closed = self.shared.desk.close(rt, permit, &workers);
         (workers, closed)
     }
 }

@@ -1,6 +1,7 @@
 //! The socket.
 //! Tests: serve_tests/src/sockets.rt.
 ghost use Rattle.std.specs.Prelude.{◌≡◌, ◌&&◌};
+ghost use Rattle.std.specs.Fs.{permissions_mode};
 
 use crate::accepted_stream::AcceptedStream;
 use std::fs::{File, Files, Permissions};
@@ -54,6 +55,17 @@ fn bind<R: Net + Files<File = File>>(rt: &R, path: &str) -> io::Result<(UnixList
     }
 }
 
+/// Gives what stands at a path these rights: its owner alone may read and write it.
+fn set_owner_rights<R: Files<File = File>>(
+    rt: &R,
+    path: &str,
+    rights: Permissions,
+) -> io::Result<()>
+    requires { permissions_mode rights ≡ 0o600 }
+{
+    fs::set_permissions(rt, path, rights)
+}
+
 /// Which file stands at a path.
 #[derive(Clone, Copy, Debug, PartialEq, Eq)]
 struct Identity {
@@ -87,7 +99,7 @@ impl<'a> ServerSocket<'a> {
         path: &'a str,
     ) -> io::Result<ServerSocket<'a>> {
         let (listener, replaced) = bind(rt, path)?;
-        fs::set_permissions(rt, path, Permissions::from_mode(0o600))?;
+        set_owner_rights(rt, path, Permissions::from_mode(0o600))?;
         let own = identity_of(rt, path);
         Ok(ServerSocket {
             listener,

@@ -7,6 +7,7 @@ use crate::crawl::NoCrawl;
 use crate::crawl_worker::run_crawls;
 use crate::no_hall::NoHall;
 use crate::server_handle::ServerHandle;
+use crate::start_faults::StartFaults;
 use crate::unstarted_workers::{NoWorker, Worker};
 use std::alloc::Global;
 use std::sync::Wait;
@@ -15,7 +16,6 @@ use std::thread::{Scope, Threads};
 use std::time::{Clock, Duration};
 use wm_crawler::{Folders, Turnstile};
 use wm_hall::{CrawlTools, NoWork};
-use wm_triggers::Programs;
 
 /// Why a worker ended.
 #[derive(Drop)]
@@ -30,7 +30,7 @@ fn run_worker<
     H: ServerHandle,
     F: Folders + Sync,
     G: Turnstile + Sync,
-    P: Programs,
+    P: StartFaults,
 >(
     rt: &R,
     alloc: Global,
@@ -64,7 +64,7 @@ fn start_workers<
     H: ServerHandle + Sync,
     F: Folders + Sync,
     G: Turnstile + Sync,
-    P: Programs + Sync,
+    P: StartFaults + Sync,
 >(
     scope: &Scope<'s, E>,
     rt: &'s R,
@@ -97,7 +97,7 @@ pub fn supervise<
     H: ServerHandle + Sync,
     F: Folders + Sync,
     G: Turnstile + Sync,
-    P: Programs + Sync,
+    P: StartFaults + Sync,
 >(rt: &R, alloc: Global, server: &H, crawls: &CrawlTools<'_, F, G>, programs: &P) -> NoWorker
     ensures { result ≡ true }
 {

@@ -235,6 +235,30 @@ impl<J: Naming> TriggerRounds<J> {
         }
     }
 
+    /// Runs a round behind a change, with the runs that the last one left.
+    fn round<R: Wait, K: Wait + Drop, P: Programs>(
+        &mut self,
+        rt: &R,
+        alloc: Global,
+        root: &RootPrograms<'_, J, K, P>,
+        change: ChangeCount,
+    ) -> RoundOver
+        ensures change { result.change ≡ change }
+        ensures left { self.new.runs ≡ result.left.value }
+        ensures root { IfOk result.round (λ round. round.standing.root ≡ root.now.hall.now.number) }
+        ensures each { IfOk result.round (λ round. (self.new.runs ≡ self.old.runs) ⊎ EachInTurn (RunsOrStays (RunsToEnd (P.has_run root.now.programs.now)) root.now.hall.now.path) self.old.viewer.list (map (kept_for self.old.runs) round.standing.table.defined) self.new.runs self.new.viewer.list) }
+        ensures ok { IfOk result.round (λ round. OnOk round.ended (EachInTurn (RunsIfDue (RunsToEnd (P.has_run root.now.programs.now)) root.now.hall.now.path) self.old.viewer.list (map (kept_for self.old.runs) round.standing.table.defined) self.new.runs self.new.viewer.list)) }
+        ensures same { OnErr result.round (self.new.runs ≡ self.old.runs) }
+    {
+        let learnt = root.hall.teach(rt, &mut self.viewer);
+        let round = run_all(rt, alloc, root, learnt, &mut self.viewer, &mut self.runs);
+        RoundOver {
+            change,
+            left: Snapshot::of(&self.runs),
+            round,
+        }
+    }
+
     /// Waits for a change behind that of the last round, and then runs a round, with the runs that the last one left. There is none once the
     /// root has ended.
     pub fn next<R: Wait, K: Wait + Drop, P: Programs>(
@@ -263,13 +287,6 @@ impl<J: Naming> TriggerRounds<J> {
             None => None,
         };
         let change = root.hall.work.next_change(rt, seen)?;
-        let learnt = root.hall.teach(rt, &mut self.viewer);
-        let round = run_all(rt, alloc, root, learnt, &mut self.viewer, &mut self.runs);
-        let left = Snapshot::of(&self.runs);
-        Ok(RoundOver {
-            change,
-            left,
-            round,
-        })
+        Ok(self.round(rt, alloc, root, change))
     }
 }

@@ -100,8 +100,9 @@ impl Following {
         ensures new { self.new ≡ record self.old { count = max self.old.count applied.now.number } }
     {
         let before = Snapshot::of(&*self);
-        if self.count < applied.number {
-            self.count = applied.number;
+        let number = applied.number.get();
+        if self.count < number {
+            self.count = number;
         }
         Step::taken(before, self)
     }

@@ -4,7 +4,7 @@ ghost use Rattle.std.specs.Prelude.{◌≡◌, [], true, MatchResult};
 ghost use Rattle.wm_serve.specs.AcceptQueues.{IsAdmitted, IsFirstSession, closed_queue, left_queue, opened_queue};
 
 use crate::accept_queue::{AcceptQueue, NoSession, ServedPlace};
-use crate::read_lines::{LinesBroken, LinesEnded};
+use crate::client_lines::{ClientStream, LinesBroken, LinesEnded};
 use crate::step::Step;
 use std::alloc::Global;
 use std::os::unix::net::UnixStream;
@@ -39,7 +39,7 @@ pub struct SessionServed {
 
 /// A session that has a slot from now on.
 pub struct NextSession {
-    pub stream: UnixStream,
+    pub stream: ClientStream,
     pub taken: SlotTaken,
 }
 
@@ -58,13 +58,13 @@ fn admit(queue: &mut AcceptQueue<UnixStream>, stream: UnixStream) -> Admission
 
 /// Gives a slot the next session, as of [`AcceptQueue::take`].
 fn take(queue: &mut AcceptQueue<UnixStream>) -> Result<NextSession, NoSession>
-    ensures { MatchResult result (λ next. (next.taken.step.before ≡ queue.old) × IsFirstSession next.stream queue.old next.taken.step.after) (λ none. (none ≡ queue.old.is_closed) × (queue.old.waiting ≡ [])) }
+    ensures { MatchResult result (λ next. (next.taken.step.before ≡ queue.old) × IsFirstSession next.stream.stream queue.old next.taken.step.after) (λ none. (none ≡ queue.old.is_closed) × (queue.old.waiting ≡ [])) }
 {
     let before = Snapshot::of(queue);
     let (stream, place) = queue.take()?;
     let step = Step::taken(before, queue);
     Ok(NextSession {
-        stream,
+        stream: ClientStream::of(stream),
         taken: SlotTaken { step, place },
     })
 }
@@ -111,7 +111,7 @@ impl WaitingSessions {
     /// Waits for a session. Refused if no session comes any longer, and none waits.
     #[tactic(auto, using(crate::proofs::Closing::none_waiting))]
     pub fn next<R: Wait>(&self, rt: &R) -> Result<NextSession, NoSession>
-        ensures { MatchResult result (λ next. IsFirstSession next.stream next.taken.step.before next.taken.step.after) (λ none. none ≡ true) }
+        ensures { MatchResult result (λ next. IsFirstSession next.stream.stream next.taken.step.before next.taken.step.after) (λ none. none ≡ true) }
     {
         let mut queue = self
             .came

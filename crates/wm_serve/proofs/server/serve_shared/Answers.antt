@@ -1,7 +1,7 @@
 use denote.Param.{copied, param}
 use denote.Param.Send.{sendable}
 use denote.Ref.{NamedLft}
-use Rattle.std.proofs.Common.{◌≡◌, Ok, IfOk, refl, rules, subst}
+use Rattle.std.proofs.Common.{IfOk, refl, rules, subst}
 use Rattle.wm_serve.specs.SlotThreads.{HasServed}
 use Rattle.wm_serve.specs.declared.server_threads.ServerClosed.{ServerClosed}
 use Rattle.wm_serve.specs.declared.server_threads.SessionsServed.{SessionsServed}
@@ -20,8 +20,7 @@ returns g c =
     let end = c.serve_logged-served.result in
     let make : SessionsServed → StoreClosed → ServerClosed = λ served store. record { begun = c.by-begun.result; served = served; workers = end.workers; store = store } in
     let whole = served_closed (HasServed c.args.service.now.service.acceptor.sessions) make (λ (closed : ServerClosed). closed.served) (λ served store. refl) end.served end.closed c.closed.result c.closed.ensures c.serve_logged-served.ensures in
-    let was : c.closed.result ≡ Ok c.in_ok-closed.closed = search rules in
     record {
-      served = subst (λ r. IfOk r (λ (closed : ServerClosed). HasServed c.args.service.now.service.acceptor.sessions closed.served)) was whole;
+      served = subst (λ r. IfOk r (λ (closed : ServerClosed). HasServed c.args.service.now.service.acceptor.sessions closed.served)) c.in_ok-closed.was whole;
       desk = search rules;
     }

@@ -3,7 +3,7 @@ use Rattle.wm_triggers.specs.KeptRuns.{kept_for}
 use Rattle.wm_serve.specs.TriggerWork.{RunsIfDue, RunsOrStays, RunsToEnd}
 use Rattle.wm_serve.specs.declared.trigger_rounds.Round.{Round}
 use Rattle.wm_serve.proofs.Rounds.{each_earlier, ok_earlier}
-use Rattle.wm_serve.proofs.trigger_rounds.TriggerRounds.next.Goals as goal
+use Rattle.wm_serve.proofs.trigger_rounds.TriggerRounds.round.Goals as goal
 
 pub returns-clause-each : goal.returns-clause-each
 returns-clause-each g c =
