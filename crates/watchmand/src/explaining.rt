@@ -4,7 +4,7 @@ use std::alloc::Global;
 use std::fs::{File, Files};
 use std::net::Net;
 use wm_disk::{NoMemory, Refusal};
-use wm_explain::{Doing, End};
+use wm_explain::Doing;
 use wm_findings::{file_line, socket_line};
 use wm_program::Words;
 use wm_server::words;
@@ -33,7 +33,7 @@ fn served<R: Files<File = File> + Net>(
 ) -> Result<Option<String>, NoMemory> {
     match file_line(rt, alloc, refusal, Doing::Opening, file)? {
         Some(line) => Ok(Some(line)),
-        None if refusal == Refusal::DeviceFailed => socket_line(rt, alloc, End::Server, socket),
+        None if refusal == Refusal::DeviceFailed => socket_line(rt, alloc, socket),
         None => Ok(None),
     }
 }

@@ -18,7 +18,6 @@ use wm_program::{ProgramHost, watchmand};
 use wm_serve::{ServerPaths, Settings, Tools, serve};
 use wm_server::system::Host;
 use wm_session::{Input, Output};
-use wm_triggers::SystemPrograms;
 
 /// How the program ended.
 #[derive(Clone, Copy)]
@@ -40,11 +39,10 @@ fn run<H: Threads + Wait + Clock + Net + Files<File = File> + Sync>(
     let errors = rt.stderr();
     let mut faults = Noted::new(io::writer(&errors));
     let folders = SystemFolders::new(rt.clone()?);
-    let programs = SystemPrograms::new(rt.clone()?);
     let tools = Tools {
         folders: &folders,
         turnstile: &Open,
-        programs: &programs,
+        programs: rt,
         log: &errors,
     };
     let mut ready = Noted::new(io::writer(rt));

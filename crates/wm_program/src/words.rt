@@ -51,7 +51,7 @@ impl Words {
         let command = command(alloc)?;
         match command.try_get_matches_from(words) {
             Ok(matches) => chosen(alloc, &matches),
-            Err(error) => shown(alloc, &error),
+            Err(error) => shown(alloc, words, &error),
         }
     }
 }
@@ -60,6 +60,8 @@ const STATUSES: &str = "Exit status:
   0  so many sessions as were asked for have come and ended
   1  refused; standard error says why
   2  the words aren't understood";
+
+const NUMBERS: &str = "N and S are whole numbers from 0 to 4294967295, and the workers are 1 to 16";
 
 // The program's command, with a command for each thing that it does.
 fn command<'a>(alloc: Global) -> Result<Command<'a>, NoMemory>
@@ -206,10 +208,7 @@ fn told(
         return fault(alloc, "SOCKET is missing");
     };
     let Some(settings) = settings else {
-        return fault(
-            alloc,
-            "N and S are whole numbers from 0 to 4294967295, and the workers are 1 to 16",
-        );
+        return fault(alloc, NUMBERS);
     };
     let file = String::from_str(alloc, file)?;
     let socket = String::from_str(alloc, socket)?;
@@ -279,22 +278,60 @@ fn number_of(told: Option<&str>, default: u64) -> Option<u64>
     }
 }
 
+// The text of a fault.
+fn fault_text(alloc: Global, what: &str) -> Result<String, NoMemory> {
+    Ok(format!(in alloc; "error: {what}\n\nFor more information, try '--help'.\n")?)
+}
+
 // A fault that is told in these words.
 fn fault(alloc: Global, what: &str) -> Result<Words, NoMemory>
     ensures { IfOk result (λ r. program_wanted r ≡ shown_status 2) }
 {
-    let text = format!(in alloc; "error: {what}\n\nFor more information, try '--help'.\n")?;
+    let text = fault_text(alloc, what)?;
     Ok(Words::Shown { text, status: 2 })
 }
 
-// What is shown for an error of the parse. Running out of memory is no fault of the words: it is an `Err`.
-fn shown(alloc: Global, error: &Error) -> Result<Words, NoMemory>
+// Whether a word is an option that takes a number, which is the next word.
+fn takes_number(word: &str) -> bool {
+    matches!(
+        word,
+        "--workers" | "--gc-age" | "--gc-interval" | "--sessions"
+    )
+}
+
+// Whether a word begins as a negative number.
+fn is_negative(word: &str) -> bool {
+    matches!(word.as_bytes(), [b'-', b'0'..=b'9', ..])
+}
+
+// Whether an option that takes a number is followed by a negative one, which clap takes for another option.
+fn has_negative_number(words: &[&str]) -> bool {
+    let mut is_number_next = false;
+    for word in words {
+        if is_number_next && is_negative(word) {
+            return true;
+        }
+        is_number_next = takes_number(word);
+    }
+    false
+}
+
+// The text of an error of the parse.
+fn error_text(alloc: Global, words: &[&str], error: &Error) -> Result<String, NoMemory> {
+    if error.kind() == ErrorKind::UnknownArgument && has_negative_number(words) {
+        return fault_text(alloc, NUMBERS);
+    }
+    Ok(error.to_string(alloc)?)
+}
+
+// What is shown for an error of the parse of these words. Running out of memory is no fault of the words: it is an `Err`.
+fn shown(alloc: Global, words: &[&str], error: &Error) -> Result<Words, NoMemory>
     ensures { IfOk result (λ r. told_for_kind (kind_of error.now) ≡ Some (program_wanted r)) }
 {
     if error.kind() == ErrorKind::OutOfMemory {
         return Err(NoMemory);
     }
     let status = if error.use_stderr() { 2 } else { 0 };
-    let text = error.to_string(alloc)?;
+    let text = error_text(alloc, words, error)?;
     Ok(Words::Shown { text, status })
 }
