@@ -5,5 +5,3 @@ pub mod RefusedParts
 pub mod RefusedTerms
 pub mod RefusedValues
 pub mod RequestKinds
-pub mod RootLines
-pub mod ServerLines

@@ -2,7 +2,7 @@
 use Rattle.std.specs.Prelude.{◌||◌, ◌&&◌, not, ℕ, Bool, List, Option, None, Some, codes, is_none, is_some, option_and_then, option_map, unwrap_or, if◌then◌else◌}
 use Rattle.std.specs.Option.{option_or}
 use Rattle.std.specs.Str.{bytes_eq}
-use Rattle.serde_json.specs.Data.{Data, Items, Members, item, member, no_items, no_members}
+use Rattle.serde_json.specs.Data.{Data, Items, Members, item, member, no_items, no_members, string}
 use Rattle.serde_json.specs.Find.{as_array, as_object, as_str, at, get}
 use Rattle.serde_json.specs.View.{view}
 use Rattle.wm_disk.specs.declared.refusal.Refusal.{Refusal}
@@ -15,7 +15,7 @@ use Rattle.wm_lines.specs.TriggerLines.{has_known_keys}
 use Rattle.wm_names.specs.Entries.{kind_of}
 use Rattle.wm_names.specs.Paths.{is_root_path}
 use Rattle.wm_since.specs.Fields.{field_of}
-use Rattle.wm_parts.specs.RefusedTerms.{refused_term_in}
+use Rattle.wm_parts.specs.RefusedTerms.{refused_term_in, term_form}
 use Rattle.wm_parts.specs.RefusedValues.{form_of, key_name, refused_value}
 use Rattle.wm_parts.specs.declared.keys.Asking.{Asking}
 use Rattle.wm_parts.specs.declared.keys.Asking.TheVariants.{Query, Trigger}
@@ -28,9 +28,10 @@ use Rattle.wm_parts.specs.declared.values.Key.TheVariants as keys
 pub data PartSeen : Type 0 where
   command_seen : List ℕ → PartSeen
   root_seen : List ℕ → PartSeen
-  key_seen : List ℕ → PartSeen
+  key_seen : Asking → List ℕ → PartSeen
   value_seen : Key → Data → PartSeen
   term_seen : Data → PartSeen
+  misformed_seen : Data → List ℕ → PartSeen
   pattern_seen : List ℕ → PartSeen
   letter_seen : List ℕ → PartSeen
   field_seen : Data → PartSeen
@@ -39,9 +40,10 @@ pub data PartSeen : Type 0 where
 abbrev pub part_seen : Part → PartSeen
 part_seen (parts.Command name) = command_seen name.now
 part_seen (parts.Root path) = root_seen path.now
-part_seen (parts.Key key) = key_seen key.now
+part_seen (parts.Key asking key) = key_seen asking key.now
 part_seen (parts.Value key value) = value_seen key (view value.now)
 part_seen (parts.Term value) = term_seen (view value.now)
+part_seen (parts.Misformed value form) = misformed_seen (view value.now) form.now
 part_seen (parts.Pattern text) = pattern_seen text.now
 part_seen (parts.Letter text) = letter_seen text.now
 part_seen (parts.Field value) = field_seen (view value.now)
@@ -62,6 +64,11 @@ is_query_key k = bytes_eq k (codes "since") || (bytes_eq k (codes "expression") 
 
 abbrev pub is_trigger_key : List ℕ → Bool
 is_trigger_key k = bytes_eq k (codes "name") || (bytes_eq k (codes "command") || (bytes_eq k (codes "expression") || (bytes_eq k (codes "append_files") || (bytes_eq k (codes "stdin") || bytes_eq k (codes "max_files_stdin")))))
+
+-- what is said of a key that it may not have
+abbrev pub keys_said : Asking → List ℕ
+keys_said Query = codes "is no key of such a request: these are since, expression, fields, empty_on_fresh_instance and sync_timeout"
+keys_said Trigger = codes "is no key of a trigger: these are name, command, expression, append_files, stdin and max_files_stdin"
 
 abbrev pub is_key : Asking → List ℕ → Bool
 is_key Query k = is_query_key k
@@ -104,7 +111,7 @@ abbrev pub root_part : Data → Option PartSeen
 root_part d = option_and_then refused_root (text_at 1 d)
 
 abbrev pub key_part : Data → Option PartSeen
-key_part d = option_map key_seen (option_and_then (λ o. unknown_key_in o.0 o.1) (object_of d))
+key_part d = option_and_then (λ o. option_map (key_seen o.0) (unknown_key_in o.0 o.1)) (object_of d)
 
 -- the text of a `match` that is no pattern
 abbrev pub pattern_part : Data → Option PartSeen
@@ -120,9 +127,18 @@ wrong_text_of d word = if bytes_eq word (codes "match") then pattern_part d else
 abbrev pub wrong_text : Data → Option PartSeen
 wrong_text d = option_and_then (wrong_text_of d) (text_at 0 d)
 
+-- the word of a term
+abbrev pub term_word : Data → Option (List ℕ)
+term_word (string word) = Some word
+term_word d = text_at 0 d
+
+-- a term that is none, with the form of those of its word if there are some
+abbrev pub whole_part : Data → PartSeen
+whole_part d = unwrap_or (option_map (misformed_seen d) (option_and_then term_form (term_word d))) (term_seen d)
+
 -- what is wrong in a term: its pattern, its letter, or else all of it
 abbrev pub inner_part : Data → PartSeen
-inner_part d = unwrap_or (wrong_text d) (term_seen d)
+inner_part d = unwrap_or (wrong_text d) (whole_part d)
 
 abbrev pub term_part : Data → Option PartSeen
 term_part d = option_map inner_part (option_and_then refused_term_in (option_and_then (λ o. get (codes "expression") o.1) (object_of d)))

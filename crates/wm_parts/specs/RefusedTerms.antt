@@ -39,3 +39,20 @@ abbrev mutual
 -- the term for which a value is refused, if it is no expression
 abbrev pub refused_term_in : Data → Option Data
 refused_term_in d = if is_some (expression_of d) then None else Some (refused_term d)
+
+-- how a term of this word is written
+abbrev pub term_form : List ℕ → Option (List ℕ)
+term_form word =
+    if bytes_eq word (codes "true") then Some (codes "\"true\"")
+    else (if bytes_eq word (codes "false") then Some (codes "\"false\"")
+    else (if bytes_eq word (codes "exists") then Some (codes "\"exists\"")
+    else (if bytes_eq word (codes "empty") then Some (codes "\"empty\"")
+    else (if bytes_eq word (codes "name") then Some (codes "[\"name\",\"a.c\"] or [\"name\",\"src/a.c\",\"wholename\"]")
+    else (if bytes_eq word (codes "suffix") then Some (codes "[\"suffix\",\"c\"] or [\"suffix\",[\"c\",\"h\"]]")
+    else (if bytes_eq word (codes "type") then Some (codes "[\"type\",\"f\"]")
+    else (if bytes_eq word (codes "size") then Some (codes "[\"size\",\"gt\",10], with eq, ne, gt, ge, lt or le")
+    else (if bytes_eq word (codes "match") then Some (codes "[\"match\",\"*.c\"] or [\"match\",\"src/*.c\",\"wholename\"]")
+    else (if bytes_eq word (codes "not") then Some (codes "[\"not\",[\"suffix\",\"c\"]]")
+    else (if bytes_eq word (codes "allof") then Some (codes "[\"allof\",\"exists\",[\"suffix\",\"c\"]]")
+    else (if bytes_eq word (codes "anyof") then Some (codes "[\"anyof\",[\"suffix\",\"c\"],[\"suffix\",\"h\"]]")
+    else None)))))))))))

@@ -1,10 +1,12 @@
 //! What is wrong in a term: its pattern, its letter, or else all of it. Definitions: specs/RefusedParts. Tests: client_tests/src/parts.rt.
-ghost use Rattle.std.specs.Prelude.{◌≡◌, ◌&&◌, ◌||◌, ◌==◌, not, option_map};
+ghost use Rattle.std.specs.Prelude.{◌≡◌, ◌&&◌, ◌||◌, ◌==◌, not, option_and_then, option_map};
 ghost use Rattle.std.specs.List.{list_all};
 ghost use Rattle.serde_json.specs.View.{view};
 ghost use Rattle.wm_expr.specs.Patterns.{is_pattern as is_pattern_lem};
-ghost use Rattle.wm_parts.specs.RefusedParts.{inner_part, letter_part, part_seen, pattern_part, wrong_text};
+ghost use Rattle.wm_parts.specs.RefusedParts.{inner_part, letter_part, part_seen, pattern_part, whole_part, term_word, wrong_text};
+ghost use Rattle.wm_parts.specs.RefusedTerms.{term_form};
 
+use crate::forms::term_form;
 use crate::parts::{Part, text_at};
 use serde_json::Value;
 use wm_expr::MAX_PATTERN;
@@ -57,12 +59,39 @@ fn wrong_text(term: &Value) -> Option<Part<'_>>
     }
 }
 
+/// The word of a term.
+fn term_word(term: &Value) -> Option<&str>
+    ensures { option_map (λ s. s.now) result ≡ term_word (view term.now) }
+{
+    match term {
+        Value::String(word) => Some(word.as_str()),
+        _ => text_at(term, 0),
+    }
+}
+
+/// How the terms of a term's word are written. `None` if there is no such word.
+fn form_of_term(term: &Value) -> Option<&'static str>
+    ensures { option_map (λ t. t.now) result ≡ option_and_then term_form (term_word (view term.now)) }
+{
+    term_form(term_word(term)?)
+}
+
+/// A term that is none, with the form of those of its word if there are some.
+fn whole_part(term: &Value) -> Part<'_>
+    ensures { part_seen result ≡ whole_part (view term.now) }
+{
+    match form_of_term(term) {
+        Some(form) => Part::Misformed(term, form),
+        None => Part::Term(term),
+    }
+}
+
 /// What is wrong in a term that is none.
 pub(crate) fn inner_part(term: &Value) -> Part<'_>
     ensures { part_seen result ≡ inner_part (view term.now) }
 {
     match wrong_text(term) {
         Some(part) => part,
-        None => Part::Term(term),
+        None => whole_part(term),
     }
 }

@@ -2,13 +2,13 @@
 ghost use Rattle.std.specs.Prelude.{◌≡◌, IfSome, false, option_map};
 ghost use Rattle.serde_json.specs.Find.{as_object};
 ghost use Rattle.serde_json.specs.View.{members_view, view};
-ghost use Rattle.wm_parts.specs.RefusedParts.{is_key, is_query_key, is_trigger_key, takes_keys, unknown_key, unknown_key_in};
+ghost use Rattle.wm_parts.specs.RefusedParts.{is_key, is_query_key, is_trigger_key, keys_said, takes_keys, unknown_key, unknown_key_in};
 
 use serde_json::{Map, Value};
 
 /// Whose object it is.
 #[derive(Clone, Copy, Debug, PartialEq, Eq)]
-pub(crate) enum Asking {
+pub enum Asking {
     /// That of `query` or `subscribe`.
     Query,
     /// That of `trigger`.
@@ -32,6 +32,20 @@ fn is_trigger_key(key: &str) -> bool
     match key {
         "name" | "command" | "expression" | "append_files" | "stdin" | "max_files_stdin" => true,
         _ => false,
+    }
+}
+
+/// What is said of a key that an object may not have.
+pub(crate) fn keys_said(asking: Asking) -> &'static str
+    ensures { result.now ≡ keys_said asking }
+{
+    match asking {
+        Asking::Query => {
+            "is no key of such a request: these are since, expression, fields, empty_on_fresh_instance and sync_timeout"
+        }
+        Asking::Trigger => {
+            "is no key of a trigger: these are name, command, expression, append_files, stdin and max_files_stdin"
+        }
     }
 }
 

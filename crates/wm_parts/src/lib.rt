@@ -4,10 +4,10 @@
 //! expression or the text in it, or a field; if it is none of them, as when parts are missing, the form of such a request. It looks at the
 //! request's JSON value, by the refusal and by the readers that a server takes (`wm_lines`, `wm_expr`, `wm_since`). [`explanation`] reads a
 //! request as a server does, and says its part in a line. [`refusal_line`] says why the refusal came that a server replied, and what to do:
-//! the request's part, or else an advice by the kind of the request.
+//! the request's part, or else an advice by the kind of the request ([`advice_line`]).
 //!
-//! [`root_line`] is about what was found at a root's path, [`braces_hint`] about a pattern that lists nothing, and [`server_line`] about a
-//! socket at which no server answers. Nothing here talks to the system.
+//! [`braces_hint`] is about a pattern that lists nothing, and [`no_feed_line`] about a sync for which no feed answered. Nothing here talks
+//! to the system.
 //!
 //! | Of | Definitions |
 //! |---|---|
@@ -18,7 +18,6 @@
 //! | the kind of a request, and its root | specs/RequestKinds.antt |
 //! | the advice at a refusal, and the line of a refusal | specs/Advice.antt |
 //! | the first pattern with a brace | specs/Braces.antt |
-//! | the line of a root, and that of a socket | specs/RootLines.antt, specs/ServerLines.antt |
 //!
 //! Tests: client_tests/src/parts.rt, client_tests/src/hints.rt.
 #![tactic(auto)]
@@ -33,17 +32,14 @@ mod kinds;
 mod lines;
 mod parts;
 mod refusals;
-mod roots;
-mod servers;
 mod terms;
 mod values;
 
 pub use braces::braces_hint;
+pub use keys::Asking;
 pub use kinds::{RequestKind, request_kind, root_asked};
 pub use lines::{explanation, root_explanation};
 pub use parts::{Part, part_in};
-pub use refusals::refusal_line;
-pub use roots::{RootFound, root_line};
-pub use servers::{no_feed_line, server_line};
+pub use refusals::{advice_line, no_feed_line, refusal_line};
 pub use terms::refused_term;
 pub use values::Key;

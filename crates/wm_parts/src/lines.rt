@@ -6,9 +6,10 @@ ghost use Rattle.serde_json.specs.View.{view};
 ghost use Rattle.serde_json.specs.Written.{compact_text, has_float};
 ghost use Rattle.wm_explain.specs.Shown.{shown_text};
 ghost use Rattle.wm_lines.specs.RecrawlLines.{server_request_of_line};
-ghost use Rattle.wm_parts.specs.PartLines.{IsLineOf, SaysOf, SaysPart, form_line, named_line, no_json, value_line};
-ghost use Rattle.wm_parts.specs.RefusedParts.{refused_root, refusing_part, part_seen};
+ghost use Rattle.wm_parts.specs.PartLines.{IsLineOf, SaysOf, SaysPart, form_line, misformed_said, named_line, no_command, no_field, no_json, no_term, root_said, value_line};
+ghost use Rattle.wm_parts.specs.RefusedParts.{keys_said, refused_root, refusing_part, part_seen};
 
+use crate::keys::keys_said;
 use crate::parts::{Part, part_in, refused_root};
 use serde_json::Value;
 use std::alloc::Global;
@@ -50,20 +51,49 @@ pub(crate) fn no_json_line(alloc: Global, column: usize) -> Result<String, NoMem
     Ok(text)
 }
 
+/// What is said of a name that is no command's.
+const NO_COMMAND: &str =
+    "is no command: these are version, watch, watch-del, watch-list, clock, since, query, subscribe, unsubscribe, trigger, trigger-list, trigger-del, recrawl, observe, listing and age-out";
+
+/// What is said of a term whose word isn't one of a term.
+const NO_TERM: &str =
+    "is no term of an expression: the words of terms are true, false, exists, empty, name, suffix, type, size, match, not, allof and anyof";
+
+/// What is said of a value that names no field.
+const NO_FIELD: &str =
+    "is no field: these are name, exists, new, size, type, mtime_ms, cclock and oclock";
+
+/// What is said of a path that can't be a root's.
+fn root_said(path: &str) -> &'static str
+    ensures { result.now ≡ root_said path.now }
+{
+    match path {
+        "/" => "can't be watched: a root is a folder below it",
+        _ => {
+            "is no root's path: it begins with / and has no part that is empty, . or ..; realpath prints such a path"
+        }
+    }
+}
+
+/// The line of a term that is none, though there are terms of its word.
+fn misformed_line(alloc: Global, term: &Value, form: &str) -> Result<String, NoMemory>
+    ensures { IfOk result (λ line. has_float (view term.now) ≡ false → string_bytes line ≡ value_line (shown_text (compact_text (view term.now))) (misformed_said form.now)) }
+{
+    let said = format!(in alloc; "is no term of an expression: such a term is written {form}")?;
+    value_line(alloc, term, &said)
+}
+
 /// The line of a part, with its newline.
 fn line_of(alloc: Global, part: &Part<'_>) -> Result<String, NoMemory>
     ensures { IfOk result (λ line. IsLineOf (part_seen part.now) (string_bytes line)) }
 {
     match part {
-        Part::Command(name) => named_line(alloc, name, "is no command"),
-        Part::Root(path) => named_line(
-            alloc,
-            path,
-            "is no root's path: it begins with / and has no part that is empty, . or ..; realpath prints such a path",
-        ),
-        Part::Key(key) => named_line(alloc, key, "is no key of such a request"),
+        Part::Command(name) => named_line(alloc, name, NO_COMMAND),
+        Part::Root(path) => named_line(alloc, path, root_said(path)),
+        Part::Key(asking, key) => named_line(alloc, key, keys_said(*asking)),
         Part::Value(key, value) => value_line(alloc, value, key.said()),
-        Part::Term(value) => value_line(alloc, value, "is no term of an expression"),
+        Part::Term(value) => value_line(alloc, value, NO_TERM),
+        Part::Misformed(value, form) => misformed_line(alloc, value, form),
         Part::Pattern(text) => named_line(
             alloc,
             text,
@@ -74,7 +104,7 @@ fn line_of(alloc: Global, part: &Part<'_>) -> Result<String, NoMemory>
             text,
             "is no type of a file: these are f (a file), d (a folder), l (a link) and o (all else)",
         ),
-        Part::Field(value) => value_line(alloc, value, "is no field"),
+        Part::Field(value) => value_line(alloc, value, NO_FIELD),
         Part::Form(form) => form_line(alloc, form),
     }
 }

@@ -24,12 +24,14 @@ pub enum Part<'a> {
     Command(&'a str),
     /// The path of a root that breaks the rules of such paths.
     Root(&'a str),
-    /// A key that an object may not have.
-    Key(&'a str),
+    /// A key that an object may not have, and whose object it is.
+    Key(Asking, &'a str),
     /// A value that can't be at its key.
     Value(Key, &'a Value),
-    /// A term that is none.
+    /// A term of a word that there isn't.
     Term(&'a Value),
+    /// A term that is none, and how the terms of its word are written.
+    Misformed(&'a Value, &'static str),
     /// The text of a `match` that is no pattern.
     Pattern(&'a str),
     /// The text of a `type` that is no kind's letter.
@@ -106,7 +108,7 @@ fn key_part(value: &Value) -> Option<Part<'_>>
     ensures { option_map part_seen result ≡ key_part (view value.now) }
 {
     let (asking, object) = object_of(value)?;
-    Some(Part::Key(unknown_key_in(asking, object)?))
+    Some(Part::Key(asking, unknown_key_in(asking, object)?))
 }
 
 /// The term for which a request's expression is refused, or the text in it.

@@ -1,9 +1,10 @@
-//! The line of a refusal that a server replied. Definitions: specs/Advice. Tests: client_tests/src/hints.rt.
+//! The lines of a refusal that a server replied, and of a sync that no feed answered. Definitions: specs/Advice. Tests: client_tests/src/hints.rt.
 ghost use Rattle.std.specs.Prelude.{◌≡◌, ◌++◌, IfOk, codes, string_bytes};
 ghost use Rattle.serde_json.specs.Read.{read as read_text};
 ghost use Rattle.serde_json.specs.View.{view};
+ghost use Rattle.wm_explain.specs.Shown.{shown_text};
 ghost use Rattle.wm_lines.specs.RecrawlLines.{server_request_of_line};
-ghost use Rattle.wm_parts.specs.Advice.{Explains, SaysPartOr, SaysRead, advice_line};
+ghost use Rattle.wm_parts.specs.Advice.{Explains, SaysPartOr, SaysRead, advice_line, no_feed_line};
 ghost use Rattle.wm_parts.specs.RefusedParts.{refusing_part};
 
 use crate::advice::advice_of;
@@ -12,9 +13,10 @@ use crate::lines::{no_json_line, said_of, value_of};
 use serde_json::Value;
 use std::alloc::Global;
 use wm_disk::{NoMemory, Refusal};
+use wm_explain::shown;
 
-/// The line that says what to do at a refusal.
-fn advice_line(alloc: Global, refusal: Refusal, kind: RequestKind) -> Result<String, NoMemory>
+/// The line that says what to do at a refusal of a request of this kind.
+pub fn advice_line(alloc: Global, refusal: Refusal, kind: RequestKind) -> Result<String, NoMemory>
     ensures { IfOk result (λ line. string_bytes line ≡ advice_line refusal kind) }
 {
     let advice = advice_of(refusal, kind);
@@ -51,4 +53,15 @@ pub fn refusal_line(alloc: Global, refusal: Refusal, json: &str) -> Result<Strin
         Err(found) if found == refusal => read_line(alloc, refusal, json),
         Err(_) => advice_line(alloc, refusal, RequestKind::Other),
     }
+}
+
+/// The line that says what to do if no feed answered a sync in time.
+pub fn no_feed_line(alloc: Global, socket: &str) -> Result<String, NoMemory>
+    ensures { IfOk result (λ line. string_bytes line ≡ no_feed_line (shown_text socket.now)) }
+{
+    let socket = shown(alloc, socket)?;
+    let text = format!(in alloc;
+        "no feed answered in time: 'wm up' or 'wmfeed {socket}' starts one, and --sync-timeout gives it more time; without one send [\"recrawl\",ROOT], and then ask\n"
+    )?;
+    Ok(text)
 }
