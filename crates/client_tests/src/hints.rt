@@ -1,12 +1,10 @@
-//! The further lines of refusals by what the server says of them, of roots, of patterns and of sockets.
+//! The further lines of refusals by what the server says of them, of patterns, and of syncs that no feed answered.
 use crate::checks::check;
 use std::alloc::Global;
 use std::process::Abort;
 use wm_disk::Refusal;
-use wm_explain::{Cause, Trouble};
 use wm_parts::{
-    RequestKind, RootFound, braces_hint, no_feed_line, refusal_line, request_kind, root_asked,
-    root_line, server_line,
+    RequestKind, advice_line, braces_hint, no_feed_line, refusal_line, request_kind, root_asked,
 };
 
 /// Requests, the kind of each, and the root about which it is; an empty one if there is none.
@@ -60,6 +58,15 @@ fn kinds_and_roots_of_requests(rt: HostRuntime) {
 const NO_SESSION: &str =
     "all of the server's 31 sessions are taken: try later, or end what holds them, as 'wm run' and feeds do\n";
 
+/// Kinds of requests for which the server has no place, and the line of each.
+const FULL: &[(RequestKind, &str)] = &[
+    (RequestKind::Other, NO_SESSION),
+    (
+        RequestKind::Watch,
+        "the server watches 256 roots, or all of its 31 sessions are taken: 'wm unwatch' what nobody needs, or try later\n",
+    ),
+];
+
 /// What is said of a state file that can't be written.
 const NO_STORE: &str =
     "the server can't write its state file: look at the disk and at the server's log, start it again, and ask what is there by watch-list or trigger-list\n";
@@ -85,7 +92,11 @@ const REFUSED: &[(Refusal, &str, &str)] = &[
         "{\"a\":1}",
         "a request is a list that begins with the name of a command, as [\"watch-list\"]\n",
     ),
-    (Refusal::BadCommand, "[\"wach\"]", "'wach' is no command\n"),
+    (
+        Refusal::BadCommand,
+        "[\"wach\"]",
+        "'wach' is no command: these are version, watch, watch-del, watch-list, clock, since, query, subscribe, unsubscribe, trigger, trigger-list, trigger-del, recrawl, observe, listing and age-out\n",
+    ),
     (
         Refusal::BadArguments,
         "[\"watch\"]",
@@ -130,7 +141,7 @@ const REFUSED: &[(Refusal, &str, &str)] = &[
     (
         Refusal::DeviceFailed,
         "[\"recrawl\",\"/r\"]",
-        "a folder of the root can't be read, and the server's log names it: give the server's user the right to it, or watch a folder below\n",
+        "a folder of the root can't be read, which 'wm status' and the server's log name (that of 'wm up' is ~/.local/state/watchmand/log): give the server's user the right to it, or watch a folder below\n",
     ),
     (
         Refusal::Exhausted,
@@ -232,59 +243,17 @@ fn names_a_pattern_with_braces(rt: HostRuntime) {
     }
 }
 
-/// What was found at the path `/r`, and the line.
-const ROOTS: &[(RootFound<'static>, &str)] = &[
-    (
-        RootFound::Nothing,
-        "/r: no folder is there, so the root has no files\n",
-    ),
-    (
-        RootFound::File,
-        "/r: this is a file and no folder, so the root has no files\n",
-    ),
-    (
-        RootFound::Unreadable,
-        "/r: this folder can't be read: give the server's user the right to it, or watch a folder below\n",
-    ),
-    (
-        RootFound::Link("/s\t"),
-        "/r: a symbolic link leads to /s\\x09; the two paths are two roots, and 'wm watch' takes the latter\n",
-    ),
-];
-
 #[test]
-fn says_what_is_at_a_root(rt: HostRuntime) {
-    for (found, line) in ROOTS {
-        let said = root_line(rt.alloc(), "/r", *found).expect(&rt, "memory");
+fn says_what_to_do_by_the_kind(rt: HostRuntime) {
+    for (kind, line) in FULL {
+        let said = advice_line(rt.alloc(), Refusal::TooMany, *kind).expect(&rt, "memory");
         check!(rt; said.as_str() == *line, line);
     }
 }
 
-/// Why no server answers at `s`, and the line.
-const SERVERS: &[(Cause, &str)] = &[
-    (
-        Cause::Fixed(Trouble::NoServer),
-        "no server answers at s (no such file): 'wm up' starts one, or 'watchmand serve STATE s'\n",
-    ),
-    (
-        Cause::Fixed(Trouble::Unserved),
-        "no server answers at s (nobody listens there): 'wm up' starts one, or 'watchmand serve STATE s'\n",
-    ),
-    (Cause::Fixed(Trouble::NoSocket), "s: this is no socket\n"),
-    (
-        Cause::LongPath(131),
-        "socket: the path has 131 bytes, at most 107\n",
-    ),
-];
-
 #[test]
-fn says_why_no_server_or_feed_answers(rt: HostRuntime) {
-    let alloc = rt.alloc();
-    for (cause, line) in SERVERS {
-        let said = server_line(alloc, "s", *cause).expect(&rt, "memory");
-        check!(rt; said.as_str() == *line, line);
-    }
-    let said = no_feed_line(alloc, "s").expect(&rt, "memory");
+fn says_that_no_feed_answers(rt: HostRuntime) {
+    let said = no_feed_line(rt.alloc(), "s").expect(&rt, "memory");
     let line =
         "no feed answered in time: 'wm up' or 'wmfeed s' starts one, and --sync-timeout gives it more time; without one send [\"recrawl\",ROOT], and then ask\n";
     check!(rt; said.as_str() == line, said);

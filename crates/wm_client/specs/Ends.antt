@@ -8,6 +8,7 @@ use Rattle.wm_client.specs.declared.stop.Stop.TheVariants as stop
 -- the status of a feed that stops for this cause
 abbrev pub status_of_stop : Stop → ℕ
 status_of_stop stop.WatchGone = 0
+status_of_stop stop.Unreached = 3
 status_of_stop stop.ServerGone = 3
 status_of_stop other = 1
 

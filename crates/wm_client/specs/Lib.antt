@@ -2,6 +2,7 @@ pub mod Asks
 pub mod ClientWords
 pub mod Ends
 pub mod FeedWords
+pub mod Negatives
 pub mod RefusalLines
 pub mod ReplyLaws
 pub mod Statuses

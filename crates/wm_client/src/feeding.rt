@@ -33,7 +33,7 @@ pub trait Feeder {
 /// Runs `wmfeed` with the words after its own name, and returns its status: 0 if ROOT isn't watched any longer, and for help
 /// and the version; 1 if no folder is at ROOT, inotifywait couldn't be started, ten watches in a row came to nothing, the server
 /// refused a request, memory ran out, or help or the version can't be printed; 2 if the words aren't understood, or ROOT is no
-/// root's path; 3 if the server ended, or its socket failed. Without ROOT the feed goes on until a signal ends it, unless it
+/// root's path; 3 if no server answers, it ended, or its socket failed. Without ROOT the feed goes on until a signal ends it, unless it
 /// can't begin: then the status is 1.
 ///
 /// The cause is reported on `faults`, of a refusal its number and name, as `wmfeed: 17 TooMany`.
@@ -92,7 +92,7 @@ fn end<E: Write>(stop: Stop, faults: &mut E) -> u8
 {
     let status = match stop {
         Stop::WatchGone => 0,
-        Stop::ServerGone => 3,
+        Stop::Unreached | Stop::ServerGone => 3,
         _ => 1,
     };
     // If even this can't be told, the status tells it.

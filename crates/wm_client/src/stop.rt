@@ -15,6 +15,8 @@ pub enum Stop {
     WatchGone,
     /// No folder was at the root's path when the feed began.
     NoFolder,
+    /// No session with a server could be had at the socket.
+    Unreached,
     /// The server ended, or its socket failed.
     ServerGone,
     /// The server refused a request, by this refusal.
@@ -38,6 +40,7 @@ impl Stop {
         match self {
             Stop::WatchGone => "the root isn't watched any longer",
             Stop::NoFolder => "no folder is at ROOT",
+            Stop::Unreached => "no server answers",
             Stop::ServerGone => "the server ended",
             Stop::Refused(refusal) | Stop::RefusedForNow(refusal) => refusal.text(),
             Stop::Unreadable => "a reply can't be read",

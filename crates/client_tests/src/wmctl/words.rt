@@ -1,7 +1,7 @@
 //! What the command-line words ask of `wmctl`.
 use crate::checks::check;
 use std::alloc::{AllocError, Global};
-use wm_client::Words;
+use wm_client::{Words, negative_said};
 
 /// Lists of words, and what they ask for.
 const ASKED: &[(&[&str], &str)] = &[
@@ -66,5 +66,45 @@ fn words_of_the_table(rt: HostRuntime) {
         let read = Words::read(alloc, words).expect(&rt, "words");
         let told = asked(alloc, &read).expect(&rt, "memory");
         check!(rt; told.as_str() == *wanted, (words, told));
+    }
+}
+
+/// Lists of words, and what is said of the negative number in them; an empty text if there is none.
+const NEGATIVE: &[(&[&str], &str)] = &[
+    (
+        &["s", "[]", "--follow", "-1"],
+        "error: N isn't a whole number from 0 to 4294967295\n\nFor more information, try '--help'.\n",
+    ),
+    (
+        &[
+            "--follow",
+            "1",
+            "s",
+            "[]",
+            "--sync",
+            "/r",
+            "--sync-timeout",
+            "-20",
+        ],
+        "error: MS isn't a whole number from 0 to 4294967295\n\nFor more information, try '--help'.\n",
+    ),
+    (
+        &["--sync-timeout", "-1", "--follow", "-1"],
+        "error: MS isn't a whole number from 0 to 4294967295\n\nFor more information, try '--help'.\n",
+    ),
+    (&["s", "[]", "--follow", "-x"], ""),
+    (&["s", "[]", "--follow", "--follow"], ""),
+    (&["s", "[]", "--sync", "-1"], ""),
+    (&["s", "-1"], ""),
+    (&["s", "[]", "--follow"], ""),
+    (&["-1", "--follow"], ""),
+    (&[], ""),
+];
+
+#[test]
+fn names_a_negative_number(rt: HostRuntime) {
+    for (words, wanted) in NEGATIVE {
+        let said = negative_said(words).unwrap_or("");
+        check!(rt; said == *wanted, (words, said));
     }
 }
