@@ -1,22 +1,29 @@
 //! The further line that explains a failure, or an answer that misleads, on a terminal. Tests: tools/quick_messages.py.
 
 use std::alloc::Global;
-use std::fs;
 use std::fs::{File, Files};
-use std::io::ErrorKind;
 use std::net::Net;
+use std::time::Clock;
 use wm_client::{Request, Words};
 use wm_disk::{NoMemory, Refusal};
-use wm_explain::{End, socket_cause};
-use wm_findings::found_socket;
+use wm_findings::{
+    RootFound, found_without_folder, is_own, is_unreadable, more_line, root_line, unreached_line,
+    unread_below, unread_line,
+};
 use wm_parts::{
-    RequestKind, RootFound, braces_hint, no_feed_line, refusal_line, request_kind, root_asked,
-    root_explanation, root_line, server_line,
+    RequestKind, braces_hint, no_feed_line, refusal_line, request_kind, root_asked,
+    root_explanation,
 };
 
 /// What is said of words in place of a request.
 const NO_REQUEST: &str =
     "a request is one word, JSON, as in wmctl SOCKET '[\"watch-list\"]'; 'wm watch FOLDER' and 'wm --help' are for plain words\n";
+
+/// What is said of a request in place of the socket.
+const SOCKET_FIRST: &str = "the socket comes first, as in wmctl SOCKET REQUEST\n";
+
+/// How many folders that can't be read are named.
+const MOST_NAMED: usize = 3;
 
 /// What is said of lines that are awaited and don't come.
 const NO_FURTHER_LINES: &str =
@@ -38,23 +45,11 @@ fn lack_request(words: &[&str]) -> bool {
     words.len() > 1 && !words.iter().any(|word| word.starts_with("["))
 }
 
-/// What is seen at a path at which no folder is. `None` if one may be there.
-fn found_without_folder<R: Files<File = File>>(rt: &R, path: &str) -> Option<RootFound<'static>> {
-    match fs::metadata(rt, path) {
-        Ok(at) if at.is_dir() => None,
-        Ok(_) => Some(RootFound::File),
-        Err(error) if matches!(error.kind(), ErrorKind::NotFound | ErrorKind::NotADirectory) => {
-            Some(RootFound::Nothing)
-        }
-        Err(_) => None,
-    }
-}
-
-/// Whether it is seen that what is at a path can't be read.
-fn is_unreadable<R: Files<File = File>>(rt: &R, path: &str) -> bool {
-    match File::open(rt, path) {
-        Ok(_) => false,
-        Err(error) => error.kind() == ErrorKind::PermissionDenied,
+/// Whether a request seems to stand at the socket's place.
+fn begin_with_request(words: &[&str]) -> bool {
+    match words.first() {
+        Some(word) => word.starts_with("[") || word.starts_with("{"),
+        None => false,
     }
 }
 
@@ -106,14 +101,57 @@ fn answer_line<R: Files<File = File>>(
     }
 }
 
+/// The lines of folders below a root that can't be read: the first of them, and how many there are more.
+fn folder_lines(alloc: Global, root: &str, folders: &[String]) -> Result<String, NoMemory> {
+    let mut text = String::new(alloc);
+    for folder in folders.iter().take(MOST_NAMED) {
+        let line = unread_line(alloc, folder)?;
+        text.push_str(&line)?;
+    }
+    if folders.len() > MOST_NAMED {
+        let line = more_line(alloc, root, folders.len() - MOST_NAMED)?;
+        text.push_str(&line)?;
+    }
+    Ok(text)
+}
+
+/// Whether the answer to a request of this kind may lack what is in folders that can't be read.
+fn tells_of_files(kind: RequestKind) -> bool {
+    matches!(
+        kind,
+        RequestKind::Query | RequestKind::Watch | RequestKind::Recrawl
+    )
+}
+
+/// The lines of the folders below a request's root that the server's user can't read, if that is the user of this program. Of a root that
+/// can't be read itself another line says it if the root is to be watched or crawled.
+fn unread_lines<R: Files<File = File> + Clock + Alloc + Clone + Drop>(
+    rt: &R,
+    alloc: Global,
+    request: &Request,
+) -> Result<String, NoMemory> {
+    let kind = request_kind(alloc, &request.json)?;
+    if !tells_of_files(kind) || !is_own(rt, &request.socket) {
+        return Ok(String::new(alloc));
+    }
+    let Some(root) = root_asked(alloc, &request.json)? else {
+        return Ok(String::new(alloc));
+    };
+    if kind != RequestKind::Query && is_unreadable(rt, root.as_str()) {
+        return Ok(String::new(alloc));
+    }
+    let folders = unread_below(rt, alloc, root.as_str())?;
+    folder_lines(alloc, root.as_str(), &folders)
+}
+
 /// Whether lines are awaited behind a reply that none follows.
 fn waits_in_vain(alloc: Global, request: &Request) -> Result<bool, NoMemory> {
     Ok(request.follow > 0 && request_kind(alloc, &request.json)? != RequestKind::Subscribe)
 }
 
 /// What is said behind a reply that is no refusal: that no folder is at the root, that it is watched by a link, or that a pattern has braces;
-/// and that no further line comes, if some are awaited.
-pub fn answer_text<R: Files<File = File>>(
+/// which folders can't be read; and that no further line comes, if some are awaited.
+pub fn answer_text<R: Files<File = File> + Clock + Alloc + Clone + Drop>(
     rt: &R,
     alloc: Global,
     request: &Request,
@@ -122,6 +160,8 @@ pub fn answer_text<R: Files<File = File>>(
     if let Some(line) = answer_line(rt, alloc, &request.json)? {
         text.push_str(&line)?;
     }
+    let unread = unread_lines(rt, alloc, request)?;
+    text.push_str(&unread)?;
     if waits_in_vain(alloc, request)? {
         text.push_str(NO_FURTHER_LINES)?;
     }
@@ -169,45 +209,66 @@ fn seen_line<R: Files<File = File>>(
 fn refused_line<R: Files<File = File>>(
     rt: &R,
     alloc: Global,
+    refusal: Refusal,
+    request: &Request,
+) -> Result<String, NoMemory> {
+    match seen_line(rt, alloc, refusal, request)? {
+        Some(line) => Ok(line),
+        None => refusal_line(alloc, refusal, &request.json),
+    }
+}
+
+/// The lines of a refusal. Behind that of a crawl they name the folders that can't be read.
+fn refused_text<R: Files<File = File> + Clock + Alloc + Clone + Drop>(
+    rt: &R,
+    alloc: Global,
     refusal: Option<Refusal>,
     request: &Request,
 ) -> Result<Option<String>, NoMemory> {
     let Some(refusal) = refusal else {
         return Ok(None);
     };
-    match seen_line(rt, alloc, refusal, request)? {
-        Some(line) => Ok(Some(line)),
-        None => Ok(Some(refusal_line(alloc, refusal, &request.json)?)),
+    let mut text = refused_line(rt, alloc, refusal, request)?;
+    if refusal == Refusal::DeviceFailed
+        && request_kind(alloc, &request.json)? == RequestKind::Recrawl
+    {
+        let unread = unread_lines(rt, alloc, request)?;
+        text.push_str(&unread)?;
     }
+    Ok(Some(text))
 }
 
-/// The line of a socket at which no server answers.
-fn unreached_line<R: Files<File = File> + Net>(
+/// The line of a talk that came to nothing: no feed runs, the words are swapped, or no server can be reached.
+fn unanswered_line<R: Files<File = File> + Net>(
     rt: &R,
     alloc: Global,
+    ended: Ended,
+    words: &[&str],
     socket: &str,
 ) -> Result<Option<String>, NoMemory> {
-    match socket_cause(End::Client, socket.len(), found_socket(rt, socket)) {
-        Some(cause) => Ok(Some(server_line(alloc, socket, cause)?)),
-        None => Ok(None),
+    if ended.lacks_feed {
+        return Ok(Some(no_feed_line(alloc, socket)?));
     }
+    if begin_with_request(words) {
+        return Ok(Some(String::from_str(alloc, SOCKET_FIRST)?));
+    }
+    unreached_line(rt, alloc, socket)
 }
 
-/// The line that explains how `wmctl` ended. With status 1, which part of the request is refused, or what to do; with 2, that there are words
-/// in place of a request; with 3, why no server can be reached, or that no feed runs. `None` if that isn't found.
-pub fn line_of<R: Files<File = File> + Net>(
+/// The lines that explain how `wmctl` ended. With status 1, which part of the request is refused, or what to do; with 2, that there are words
+/// in place of a request, or a request in that of the socket; with 3, why no server can be reached, or that no feed runs. `None` if that
+/// isn't found.
+pub fn text_of<R: Files<File = File> + Net + Clock + Alloc + Clone + Drop>(
     rt: &R,
     alloc: Global,
     ended: Ended,
     words: &[&str],
 ) -> Result<Option<String>, NoMemory> {
     match (ended.status, Words::read(alloc, words)?) {
-        (1, Words::Talk(request)) => refused_line(rt, alloc, ended.refusal, &request),
+        (1, Words::Talk(request)) => refused_text(rt, alloc, ended.refusal, &request),
+        (2, _) if begin_with_request(words) => Ok(Some(String::from_str(alloc, SOCKET_FIRST)?)),
         (2, _) if lack_request(words) => Ok(Some(String::from_str(alloc, NO_REQUEST)?)),
-        (3, Words::Talk(request)) if ended.lacks_feed => {
-            Ok(Some(no_feed_line(alloc, &request.socket)?))
-        }
-        (3, Words::Talk(request)) => unreached_line(rt, alloc, &request.socket),
+        (3, Words::Talk(request)) => unanswered_line(rt, alloc, ended, words, &request.socket),
         _ => Ok(None),
     }
 }

@@ -1,6 +1,7 @@
 //! Writers that note what they were given. Tests: tools/quick_messages.py.
 
 use crate::explaining::answer_text;
+use crate::waiting::Answered;
 use std::alloc::Global;
 use std::io;
 use std::io::Write;
@@ -13,6 +14,7 @@ pub struct Replies<'a, W> {
     rt: &'a HostRuntime,
     alloc: Global,
     request: Option<Request>,
+    answered: Option<Answered>,
     writer: W,
     is_used: bool,
     /// Which refusal the first reply is.
@@ -21,17 +23,19 @@ pub struct Replies<'a, W> {
 
 impl<'a, W: Write> Replies<'a, W> {
     /// A writer to which nothing was written. If there is a request, what is to be said of it goes to standard error behind the first
-    /// reply, if that is no refusal.
+    /// reply, if that is no refusal. The first reply is noted for who waits for it.
     pub fn new(
         rt: &'a HostRuntime,
         alloc: Global,
         request: Option<Request>,
+        answered: Option<Answered>,
         writer: W,
     ) -> Replies<'a, W> {
         Replies {
             rt,
             alloc,
             request,
+            answered,
             writer,
             is_used: false,
             refusal: None,
@@ -57,6 +61,9 @@ impl<W: Write> Write for Replies<'_, W> {
     fn write(&mut self, bytes: &[u8]) -> io::Result<usize> {
         if !self.is_used {
             self.is_used = true;
+            if let Some(answered) = &self.answered {
+                answered.note();
+            }
             self.refusal = refusal_of(bytes);
         }
         let count = self.writer.write(bytes)?;
