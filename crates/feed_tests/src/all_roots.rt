@@ -177,6 +177,7 @@ watch 1 socket.sync/2 /s/
 "#,
         ],
         reported: "wmfeed: /r: 14 Damaged
+(/r)
 wmfeed: inotifywait couldn't be started
 ",
         ..ALL
@@ -238,6 +239,7 @@ remove socket.sync/1/7
 "#,
         ],
         reported: "wmfeed: socket: the server ended
+(socket)
 wmfeed: inotifywait couldn't be started
 ",
         ..ALL
@@ -298,6 +300,7 @@ watch 2 socket.sync/1 /r/d
         ],
         reported: "wmfeed: /r/d: the folder can't be read
 wmfeed: socket: the server ended
+(socket)
 wmfeed: inotifywait couldn't be started
 ",
         ..ALL
@@ -314,7 +317,8 @@ wmfeed: inotifywait couldn't be started
             ..READY
         },
         log: &["[\"watch-list\"]\n"],
-        reported: "wmfeed: socket: the server ended
+        reported: "wmfeed: socket: no server answers
+(socket)
 wmfeed: inotifywait couldn't be started
 ",
         ..ALL
@@ -331,6 +335,7 @@ wmfeed: inotifywait couldn't be started
         },
         log: &["[\"watch-list\"]\n[\"watch-list\"]\n"],
         reported: "wmfeed: socket: a reply can't be read
+(socket)
 wmfeed: inotifywait couldn't be started
 ",
         ..ALL

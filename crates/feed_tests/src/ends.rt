@@ -90,7 +90,7 @@ const REFUSED: &[Run] = &[
     Run {
         what: "a socket that nobody serves",
         status: 3,
-        reported: "wmfeed: the server ended\n",
+        reported: "wmfeed: no server answers\n",
         ..ONE_ROOT
     },
     Run {

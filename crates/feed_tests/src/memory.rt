@@ -239,10 +239,10 @@ impl<'a> System for Memory<'a> {
     ) -> Result<(Ear<'a>, Chain<&'static [u8], &'static [u8]>), Stop> {
         let session = self.ready.sessions.get(self.done.connect());
         let Some(Some([first, then])) = session else {
-            return Err(Stop::ServerGone);
+            return Err(Stop::Unreached);
         };
         if socket != "socket" {
-            return Err(Stop::ServerGone);
+            return Err(Stop::Unreached);
         }
         let ear = Ear {
             done: self.done,
@@ -357,6 +357,12 @@ impl<'a> System for Memory<'a> {
     fn tell(&self, line: &str) {
         self.done.report(line.as_bytes());
         self.done.report(b"\n");
+    }
+
+    fn explain(&self, _alloc: Global, path: &str, _stop: Stop) {
+        for part in ["(", path, ")\n"] {
+            self.done.report(part.as_bytes());
+        }
     }
 
     fn now(&self) -> u64 {

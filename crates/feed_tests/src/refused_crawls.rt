@@ -50,6 +50,7 @@ const RUNS: &[Run] = &[
 "#,
         ],
         reported: "wmfeed: /r: 13 DeviceFailed
+(/r)
 wmfeed: the root isn't watched any longer
 ",
         // clocks were told at 1,000, 1,501, 2,002, 3,003, 4,004, 5,004, 6,005, 7,005, 8,005 and 9,005
@@ -93,7 +94,9 @@ wmfeed: the root isn't watched any longer
 "#,
         ],
         reported: "wmfeed: /r: 13 DeviceFailed
+(/r)
 wmfeed: /r: 16 NoMemory
+(/r)
 wmfeed: the root isn't watched any longer
 ",
         // clocks were told at 1,000, 1,501, 2,002, 3,003, 4,004 and 5,005

@@ -82,7 +82,7 @@ pub struct Run {
     /// `end NUMBER` for its end, and `remove PATH`.
     pub log: &'static [&'static str],
     pub status: u8,
-    /// All that is reported to the user.
+    /// All that is reported to the user, with `(PATH)` behind a line that is explained.
     pub reported: &'static str,
     /// When it ends, in milliseconds, if that is part of the row.
     pub took: Option<u64>,

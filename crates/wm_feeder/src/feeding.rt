@@ -108,6 +108,28 @@ fn feed_while_there<Y: System>(
     feed_session(system, alloc, feeds, &mut server)
 }
 
+/// Whether a stop of a session is to be reported behind the last one that was: a server that isn't there any longer ended before.
+fn is_news(told: Option<Stop>, stop: Stop) -> bool {
+    match told {
+        Some(Stop::ServerGone) => !matches!(stop, Stop::ServerGone | Stop::Unreached),
+        Some(told) => told != stop,
+        None => true,
+    }
+}
+
+/// Reports why there is no session with the server, and explains it.
+fn tell_session<Y: System>(
+    system: &Y,
+    alloc: Global,
+    socket: &str,
+    stop: Stop,
+) -> Result<(), Stop> {
+    let line = format!(in alloc; "wmfeed: {socket}: {}", stop.text())?;
+    system.tell(line.as_str());
+    system.explain(alloc, socket, stop);
+    Ok(())
+}
+
 /// Feeds all roots of the server, which is waited for while it isn't there.
 fn feed_all<Y: System>(system: &Y, alloc: Global, order: &Order<'_>) -> Result<(), Stop> {
     let mut feeds = Feeds::new(system, alloc, order.socket, order.is_every_event)?;
@@ -117,11 +139,10 @@ fn feed_all<Y: System>(system: &Y, alloc: Global, order: &Order<'_>) -> Result<(
             if stop == Stop::Unwatched {
                 return Err(stop);
             }
-            if told != Some(stop) {
-                let line = format!(in alloc; "wmfeed: {}: {}", order.socket, stop.text())?;
-                system.tell(line.as_str());
+            if is_news(told, stop) {
+                tell_session(system, alloc, order.socket, stop)?;
+                told = Some(stop);
             }
-            told = Some(stop);
         }
         // What came while the server is away is kept by each root; the stream is read, so that no inotifywait waits.
         if let Err(Stop::Unwatched) = feeds.read_within(AWAY) {
@@ -139,8 +160,8 @@ fn feed_all<Y: System>(system: &Y, alloc: Global, order: &Order<'_>) -> Result<(
 /// `NoFolder` if no folder is at the root's path when it begins: the server isn't asked to watch it. One that goes later is waited for.
 /// `WatchGone` if the root isn't watched any longer; `Refused` by the refusal of a request that isn't one for now, of one that ended
 /// the last of ten watches, or of the crawl behind them; `Unwatched` if inotifywait can't be started, `Unwatchable` if ten watches in a
-/// row came to nothing, as inotifywait ended or a folder stayed without a watch; `ServerGone`, `Unreadable` and `NoMemory`. What was
-/// sent until then is with the server.
+/// row came to nothing, as inotifywait ended or a folder stayed without a watch; `Unreached`, `ServerGone`, `Unreadable` and
+/// `NoMemory`. What was sent until then is with the server.
 pub fn feed_by<Y: System>(system: &Y, alloc: Global, order: &Order<'_>) -> Stop {
     let ended = match order.root {
         None => feed_all(system, alloc, order),

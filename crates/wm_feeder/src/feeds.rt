@@ -97,7 +97,7 @@ impl<'a, Y: System> Feeds<'a, Y> {
             return Ok(());
         };
         if stop != Stop::WatchGone {
-            one.root.tell_cause(stop.text())?;
+            one.root.tell_cause(stop)?;
         }
         let millis = match stop {
             Stop::Refused(refusal) if is_for_now(refusal) => one.root.rest(),

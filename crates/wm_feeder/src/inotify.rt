@@ -4,7 +4,7 @@ ghost use Rattle.std.specs.Prelude.{⊤};
 use crate::feeding::{Order, feed_by};
 use crate::inotifywait::{Inotifywait, RecordSocket};
 use crate::line_sender::LineSender;
-use crate::system::System;
+use crate::system::{Explainer, System};
 use std::alloc::Global;
 use std::collections::BTreeSet;
 use std::fs::{DirBuilder, Files};
@@ -22,14 +22,17 @@ use wm_names::RootPath;
 
 /// A feeder to which inotifywait reports what changes.
 #[derive(Clone, Copy)]
-pub struct Inotify<'a, R> {
+pub struct Inotify<'a, R, X> {
     /// The system that it runs on.
     pub rt: &'a R,
     /// When it began.
     pub begun: Instant,
+    /// What explains to the user why it waits.
+    pub explainer: &'a X,
 }
 
-impl<R: Net + Processes + Files + Clock + Eprint + AllocGlobal> Feeder for Inotify<'_, R> {
+impl<R: Net + Processes + Files + Clock + Eprint + AllocGlobal, X: Explainer> Feeder
+    for Inotify<'_, R, X> {
     ghost may_stop = { λ _ _ _ _ _. ⊤ };
 
     fn feed(
@@ -87,7 +90,8 @@ fn is_missing(error: &Error) -> bool {
     )
 }
 
-impl<'a, R: Net + Processes + Files + Clock + Eprint + AllocGlobal> System for Inotify<'a, R> {
+impl<'a, R: Net + Processes + Files + Clock + Eprint + AllocGlobal, X: Explainer> System
+    for Inotify<'a, R, X> {
     type Records = RecordSocket;
 
     type Watcher = Inotifywait<R>;
@@ -104,10 +108,10 @@ impl<'a, R: Net + Processes + Files + Clock + Eprint + AllocGlobal> System for I
         socket: &str,
     ) -> Result<(LineSender, BufReader<UnixStream>), Stop> {
         let Ok(sender) = UnixStream::connect(self.rt, socket) else {
-            return Err(Stop::ServerGone);
+            return Err(Stop::Unreached);
         };
         let Ok(other) = sender.try_clone() else {
-            return Err(Stop::ServerGone);
+            return Err(Stop::Unreached);
         };
         match BufReader::new(alloc, other) {
             Ok(replies) => Ok((LineSender::new(alloc, sender), replies)),
@@ -180,6 +184,10 @@ impl<'a, R: Net + Processes + Files + Clock + Eprint + AllocGlobal> System for I
     fn tell(&self, line: &str) {
         // If even this can't be reported, the feed goes on.
         let _told = self.rt.eprintln(line);
+    }
+
+    fn explain(&self, alloc: Global, path: &str, stop: Stop) {
+        self.explainer.explain(alloc, path, stop);
     }
 
     fn now(&self) -> u64 {

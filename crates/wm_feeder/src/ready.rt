@@ -65,7 +65,7 @@ impl<Y: System> Root<'_, Y> {
             return self.list_around(server);
         }
         self.rest();
-        self.tell_cause(refusal.text())
+        self.tell_cause(Stop::Refused(refusal))
     }
 
     /// Whether the folder at the root's path can be read.

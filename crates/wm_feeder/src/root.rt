@@ -108,10 +108,14 @@ impl<'a, Y: System> Root<'a, Y> {
         Ok(format!(in self.alloc; "{root}/{path}")?)
     }
 
-    /// Names the root to the user, and why it isn't fed, once.
-    pub(crate) fn tell_cause(&mut self, cause: &str) -> Result<(), Stop> {
+    /// Names the root to the user, and why it isn't fed, and explains that, once.
+    pub(crate) fn tell_cause(&mut self, stop: Stop) -> Result<(), Stop> {
+        let cause = stop.text();
         let line = format!(in self.alloc; "wmfeed: {}: {cause}", self.path.as_str())?;
-        self.said.tell(self.system, line)
+        if self.said.tell(self.system, line)? {
+            self.system.explain(self.alloc, self.path.as_str(), stop);
+        }
+        Ok(())
     }
 
     /// How long the root rests now, in milliseconds, as its crawl was refused once more.

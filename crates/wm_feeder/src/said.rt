@@ -22,16 +22,16 @@ impl Said {
         }
     }
 
-    /// Reports a line, if it wasn't reported yet.
-    pub(crate) fn tell<Y: System>(&mut self, system: &Y, line: String) -> Result<(), Stop> {
+    /// Reports a line, if it wasn't reported yet, and returns whether it is reported now.
+    pub(crate) fn tell<Y: System>(&mut self, system: &Y, line: String) -> Result<bool, Stop> {
         if self.lines.contains(&line) {
-            return Ok(());
+            return Ok(false);
         }
         system.tell(line.as_str());
         if self.lines.len() >= MAX_LINES {
             self.lines.clear();
         }
         self.lines.insert(line)?;
-        Ok(())
+        Ok(true)
     }
 }

@@ -31,7 +31,7 @@ pub(crate) struct Server<Y: System> {
 impl<Y: System> Server<Y> {
     /// A session over the socket of a path.
     pub(crate) fn connect(alloc: Global, system: &Y, socket: &str) -> Result<Server<Y>, Stop>
-        ensures { IfErr result (λ stop. (stop ≡ Stop.ServerGone) ⊎ (stop ≡ Stop.NoMemory)) }
+        ensures { IfErr result (λ stop. (stop ≡ Stop.Unreached) ⊎ (stop ≡ Stop.NoMemory)) }
     {
         let (sender, replies) = system.connect(alloc, socket)?;
         Ok(Server {

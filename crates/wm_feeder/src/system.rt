@@ -28,6 +28,12 @@ pub trait Watcher {
     fn end(&mut self);
 }
 
+/// What explains to the user why a feed waits.
+pub trait Explainer {
+    /// Explains why a root, or the server at a socket, isn't fed now, by the path of the root or of the socket.
+    fn explain(&self, alloc: Global, path: &str, stop: Stop);
+}
+
 /// A system: its sockets, its programs, its files and its time.
 pub trait System {
     type Records: Records + Drop;
@@ -41,9 +47,9 @@ pub trait System {
 
     type Files: Tree + Drop;
 
-    /// A session with the server at the socket of a path. `ServerGone` if nobody serves it, and `NoMemory`.
+    /// A session with the server at the socket of a path. `Unreached` if none can be had, and `NoMemory`.
     fn connect(&self, alloc: Global, socket: &str) -> Result<(Self::Sender, Self::Replies), Stop>
-        ensures { IfErr result (λ stop. (stop ≡ Stop.ServerGone) ⊎ (stop ≡ Stop.NoMemory)) };
+        ensures { IfErr result (λ stop. (stop ≡ Stop.Unreached) ⊎ (stop ≡ Stop.NoMemory)) };
 
     /// A stream for records. `Unwatched` if inotifywait can't be started, and `NoMemory`.
     fn records(&self, alloc: Global) -> Result<Self::Records, Stop>;
@@ -81,6 +87,10 @@ pub trait System {
 
     /// Reports a line to the user.
     fn tell(&self, line: &str);
+
+    /// Explains to the user why a root, or the server at a socket, isn't fed now, behind the line that reports it. The path is that of the
+    /// root or of the socket.
+    fn explain(&self, alloc: Global, path: &str, stop: Stop);
 
     /// The time since some moment, in milliseconds.
     fn now(&self) -> u64;
