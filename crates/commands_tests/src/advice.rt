@@ -1,6 +1,6 @@
 //! What a refusal tells of a root.
 use crate::checks::check;
-use wm_commands::root_status;
+use wm_commands::{advice_of, is_advised, root_status};
 use wm_disk::Refusal;
 
 /// A refusal, whether the root is stuck, and how its status begins. Nothing, if the refusal is named by itself.
@@ -25,4 +25,21 @@ fn statuses_of_the_table(rt: HostRuntime) {
         };
         check!(rt; is_right, (is_stuck, wanted));
     }
+}
+
+/// A refusal, whether a line behind it says which part is the cause, and whether what to do is said.
+const ADVISED: &[(Refusal, bool, bool)] = &[
+    (Refusal::BadExpression, false, true),
+    (Refusal::BadExpression, true, false),
+    (Refusal::BadClock, false, true),
+    (Refusal::BadClock, true, true),
+    (Refusal::NotWatched, true, true),
+];
+
+#[test]
+fn advised_of_the_table(rt: HostRuntime) {
+    for (refusal, is_explained, wanted) in ADVISED {
+        check!(rt; is_advised(*refusal, *is_explained) == *wanted, (is_explained, wanted));
+    }
+    check!(rt; advice_of(Refusal::BadExpression).contains("allof anyof not"));
 }

@@ -1,6 +1,6 @@
 //! Which root holds a folder, and the names of its files from there.
 use crate::checks::check;
-use wm_commands::{holder_of, name_in, named_root, reported_name};
+use wm_commands::{HomeWord, holder_of, name_in, named_root, reported_name};
 use wm_names::RootPath;
 
 /// A folder, and which of `/a`, `/a/b`, `/a/b/c` and `/ab` holds it.
@@ -96,5 +96,27 @@ fn below_of_the_table(rt: HostRuntime) {
     for (root, dir, wanted) in BELOW {
         let found = name_in(rt.alloc(), root, dir).expect(&rt, "memory");
         check!(rt; found == *wanted, (root, dir));
+    }
+}
+
+/// A word, and what a shell would have replaced at its start.
+const HOME: &[(&str, Option<HomeWord>)] = &[
+    ("~", Some(HomeWord::Tilde)),
+    ("~/a", Some(HomeWord::Tilde)),
+    ("~a", None),
+    ("a/~", None),
+    ("/~", None),
+    ("", None),
+    ("$HOME", Some(HomeWord::Variable)),
+    ("$HOME/a/b", Some(HomeWord::Variable)),
+    ("$HOMER", None),
+    ("$HOM", None),
+    ("/$HOME", None),
+];
+
+#[test]
+fn home_words_of_the_table(rt: HostRuntime) {
+    for (word, wanted) in HOME {
+        check!(rt; HomeWord::of(word) == *wanted, word);
     }
 }

@@ -22,4 +22,6 @@ mod root_looks;
 #[cfg(test)]
 mod runs;
 #[cfg(test)]
+mod starts;
+#[cfg(test)]
 mod words;

@@ -1,7 +1,8 @@
-//! What `wm up` does by what it found at the socket, and when a person is told that a wait goes on.
+//! What `wm up` does by what it found at the socket and in the state folder, and when it is said that a wait goes on.
 use crate::checks::check;
 use wm_commands::{
-    Presence, ServerProcess, StartStep, UpStep, is_progress_due, start_step, up_step,
+    Claim, Presence, ServerProcess, StartStep, UpStep, is_crawl_due, is_reply_due, start_step,
+    up_step,
 };
 
 /// What a look found, which process serves the socket, whether it is late, and what is done.
@@ -88,19 +89,58 @@ fn starts_of_the_table(rt: HostRuntime) {
     }
 }
 
-/// When it was told last, what time it is, and whether it is told now.
-const TOLD: &[(Option<u64>, u64, bool)] = &[
-    (None, 0, false),
-    (None, 1, true),
-    (Some(1), 1, false),
-    (Some(1), 3, false),
-    (Some(1), 4, true),
-    (Some(4), 2, false),
+/// Whether that is on a terminal, when it was said last, what time it is, and whether it is said now.
+const TOLD: &[(bool, Option<u64>, u64, bool)] = &[
+    (true, None, 0, false),
+    (true, None, 1, true),
+    (true, Some(1), 1, false),
+    (true, Some(1), 3, false),
+    (true, Some(1), 4, true),
+    (true, Some(4), 2, false),
+    (false, None, 1, false),
+    (false, None, 2, false),
+    (false, None, 3, true),
+    (false, None, 100, true),
+    (false, Some(3), 3, false),
+    (false, Some(3), 100, false),
 ];
 
 #[test]
-fn progress_of_the_table(rt: HostRuntime) {
-    for (told, seconds, wanted) in TOLD {
-        check!(rt; is_progress_due(*told, *seconds) == *wanted, (told, seconds));
+fn crawls_that_go_on_of_the_table(rt: HostRuntime) {
+    for (is_terminal, told, seconds, wanted) in TOLD {
+        let is_due = is_crawl_due(*is_terminal, *told, *seconds);
+        check!(rt; is_due == *wanted, (is_terminal, told, seconds));
+    }
+}
+
+/// Whether it was said, how many milliseconds have passed, and whether it is said now that a reply is awaited.
+const AWAITED: &[(bool, u64, bool)] = &[
+    (false, 0, false),
+    (false, 499, false),
+    (false, 500, true),
+    (false, 90_000, true),
+    (true, 500, false),
+    (true, 90_000, false),
+];
+
+#[test]
+fn replies_that_are_awaited_of_the_table(rt: HostRuntime) {
+    for (is_told, millis, wanted) in AWAITED {
+        check!(rt; is_reply_due(*is_told, *millis) == *wanted, (is_told, millis));
+    }
+}
+
+/// Whether a process of a state folder runs, whether it is for the socket that is asked for, and whose the folder is.
+const CLAIMS: &[(bool, bool, Claim)] = &[
+    (false, false, Claim::Free),
+    (false, true, Claim::Free),
+    (true, true, Claim::Ours),
+    (true, false, Claim::Theirs),
+];
+
+#[test]
+fn claims_of_the_table(rt: HostRuntime) {
+    for (is_running, is_same, wanted) in CLAIMS {
+        check!(rt; Claim::of(*is_running, *is_same) == *wanted, (is_running, is_same));
     }
 }

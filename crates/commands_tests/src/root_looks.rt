@@ -1,6 +1,6 @@
 //! What is at the path of a watched root, and what is done then.
 use crate::checks::check;
-use wm_commands::{CrawlStep, RootSeen, crawl_step, more_unnamed};
+use wm_commands::{CrawlStep, FolderNote, RootSeen, crawl_step, folder_note, more_unnamed};
 
 /// Whether something is there, is a folder and can be read, and what that is.
 const SEEN: &[(bool, bool, bool, RootSeen)] = &[
@@ -55,5 +55,22 @@ const UNNAMED: &[(usize, Option<usize>)] = &[
 fn unnamed_of_the_table(rt: HostRuntime) {
     for (count, wanted) in UNNAMED {
         check!(rt; more_unnamed(*count) == *wanted, count);
+    }
+}
+
+/// What is at the path of a folder, whether the server knows a file in it, and what is said.
+const NOTES: &[(RootSeen, bool, FolderNote)] = &[
+    (RootSeen::Folder, true, FolderNote::Silent),
+    (RootSeen::Folder, false, FolderNote::Silent),
+    (RootSeen::NoFolder, false, FolderNote::Silent),
+    (RootSeen::Nothing, false, FolderNote::Silent),
+    (RootSeen::Unreadable, true, FolderNote::Stale),
+    (RootSeen::Unreadable, false, FolderNote::Unknown),
+];
+
+#[test]
+fn notes_of_the_table(rt: HostRuntime) {
+    for (seen, is_known, wanted) in NOTES {
+        check!(rt; folder_note(*seen, *is_known) == *wanted, (seen, is_known));
     }
 }

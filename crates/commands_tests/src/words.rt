@@ -39,6 +39,8 @@ const ASKED: &[(&[&str], &str)] = &[
     (&["run", "d"], "shown 2"),
     (&["run", "d", "--json", "--", "make"], "shown 2"),
     (&["run", "d", "--settle", "x", "--", "make"], "shown 2"),
+    (&["run", "d", "--settle", "-1", "--", "make"], "shown 2"),
+    (&["changes", "--since", "-1"], "Changes since=-1"),
     (&["files", "--expr", "[x"], "shown 2"),
     (&["files", "d", "[a]"], "shown 2"),
     (&["files", "d", "a\\b"], "shown 2"),
@@ -106,6 +108,30 @@ fn refused_patterns_are_named(rt: HostRuntime) {
             Words::Ordered(_) => false,
         };
         check!(rt; is_named, pattern);
+    }
+}
+
+/// Words with a negative number, and how the fault that is shown begins.
+const NEGATIVE: &[(&[&str], &str)] = &[
+    (
+        &["run", "--settle", "-1", "--", "make"],
+        "error: MS isn't a whole number from 0",
+    ),
+    (
+        &["run", "--settle=-1", "--", "make"],
+        "error: MS isn't a whole number from 0",
+    ),
+];
+
+#[test]
+fn negative_numbers_are_told(rt: HostRuntime) {
+    let alloc = rt.alloc();
+    for (words, wanted) in NEGATIVE {
+        let is_told = match &Words::read(alloc, words).expect(&rt, "words") {
+            Words::Shown { text, status } => *status == 2 && text.as_str().starts_with(*wanted),
+            Words::Ordered(_) => false,
+        };
+        check!(rt; is_told, words);
     }
 }
 

@@ -4,6 +4,8 @@ use Rattle.wm_commands.specs.declared.feeding.Feeding.{Feeding}
 use Rattle.wm_commands.specs.declared.feeding.Feeding.TheVariants.{Fed, Unready, Unfed}
 use Rattle.wm_commands.specs.declared.feeding.FeedSeen.{FeedSeen}
 use Rattle.wm_commands.specs.declared.feeding.FeedSeen.TheVariants.{Present, Doubtful, Missing}
+use Rattle.wm_commands.specs.declared.feeding.FeedNews.{FeedNews}
+use Rattle.wm_commands.specs.declared.feeding.FeedNews.TheVariants.{Back, NotReady, Ended, NoFeed}
 
 -- a root is fed if a feed runs that is ready for it
 abbrev pub feeding_by : (is_running is_ready : Bool) → Feeding
@@ -21,3 +23,9 @@ abbrev pub feed_note : FeedSeen → (is_fed : Bool) → Bool
 feed_note Present is_fed = false
 feed_note Doubtful is_fed = not is_fed
 feed_note Missing is_fed = is_fed
+
+-- a feed has ended only if one was seen that ran
+abbrev pub feed_news : Feeding → (has_run : Bool) → FeedNews
+feed_news Fed has_run = Back
+feed_news Unready has_run = NotReady
+feed_news Unfed has_run = if has_run then Ended else NoFeed

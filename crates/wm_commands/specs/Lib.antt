@@ -1,9 +1,12 @@
+pub mod Claims
 pub mod CommandAnswers
 pub mod CommandRuns
 pub mod Feedings
 pub mod Folders
+pub mod HomeWords
 pub mod Patterns
 pub mod Presences
 pub mod Progresses
 pub mod Questions
 pub mod RootLooks
+pub mod Starts

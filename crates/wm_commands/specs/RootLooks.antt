@@ -4,6 +4,8 @@ use Rattle.wm_commands.specs.declared.root_looks.RootSeen.{RootSeen}
 use Rattle.wm_commands.specs.declared.root_looks.RootSeen.TheVariants.{Folder, Unreadable, NoFolder, Nothing}
 use Rattle.wm_commands.specs.declared.root_looks.CrawlStep.{CrawlStep}
 use Rattle.wm_commands.specs.declared.root_looks.CrawlStep.TheVariants.{Done, GiveUp, AskForCrawl, LookAgain}
+use Rattle.wm_commands.specs.declared.root_looks.FolderNote.{FolderNote}
+use Rattle.wm_commands.specs.declared.root_looks.FolderNote.TheVariants.{Silent, Stale, Unknown}
 
 abbrev pub root_seen : (is_there is_folder is_readable : Bool) → RootSeen
 root_seen is_there is_folder is_readable = if is_there then (if is_folder then (if is_readable then Folder else Unreadable) else NoFolder) else Nothing
@@ -22,3 +24,10 @@ crawl_step is_crawled seen is_late = if is_crawled then Done else uncrawled_step
 -- three of the folders that can't be read are named; how many more there are, if there are more
 abbrev pub more_unnamed : ℕ → Option ℕ
 more_unnamed count = if nat_le count 3 then None else Some (count - 3)
+
+-- A folder that can't be read is named. The command goes on only if a file in it is known, from before.
+abbrev pub folder_note : RootSeen → (is_known : Bool) → FolderNote
+folder_note Unreadable is_known = if is_known then Stale else Unknown
+folder_note Folder is_known = Silent
+folder_note NoFolder is_known = Silent
+folder_note Nothing is_known = Silent

@@ -1,4 +1,6 @@
 //! What to do at a refusal. Tests: commands_tests/src/advice.rt.
+ghost use Rattle.std.specs.Prelude.{◌≡◌, ◌≢◌, not, true};
+ghost use Rattle.wm_disk.specs.declared.refusal.Refusal.TheVariants.{BadExpression as bad_expression};
 
 use wm_disk::Refusal;
 
@@ -23,6 +25,14 @@ pub fn advice_of(refusal: Refusal) -> &'static str {
         _ =>
             "this wm and the server may be of two versions: 'wm down' and 'wm up' start the new one",
     }
+}
+
+/// Whether what to do stands behind a refusal. The terms of an expression don't if a line behind it says which part is the cause.
+pub fn is_advised(refusal: Refusal, is_explained: bool) -> bool
+    ensures expression { refusal ≡ bad_expression → result ≡ not is_explained }
+    ensures other { refusal ≢ bad_expression → result ≡ true }
+{
+    refusal != Refusal::BadExpression || !is_explained
 }
 
 /// What is said if the server refuses a session, before any request.
@@ -51,6 +61,10 @@ pub fn unreadable_advice(is_running: bool) -> &'static str {
         "a feed passes it over: 'wm up' starts one"
     }
 }
+
+/// What is said of a path that no watched folder has, and that can't be watched either.
+pub const NO_ROOT_ADVICE: &str =
+    "it can't be watched either: a watched folder needs a path of at most 1,024 bytes, and can't be /";
 
 /// What to do if a folder can't be read.
 pub const READ_ADVICE: &str = "give the server's user the right to read it ('chmod u+rx')";

@@ -1,7 +1,7 @@
 //! How a root is fed, and what is said of it while a change is waited for. Definitions: specs/Feedings.
 //! Tests: commands_tests/src/feedings.rt.
 ghost use Rattle.std.specs.Prelude.{◌≡◌};
-ghost use Rattle.wm_commands.specs.Feedings.{feed_note, feed_seen, feeding_by};
+ghost use Rattle.wm_commands.specs.Feedings.{feed_news, feed_note, feed_seen, feeding_by};
 
 /// How a root is fed.
 #[derive(Clone, Copy, Debug, PartialEq, Eq)]
@@ -26,23 +26,71 @@ impl Feeding {
         }
     }
 
-    /// Why a root is crawled for a question.
-    pub fn crawl_reason(self) -> &'static str {
-        match self {
-            Feeding::Fed => "the feed doesn't answer in time, so it is crawled for this question",
-            Feeding::Unready =>
+    /// Why a root is crawled for a question, and what to do then.
+    pub fn crawl_reason(self, has_inotifywait: bool) -> &'static str {
+        match (self, has_inotifywait) {
+            (Feeding::Fed, _) =>
+                "the feed doesn't answer in time, so it is crawled for this question",
+            (Feeding::Unready, _) =>
                 "the feed isn't ready for it yet, so it is crawled for this question",
-            Feeding::Unfed =>
+            (Feeding::Unfed, true) =>
                 "no feed runs, so it is crawled for this question; 'wm up' starts a feed",
+            (Feeding::Unfed, false) =>
+                "no feed runs, so it is crawled for this question; install inotify-tools, and 'wm up' starts a feed",
+        }
+    }
+}
+
+/// How a feed is started.
+pub fn feed_advice(has_inotifywait: bool) -> &'static str {
+    if has_inotifywait {
+        "'wm up' starts one"
+    } else {
+        "install inotify-tools, and 'wm up' starts one"
+    }
+}
+
+/// What is said of a root whose changes aren't seen, or are seen again.
+#[derive(Clone, Copy, Debug, PartialEq, Eq)]
+pub enum FeedNews {
+    /// It is fed again.
+    Back,
+    /// The feed isn't ready for it.
+    NotReady,
+    /// The feed has ended.
+    Ended,
+    /// No feed runs, and none was seen.
+    NoFeed,
+}
+
+impl FeedNews {
+    /// What is said of a root, by how it is fed, and whether a feed was seen that ran.
+    pub fn of(feeding: Feeding, has_run: bool) -> FeedNews
+        ensures { result ≡ feed_news feeding has_run }
+    {
+        match (feeding, has_run) {
+            (Feeding::Fed, _) => FeedNews::Back,
+            (Feeding::Unready, _) => FeedNews::NotReady,
+            (Feeding::Unfed, true) => FeedNews::Ended,
+            (Feeding::Unfed, false) => FeedNews::NoFeed,
         }
     }
 
-    /// What is said of a root whose changes aren't seen, or are seen again.
-    pub fn news(self) -> &'static str {
+    /// What is said, in a sentence without its end.
+    pub fn text(self) -> &'static str {
         match self {
-            Feeding::Fed => "it is fed again, so changes are seen",
-            Feeding::Unready => "the feed isn't ready for it, so changes aren't seen yet",
-            Feeding::Unfed => "no feed runs any longer, so changes aren't seen; 'wm up' starts one",
+            FeedNews::Back => "it is fed again, so changes are seen",
+            FeedNews::NotReady => "the feed isn't ready for it, so changes aren't seen yet",
+            FeedNews::Ended => "no feed runs any longer, so changes aren't seen",
+            FeedNews::NoFeed => "no feed runs, so changes aren't seen",
+        }
+    }
+
+    /// What to do. `None` if nothing is to be done.
+    pub fn advice(self, has_inotifywait: bool) -> Option<&'static str> {
+        match self {
+            FeedNews::Back | FeedNews::NotReady => None,
+            FeedNews::Ended | FeedNews::NoFeed => Some(feed_advice(has_inotifywait)),
         }
     }
 }

@@ -18,14 +18,21 @@ fn ends_component(rest: &[u8]) -> bool
     }
 }
 
+/// Whether a folder is what a path names, or stands above it.
+pub(crate) fn stands_above(folder: &str, path: &str) -> bool
+    ensures { result ≡ holds_folder folder.now path.now }
+{
+    match path.as_bytes().strip_prefix(folder.as_bytes()) {
+        Some(rest) => ends_component(rest),
+        None => false,
+    }
+}
+
 /// Whether a root is a folder, or stands above it.
 fn holds(root: &RootPath, dir: &str) -> bool
     ensures { result ≡ holds_folder root.now dir.now }
 {
-    match dir.as_bytes().strip_prefix(root.as_str().as_bytes()) {
-        Some(rest) => ends_component(rest),
-        None => false,
-    }
+    stands_above(root.as_str(), dir)
 }
 
 /// The longer of two roots, the first if they are alike.

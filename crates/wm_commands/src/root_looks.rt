@@ -1,7 +1,7 @@
 //! What is at the path of a watched root, and what a wait for its first crawl does then. Definitions: specs/RootLooks.
 //! Tests: commands_tests/src/root_looks.rt.
 ghost use Rattle.std.specs.Prelude.{◌≡◌};
-ghost use Rattle.wm_commands.specs.RootLooks.{crawl_step, more_unnamed, root_seen};
+ghost use Rattle.wm_commands.specs.RootLooks.{crawl_step, folder_note, more_unnamed, root_seen};
 
 /// What is at the path of a watched root.
 #[derive(Clone, Copy, Debug, PartialEq, Eq)]
@@ -70,5 +70,27 @@ pub fn more_unnamed(count: usize) -> Option<usize>
         None
     } else {
         Some(count - MOST_NAMED)
+    }
+}
+
+/// What a command that asks for files says of the folder that it is about.
+#[derive(Clone, Copy, Debug, PartialEq, Eq)]
+pub enum FolderNote {
+    /// Nothing.
+    Silent,
+    /// It can't be read, and what is known of it is from before.
+    Stale,
+    /// It can't be read, and nothing of it is known: the command fails.
+    Unknown,
+}
+
+/// What a command that asks for files says of a folder, by what is at its path, and whether the server knows a file in it.
+pub fn folder_note(seen: RootSeen, is_known: bool) -> FolderNote
+    ensures { result ≡ folder_note seen is_known }
+{
+    match (seen, is_known) {
+        (RootSeen::Unreadable, true) => FolderNote::Stale,
+        (RootSeen::Unreadable, false) => FolderNote::Unknown,
+        (RootSeen::Folder | RootSeen::NoFolder | RootSeen::Nothing, _) => FolderNote::Silent,
     }
 }

@@ -4,13 +4,14 @@ use clap::{Arg, ArgAction, Command};
 use std::alloc::Global;
 use wm_disk::NoMemory;
 
-/// `--NAME VALUE`.
+/// `--NAME VALUE`. A negative number is taken as a value, so that what is said of it is what the value has to be.
 fn value<'a>(alloc: Global, name: &'a str, value: &'a str, help: &'a str) -> Arg<'a> {
     Arg::new(alloc, name)
         .long(name)
         .value_name(value)
         .help(help)
         .action(ArgAction::Set)
+        .allow_negative_numbers(true)
 }
 
 /// `--NAME`.
