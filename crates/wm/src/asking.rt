@@ -5,15 +5,18 @@ use crate::failure::Failure;
 use crate::feeds::is_fed;
 use crate::listening::read_answer;
 use crate::place::{Place, expression_of, place_of};
+use crate::programs::has_inotifywait;
 use crate::server::{Reply, Server};
-use crate::unreadable::note_stale;
+use crate::unreadable::{Looks, name_unreadable, note_folder, unreadable_below, unreadable_found};
+use crate::waiting::Waiting;
 use serde_json::Value;
 use wm_commands::{Feeding, query_line, root_line, shown_of};
 use wm_orders::Order;
 
 /// Says on standard error why a root is crawled, and has it crawled.
 fn crawl_instead(server: &Server<'_>, root: &str, is_running: bool) -> Result<(), Failure> {
-    let reason = Feeding::of(is_running, false).crawl_reason();
+    let has_inotifywait = has_inotifywait(server.rt)?;
+    let reason = Feeding::of(is_running, false).crawl_reason(has_inotifywait);
     eprintln!(server.rt; "wm: {root}: {reason}")?;
     crawl(server, root)
 }
@@ -62,11 +65,28 @@ pub fn list(server: &Server<'_>, dir: String, order: &Order) -> Result<u8, Failu
         None => None,
     };
     let line = answer_line(server, &place, order, since, order.style.is_json)?;
-    note_stale(server, &place.root)?;
+    if note_folder(server, &place)? {
+        note_unread(server, &place, order)?;
+    }
     if since.is_some() && !order.style.is_json {
         note_fresh(server, &place, &line)?;
     }
     show(server, &place, order, &line)
+}
+
+/// Names on standard error the folders below the place's folder that can't be read: those that the server knows if all files are asked
+/// for, and else those that a short walk finds.
+fn note_unread(server: &Server<'_>, place: &Place, order: &Order) -> Result<(), Failure> {
+    let mut looks = Looks::short(server)?;
+    let question = &order.question;
+    let is_whole = question.since.is_none() && question.patterns.is_empty();
+    let unread = if is_whole && question.own.is_none() {
+        let mut waiting = Waiting::for_answer(server)?;
+        unreadable_below(server, &place.root, &place.dir, &mut looks, &mut waiting)?
+    } else {
+        unreadable_found(server, &place.dir, &mut looks)?
+    };
+    name_unreadable(server, &place.dir, &unread)
 }
 
 /// Says on standard error that an answer is fresh.

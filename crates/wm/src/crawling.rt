@@ -3,12 +3,11 @@
 use crate::failure::{Failure, failed};
 use crate::feeds::is_fed;
 use crate::server::{Reply, Server};
-use crate::unreadable::{root_seen, unreadable_below, unreadable_root};
-use std::io::{BufRead, BufReader, IsTerminal, Write};
+use crate::unreadable::{Looks, root_seen, unreadable_below, unreadable_root};
+use crate::waiting::Waiting;
 use std::thread;
-use std::time::{Duration, Instant};
-use wm_client::refusal_of;
-use wm_commands::{CrawlStep, RootSeen, crawl_step, is_progress_due, root_line, unreadable_advice};
+use std::time::Duration;
+use wm_commands::{CrawlStep, RootSeen, crawl_step, root_line, unreadable_advice};
 use wm_disk::Refusal;
 
 /// How long a root that isn't ready is left alone, in milliseconds.
@@ -17,48 +16,10 @@ const PAUSE: u64 = 50;
 /// After how many looks at a root that isn't ready it is asked for a crawl.
 const LOOKS_BEFORE_CRAWL: u64 = 200;
 
-/// How often it is looked whether a person is told that a crawl goes on, in milliseconds.
-const TICK: u64 = 500;
-
-/// What a person was told of a crawl.
-#[derive(Drop)]
-struct Progress {
-    begun: Instant,
-    /// At which second the person was told last that it goes on.
-    told: Option<u64>,
-    /// What the crawl is called.
-    name: &'static str,
-}
-
-impl Progress {
-    /// A crawl that begins now.
-    fn begin(server: &Server<'_>, name: &'static str) -> Result<Progress, Failure> {
-        Ok(Progress {
-            begun: Instant::now(server.rt)?,
-            told: None,
-            name,
-        })
-    }
-
-    /// Says on standard error that the crawl goes on, if that is a terminal and it is time.
-    fn tell(&mut self, server: &Server<'_>, root: &str) -> Result<(), Failure> {
-        if !server.rt.stderr().is_terminal() {
-            return Ok(());
-        }
-        let seconds = self.begun.elapsed(server.rt)?.as_secs();
-        if is_progress_due(self.told, seconds) {
-            let name = self.name;
-            eprintln!(server.rt; "wm: {root}: the {name} goes on, {seconds} s so far")?;
-            self.told = Some(seconds);
-        }
-        Ok(())
-    }
-}
-
 /// Whether a root was crawled.
-fn is_crawled(server: &Server<'_>, root: &str) -> Result<bool, Failure> {
+fn is_crawled(server: &Server<'_>, root: &str, waiting: &mut Waiting) -> Result<bool, Failure> {
     let json = root_line(server.rt.alloc(), "clock", root)?;
-    match server.ask(json, None)? {
+    match waiting.ask(server, root, &json)? {
         Reply::Line(_) => Ok(true),
         Reply::Refused(Some(Refusal::NotReady), _) | Reply::NoFeed => Ok(false),
         Reply::Refused(refusal, line) => Err(server.refused(root, refusal, &line)),
@@ -66,20 +27,20 @@ fn is_crawled(server: &Server<'_>, root: &str) -> Result<bool, Failure> {
     }
 }
 
-/// Waits until a root was crawled, and tells a person so. A root that can't be read is a failure at once. A crawl that isn't done after
+/// Waits until a root was crawled, and says so. A root that can't be read is a failure at once. A crawl that isn't done after
 /// ten seconds may have been refused, so another one is asked for, which says why.
 pub fn await_crawl(server: &Server<'_>, root: &str) -> Result<(), Failure> {
-    let mut progress = Progress::begin(server, "first crawl")?;
+    let mut waiting = Waiting::for_crawl(server, "first crawl")?;
     for looks in 0..u64::MAX {
-        let is_crawled = is_crawled(server, root)?;
+        let is_crawled = is_crawled(server, root, &mut waiting)?;
         let seen = root_seen(server.rt, root);
         match crawl_step(is_crawled, seen, looks == LOOKS_BEFORE_CRAWL) {
             CrawlStep::Done => break,
             CrawlStep::GiveUp => return Err(unreadable_root(server, root)?),
-            CrawlStep::AskForCrawl => crawl_told(server, root, &mut progress)?,
+            CrawlStep::AskForCrawl => crawl_telling(server, root, &mut waiting)?,
             CrawlStep::LookAgain => {}
         }
-        progress.tell(server, root)?;
+        waiting.tell(server, root)?;
         thread::sleep(server.rt, Duration::from_millis(PAUSE));
     }
     Ok(())
@@ -87,51 +48,19 @@ pub fn await_crawl(server: &Server<'_>, root: &str) -> Result<(), Failure> {
 
 /// Has a root crawled, and waits until that is done.
 pub fn crawl(server: &Server<'_>, root: &str) -> Result<(), Failure> {
-    let mut progress = Progress::begin(server, "crawl")?;
-    crawl_told(server, root, &mut progress)
+    let mut waiting = Waiting::for_crawl(server, "crawl")?;
+    crawl_telling(server, root, &mut waiting)
 }
 
-/// Has a root crawled, and tells a person while that goes on.
-fn crawl_told(server: &Server<'_>, root: &str, progress: &mut Progress) -> Result<(), Failure> {
-    let alloc = server.rt.alloc();
-    let json = root_line(alloc, "recrawl", root)?;
-    let request = format!(in alloc; "{json}\n")?;
-    let stream = server.connected()?;
-    stream.set_read_timeout(Some(Duration::from_millis(TICK)))?;
-    let mut sender = &stream;
-    // A server that refuses the session says so.
-    let _written = sender.write_all(request.as_bytes());
-    let mut replies = BufReader::new(alloc, &stream)?;
-    let line = told_line(server, root, &mut replies, progress)?;
-    crawled(server, root, &line)
-}
-
-/// The next line that comes, with what a person is told meanwhile.
-fn told_line<R: BufRead>(
-    server: &Server<'_>,
-    root: &str,
-    replies: &mut R,
-    progress: &mut Progress,
-) -> Result<Vec<u8>, Failure> {
-    let mut line = Vec::new(server.rt.alloc());
-    for _ in 0..u64::MAX {
-        if server.is_read(replies, &mut line)? {
-            break;
-        }
-        progress.tell(server, root)?;
-    }
-    Ok(line)
-}
-
-/// How a crawl of a root ended, by the server's line.
-fn crawled(server: &Server<'_>, root: &str, line: &[u8]) -> Result<(), Failure> {
-    if !line.starts_with(b"{\"error\":") {
-        return Ok(());
-    }
-    match refusal_of(line) {
-        Some(Refusal::DeviceFailed) => Err(uncrawled(server, root)?),
-        Some(Refusal::TooMany) => Err(server.no_session()),
-        refusal => Err(server.refused(root, refusal, str::from_utf8(line).unwrap_or(""))),
+/// Has a root crawled, and says meanwhile that this goes on.
+fn crawl_telling(server: &Server<'_>, root: &str, waiting: &mut Waiting) -> Result<(), Failure> {
+    let json = root_line(server.rt.alloc(), "recrawl", root)?;
+    match waiting.ask(server, root, &json)? {
+        Reply::Line(_) => Ok(()),
+        Reply::Refused(Some(Refusal::DeviceFailed), _) => Err(uncrawled(server, root)?),
+        Reply::Refused(refusal, line) => Err(server.refused(root, refusal, &line)),
+        Reply::NoSession => Err(server.no_session()),
+        Reply::NoFeed => Err(server.lost("no feed")),
     }
 }
 
@@ -142,7 +71,9 @@ fn uncrawled(server: &Server<'_>, root: &str) -> Result<Failure, Failure> {
         return unreadable_root(server, root);
     }
     let advice = unreadable_advice(is_fed(server.rt, server.socket, false)?);
-    let unread = unreadable_below(server, root, Instant::now(server.rt)?)?;
+    let mut looks = Looks::long(server)?;
+    let mut waiting = Waiting::for_answer(server)?;
+    let unread = unreadable_below(server, root, root, &mut looks, &mut waiting)?;
     let text = match unread.first() {
         Some(first) => {
             let (path, cause) = (first.path.as_str(), first.cause);

@@ -3,7 +3,7 @@
 use std::alloc::{AllocError, AllocFailed, Global};
 use std::io;
 use std::io::ErrorKind;
-use wm_disk::NoMemory;
+use wm_disk::{NoMemory, Refusal};
 
 /// Why a command ends early.
 #[derive(Drop)]
@@ -16,6 +16,8 @@ pub enum Failure {
     Told { status: u8, text: String },
     /// The same with 1; it may go well a moment later.
     Later { text: String },
+    /// The server refused, and it won't go well later: with 1, this text, and what to do.
+    Refused { text: String, refusal: Refusal },
 }
 
 impl From<NoMemory> for Failure {

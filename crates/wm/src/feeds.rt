@@ -1,11 +1,18 @@
 //! Which feeds run, by what the system says of its processes.
 
 use crate::failure::Failure;
-use crate::processes::is_program;
+use crate::processes::{Role, is_program, process_that};
+use crate::programs::has_inotifywait;
 use std::fs;
+use wm_commands::feed_advice;
 
 /// Whether a word of a process, whose folder in /proc is named, says the path of a socket.
-fn is_socket(rt: &HostRuntime, process: &str, word: &str, socket: &str) -> Result<bool, Failure> {
+pub fn is_socket(
+    rt: &HostRuntime,
+    process: &str,
+    word: &str,
+    socket: &str,
+) -> Result<bool, Failure> {
     if word == socket {
         return Ok(true);
     }
@@ -61,30 +68,17 @@ pub fn is_feed_in(
     }
 }
 
-/// The folder in /proc of a feed for the server at a socket, whoever started it: one for all roots, if that is wanted. `None` if none
-/// runs.
-pub fn feed_of(
-    rt: &HostRuntime,
-    socket: &str,
-    is_for_all: bool,
-) -> Result<Option<String>, Failure> {
-    let Ok(processes) = fs::read_dir(rt, "/proc") else {
-        return Ok(None);
-    };
-    for process in processes {
-        let Ok(process) = process else {
-            continue;
-        };
-        let number = process.file_name();
-        let folder = format!(in rt.alloc(); "/proc/{number}")?;
-        if is_feed_in(rt, &folder, socket, is_for_all)? {
-            return Ok(Some(folder));
-        }
-    }
-    Ok(None)
-}
-
 /// Whether a feed runs for the server at a socket: one for all roots, if that is wanted.
 pub fn is_fed(rt: &HostRuntime, socket: &str, is_for_all: bool) -> Result<bool, Failure> {
-    Ok(feed_of(rt, socket, is_for_all)?.is_some())
+    let role = if is_for_all {
+        Role::FeedOfAll
+    } else {
+        Role::Feed
+    };
+    Ok(process_that(rt, role, socket)?.is_some())
+}
+
+/// How a feed is started: what has to be installed for it is named if it isn't there.
+pub fn start_advice(rt: &HostRuntime) -> Result<&'static str, Failure> {
+    Ok(feed_advice(has_inotifywait(rt)?))
 }

@@ -2,7 +2,7 @@
 
 use crate::failure::{Failure, failed};
 use crate::places::Places;
-use crate::processes::is_program;
+use crate::processes::{Role, is_program, process_that};
 use crate::server::Server;
 use crate::started::{end_process, running};
 use std::fs;
@@ -23,7 +23,7 @@ fn is_path(rt: &HostRuntime, process: &str, word: &str, socket: &str) -> Result<
 }
 
 /// Whether a process, whose folder in /proc is named, is a server at a socket.
-fn is_server_in(rt: &HostRuntime, process: &str, socket: &str) -> Result<bool, Failure> {
+pub fn is_server_in(rt: &HostRuntime, process: &str, socket: &str) -> Result<bool, Failure> {
     let file = format!(in rt.alloc(); "{process}/cmdline")?;
     let Ok(words) = fs::read_to_string(rt, file.as_str()) else {
         return Ok(false);
@@ -38,24 +38,6 @@ fn is_server_in(rt: &HostRuntime, process: &str, socket: &str) -> Result<bool, F
         }
     }
     Ok(false)
-}
-
-/// The number of the process that serves a socket. `None` if none does.
-fn server_of(rt: &HostRuntime, socket: &str) -> Result<Option<String>, Failure> {
-    let Ok(processes) = fs::read_dir(rt, "/proc") else {
-        return Ok(None);
-    };
-    for process in processes {
-        let Ok(process) = process else {
-            continue;
-        };
-        let number = process.file_name();
-        let folder = format!(in rt.alloc(); "/proc/{number}")?;
-        if is_server_in(rt, &folder, socket)? {
-            return Ok(Some(String::from_str(rt.alloc(), number)?));
-        }
-    }
-    Ok(None)
 }
 
 /// Whether a process has a socket that was made at this path, also if the path is gone.
@@ -80,7 +62,7 @@ pub fn server_process(
 ) -> Result<(ServerProcess, String), Failure> {
     let rt = server.rt;
     let found = match presence {
-        Presence::Absent => server_of(rt, server.socket)?,
+        Presence::Absent => process_that(rt, Role::Server, server.socket)?,
         Presence::Answered | Presence::Silent => None,
     };
     let Some(number) = found else {

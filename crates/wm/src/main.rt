@@ -2,6 +2,7 @@
 #![tactic(auto)]
 
 mod asking;
+mod claims;
 mod crawling;
 mod failure;
 mod feed_looks;
@@ -12,11 +13,13 @@ mod notes;
 mod place;
 mod places;
 mod processes;
+mod programs;
 mod running;
 mod server;
 mod started;
 mod starting;
 mod unreadable;
+mod waiting;
 mod watches;
 
 use crate::failure::Failure;
@@ -26,6 +29,7 @@ use crate::server::Server;
 use std::io::ErrorKind;
 use std::process::ExitCode;
 use std::{env, io};
+use wm_commands::advice_of;
 use wm_orders::{Order, Verb, Words};
 
 /// Handles a command about a folder.
@@ -93,6 +97,11 @@ fn ended(rt: &HostRuntime, end: Result<u8, Failure>) -> io::Result<u8> {
         Ok(status) => return Ok(status),
         Err(Failure::Told { status, text }) => (status, text),
         Err(Failure::Later { text }) => (1, text),
+        Err(Failure::Refused { text, refusal }) => {
+            let advice = advice_of(refusal);
+            eprintln!(rt; "wm: {text}; {advice}")?;
+            return Ok(1);
+        }
         Err(Failure::Unwritten) => return Err(io::Error::from(ErrorKind::BrokenPipe)),
         Err(Failure::NoMemory) => return Err(io::Error::from(ErrorKind::OutOfMemory)),
     };

@@ -3,7 +3,7 @@
 use crate::failure::{Failure, failed};
 use crate::server::{Server, bare};
 use serde_json::Value;
-use wm_commands::{expression, fits_in_pattern, holder_of, name_in};
+use wm_commands::{NO_ROOT_ADVICE, expression, fits_in_pattern, holder_of, name_in};
 use wm_disk::Refusal;
 use wm_names::RootPath;
 use wm_orders::Order;
@@ -45,13 +45,18 @@ pub fn place_of(server: &Server<'_>, dir: String) -> Result<Place, Failure> {
             let root = String::from_str(alloc, root.as_str())?;
             Ok(Place { root, dir })
         }
-        None => {
-            let text = format!(in alloc;
-                "{dir}: no watched folder has it; 'wm watch {dir}' watches it"
-            )?;
-            Err(failed(1, text))
-        }
+        None => Err(unheld(server, &dir)?),
     }
+}
+
+/// The failure of a folder that no watched root holds.
+fn unheld(server: &Server<'_>, dir: &str) -> Result<Failure, Failure> {
+    let alloc = server.rt.alloc();
+    let text = match RootPath::read(alloc, dir) {
+        Ok(_) => format!(in alloc; "{dir}: no watched folder has it; 'wm watch {dir}' watches it")?,
+        Err(_) => format!(in alloc; "{dir}: no watched folder has it, and {NO_ROOT_ADVICE}")?,
+    };
+    Ok(failed(1, text))
 }
 
 /// The expression that an order asks for at a place.

@@ -5,6 +5,7 @@ use std::alloc::Global;
 use std::env::VarError;
 use std::io::ErrorKind;
 use std::{env, fs};
+use wm_commands::HomeWord;
 
 /// Where the server's files are.
 #[derive(Drop)]
@@ -103,6 +104,20 @@ fn wrong_word(alloc: Global, path: &str, what: &str, example: Option<&str>) -> F
     }
 }
 
+/// What is said of a word that names no folder that is there: quotes may have kept the shell from replacing a part of it.
+fn no_such_folder(alloc: Global, word: &str, path: &str, example: Option<&str>) -> Failure {
+    let Some(home) = HomeWord::of(word) else {
+        return wrong_word(alloc, path, "no such folder", example);
+    };
+    let part = home.text();
+    match format!(in alloc;
+        "no such folder; the quotes kept the shell from replacing {part}, so write it without them"
+    ) {
+        Ok(text) => no_folder(alloc, word, &text),
+        Err(_) => Failure::NoMemory,
+    }
+}
+
 /// The real path of a folder, the present one if none is named. It has to be there. If the command takes a PATTERN, `example` has one.
 pub fn folder(
     rt: &HostRuntime,
@@ -111,7 +126,8 @@ pub fn folder(
 ) -> Result<String, Failure> {
     let alloc = rt.alloc();
     let example = if named.is_some() { example } else { None };
-    let path = whole(rt, named.unwrap_or("."))?;
+    let word = named.unwrap_or(".");
+    let path = whole(rt, word)?;
     let real = match fs::canonicalize(rt, path.as_str()) {
         Ok(real) => real.into_string(),
         Err(error) => {
@@ -122,7 +138,7 @@ pub fn folder(
                     &path,
                     "no permission to look there",
                 ),
-                _ => wrong_word(alloc, &path, "no such folder", example),
+                _ => no_such_folder(alloc, word, &path, example),
             });
         }
     };

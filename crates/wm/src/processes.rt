@@ -1,7 +1,49 @@
-//! What the system says of a process.
+//! What the system says of its processes.
 
 use crate::failure::Failure;
+use crate::feeds::is_feed_in;
+use crate::lost_socket::is_server_in;
 use std::fs;
+
+/// What a process does for a socket.
+#[derive(Clone, Copy)]
+pub enum Role {
+    /// It serves it.
+    Server,
+    /// It is a feed for the server there.
+    Feed,
+    /// It is such a feed, and one for all roots.
+    FeedOfAll,
+}
+
+impl Role {
+    /// Whether a process, whose folder in /proc is named, does this for a socket.
+    fn is_of(self, rt: &HostRuntime, process: &str, socket: &str) -> Result<bool, Failure> {
+        match self {
+            Role::Server => is_server_in(rt, process, socket),
+            Role::Feed => is_feed_in(rt, process, socket, false),
+            Role::FeedOfAll => is_feed_in(rt, process, socket, true),
+        }
+    }
+}
+
+/// The number of a process that does this for a socket, whoever started it. `None` if none does.
+pub fn process_that(rt: &HostRuntime, role: Role, socket: &str) -> Result<Option<String>, Failure> {
+    let Ok(processes) = fs::read_dir(rt, "/proc") else {
+        return Ok(None);
+    };
+    for process in processes {
+        let Ok(process) = process else {
+            continue;
+        };
+        let number = process.file_name();
+        let folder = format!(in rt.alloc(); "/proc/{number}")?;
+        if role.is_of(rt, &folder, socket)? {
+            return Ok(Some(String::from_str(rt.alloc(), number)?));
+        }
+    }
+    Ok(None)
+}
 
 /// Whether the words of a process, each with a zero byte behind it, begin with a program of this name. A process that has ended has none.
 pub fn is_program(words: &str, name: &str) -> bool {

@@ -6,7 +6,7 @@ use crate::feed_looks::FeedLooks;
 use crate::listening::{await_change, read_answer};
 use crate::place::{Place, place_of};
 use crate::server::Server;
-use crate::unreadable::note_stale;
+use crate::unreadable::note_folder;
 use std::io::Write;
 use std::process::{Child, Command, Stdio};
 use std::thread;
@@ -35,9 +35,9 @@ fn answer(
 pub fn wait(server: &Server<'_>, dir: String, order: &Order) -> Result<u8, Failure> {
     let place = place_of(server, dir)?;
     let now = answer(server, &place, order, None)?;
-    note_stale(server, &place.root)?;
+    note_folder(server, &place)?;
     let since = Some(now.clock.as_str());
-    let mut feed = FeedLooks::new();
+    let mut feed = FeedLooks::begin(server)?;
     await_change(server, &place, order, since, &mut feed)?;
     let line = answer_line(server, &place, order, since, order.style.is_json)?;
     show(server, &place, order, &line)
@@ -61,6 +61,7 @@ fn started(
     match command.spawn(server.rt) {
         Ok(child) => Ok(child),
         Err(_) => {
+            note_folder(server, place)?;
             let text = format!(in alloc;
                 "{program}: can't be started: no such program, or no right to run it"
             )?;
@@ -129,7 +130,7 @@ pub fn run(server: &Server<'_>, dir: String, order: &Order) -> Result<u8, Failur
     let place = place_of(server, dir)?;
     let mut runs = Runs::new();
     let mut is_lost = false;
-    let mut feed = FeedLooks::new();
+    let mut feed = FeedLooks::begin(server)?;
     for _ in 0..u64::MAX {
         match step(server, &place, order, &mut runs, &mut is_lost, &mut feed) {
             Ok(()) => {}

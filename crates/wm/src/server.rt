@@ -8,7 +8,7 @@ use std::os::unix::net::UnixStream;
 use std::time::{Duration, Instant};
 use std::{io, process};
 use wm_client::{Request, Sync, SyncEnd, SyncFiles, TalkEnd, refusal_of, synced_talk};
-use wm_commands::{NO_SESSION, Presence, advice_of};
+use wm_commands::{NO_SESSION, Presence, advice_of, is_advised};
 use wm_disk::Refusal;
 use wm_findings::is_wanted;
 use wm_parts::explanation;
@@ -181,6 +181,24 @@ impl Server<'_> {
         }
     }
 
+    /// The reply that a line is, which came over a connection.
+    pub fn reply_in<R: BufRead>(
+        &self,
+        stream: &UnixStream,
+        replies: &mut R,
+        line: &[u8],
+    ) -> Result<Reply, Failure> {
+        let text = self.text(line)?;
+        if !line.starts_with(b"{\"error\":") {
+            return Ok(Reply::Line(text));
+        }
+        let refusal = refusal_of(line);
+        if refusal == Some(Refusal::TooMany) && self.is_closed(stream, replies)? {
+            return Ok(Reply::NoSession);
+        }
+        Ok(Reply::Refused(refusal, text))
+    }
+
     /// The text of what was printed.
     fn text(&self, printed: &[u8]) -> Result<String, Failure> {
         match str::from_utf8(printed) {
@@ -191,22 +209,24 @@ impl Server<'_> {
 
     /// The failure of a refusal, about a folder.
     pub fn refused(&self, about: &str, refusal: Option<Refusal>, line: &str) -> Failure {
-        let alloc = self.rt.alloc();
-        let text = match refusal {
-            Some(refusal) => {
-                let name = refusal.text();
-                let advice = advice_of(refusal);
-                format!(in alloc; "{about}: the server refused: {name}; {advice}")
-            }
-            None => format!(in alloc; "{about}: the server refused: {line}"),
+        let Some(refusal) = refusal else {
+            return match format!(in self.rt.alloc(); "{about}: the server refused: {line}") {
+                Ok(text) => failed(1, text),
+                Err(_) => Failure::NoMemory,
+            };
         };
-        match (refusal, text) {
-            (_, Err(_)) => Failure::NoMemory,
-            (
-                Some(Refusal::NotReady | Refusal::NoMemory | Refusal::TooMany | Refusal::NoPlace),
-                Ok(text),
-            ) => Failure::Later { text },
-            (_, Ok(text)) => failed(1, text),
+        let (name, advice) = (refusal.text(), advice_of(refusal));
+        match refusal {
+            Refusal::NotReady | Refusal::NoMemory | Refusal::TooMany | Refusal::NoPlace => {
+                match format!(in self.rt.alloc(); "{about}: the server refused: {name}; {advice}") {
+                    Ok(text) => Failure::Later { text },
+                    Err(_) => Failure::NoMemory,
+                }
+            }
+            _ => match format!(in self.rt.alloc(); "{about}: the server refused: {name}") {
+                Ok(text) => Failure::Refused { text, refusal },
+                Err(_) => Failure::NoMemory,
+            },
         }
     }
 
@@ -231,23 +251,35 @@ impl Server<'_> {
         }
     }
 
+    /// The line that says which part of a request is the cause of its refusal. `None` if that isn't wanted, or isn't found.
+    fn cause_line(&self, json: &str) -> Option<String> {
+        if !is_wanted(self.rt, self.rt.stderr().is_terminal()) {
+            return None;
+        }
+        match explanation(self.rt.alloc(), json) {
+            Ok(line) => line,
+            Err(_) => None,
+        }
+    }
+
     /// The failure of a request that was refused, with a line behind it that says which part is the cause, if that is wanted and found.
     pub fn explained(&self, failure: Failure, json: &str) -> Failure {
-        if !is_wanted(self.rt, self.rt.stderr().is_terminal()) {
-            return failure;
-        }
-        let Failure::Told { status, text } = failure else {
+        let Failure::Refused { text, refusal } = failure else {
             return failure;
         };
-        match explanation(self.rt.alloc(), json) {
-            Ok(Some(line)) => {
-                let line = line.trim_end();
-                match format!(in self.rt.alloc(); "{text}\n{line}") {
-                    Ok(text) => failed(status, text),
-                    Err(_) => Failure::NoMemory,
-                }
-            }
-            _ => failed(status, text),
+        let Some(line) = self.cause_line(json) else {
+            return Failure::Refused { text, refusal };
+        };
+        let line = line.trim_end();
+        let explained = if is_advised(refusal, true) {
+            let advice = advice_of(refusal);
+            format!(in self.rt.alloc(); "{text}; {advice}\n{line}")
+        } else {
+            format!(in self.rt.alloc(); "{text}\n{line}")
+        };
+        match explained {
+            Ok(text) => failed(1, text),
+            Err(_) => Failure::NoMemory,
         }
     }
 

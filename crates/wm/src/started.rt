@@ -1,5 +1,6 @@
 //! The programs that `wm up` started, by the files with the numbers of their processes, and `wm down`.
 
+use crate::claims::check_claims;
 use crate::failure::{Failure, at_path, failed};
 use crate::places::Places;
 use crate::processes::{has_gone, is_program};
@@ -83,6 +84,7 @@ fn end(rt: &HostRuntime, places: &Places, name: &str) -> Result<(), Failure> {
 
 /// Handles `down`.
 pub fn down(server: &Server<'_>, places: &Places) -> Result<u8, Failure> {
+    check_claims(server, places)?;
     end(server.rt, places, "wmfeed")?;
     end(server.rt, places, "watchmand")?;
     Ok(0)

@@ -1,17 +1,19 @@
 //! `wm up`: the server and the feed in the background.
 
+use crate::claims::check_claims;
 use crate::failure::{Failure, at_path, failed};
 use crate::feeds::is_fed;
 use crate::lost_socket::{end_unreachable, server_process, unreachable};
 use crate::places::Places;
+use crate::programs::{program, unstarted};
 use crate::server::Server;
 use crate::started::write_number;
 use std::fs::{DirBuilder, OpenOptions};
 use std::os::unix::fs::{DirBuilderExt, OpenOptionsExt};
 use std::process::{Child, Command, Stdio};
 use std::time::{Duration, Instant};
-use std::{env, fs, thread};
-use wm_commands::{StartStep, UpStep, start_step, up_step};
+use std::{fs, thread};
+use wm_commands::{StartFault, StartStep, UpStep, start_step, up_step};
 
 /// How long it is waited between two looks, in milliseconds.
 const PAUSE: u64 = 25;
@@ -35,53 +37,6 @@ fn make_folder(rt: &HostRuntime, path: &str) -> Result<(), Failure> {
         Ok(()) => Ok(()),
         Err(error) => Err(at_path(rt.alloc(), 1, path, &error)),
     }
-}
-
-/// The failure of a program that can't be started.
-fn unstarted(rt: &HostRuntime, name: &str) -> Failure {
-    match format!(in rt.alloc(); "{name}: can't be started: install it beside wm, or on the PATH") {
-        Ok(text) => failed(1, text),
-        Err(_) => Failure::NoMemory,
-    }
-}
-
-/// The folder of this program.
-fn own_folder(rt: &HostRuntime) -> Result<Option<String>, Failure> {
-    let Ok(here) = env::current_exe(rt) else {
-        return Ok(None);
-    };
-    let here = here.into_string();
-    match here.rsplit_once('/') {
-        Some((folder, _)) => Ok(Some(String::from_str(rt.alloc(), folder)?)),
-        None => Ok(None),
-    }
-}
-
-/// The path of a program in a folder, if it is there.
-fn program_in(rt: &HostRuntime, folder: &str, name: &str) -> Result<Option<String>, Failure> {
-    let path = format!(in rt.alloc(); "{folder}/{name}")?;
-    match fs::metadata(rt, path.as_str()) {
-        Ok(found) if found.is_file() => Ok(Some(path)),
-        _ => Ok(None),
-    }
-}
-
-/// The path of a program: beside this one if it is there, and else on the PATH.
-fn program(rt: &HostRuntime, name: &str) -> Result<String, Failure> {
-    if let Some(folder) = own_folder(rt)? {
-        if let Some(path) = program_in(rt, &folder, name)? {
-            return Ok(path);
-        }
-    }
-    let Ok(folders) = env::var(rt, "PATH") else {
-        return Err(unstarted(rt, name));
-    };
-    for folder in folders.as_str().split(':') {
-        if let Some(path) = program_in(rt, folder, name)? {
-            return Ok(path);
-        }
-    }
-    Err(unstarted(rt, name))
 }
 
 /// Makes the state file if it isn't there.
@@ -146,20 +101,6 @@ fn last_line(text: &str) -> &str {
     }
 }
 
-/// What to do if this was the last that a program said when it was started. A line that doesn't begin with the program's name says it
-/// itself.
-fn advice_at_start(last: &str) -> &'static str {
-    if last.contains("inotifywait") {
-        ": install inotify-tools"
-    } else if last.contains("13 DeviceFailed") {
-        ": look at the disk, and at the rights of the file 'state' beside the log"
-    } else if last.is_empty() || last.starts_with("watchmand: ") || last.starts_with("wmfeed: ") {
-        "; it didn't start"
-    } else {
-        ""
-    }
-}
-
 /// The failure of a program that ended at its start, or doesn't answer, with the last line of the log.
 fn not_started(rt: &HostRuntime, places: &Places, name: &str) -> Failure {
     let Ok(log) = log_of(rt, places) else {
@@ -170,7 +111,7 @@ fn not_started(rt: &HostRuntime, places: &Places, name: &str) -> Failure {
         Ok(said) => last_line(said.as_str()),
         Err(_) => "",
     };
-    let advice = advice_at_start(last);
+    let advice = StartFault::of(last).advice();
     match format!(in rt.alloc(); "{last}{advice}; {log} has all that it said") {
         Ok(text) => failed(1, text),
         Err(_) => Failure::NoMemory,
@@ -291,10 +232,12 @@ pub fn up(server: &Server<'_>, places: &Places) -> Result<u8, Failure> {
         println!(rt; "a server answers at {socket}")?;
     } else {
         make_socket_folder(rt, socket)?;
+        check_claims(server, places)?;
         start_server(server, places)?;
         println!(rt; "a server was started at {socket}")?;
     }
     if !is_fed(rt, socket, true)? {
+        check_claims(server, places)?;
         start_feed(server, places)?;
         println!(rt; "a feed was started")?;
     }

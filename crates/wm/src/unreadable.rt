@@ -2,15 +2,51 @@
 
 use crate::failure::{Failure, cause_of, failed};
 use crate::listening::read_names;
+use crate::place::Place;
 use crate::server::{Reply, Server};
-use serde_json::json;
+use crate::waiting::Waiting;
+use serde_json::{Value, json};
 use std::io::ErrorKind;
 use std::time::Instant;
 use std::{fs, io};
-use wm_commands::{MOST_NAMED, READ_ADVICE, RootSeen, more_unnamed, query_line};
+use wm_commands::{
+    FolderNote, MOST_NAMED, READ_ADVICE, RootSeen, expression, folder_note, more_unnamed, name_in,
+    query_line,
+};
 
-/// For how many milliseconds a command looks for folders that can't be read.
-const PATIENCE: u128 = 1_000;
+/// For how long a command looks for folders that can't be read, and at how many paths.
+#[derive(Drop)]
+pub struct Looks {
+    begun: Instant,
+    millis: u128,
+    /// How many paths may still be looked at.
+    paths: u64,
+}
+
+impl Looks {
+    /// The looks of a command about watched folders.
+    pub fn long(server: &Server<'_>) -> Result<Looks, Failure> {
+        Ok(Looks {
+            begun: Instant::now(server.rt)?,
+            millis: 1_000,
+            paths: u64::MAX,
+        })
+    }
+
+    /// The looks of a command about files.
+    pub fn short(server: &Server<'_>) -> Result<Looks, Failure> {
+        Ok(Looks {
+            begun: Instant::now(server.rt)?,
+            millis: 50,
+            paths: 200,
+        })
+    }
+
+    /// Whether a command has looked for long enough.
+    fn is_over(&self, server: &Server<'_>) -> Result<bool, Failure> {
+        Ok(self.paths == 0 || self.begun.elapsed(server.rt)?.as_millis() >= self.millis)
+    }
+}
 
 /// A folder that can't be read, and why.
 #[derive(Drop)]
@@ -61,24 +97,80 @@ pub fn unreadable_root(server: &Server<'_>, root: &str) -> Result<Failure, Failu
     Ok(failed(1, unreadable_text(server, root)?))
 }
 
-/// Says on standard error of a root that was crawled, and can't be read now, that what is known of it is from before.
-pub fn note_stale(server: &Server<'_>, root: &str) -> Result<(), Failure> {
-    if root_seen(server.rt, root) == RootSeen::Unreadable {
-        let text = unreadable_text(server, root)?;
-        eprintln!(server.rt; "wm: {text}; what is known of it is from before")?;
-    }
+/// Says on standard error of a folder that was crawled, and can't be read now, that what is known of it is from before.
+fn note_stale(server: &Server<'_>, dir: &str) -> Result<(), Failure> {
+    let text = unreadable_text(server, dir)?;
+    eprintln!(server.rt; "wm: {text}; what is known of it is from before")?;
     Ok(())
 }
 
-/// The folders of a root by the server's view. `None` if it has none yet.
-fn listed(server: &Server<'_>, root: &str) -> Result<Option<Vec<String>>, Failure> {
-    let alloc = server.rt.alloc();
-    let folders = json!(in alloc; ["type", "d"])?;
-    let line = query_line(alloc, root, None, folders, false)?;
-    match server.ask(line, None)? {
-        Reply::Line(line) => read_names(server, &line),
-        _ => Ok(None),
+/// Whether a place's folder and its root can be read now; if not, that is said on standard error. It is a failure if no file in the folder
+/// is known either.
+pub fn note_folder(server: &Server<'_>, place: &Place) -> Result<bool, Failure> {
+    let seen = root_seen(server.rt, &place.dir);
+    let is_known = seen == RootSeen::Unreadable && is_known(server, place)?;
+    match folder_note(seen, is_known) {
+        FolderNote::Silent => {}
+        FolderNote::Stale => {
+            note_stale(server, &place.dir)?;
+            return Ok(false);
+        }
+        FolderNote::Unknown => return Err(unreadable_root(server, &place.dir)?),
     }
+    if place.root.as_str() != place.dir.as_str()
+        && root_seen(server.rt, &place.root) == RootSeen::Unreadable
+    {
+        note_stale(server, &place.root)?;
+    }
+    Ok(true)
+}
+
+/// Whether the server knows a file in a place's folder.
+fn is_known(server: &Server<'_>, place: &Place) -> Result<bool, Failure> {
+    let mut waiting = Waiting::for_answer(server)?;
+    match listed(server, &place.root, &place.dir, None, &mut waiting)? {
+        Some(paths) => Ok(!paths.is_empty()),
+        None => Ok(false),
+    }
+}
+
+/// The paths in a folder of a root that fit an expression, by the server's view. `None` if it has none yet.
+fn listed(
+    server: &Server<'_>,
+    root: &str,
+    dir: &str,
+    own: Option<Value>,
+    waiting: &mut Waiting,
+) -> Result<Option<Vec<String>>, Failure> {
+    let alloc = server.rt.alloc();
+    let expression = expression(alloc, name_in(alloc, root, dir)?, &[], own)?;
+    let line = query_line(alloc, root, None, expression, false)?;
+    let names = match waiting.ask(server, root, &line)? {
+        Reply::Line(line) => read_names(server, &line)?,
+        _ => None,
+    };
+    match names {
+        Some(names) => Ok(Some(paths_in(server, root, dir, &names)?)),
+        None => Ok(None),
+    }
+}
+
+/// The paths of names below a root, those outside of a folder left out.
+fn paths_in(
+    server: &Server<'_>,
+    root: &str,
+    dir: &str,
+    names: &[String],
+) -> Result<Vec<String>, Failure> {
+    let alloc = server.rt.alloc();
+    let mut paths = Vec::new(alloc);
+    for name in names {
+        let path = format!(in alloc; "{root}/{name}")?;
+        if name_in(alloc, dir, &path)?.is_some() {
+            paths.push(path)?;
+        }
+    }
+    Ok(paths)
 }
 
 /// Adds a folder to those that can't be read, if it can't.
@@ -100,11 +192,16 @@ fn add_folders(
     server: &Server<'_>,
     folder: &str,
     waiting: &mut Vec<String>,
+    looks: &mut Looks,
 ) -> Result<(), Failure> {
     let Ok(entries) = fs::read_dir(server.rt, folder) else {
         return Ok(());
     };
     for entry in entries {
+        if looks.paths == 0 {
+            break;
+        }
+        looks.paths = looks.paths.saturating_sub(1);
         let Ok(entry) = entry else {
             continue;
         };
@@ -118,62 +215,90 @@ fn add_folders(
     Ok(())
 }
 
-/// Whether a command has looked for long enough.
-fn is_over(server: &Server<'_>, begun: Instant) -> Result<bool, Failure> {
-    Ok(begun.elapsed(server.rt)?.as_millis() >= PATIENCE)
+/// Looks at folders until the looks are over: adds those that can't be read, and returns those that are in the others.
+fn next_level(
+    server: &Server<'_>,
+    folders: &[String],
+    unread: &mut Vec<Unreadable>,
+    looks: &mut Looks,
+) -> Result<Vec<String>, Failure> {
+    let mut below = Vec::new(server.rt.alloc());
+    for folder in folders {
+        if looks.is_over(server)? {
+            break;
+        }
+        if !add_unread(server, folder, unread)? {
+            add_folders(server, folder, &mut below, looks)?;
+        }
+    }
+    Ok(below)
 }
 
-/// The folders of a root that can't be read, by a walk through it, until the time is over.
-fn walked(server: &Server<'_>, root: &str, begun: Instant) -> Result<Vec<Unreadable>, Failure> {
+/// The folders in a folder that can't be read, by a walk through it, those near to it first, until the looks are over.
+fn walked(
+    server: &Server<'_>,
+    folder: &str,
+    looks: &mut Looks,
+) -> Result<Vec<Unreadable>, Failure> {
     let alloc = server.rt.alloc();
     let mut unread = Vec::new(alloc);
-    let mut waiting = Vec::new(alloc);
-    waiting.push(String::from_str(alloc, root)?)?;
+    let mut level = Vec::new(alloc);
+    level.push(String::from_str(alloc, folder)?)?;
     for _ in 0..u64::MAX {
-        let Some(folder) = waiting.pop() else {
-            break;
-        };
-        if is_over(server, begun)? {
+        if level.is_empty() {
             break;
         }
-        if !add_unread(server, &folder, &mut unread)? {
-            add_folders(server, &folder, &mut waiting)?;
-        }
+        level = next_level(server, &level, &mut unread, looks)?;
     }
     Ok(unread)
 }
 
-/// Those of the listed folders of a root that can't be read, until the time is over.
+/// Those of some folders that can't be read, until the looks are over.
 fn unread_of(
     server: &Server<'_>,
-    root: &str,
-    names: &[String],
-    begun: Instant,
+    paths: &[String],
+    looks: &Looks,
 ) -> Result<Vec<Unreadable>, Failure> {
     let mut unread = Vec::new(server.rt.alloc());
-    for name in names {
-        if is_over(server, begun)? {
+    for path in paths {
+        if looks.is_over(server)? {
             break;
         }
-        let path = format!(in server.rt.alloc(); "{root}/{name}")?;
-        add_unread(server, &path, &mut unread)?;
+        add_unread(server, path, &mut unread)?;
     }
     Ok(unread)
 }
 
-/// The folders below a root that can't be read, as far as they are found until the time is over. The server is asked for the root's
+/// Folders by their paths.
+fn sorted(mut unread: Vec<Unreadable>) -> Result<Vec<Unreadable>, Failure> {
+    unread.sort_by(|one, other| one.path.as_str().cmp(other.path.as_str()))?;
+    Ok(unread)
+}
+
+/// The folders in a folder of a root that can't be read, as far as they are found until the looks are over. The server is asked for the
 /// folders; if it has none yet, they are looked for.
 pub fn unreadable_below(
     server: &Server<'_>,
     root: &str,
-    begun: Instant,
+    dir: &str,
+    looks: &mut Looks,
+    waiting: &mut Waiting,
 ) -> Result<Vec<Unreadable>, Failure> {
-    let mut unread = match listed(server, root)? {
-        Some(names) => unread_of(server, root, &names, begun)?,
-        None => walked(server, root, begun)?,
+    let folders = json!(in server.rt.alloc(); ["type", "d"])?;
+    let unread = match listed(server, root, dir, Some(folders), waiting)? {
+        Some(paths) => unread_of(server, &paths, looks)?,
+        None => walked(server, dir, looks)?,
     };
-    unread.sort_by(|one, other| one.path.as_str().cmp(other.path.as_str()))?;
-    Ok(unread)
+    sorted(unread)
+}
+
+/// The folders in a folder that can't be read, as far as a walk finds them until the looks are over.
+pub fn unreadable_found(
+    server: &Server<'_>,
+    folder: &str,
+    looks: &mut Looks,
+) -> Result<Vec<Unreadable>, Failure> {
+    sorted(walked(server, folder, looks)?)
 }
 
 /// Names the first of the folders below a root that can't be read on standard error.

@@ -2,37 +2,48 @@
 
 use crate::failure::Failure;
 use crate::feed_looks::is_ready;
-use crate::feeds::is_fed;
+use crate::feeds::{is_fed, start_advice};
 use crate::place::{place_of, roots};
 use crate::places::{gone_folder, whole};
 use crate::server::{Reply, Server};
-use crate::unreadable::{name_unreadable, root_seen, unreadable_below, unreadable_text};
-use std::time::Instant;
+use crate::unreadable::{
+    Looks, name_unreadable, note_folder, root_seen, unreadable_below, unreadable_text,
+};
+use crate::waiting::Waiting;
 use wm_client::root_number_of;
 use wm_commands::{Feeding, NO_SESSION, RootSeen, named_root, root_line, root_status};
 use wm_disk::Refusal;
 
 /// Says on standard error which folders of a root that was just watched can't be read. It stays watched, since they may be readable later.
-fn note_unreadable(server: &Server<'_>, dir: &str) -> Result<(), Failure> {
+fn note_unreadable(server: &Server<'_>, dir: &str, waiting: &mut Waiting) -> Result<(), Failure> {
     if root_seen(server.rt, dir) == RootSeen::Unreadable {
         let text = unreadable_text(server, dir)?;
         eprintln!(server.rt; "wm: {text}; it is watched, and listed once it can be read")?;
         return Ok(());
     }
-    let unread = unreadable_below(server, dir, Instant::now(server.rt)?)?;
+    let mut looks = Looks::long(server)?;
+    let unread = unreadable_below(server, dir, dir, &mut looks, waiting)?;
     name_unreadable(server, dir, &unread)
 }
 
 /// Handles `watch`.
 pub fn watch(server: &Server<'_>, dir: &str) -> Result<u8, Failure> {
     let json = root_line(server.rt.alloc(), "watch", dir)?;
-    let _line = server.line(dir, json)?;
+    let mut waiting = Waiting::for_answer(server)?;
+    match waiting.ask(server, dir, &json)? {
+        Reply::Line(_) => {}
+        Reply::Refused(refusal, line) => {
+            return Err(server.explained(server.refused(dir, refusal, &line), &json));
+        }
+        Reply::NoSession => return Err(server.no_session()),
+        Reply::NoFeed => return Err(server.lost("no feed")),
+    }
     println!(server.rt; "{dir}")?;
-    note_unreadable(server, dir)?;
+    note_unreadable(server, dir, &mut waiting)?;
     Ok(0)
 }
 
-/// Handles `unwatch`: of the root that is named.
+/// Handles `unwatch`: of the root that is named, which is printed.
 pub fn unwatch(server: &Server<'_>, named: Option<&str>) -> Result<u8, Failure> {
     let path = whole(server.rt, named.unwrap_or("."))?;
     let folder = gone_folder(server.rt, named)?;
@@ -40,6 +51,7 @@ pub fn unwatch(server: &Server<'_>, named: Option<&str>) -> Result<u8, Failure> 
     let root = named_root(&roots, &path, &folder);
     let json = root_line(server.rt.alloc(), "watch-del", root)?;
     let _line = server.line(root, json)?;
+    println!(server.rt; "{root}")?;
     Ok(0)
 }
 
@@ -94,9 +106,11 @@ fn answered_status(
     root: &str,
     has_feed: bool,
     is_stuck: bool,
+    waiting: &mut Waiting,
 ) -> Result<String, Failure> {
     let alloc = server.rt.alloc();
-    match server.ask(root_line(alloc, "clock", root)?, None)? {
+    let json = root_line(alloc, "clock", root)?;
+    match waiting.ask(server, root, &json)? {
         Reply::Line(line) => Ok(String::from_str(alloc, crawled_status(server, &line, has_feed)?)?),
         Reply::Refused(refusal, line) => refused_status(server, refusal, &line, is_stuck),
         Reply::NoSession => Ok(format!(in alloc; "not known: {NO_SESSION}")?),
@@ -109,11 +123,12 @@ fn print_folder(
     server: &Server<'_>,
     root: &str,
     has_feed: bool,
-    begun: Instant,
+    looks: &mut Looks,
 ) -> Result<(), Failure> {
-    let unread = unreadable_below(server, root, begun)?;
+    let mut waiting = Waiting::for_answer(server)?;
+    let unread = unreadable_below(server, root, root, looks, &mut waiting)?;
     let is_stuck = !has_feed && !unread.is_empty();
-    let status = answered_status(server, root, has_feed, is_stuck)?;
+    let status = answered_status(server, root, has_feed, is_stuck, &mut waiting)?;
     println!(server.rt; "{root}: {status}")?;
     name_unreadable(server, root, &unread)
 }
@@ -123,11 +138,11 @@ fn print_root(
     server: &Server<'_>,
     root: &str,
     has_feed: bool,
-    begun: Instant,
+    looks: &mut Looks,
 ) -> Result<(), Failure> {
     let rt = server.rt;
     match root_seen(rt, root) {
-        RootSeen::Folder => return print_folder(server, root, has_feed, begun),
+        RootSeen::Folder => return print_folder(server, root, has_feed, looks),
         RootSeen::Unreadable => {
             let text = unreadable_text(server, root)?;
             println!(rt; "{text}")?;
@@ -149,11 +164,12 @@ pub fn status(server: &Server<'_>) -> Result<u8, Failure> {
     println!(server.rt; "server: {socket}")?;
     let has_feed = is_fed(server.rt, socket, false)?;
     if !has_feed {
-        println!(server.rt; "no feed runs: 'wm up' starts one")?;
+        let advice = start_advice(server.rt)?;
+        println!(server.rt; "no feed runs: {advice}")?;
     }
-    let begun = Instant::now(server.rt)?;
+    let mut looks = Looks::long(server)?;
     for root in &roots {
-        print_root(server, root.as_str(), has_feed, begun)?;
+        print_root(server, root.as_str(), has_feed, &mut looks)?;
     }
     Ok(0)
 }
@@ -162,5 +178,6 @@ pub fn status(server: &Server<'_>) -> Result<u8, Failure> {
 pub fn sync(server: &Server<'_>, dir: String) -> Result<u8, Failure> {
     let place = place_of(server, dir)?;
     crate::asking::sync(server, &place.root)?;
+    note_folder(server, &place)?;
     Ok(0)
 }
