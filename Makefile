@@ -106,8 +106,9 @@ quick-use: $(PROGRAM) $(CLIENT) $(FEED)
 feed-use: $(PROGRAM) $(CLIENT) $(FEED)
 	tools/feed_use.py $(PROGRAM) $(CLIENT) $(FEED)
 
-# What a person does with wm, from nothing to a killed server.
+# What a person does with wm: servers and feeds that start and end, and then from a first folder to a killed server.
 wm-use: $(COMMANDS) $(PROGRAM) $(FEED)
+	tools/wm_starts.sh $(COMMANDS) $(PROGRAM) $(FEED)
 	tools/wm_use.sh $(COMMANDS) $(PROGRAM) $(FEED)
 
 # What the programs say at common mistakes, byte for byte.

@@ -112,13 +112,23 @@ def define(client, top, name, *command):
 
 def trigger_ends(program):
     for command, line in [
-        (["./none"], "couldn't start the trigger t"),
+        (["nosuch"], "couldn't start the trigger t: nosuch: no such file"),
+        (["./none"], "couldn't start the trigger t: ./none: no such file"),
+        (["./a\nb"], "couldn't start the trigger t: ./a\\x0ab: no such file"),
+        (["./plain/a"], "couldn't start the trigger t: ./plain/a: no such file"),
+        (["./plain"], "couldn't start the trigger t: ./plain: no permission"),
+        (["/"], "couldn't start the trigger t: /: no permission"),
+        (["./text"], "couldn't start the trigger t: ./text: the system can't run such a file"),
         (["sh", "-c", "exit 3"], "the trigger t ended with status 3"),
         (["sh", "-c", "exit 255"], "the trigger t ended with status 255"),
         (["sh", "-c", "kill -9 $$"], "the trigger t was ended by signal 9"),
         (["sh", "-c", "kill -TERM $$"], "the trigger t was ended by signal 15"),
     ]:
         with triggered(program) as (server, top, client):
+            for name, mode in ("plain", 0o644), ("text", 0o755):
+                with open(f"{top}/{name}", "w") as file:
+                    file.write("a text\n")
+                os.chmod(file.name, mode)
             define(client, top, "t", *command)
             client.ask(["observe", top, [["x.go", FILE]]])
             server.says(f"a trigger by {' '.join(command)}", f"{top}: {line}")
@@ -128,6 +138,15 @@ def trigger_ends(program):
         ran = until(lambda: os.path.exists(f"{server.folder}/ran"))
         time.sleep(0.3)
         check("none of a trigger that ends with 0", ran and server.lines() == [], server.whole())
+
+
+def too_many_files(program):
+    """The paths of a trigger's files are longer together than any limit of the system's, which is 6 MB at most."""
+    with triggered(program) as (server, top, client):
+        for part in range(10):
+            client.ask(["observe", top, [[f"{part}.{number:04}.{'n' * 194}", FILE] for number in range(3500)]])
+        client.tell(["trigger", top, {"name": "t", "command": ["true"], "append_files": True}])
+        server.says("a trigger by more files than a start takes", f"{top}: couldn't start the trigger t: true: its arguments are too long together")
 
 
 def two_triggers(program):
@@ -140,7 +159,7 @@ def two_triggers(program):
             client.ask(["observe", top, [["x.go", {**FILE, "size": time.monotonic_ns() % 1000000}]]])
             time.sleep(0.02)
         for name in "ab":
-            lines = [line for line in server.whole() if line.endswith(f" {top}: couldn't start the trigger {name}".encode())]
+            lines = [line for line in server.whole() if line.endswith(f" {top}: couldn't start the trigger {name}: ./none: no such file".encode())]
             check(f"the trigger {name} is named", 2 <= len(lines) <= 4, server.whole())
             check("once a second", len({line[:20] for line in lines}) == len(lines), lines)
 
@@ -314,7 +333,7 @@ def drained_at_the_end(program):
     shutil.rmtree(folder)
 
 
-CASES = [socket_taken_over, shut_folder, trigger_ends, two_triggers, deleted_trigger, session_refused, one_a_second, client_cut_off, subscriber_cut_off, client_that_goes, state_file_fails,
+CASES = [socket_taken_over, shut_folder, trigger_ends, too_many_files, two_triggers, deleted_trigger, session_refused, one_a_second, client_cut_off, subscriber_cut_off, client_that_goes, state_file_fails,
          forgotten, quiet, drained_at_the_end]
 NAMED = {case.__name__: case for case in CASES}
 

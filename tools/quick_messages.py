@@ -9,6 +9,7 @@ import os
 import pty
 import select
 import shutil
+import signal
 import socket
 import subprocess
 import sys
@@ -18,14 +19,28 @@ NOBODY = 65534
 REFUSED = {13: "13 DeviceFailed", 14: "14 Damaged", 20: "20 Retired"}
 NO_REQUEST = "a request is one word, JSON, as in wmctl SOCKET '[\"watch-list\"]'; 'wm watch FOLDER' and 'wm --help' are for plain words\n"
 NO_ROOT = "is no root's path: it begins with / and has no part that is empty, . or ..; realpath prints such a path"
-NO_FOLDER = "no folder is there, so the root has no files"
+SLASH = "'/' can't be watched: a root is a folder below it"
+WATCH_STAYS = ": it is filled once a folder is made there, and 'wm unwatch ROOT' or [\"watch-del\",ROOT] ends the watch"
+NO_FOLDER = "no folder is there, so the root has no files" + WATCH_STAYS
+NO_TERM = "is no term of an expression: the words of terms are true, false, exists, empty, name, suffix, type, size, match, not, allof and anyof"
+WRITTEN = "is no term of an expression: such a term is written "
+NO_FIELD = "is no field: these are name, exists, new, size, type, mtime_ms, cclock and oclock"
+NO_KEY = "is no key of such a request: these are since, expression, fields, empty_on_fresh_instance and sync_timeout"
+NO_TRIGGER_KEY = "is no key of a trigger: these are name, command, expression, append_files, stdin and max_files_stdin"
+NO_COMMAND = "is no command: these are version, watch, watch-del, watch-list, clock, since, query, subscribe, unsubscribe, trigger, trigger-list, trigger-del, recrawl, observe, listing and age-out"
 NO_PATTERN = "is no pattern of match: this has at most 1,024 bytes, and neither [ nor \\; * fits any bytes of a name, ? one byte, and ** any folders"
 NO_TYPE = "is no type of a file: these are f (a file), d (a folder), l (a link) and o (all else)"
 NO_WATCH = "the root isn't watched: 'wm watch ROOT' or [\"watch\",ROOT] watches it, and [\"watch-list\"] has those that are"
 NO_LIST = "a request is a list that begins with the name of a command, as [\"watch-list\"]"
 NO_SESSION = "all of the server's 31 sessions are taken: try later, or end what holds them, as 'wm run' and feeds do"
 NO_CRAWL = "the root isn't crawled yet: try again, or send [\"recrawl\",ROOT], which waits"
-NO_READING = "a folder of the root can't be read, and the server's log names it: give the server's user the right to it, or watch a folder below"
+NO_READING = "a folder of the root can't be read, which 'wm status' and the server's log name (that of 'wm up' is ~/.local/state/watchmand/log): give the server's user the right to it, or watch a folder below"
+UNREAD = "the folder can't be read; what is in it isn't listed, or is known from before"
+OF_ANOTHER = "this is another user's, and there is no right to it: name the socket of your own server, which 'wm up' starts"
+WAITS = "wmctl waits for an answer: the server is busy, or it was stopped\n"
+SOCKET_FIRST = "the socket comes first, as in wmctl SOCKET REQUEST"
+OR_ROOTS = "or it watches 256 roots, which 'wm list' prints; 'wm unwatch' ends a watch"
+BY_WATCH = "the server watches 256 roots, or all of its 31 sessions are taken: 'wm unwatch' what nobody needs, or try later"
 BRACES = "has braces, which stand for themselves in a pattern: for a choice write a pattern each, as [\"anyof\",[\"match\",\"*.c\"],[\"match\",\"*.md\"]]"
 NO_FURTHER_LINES = "only a subscribe is followed by further lines: --follow waits until the server ends\n"
 LONG = "d" * 60 + "/" + "e" * 63 + "/socket"
@@ -48,6 +63,8 @@ class Place:
         os.mkfifo(self.path("fifo"))
         for name in ("state", "free", "taken", "cut"):
             subprocess.run([watchmand, "format", name], cwd=self.dir, check=True, stdout=subprocess.DEVNULL)
+        shutil.copy(self.path("free"), self.path("mine"))
+        os.chmod(self.path("mine"), 0o666)
         with open(self.path("cut"), "r+b") as cut:
             cut.seek(8)
             cut.write(b"\0\0\0\x09")
@@ -61,6 +78,11 @@ class Place:
         with socket.socket(socket.AF_UNIX) as kept:
             kept.bind(self.path("kept"))
         os.chmod(self.path("kept"), 0o000)
+        with socket.socket(socket.AF_UNIX) as own:
+            own.bind(self.path("own"))
+        os.chmod(self.path("own"), 0o000)
+        if os.geteuid() == 0:
+            os.chown(self.path("own"), NOBODY, NOBODY)
         os.chmod(self.path("secret"), 0o000)
         os.chmod(self.path("shut"), 0o555)
         self.serve_theirs()
@@ -102,10 +124,17 @@ def watchmand_cases(place):
     damaged = "cut: this state file is damaged; put a copy back, or move it away and 'watchmand format cut' makes a new one"
     yield ["lines", "nofile"], 13, "nofile: no such file; 'watchmand format nofile' makes it", False
     yield ["serve", "nofile", "s2"], 13, "nofile: no such file; 'watchmand format nofile' makes it", False
-    yield ["serve", "state", "s2"], 13, f"state: another watchmand has it (pid {holder})", False
-    yield ["lines", "state"], 13, f"state: another watchmand has it (pid {holder})", False
+    listens = f"another watchmand has it (pid {holder}) and listens at {os.path.realpath(place.path('sock'))}: 'kill {holder}' ends it"
+    theirs = f"another watchmand has it (pid {place.theirs.pid}) and listens at {os.path.realpath(place.path('theirs/sock'))}: 'kill {place.theirs.pid}' ends it"
+    no_right = "there is no right to it%s: give it by chmod or chown, or name another %s"
+    owned = "" if os.getuid() else " (user 0 owns it)"
+    yield ["serve", "state", "s2"], 13, f"state: {listens}", False
+    yield ["lines", "state"], 13, f"state: {listens}", False
+    yield ["migrate", "state", "new3"], 13, f"state: {listens}", False
+    yield ["lines", "theirs/state"], 13, f"theirs/state: {theirs}", False
     yield ["lines", "taken"], 13, f"taken: another program has it (pid {os.getpid()})", False
-    yield ["lines", "secret"], 13, "secret: there is no right to it", True
+    yield ["lines", "secret"], 13, "secret: " + no_right % (owned, "file"), True
+    yield ["lines", "theirs/dark/state"], 13, "theirs/dark/state: " + no_right % ("", "file"), True
     yield ["lines", "folder"], 13, "folder: this is a folder", False
     yield ["lines", "fifo"], 13, "fifo: this is no regular file", False
     yield ["lines", "nofolder/state"], 13, "nofolder/state: its folder isn't there", False
@@ -116,7 +145,8 @@ def watchmand_cases(place):
     yield ["format", "nofolder/state"], 13, "nofolder/state: its folder isn't there", False
     yield ["format", "shut/state"], 13, "shut/state: can't be made: look at the rights of its folder and at the disk", True
     yield ["serve", "free", LONG], 13, f"socket: the path has {len(LONG)} bytes, at most 107", False
-    yield ["serve", "free", "sock"], 13, "sock: a server listens there", False
+    yield ["serve", "free", "sock"], 13, "sock: a server listens there: 'wm list --socket sock' asks it, or name another socket", False
+    yield ["serve", "mine", "kept"], 13, "kept: " + no_right % (owned, "socket"), True
     yield ["serve", "free", "plain"], 13, "plain: this is no socket", False
     yield ["serve", "free", "folder"], 13, "folder: this is no socket", False
     yield ["serve", "free", "nofolder/sock"], 13, "nofolder/sock: its folder isn't there", False
@@ -133,11 +163,12 @@ def watchmand_cases(place):
 def socket_cases():
     """A socket at which no server answers, the further line, and whether the case is run without root's rights."""
     yield "nosock", "no server answers at nosock (no such file): 'wm up' starts one, or 'watchmand serve STATE nosock'", False
-    yield "nofolder/sock", "nofolder/sock: its folder isn't there", False
+    yield "nofolder/sock", "no server answers at nofolder/sock (its folder isn't there): 'wm up' makes its own folder and starts one", False
     yield "plain", "plain: this is no socket", False
     yield "folder", "folder: this is no socket", False
     yield "dead", "no server answers at dead (nobody listens there): 'wm up' starts one, or 'watchmand serve STATE dead'", False
-    yield "kept", "kept: there is no right to it", True
+    yield "kept", "kept: " + (OF_ANOTHER if os.geteuid() == 0 else "there is no right to it"), True
+    yield "own", "own: there is no right to it", True
     yield LONG, f"socket: the path has {len(LONG)} bytes, at most 107", False
 
 
@@ -145,19 +176,21 @@ def request_cases(root):
     """A request, the refusal that the server prints, and the further line, if there is one."""
     asked = '["query","%s",%%s]' % root
     written = "such a request is written [%s]"
-    yield asked % '{"expression":["sufix","c"]}', "8 BadExpression", '["sufix","c"] is no term of an expression'
-    yield asked % '{"expression":["allof",["suffix","c"],["imatch","x"]]}', "8 BadExpression", '["imatch","x"] is no term of an expression'
+    yield asked % '{"expression":["sufix","c"]}', "8 BadExpression", f'["sufix","c"] {NO_TERM}'
+    yield asked % '{"expression":["allof",["suffix","c"],["imatch","x"]]}', "8 BadExpression", f'["imatch","x"] {NO_TERM}'
     yield asked % '{"expression":["not",["anyof","exists",["type","b"]]]}', "8 BadExpression", f"'b' {NO_TYPE}"
     yield asked % '{"expression":["match","[ab].c"]}', "8 BadExpression", f"'[ab].c' {NO_PATTERN}"
     yield asked % '{"expression":["allof","exists",["match","a\\\\b","wholename"]]}', "8 BadExpression", f"'a\\b' {NO_PATTERN}"
-    yield asked % '{"expression":["match","*.c","path"]}', "8 BadExpression", '["match","*.c","path"] is no term of an expression'
-    yield asked % '{"expression":["type",["f"]]}', "8 BadExpression", '["type",["f"]] is no term of an expression'
-    yield asked % '{"expression":["not"]}', "8 BadExpression", '["not"] is no term of an expression'
-    yield asked % '{"fields":["name","mtime"]}', "9 BadField", '"mtime" is no field'
-    yield asked % '{"fields":["name",7]}', "9 BadField", "7 is no field"
-    yield asked % '{"expresion":"exists"}', "3 BadArguments", "'expresion' is no key of such a request"
-    yield '["subscribe","%s","n",{"defer":[]}]' % root, "3 BadArguments", "'defer' is no key of such a request"
-    yield '["trigger","%s",{"name":"n","command":["true"],"chdir":"/"}]' % root, "10 BadTrigger", "'chdir' is no key of such a request"
+    yield asked % '{"expression":["match","*.c","path"]}', "8 BadExpression", f'["match","*.c","path"] {WRITTEN}["match","*.c"] or ["match","src/*.c","wholename"]'
+    yield asked % '{"expression":["type",["f"]]}', "8 BadExpression", f'["type",["f"]] {WRITTEN}["type","f"]'
+    yield asked % '{"expression":["not"]}', "8 BadExpression", f'["not"] {WRITTEN}["not",["suffix","c"]]'
+    yield asked % '{"expression":["suffix"]}', "8 BadExpression", f'["suffix"] {WRITTEN}["suffix","c"] or ["suffix",["c","h"]]'
+    yield asked % '{"expression":["size","gt","10"]}', "8 BadExpression", f'["size","gt","10"] {WRITTEN}["size","gt",10], with eq, ne, gt, ge, lt or le'
+    yield asked % '{"fields":["name","mtime"]}', "9 BadField", f'"mtime" {NO_FIELD}'
+    yield asked % '{"fields":["name",7]}', "9 BadField", f"7 {NO_FIELD}"
+    yield asked % '{"expresion":"exists"}', "3 BadArguments", f"'expresion' {NO_KEY}"
+    yield '["subscribe","%s","n",{"defer":[]}]' % root, "3 BadArguments", f"'defer' {NO_KEY}"
+    yield '["trigger","%s",{"name":"n","command":["true"],"chdir":"/"}]' % root, "10 BadTrigger", f"'chdir' {NO_TRIGGER_KEY}"
     command = "\"make\" can't be 'command': this is a list of texts, as [\"make\",\"all\"]"
     yield '["trigger","%s",{"name":"n","command":"make"}]' % root, "10 BadTrigger", command
     yield '["trigger","%s",{"name":"n"}]' % root, "10 BadTrigger", written % '"trigger","/proj",{"name":"n","command":["make"]}'
@@ -168,7 +201,8 @@ def request_cases(root):
     yield asked % '{"since":true}', "3 BadArguments", f"true {since}"
     yield asked % '{"sync_timeout":"1s"}', "3 BadArguments", "\"1s\" can't be 'sync_timeout': this is a whole number of milliseconds, as 1000"
     yield '["since","%s","yesterday"]' % root, "7 BadClock", written % '"since","/proj","c:1:2:3"'
-    yield '["wach","/x"]', "2 BadCommand", "'wach' is no command"
+    yield '["wach","/x"]', "2 BadCommand", f"'wach' {NO_COMMAND}"
+    yield '["watch","/"]', "4 BadPath", SLASH
     yield '["watch","proj"]', "4 BadPath", f"'proj' {NO_ROOT}"
     yield '["watch","~/proj"]', "4 BadPath", f"'~/proj' {NO_ROOT}"
     yield '["watch","/proj/"]', "4 BadPath", f"'/proj/' {NO_ROOT}"
@@ -251,7 +285,7 @@ def check_answers(checks, place, wmctl, root, further):
 
 def check_roots(checks, place, wmctl):
     """What is said of a root's path if a request about it succeeds."""
-    file = "this is a file and no folder, so the root has no files"
+    file = "this is a file and no folder, so the root has no files" + WATCH_STAYS
     link = "a symbolic link leads to %s; the two paths are two roots, and 'wm watch' takes the latter"
     os.mkdir(place.path("root/sub"))
     for name, further, is_lasting in (
@@ -291,11 +325,41 @@ def check_full(checks, place, wmctl):
         assert session.recv(100) == b'{"version":"w1"}\n'
         held.append(session)
     too_many = '{"error":"17 TooMany","version":"w1"}\n'
-    by_watch = "the server watches 256 roots, or all of its 31 sessions are taken: 'wm unwatch' what nobody needs, or try later"
-    for request, further in (('["watch-list"]', NO_SESSION), ('["recrawl","/x"]', NO_SESSION), ('["watch","/x"]', by_watch)):
+    for request, further in (('["watch-list"]', NO_SESSION), ('["recrawl","/x"]', NO_SESSION), ('["watch","/x"]', BY_WATCH)):
         check(checks, place, [wmctl, "sock", request], 1, too_many, "", further, False)
-    for session in held:
-        session.close()
+    return held
+
+
+def check_unread(checks, place, wmctl):
+    """Folders that can't be read below a root that was crawled when they could be: three of them are named."""
+    root = place.path("theirs/late")
+    folders = [f"{root}/{name}" for name in "abcde"]
+    rights = without_rights()
+    for folder in (root, *folders):
+        os.mkdir(folder)
+        if rights:
+            os.chown(folder, NOBODY, NOBODY)
+    for request in ('["watch","%s"]', '["recrawl","%s"]'):
+        subprocess.run([wmctl, "theirs/sock", request % root], cwd=place.dir, check=True, stdout=subprocess.DEVNULL, **rights)
+    asked = [wmctl, "theirs/sock", '["query","%s",{"expression":["type","d"],"fields":["name"]}]' % root]
+    reply = run(place, asked, False, True)
+    checks.same("query of readable folders", (reply[0], reply[2], run(place, asked, True, True)), (0, "", reply))
+    for count in (1, 5):
+        for folder in folders[:count]:
+            os.chmod(folder, 0o000)
+        named = "".join(f"{folder}: {UNREAD}\n" for folder in folders[: min(count, 3)])
+        further = named + (f"{root}: and 2 more folders below it can't be read\n" if count == 5 else "")
+        for request in ('["query","%s",{"fields":["name"]}]', '["since","%s","c:1:1:1"]', '["watch","%s"]'):
+            words = [wmctl, "theirs/sock", request % root]
+            status, output, errors = run(place, words, False, True)
+            checks.same(f"{request} with {count} unreadable", (status, errors), (0, ""))
+            checks.same(f"{request} with {count} unreadable (explained)", run(place, words, True, True), (0, output, further))
+        if rights:
+            checks.same("a query by another user", run(place, asked, True, False), run(place, asked, False, False))
+    refused = run(place, [wmctl, "theirs/sock", '["recrawl","%s"]' % root], True, True)
+    checks.same("recrawl with 5 unreadable", refused, (1, '{"error":"13 DeviceFailed","version":"w1"}\n', f"{NO_READING}\n{further}"))
+    for folder in folders:
+        os.chmod(folder, 0o755)
 
 
 def check_unready(checks, place, wmctl):
@@ -304,12 +368,15 @@ def check_unready(checks, place, wmctl):
     unreadable = f"{dark}: this folder can't be read: give the server's user the right to it, or watch a folder below"
     for root, unready, unread in ((dark, unreadable, unreadable), (over, NO_CRAWL, NO_READING)):
         watched = '{"version":"w1","watch":"%s"}\n' % root
-        further = unreadable if root == dark else ""
-        check(checks, place, [wmctl, "theirs/sock", '["watch","%s"]' % root], 0, watched, "", further, True)
+        named = "" if root == dark else f"{dark}: {UNREAD}"
+        check(checks, place, [wmctl, "theirs/sock", '["watch","%s"]' % root], 0, watched, "", named or unreadable, True)
+        unread = f"{unread}\n{named}" if named else unread
         for request, refusal, further in (("clock", "6 NotReady", unready), ("recrawl", "13 DeviceFailed", unread)):
             words = [wmctl, "theirs/sock", '["%s","%s"]' % (request, root)]
             check(checks, place, words, 1, '{"error":"%s","version":"w1"}\n' % refusal, "", further, True)
-    check_full(checks, place, wmctl)
+    check_unread(checks, place, wmctl)
+    for session in check_full(checks, place, wmctl):
+        session.close()
     no_feed = "no feed answered in time: 'wm up' or 'wmfeed sock' starts one, and --sync-timeout gives it more time; without one send [\"recrawl\",ROOT], and then ask"
     synced = [wmctl, "sock", '["watch-list"]', "--sync-timeout", "50", "--sync"]
     check(checks, place, [*synced, place.path("root")], 3, "", "wmctl: no feed\n", no_feed, False)
@@ -341,6 +408,19 @@ def run_while_waiting(place, words, explain, awaited):
     return has_ended, texts[child.stdout].decode(), texts[child.stderr].decode()
 
 
+def check_stopped(checks, place, wmctl):
+    """A server that was stopped: after some seconds it is said that its answer is waited for, once, and the answer is printed when it comes."""
+    place.server.send_signal(signal.SIGSTOP)
+    words = [wmctl, "sock", '["version"]']
+    env = {**os.environ, "WATCHMAND_EXPLAIN": "1"}
+    child = subprocess.Popen(words, cwd=place.dir, env=env, stdin=subprocess.DEVNULL, stdout=subprocess.PIPE, stderr=subprocess.PIPE)
+    ready, _, _ = select.select([child.stdout, child.stderr], [], [], 20)
+    said = os.read(child.stderr.fileno(), 4096) if child.stderr in ready else b""
+    place.server.send_signal(signal.SIGCONT)
+    output, errors = child.communicate(timeout=60)
+    checks.same("a stopped server", (said.decode(), errors.decode(), output.decode(), child.returncode), (WAITS, "", '{"version":"w1"}\n', 0))
+
+
 def check_waits(checks, place, wmctl):
     """Lines that are awaited and don't come: what is said of them stands behind the reply, before the wait."""
     root, nothere = place.path("root"), place.path("nothere")
@@ -352,7 +432,7 @@ def check_waits(checks, place, wmctl):
         checks.same(f"{request} --follow", (plain[0], plain[2]), (False, ""))
         awaited = len(plain[1]) + len(further)
         checks.same(f"{request} --follow (explained)", run_while_waiting(place, words, True, awaited), (False, plain[1], further))
-    check(checks, place, [wmctl, "sock", '["wach"]', "--follow", "1"], 1, '{"error":"2 BadCommand","version":"w1"}\n', "", "'wach' is no command", False)
+    check(checks, place, [wmctl, "sock", '["wach"]', "--follow", "1"], 1, '{"error":"2 BadCommand","version":"w1"}\n', "", f"'wach' {NO_COMMAND}", False)
 
 
 def check_all(checks, place, watchmand, wmctl):
@@ -366,41 +446,99 @@ def check_all(checks, place, watchmand, wmctl):
     check_roots(checks, place, wmctl)
     check_unready(checks, place, wmctl)
     check_waits(checks, place, wmctl)
+    check_stopped(checks, place, wmctl)
     nofile = "watchmand: 13 DeviceFailed\nnofile: no such file; 'watchmand format nofile' makes it\n"
     checks.same("lines nofile (terminal)", run_on_terminal(place, [watchmand, "lines", "nofile"]), nofile)
     nosock = "no server answers at nosock (no such file): 'wm up' starts one, or 'watchmand serve STATE nosock'\n"
     checks.same("nosock (terminal)", run_on_terminal(place, [wmctl, "nosock", "[]"]), f"wmctl: no reply\n{nosock}")
-    checks.same("wach (terminal)", run_on_terminal(place, [wmctl, "sock", '["wach"]']), "'wach' is no command\n")
+    checks.same("wach (terminal)", run_on_terminal(place, [wmctl, "sock", '["wach"]']), f"'wach' {NO_COMMAND}\n")
     for words in (["watch", "/proj"], ["--follow", "1"]):
         status, output, errors = run(place, [wmctl, "sock", *words], False, False)
         checks.same(f"sock {words} (usage)", (status, output), (2, ""))
         checks.same(f"sock {words} (explained)", run(place, [wmctl, "sock", *words], True, False), (2, "", errors + NO_REQUEST))
+    check_swapped(checks, place, wmctl)
     misspelt = [wmctl, "sock", '["watch-list"]', "--folow", "1"]
     checks.same("--folow (explained)", run(place, misspelt, True, False), run(place, misspelt, False, False))
+    numbers = "error: N and S are whole numbers from 0 to 4294967295, and the workers are 1 to 16\n\nFor more information, try '--help'.\n"
+    for words in (["--workers", "-1"], ["--gc-age", "-3600"], ["--gc-interval", "-0"], ["--sessions", "-1"], ["--workers", "17"], ["--sessions=-1"]):
+        check(checks, place, [watchmand, "serve", "free", "s2", *words], 2, "", numbers, "", False)
     usage = run(place, [watchmand, "serv"], False, False)
     checks.same("serv (explained)", run(place, [watchmand, "serv"], True, False), usage)
 
 
-def check_feed(checks, place, wmfeed):
+def check_swapped(checks, place, wmctl):
+    """A request in place of the socket, and a negative number behind an option."""
+    for request in ('["watch-list"]', '{"a":1}'):
+        check(checks, place, [wmctl, request, "sock"], 3, "", "wmctl: no reply\n", SOCKET_FIRST, False)
+        usage = run(place, [wmctl, request], False, False)
+        checks.same(f"{request} alone", usage[:2], (2, ""))
+        checks.same(f"{request} alone (explained)", run(place, [wmctl, request], True, False), (2, "", f"{usage[2]}{SOCKET_FIRST}\n"))
+    for option, name in (("--follow", "N"), ("--sync-timeout", "MS")):
+        words = [wmctl, "sock", '["watch-list"]', option, "-1"]
+        usage = run(place, words, False, False)
+        checks.same(f"{option} -1", (usage[:2], "tip: to pass '-1'" in usage[2]), ((2, ""), True))
+        negative = f"error: {name} isn't a whole number from 0 to 4294967295\n\nFor more information, try '--help'.\n"
+        checks.same(f"{option} -1 (explained)", run(place, words, True, False), (2, "", negative))
+    for words in (["--help", "--follow", "-1"], ["sock", '["version"]', "--", "--follow"]):
+        shown = run(place, [wmctl, *words], False, False)
+        checks.same(f"{words} (explained)", run(place, [wmctl, *words], True, False), shown)
+
+
+def check_waiting(checks, place, words, told, further):
+    """A feed that goes on: the further line stands behind the plain one, and each is printed once."""
+    checks.same(" ".join(words), run_while_waiting(place, words, False, len(told)), (False, "", told))
+    explained = told + further
+    checks.same(" ".join(words) + " (explained)", run_while_waiting(place, words, True, len(explained)), (False, "", explained))
+
+
+def check_full_feed(checks, place, wmctl, wmfeed):
+    """A feed of a server that has no place for a session."""
+    held = check_full(checks, place, wmctl)
+    check(checks, place, [wmfeed, "sock", place.path("root")], 1, "", "wmfeed: 17 TooMany\n", f"{NO_SESSION}\n{OR_ROOTS}", False)
+    tried = f"{NO_SESSION}\nwmfeed tries again five times a second\n"
+    check_waiting(checks, place, [wmfeed, "sock"], "wmfeed: sock: 17 TooMany\n", tried)
+    for session in held:
+        session.close()
+
+
+def check_fed_roots(checks, place, wmfeed):
+    """A root that can't be fed, and a system without inotifywait."""
+    nothere, plain = place.path("nothere"), place.path("plain")
+    for root, said in ((nothere, "nothing is there: make the folder, and start wmfeed again"), (plain, "this is no folder: wmfeed takes SOCKET first, and then the folder ROOT")):
+        check(checks, place, [wmfeed, "sock", root], 1, "", "wmfeed: no folder is at ROOT\n", f"{root}: {said}", False)
+    bare = ["env", "PATH=/nowhere", wmfeed, "sock"]
+    for words in (bare, [*bare, place.path("root")]):
+        missing = "inotifywait couldn't be started: install inotify-tools, or put it on the PATH"
+        check(checks, place, words, 1, "", "wmfeed: inotifywait couldn't be started\n", missing, False)
+    dark = place.path("theirs/dark")
+    told = f"wmfeed: {dark}: 13 DeviceFailed\n"
+    rights = ["setpriv", f"--reuid={NOBODY}", f"--regid={NOBODY}", "--clear-groups"] if without_rights() else []
+    check_waiting(checks, place, [*rights, wmfeed, "theirs/sock", dark], told, f"{dark}: the folder can't be read; it is tried again\n")
+
+
+def check_feed(checks, place, wmctl, wmfeed):
     for path, further, no_rights in socket_cases():
-        check(checks, place, [wmfeed, path, place.path("root")], 3, "", "wmfeed: the server ended\n", further, no_rights)
+        check(checks, place, [wmfeed, path, place.path("root")], 3, "", "wmfeed: no server answers\n", further, no_rights)
     for path, further, _ in list(socket_cases())[:2]:
-        told = f"wmfeed: {path}: the server ended\n"
-        checks.same(f"wmfeed {path}", run_while_waiting(place, [wmfeed, path], False, len(told)), (False, "", told))
-        explained = f"{further}\n{told}"
-        checks.same(f"wmfeed {path} (explained)", run_while_waiting(place, [wmfeed, path], True, len(explained)), (False, "", explained))
+        check_waiting(checks, place, [wmfeed, path], f"wmfeed: {path}: no server answers\n", f"{further}\n")
+    check_full_feed(checks, place, wmctl, wmfeed)
+    check_fed_roots(checks, place, wmfeed)
     for root in ("root", ".", "./root", place.path("root/")):
         check(checks, place, [wmfeed, "sock", root], 2, "", "wmfeed: ROOT is no root's path (4 BadPath)\n", f"'{root}' {NO_ROOT}", False)
     check(checks, place, [wmfeed, "sock", "--folow"], 2, "", run(place, [wmfeed, "sock", "--folow"], False, False)[2], "", False)
 
 
 def check_wm(checks, place, wm):
-    """A refused expression of `wm`: the further line stands behind its own."""
+    """A refused expression of `wm`: the further line stands behind its own, in place of the terms that there are."""
     words = [wm, "files", "root", "--no-sync", "--expr", '["sufix","c"]', "--socket", place.path("sock")]
     status, output, errors = run(place, words, False, False)
     checks.same("wm files --expr", (status, output, "8 BadExpression" in errors), (1, "", True))
-    further = errors + '["sufix","c"] is no term of an expression\n'
-    checks.same("wm files --expr (explained)", run(place, words, True, False), (1, "", further))
+    checks.same("wm files --expr, terms", errors.count("allof anyof not"), 1)
+    status, output, explained = run(place, words, True, False)
+    first, _, further = explained.partition("\n")
+    refused = f"wm: {place.path('root')}: the server refused: 8 BadExpression"
+    checks.same("wm files --expr (explained)", (status, output, first), (1, "", refused))
+    checks.same("wm files --expr, cause", further, f'["sufix","c"] {NO_TERM}\n')
 
 
 def main():
@@ -413,7 +551,7 @@ def main():
     try:
         check_all(checks, place, programs[0], programs[1])
         if len(programs) > 2:
-            check_feed(checks, place, programs[2])
+            check_feed(checks, place, programs[1], programs[2])
         if len(programs) > 3:
             check_wm(checks, place, programs[3])
     finally:

@@ -1,121 +1,21 @@
 #!/usr/bin/env bash
-# What a person does with `wm`, from nothing to a killed server, each line with what it has to print and its status.
+# What a person does with `wm`, from a first folder to a killed server, each line with what it has to print and its status.
 # usage: tools/wm_use.sh WM WATCHMAND WMFEED (inotify-tools, python3, script and setpriv from util-linux)
 set -eu
-export LC_ALL=C
-folder=$(mktemp -d)
-chmod 755 "$folder"
-export XDG_STATE_HOME=$folder/home/state XDG_RUNTIME_DIR=$folder/home/run
-unset WATCHMAND_SOCKET
-mkdir -p "$folder/bin" "$folder/work/lib" "$folder/work/library"
-for program in "$1" "$2" "$3"; do cp "$program" "$folder/bin/"; done
-PATH=$folder/bin:$PATH
-trap 'wm down > "$folder/ended" 2>&1 || true; rm -rf "$folder"' EXIT
-cd "$folder/work"
-failed=0
+. "$(dirname "$0")/wm_says.sh" "$@"
 
-# Runs a command, which has to print this and end with this status; FOLDER stands for the test's folder.
-says() { # STATUS TEXT COMMAND ..
-    local wanted_status=$1 wanted=$2 status=0 printed
-    shift 2
-    printed=$("$@" 2>&1 < /dev/null) || status=$?
-    printed=${printed//$folder/FOLDER}
-    if [[ $printed != "$wanted" || $status != "$wanted_status" ]]; then
-        printf '%s\n  printed %q with %s\n  not     %q with %s\n' "$*" "$printed" "$status" "$wanted" "$wanted_status"
-        failed=1
-    fi
-}
-
-# A program that isn't beside wm, nor on the PATH.
-alone() { env PATH=/usr/bin:/bin XDG_STATE_HOME="$folder/alone/state" WATCHMAND_SOCKET="$folder/alone/socket" "$folder/alone/wm" "$1"; }
-mkdir "$folder/alone"
-cp "$1" "$folder/alone"
-says 1 "wm: watchmand: can't be started: install it beside wm, or on the PATH" alone up
-cp "$2" "$folder/alone"
-says 1 "a server was started at FOLDER/alone/socket
-wm: wmfeed: can't be started: install it beside wm, or on the PATH" alone up
-says 0 $'server: FOLDER/alone/socket\nno feed runs: \'wm up\' starts one' alone status
-says 0 $'no wmfeed of \'wm up\' runs\nwatchmand ended' alone down
-
-# A server that takes its time to start is awaited.
-late() { env XDG_STATE_HOME="$folder/late/state" WATCHMAND_SOCKET="$folder/late/socket" "$folder/late/wm" "$1"; }
-mkdir "$folder/late"
-cp "$1" "$3" "$folder/late"
-printf '#!/bin/sh\nif [ "$1" = serve ]; then sleep 7; fi\nexec %s "$@"\n' "$folder/bin/$(basename "$2")" > "$folder/late/watchmand"
-chmod +x "$folder/late/watchmand"
-says 0 $'a server was started at FOLDER/late/socket\na feed was started' late up
-says 0 $'wmfeed ended\nwatchmand ended' late down
-
-socket=FOLDER/home/run/watchmand/socket
-says 3 "wm: $socket: no server answers (no such file); 'wm up' starts one" wm list
 says 0 "a server was started at $socket
 a feed was started" wm up
-says 0 "a server answers at $socket" wm up
-says 1 "wm: FOLDER/home/state/watchmand/state: another watchmand has it (pid $(cat "$folder/home/state/watchmand/watchmand.pid")); \
-FOLDER/home/state/watchmand/log has all that it said" wm up --socket "$folder/other/socket"
-says 3 "wm: FOLDER/other/$(printf '%0100d' 0): the path is too long: at most 107 bytes; --socket or WATCHMAND_SOCKET names another socket" \
-    wm list --socket "$folder/other/$(printf '%0100d' 0)"
-says 1 'wm: FOLDER/work: is no socket; --socket or WATCHMAND_SOCKET names another path' wm up --socket "$folder/work"
-says 0 '' wm list
-
-# A server that ends still takes connections for a while: it isn't taken for one that is there.
-for _ in 1 2 3; do
-    kill -9 "$(cat "$XDG_STATE_HOME/watchmand/watchmand.pid")"
-    says 0 "a server was started at $socket" wm up
-    says 0 '' wm list
-done
-for _ in 1 2 3; do
-    says 0 $'wmfeed ended\nwatchmand ended' wm down
-    says 0 "a server was started at $socket
-a feed was started" wm up
-    says 0 '' wm list
-done
-
-# What python3 does at a socket in place of a server: it ends each session; it refuses each but the first.
-made_socket() { until [ -S "$1" ]; do sleep 0.05; done; }
-cat > "$folder/ending.py" <<'END'
-import os, socket, sys, time
-taking = socket.socket(socket.AF_UNIX)
-taking.bind(sys.argv[1] + ".new")
-taking.listen(5)
-os.rename(sys.argv[1] + ".new", sys.argv[1])
-taking.settimeout(0.05)
-end = time.monotonic() + 3
-while time.monotonic() < end:
-    try:
-        taking.accept()[0].close()
-    except TimeoutError:
-        pass
-END
-python3 "$folder/ending.py" "$folder/ending" &
-made_socket "$folder/ending"
-says 1 "wm: FOLDER/home/state/watchmand/state: another watchmand has it (pid $(cat "$folder/home/state/watchmand/watchmand.pid")); \
-FOLDER/home/state/watchmand/log has all that it said" wm up --socket "$folder/ending"
-cat > "$folder/full.py" <<'END'
-import os, socket, sys
-taking = socket.socket(socket.AF_UNIX)
-taking.bind(sys.argv[1] + ".new")
-taking.listen(5)
-os.rename(sys.argv[1] + ".new", sys.argv[1])
-session = taking.accept()[0]
-session.makefile().readline()
-session.sendall(b'{"roots":["/tmp"],"version":"w1"}\n')
-while True:
-    session.close()
-    session = taking.accept()[0]
-    session.sendall(b'{"error":"17 TooMany","version":"w1"}\n')
-END
-python3 "$folder/full.py" "$folder/full" &
-full=$!
-made_socket "$folder/full"
-taken="all of the server's 31 sessions are taken (17 TooMany); try later, or end what holds them, as 'wm run' and feeds do"
-says 0 "server: FOLDER/full
-no feed runs: 'wm up' starts one
-/tmp: not known: $taken" wm status --socket "$folder/full"
-says 1 "wm: FOLDER/full: $taken" wm list --socket "$folder/full"
-kill "$full"
-
 says 2 'wm: FOLDER/work/tpyo: no such folder' wm watch tpyo
+quoted() { printf '%s' "wm: $1: no such folder; the quotes kept the shell from replacing $2, so write it without them"; }
+says 2 "$(quoted '~/a' '~')" wm watch '~/a'
+says 2 "$(quoted '~' '~')" wm files '~' '*.c'
+says 2 "$(quoted '$HOME/a' '$HOME')" wm watch '$HOME/a'
+says 2 'wm: FOLDER/work/~a: no such folder' wm watch '~a'
+says 1 'wm: /: no watched folder has it, and it can'"'"'t be watched either: a watched folder needs a path of at most 1,024 bytes, and can'"'"'t be /' wm files /
+says 2 "error: MS isn't a whole number from 0 to 4294967295
+
+For more information, try '--help'." wm run --settle -1 -- true
 touch file
 says 2 'wm: FOLDER/work/file: is a file, and no folder' wm watch file
 says 2 "wm: FOLDER/work/file: is a file, and no folder; a PATTERN stands behind DIR, as in 'wm files . PATTERN'" wm files file
@@ -138,14 +38,14 @@ END
 ln -s work "$folder/link"
 python3 "$folder/watch.py" "$XDG_RUNTIME_DIR/watchmand/socket" "$folder/link"
 says 0 $'FOLDER/link\nFOLDER/work' bash -c 'wm list | sort'
-says 0 '' wm unwatch "$folder/link"
+says 0 'FOLDER/link' wm unwatch "$folder/link"
 says 0 'FOLDER/work' wm list
 rm "$folder/link"
 
 # A root that is a file is named as one.
 python3 "$folder/watch.py" "$XDG_RUNTIME_DIR/watchmand/socket" "$folder/work/file"
 says 0 "FOLDER/work/file: is a file, and no folder: 'wm unwatch' ends its watch" bash -c 'wm status | tail -1'
-says 0 '' wm unwatch file
+says 0 'FOLDER/work/file' wm unwatch file
 
 # A server whose socket was removed is replaced if 'wm up' started it.
 rm "$XDG_RUNTIME_DIR/watchmand/socket"
@@ -192,6 +92,7 @@ clock=$(wm changes lib --since @test --clock | tail -1)
 rm lib/a.h
 says 0 'a.h' wm changes lib --since "$clock" '*.h'
 says 1 "wm: FOLDER/work: the server refused: 7 BadClock; a clock is what --clock printed, @NAME a name of at most 64 bytes" wm changes --since yesterday
+says 1 "wm: FOLDER/work: the server refused: 7 BadClock; a clock is what --clock printed, @NAME a name of at most 64 bytes" wm changes --since -1
 (sleep 1; touch lib/new.c) &
 says 0 'new.c' wm wait lib '*.c'
 wait
@@ -248,15 +149,15 @@ says 0 'FOLDER/work/unready' wm watch unready
 says 0 "wm: FOLDER/work/unready: the feed isn't ready for it yet, so it is crawled for this question
 a" wm files unready
 kill -CONT "$(cat "$XDG_STATE_HOME/watchmand/wmfeed.pid")"
-says 0 '' wm unwatch unready
+says 0 'FOLDER/work/unready' wm unwatch unready
 mkdir gone
 says 0 'FOLDER/work/gone' wm watch gone/
 rmdir gone
 says 0 "FOLDER/work/gone: no such folder: 'wm unwatch' ends its watch" bash -c 'wm status | tail -1'
 says 2 "wm: FOLDER/work/gone: no such folder; a PATTERN stands behind DIR, as in 'wm files . PATTERN'" wm files gone
-says 0 '' wm unwatch ./gone/
+says 0 'FOLDER/work/gone' wm unwatch ./gone/
 says 0 'FOLDER/work' wm list
-says 0 '' wm unwatch
+says 0 'FOLDER/work' wm unwatch
 says 0 '' wm list
 says 0 $'wmfeed ended\nwatchmand ended' wm down
 says 0 "no wmfeed of 'wm up' runs
@@ -280,15 +181,32 @@ says 1 "wm: FOLDER/user/whole: $unread; $advice" theirs files "$folder/user/whol
 says 1 "wm: FOLDER/user/whole: $unread; $advice" theirs changes --since @a "$folder/user/whole"
 says 1 "wm: FOLDER/user/whole: $unread; $advice" theirs wait "$folder/user/whole"
 says 1 "wm: FOLDER/user/whole: $unread; $advice" theirs run "$folder/user/whole" -- true
-says 0 '' theirs unwatch "$folder/user/whole"
+says 1 "wm: FOLDER/user/whole: $unread; $advice" theirs sync "$folder/user/whole"
+says 0 'FOLDER/user/whole' theirs unwatch "$folder/user/whole"
 says 0 "FOLDER/user/part
 wm: FOLDER/user/part/inner: $unread; what is in it isn't listed" theirs watch "$folder/user/part"
-says 0 $'inner\nopen\nopen/a' bash -c "$(declare -f user theirs); folder=$folder; theirs files '$folder/user/part' | sort"
+inner="wm: FOLDER/user/part/inner: $unread; what is in it isn't listed"
+says 0 "$inner"$'\ninner\nopen\nopen/a' bash -c "$(declare -f user theirs); folder=$folder; theirs files '$folder/user/part' | sort"
+says 0 "$inner"$'\nopen/a' theirs files "$folder/user/part" a
+says 0 a theirs files "$folder/user/part/open"
+says 0 "$inner
+wm: FOLDER/user/part: a fresh answer: all that is there, and not what was deleted
+open/a" theirs changes "$folder/user/part" a --since @a
+says 0 "$inner" theirs changes "$folder/user/part" a --since @a
+says 0 '' theirs sync "$folder/user/part"
+says 1 "wm: FOLDER/user/part/inner: $unread; $advice" theirs files "$folder/user/part/inner"
+says 1 "wm: FOLDER/user/part/inner: $unread; $advice" theirs files "$folder/user/part/inner" '*.c'
+says 1 "wm: FOLDER/user/part/inner: $unread; $advice" theirs changes "$folder/user/part/inner" --since @a
+says 1 "wm: FOLDER/user/part/inner: $unread; $advice" theirs sync "$folder/user/part/inner"
 says 0 "server: FOLDER/user/socket
 FOLDER/user/part: ready, fed
 wm: FOLDER/user/part/inner: $unread; what is in it isn't listed" theirs status
+chmod 0 "$folder/user/part/open"
+before="wm: FOLDER/user/part/open: $unread; $advice; what is known of it is from before"
+says 0 "$before"$'\na' theirs files "$folder/user/part/open" --no-sync
+chmod 700 "$folder/user/part/open"
 kill "$(cat "$folder/user/state/watchmand/wmfeed.pid")"
-says 0 '' theirs unwatch "$folder/user/part"
+says 0 'FOLDER/user/part' theirs unwatch "$folder/user/part"
 for number in 1 2 3 4; do user mkdir -m 0 "$folder/user/part/open/$number"; done
 says 0 "FOLDER/user/part
 wm: FOLDER/user/part/inner: $unread; what is in it isn't listed
@@ -314,13 +232,16 @@ taking = socket.socket(socket.AF_UNIX)
 taking.bind(sys.argv[1] + ".new")
 taking.listen(5)
 os.rename(sys.argv[1] + ".new", sys.argv[1])
-end = time.monotonic() + 16
+end = time.monotonic() + 16 if len(sys.argv) == 2 else 0
 
 
 def serve(session):
     for line in session.makefile("rb"):
         if b"watch-list" in line:
             reply = b'{"roots":["/tmp"],"version":"w1"}'
+        elif not end:
+            time.sleep(1.5)
+            reply = b'{"clock":"c:1:1:1","files":[],"is_fresh_instance":true,"version":"w1"}'
         elif b"recrawl" in line:
             time.sleep(max(0, end - time.monotonic()))
             reply = b'{"clock":"c:1:1:1","version":"w1"}'
@@ -337,11 +258,29 @@ END
 python3 "$folder/slow.py" "$folder/slow" &
 slow=$!
 made_socket "$folder/slow"
+wm files /tmp --no-sync --socket "$folder/slow" < /dev/null > "$folder/plain" 2>&1 &
+plain=$!
 script -qec "wm files /tmp --no-sync --socket $folder/slow" /dev/null < /dev/null | tr -d '\r' > "$folder/told"
+wait "$plain" || true
+grep -v '^a$' "$folder/plain" > "$folder/plain.told" || true
 kill "$slow"
+says 0 'waited for: one line
+wm: /tmp: the first crawl goes on; the answer comes once the crawl has ended' sed '1i waited for: one line' "$folder/plain.told"
 says 0 'wm: /tmp: the first crawl goes on, N s so far' bash -c "grep -v '^a\$' '$folder/told' | sed 's/[0-9][0-9]* s/N s/' | sort -u"
 says 0 'a' tail -1 "$folder/told"
 count=$(grep -c 'goes on' "$folder/told")
 if ((count < 4 || count > 6)); then echo "it was told $count times that the crawl goes on"; failed=1; fi
+# An answer about a root that lasts: it is said of which.
+python3 "$folder/slow.py" "$folder/lasting" late &
+lasting=$!
+made_socket "$folder/lasting"
+awaits="wm: /tmp: the server's answer is waited for: a crawl may go on, or another question"
+says 0 "server: FOLDER/lasting
+no feed runs: 'wm up' starts one
+$awaits
+/tmp: ready, not fed" wm status --socket "$folder/lasting"
+says 0 "$awaits
+/tmp" wm watch /tmp --socket "$folder/lasting"
+kill "$lasting"
 [ "$failed" = 0 ] && echo "wm does what a person asks of it"
 exit "$failed"
