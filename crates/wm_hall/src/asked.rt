@@ -1,12 +1,13 @@
 //! The crawls of a root that were asked for, as they lie under the lock of `Work`.
 //! Definitions: specs/AskedCrawls.antt. Tests: serve_tests/src/crawls.rt.
-ghost use Rattle.std.specs.Prelude.{◌≡◌, ◌⊎◌, ◌+◌, ◌++◌, ◌∷◌, ◌^◌, ◌-◌, ◌%◌, ◌<◌, ◌==◌, [], true, false, cond, not, None, length, position, IfOk, IfErr, IfSome, MatchBool, MatchOption, MatchResult};
-ghost use Rattle.std.specs.List.{find, list_any, remove};
+ghost use Rattle.std.specs.Prelude.{◌≡◌, ◌⊎◌, ◌+◌, ◌++◌, ◌∷◌, ◌^◌, ◌-◌, ◌%◌, ◌<◌, ◌==◌, [], true, false, cond, not, None, IfOk, IfErr, IfSome, MatchOption, MatchResult};
+ghost use Rattle.std.specs.List.{find, list_any};
 ghost use Rattle.wm_names.specs.declared.subtree.Subtree.TheVariants.{Whole};
 ghost use Rattle.wm_hall.specs.declared.asked_crawl.Stage.TheVariants.{Waiting};
 ghost use Rattle.wm_hall.specs.AskedCrawls.{collected, ended_crawl, has_ticket, is_pending, is_waiting, new_crawl, one_more_waits, running, serves, crawl_told, with_first};
 
 use crate::asked_crawl::AskedCrawl;
+use crate::crawl_places::{place_of, place_to_join, place_waiting, remove_at};
 use crate::hall_gone::HallGone;
 use std::alloc::Global;
 use std::marker::Model;
@@ -14,35 +15,6 @@ use std::snapshot::Snapshot;
 use wm_disk::{NoMemory, Refusal};
 use wm_lines::Progress;
 use wm_names::Subtree;
-
-/// The place of the first crawl that serves the part.
-fn place_to_join(crawls: &[AskedCrawl], subtree: &Subtree) -> Option<usize>
-    ensures { result ≡ position (serves subtree.now) crawls.now }
-{
-    crawls.iter().position(|crawl| crawl.serves(subtree))
-}
-
-/// The place of the first crawl that hasn't begun.
-fn place_waiting(crawls: &[AskedCrawl]) -> Option<usize>
-    ensures { result ≡ position is_waiting crawls.now }
-{
-    crawls.iter().position(|crawl| crawl.stage.is_at_rest())
-}
-
-/// The place of the crawl of the ticket.
-fn place_of(crawls: &[AskedCrawl], ticket: u64) -> Option<usize>
-    ensures { result ≡ position (has_ticket ticket) crawls.now }
-{
-    crawls.iter().position(|crawl| crawl.ticket == ticket)
-}
-
-/// Takes out the crawl at a place.
-fn remove_at(crawls: &mut Vec<AskedCrawl>, place: usize)
-    requires { place < length crawls.old.items }
-    ensures { crawls.new.items ≡ remove crawls.old.items place }
-{
-    crawls.remove(place);
-}
 
 /// How often the view or the triggers of a root may have changed: the root alone counts it.
 #[derive(Clone, Copy)]

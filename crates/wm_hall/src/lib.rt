@@ -11,6 +11,7 @@ mod asked_crawl;
 mod asking;
 mod backlog;
 mod change;
+mod crawl_places;
 mod hall;
 mod hall_gone;
 mod locked_root;
