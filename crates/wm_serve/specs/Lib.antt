@@ -12,6 +12,7 @@ pub mod NumberedHalls
 pub mod SentAlone
 pub mod SentLines
 pub mod SlotThreads
+pub mod Sockets
 pub mod SubscribedRoots
 pub mod TriedCrawls
 pub mod TriggerWork

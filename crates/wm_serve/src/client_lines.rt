@@ -62,7 +62,8 @@ pub struct LostLine {
     is_lost: (),
 }
 
-/// The reply to a line, or that memory ran out for it, which the slot of this number is to send alone. Nobody can drop it: the send uses it up.
+/// The reply to a line, or that memory ran out for it, which the slot of this number is to send alone. Nobody can drop it: the send uses it
+/// up.
 pub struct UnsentReply {
     slot: usize,
     line: Result<Vec<u8>, NoMemory>,
@@ -90,7 +91,7 @@ impl LinesBroken {
     }
 }
 
-/// What comes next of a session.
+/// What comes next of a client.
 pub enum NextLine {
     Line(UnansweredLine),
     Lost(LostLine),

@@ -12,7 +12,6 @@ use crate::sent_alone::{SentAlone, send_in};
 use crate::sent_lines::{Answered, SentDue, SentLine};
 use crate::shared::Shared;
 use crate::slot_learnt::{SlotLearnt, learn_in};
-use crate::step::Step;
 use crate::vacant::Vacant;
 use crate::wake_flag::FlagStep;
 use crate::wake_state::with_bit;

@@ -1,6 +1,6 @@
 //! The worker that crawls a root when that is asked for.
-//! Definitions: specs/TriedCrawls.antt; `IsTryOf` of wm_hall. Tests: serve_tests/src/crawls.rt.
-ghost use Rattle.std.specs.Prelude.{◌≡◌, ◌↔◌, IsTrue, Err, IfErr, IfOk, IfSome, MatchResult};
+//! Definitions: specs/TriedCrawls.antt, and specs/Tries.antt of wm_hall. Tests: serve_tests/src/crawls.rt.
+ghost use Rattle.std.specs.Prelude.{◌≡◌, ◌↔◌, IsTrue, Err, IfErr, IfOk, MatchResult};
 ghost use Rattle.wm_hall.specs.Tries.{try_end};
 ghost use Rattle.wm_serve.specs.TriedCrawls.{AreTriesOf, IsNotifiedTry, IsTriedAgain, IsWithoutCrawl, last_try};
 

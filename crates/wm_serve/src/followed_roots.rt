@@ -1,6 +1,6 @@
 //! How the table of the watched roots follows the accepted commands: by path and number it stands as the registry does.
 //! Definitions: specs/FollowedRoots.antt. Tests: serve_tests/src/sessions.rt.
-ghost use Rattle.std.specs.Prelude.{◌≡◌, ◌⊎◌, None, IfOk, MatchBool, MatchResult, MatchOption};
+ghost use Rattle.std.specs.Prelude.{◌≡◌, IfOk, MatchResult};
 ghost use Rattle.wm_serve.specs.FollowedRoots.{FillsRoot, FollowsCommand, HasWorkers, IsStepOf, PutsRoot, TakesRoot, hall_made as hall_made_lem, left_to_halls, numbered_roots, root_ended};
 ghost use Rattle.wm_serve.specs.WatchedRoots.{has_path};
 ghost use Rattle.std.specs.Prelude.{find};

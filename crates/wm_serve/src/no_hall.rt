@@ -65,6 +65,7 @@ pub fn hall_numbered<J: Naming, K: Wait + Drop>(
     }
 }
 
+/// Whether two paths are the same.
 fn is_same_path(one: &RootPath, other: &RootPath) -> bool
     ensures { IsTrue result ↔ (one.now ≡ other.now) }
 {

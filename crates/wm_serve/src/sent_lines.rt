@@ -91,8 +91,8 @@ impl<F> Answered<F> {
     }
 }
 
-/// Answers a line, and sends the reply with what is due behind it. If memory runs out for the reply that is sent, and the session is as
-/// it was. An `Err` means that the writer failed: then a part may be sent.
+/// Answers a line, and sends the reply with what is due behind it. If memory runs out for the reply, a line that says so is sent,
+/// and the session is as it was. An `Err` means that the writer failed: then a part may be sent.
 pub fn answer_line<F: Front, W: Write>(
     alloc: Global,
     session: &mut Session<F>,

@@ -43,9 +43,9 @@ fn crawl<'a, R: Wait, T: ServerDesk, J: Naming, K: Wait + Clock + Copy + Drop>(
 {
     let hall = shared.hall(rt, alloc, root)?;
     let crawled = hall.crawl(rt, subtree);
-    let learnt = slot.learn(rt, &hall);
+    let awaited = AwaitedCrawl::learn(rt, slot, &hall, crawled);
     drop(hall);
-    Ok(AwaitedCrawl { crawled, learnt })
+    Ok(awaited)
 }
 
 /// What a line comes to that asks for a crawl, or that isn't read, as it was read.

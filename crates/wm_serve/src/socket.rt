@@ -1,7 +1,8 @@
 //! The socket.
-//! Tests: serve_tests/src/sockets.rt.
+//! Definitions: specs/Sockets.antt. Tests: serve_tests/src/sockets.rt.
 ghost use Rattle.std.specs.Prelude.{◌≡◌, ◌&&◌};
 ghost use Rattle.std.specs.Fs.{permissions_mode};
+ghost use Rattle.wm_serve.specs.Sockets.{is_own_file};
 
 use crate::accepted_stream::AcceptedStream;
 use std::fs::{File, Files, Permissions};
@@ -67,7 +68,7 @@ fn set_owner_rights<R: Files<File = File>>(
 }
 
 /// Which file stands at a path.
-#[derive(Clone, Copy, Debug, PartialEq, Eq)]
+#[derive(Clone, Copy)]
 struct Identity {
     device: u64,
     inode: u64,
@@ -80,6 +81,16 @@ fn identity_of<R: Files<File = File>>(rt: &R, path: &str) -> Option<Identity> {
         device: found.dev(),
         inode: found.ino(),
     })
+}
+
+/// Whether the file that was found is a server's own: both are known, and have the same device and inode.
+fn is_own(own: Option<Identity>, found: Option<Identity>) -> bool
+    ensures { result ≡ is_own_file own found }
+{
+    match (own, found) {
+        (Some(own), Some(found)) => own.device == found.device && own.inode == found.inode,
+        _ => false,
+    }
 }
 
 /// The socket of a server, which listens: where it stands, which file it was when it was made, and whether it replaced one. Nobody can drop
@@ -128,7 +139,7 @@ impl<'a> ServerSocket<'a> {
             replaced: _,
         } = self;
         drop(listener);
-        if own.is_some() && identity_of(rt, path) == own {
+        if is_own(own, identity_of(rt, path)) {
             let _gone = fs::remove_file(rt, path);
         }
     }

@@ -1,6 +1,6 @@
 //! Why programs of triggers couldn't be started, for the log.
 //! Definitions: specs/LogEvents.antt. Tests: tools/quick_log.py.
-ghost use Rattle.std.specs.Prelude.{◌≡◌, ◌≢◌, ℕ, IfErr, IfOk};
+ghost use Rattle.std.specs.Prelude.{◌≡◌, ◌≢◌, IfErr, IfOk};
 ghost use Rattle.std.specs.IoError.{error_kind, raw_os_error};
 ghost use Rattle.wm_names.specs.Paths.{Path};
 ghost use Rattle.wm_registry.specs.Triggers.{Definition};
@@ -63,7 +63,7 @@ fn cause_of_kind(kind: ErrorKind) -> StartCause
 }
 
 /// Why a start failed.
-pub fn cause_of(error: &io::Error) -> StartCause
+fn cause_of(error: &io::Error) -> StartCause
     ensures program { raw_os_error error.now ≡ no_program_error → result ≡ StartCause.NoProgram }
     ensures other { raw_os_error error.now ≢ no_program_error → result ≡ cause_of_kind (error_kind error.now) }
 {
@@ -73,7 +73,7 @@ pub fn cause_of(error: &io::Error) -> StartCause
     }
 }
 
-/// A system whose programs are started once, and why that failed.
+/// A system that starts a program, and notes why if that fails.
 #[derive(Drop)]
 struct NotedStart<'a, S> {
     system: &'a S,
