@@ -72,7 +72,7 @@ fn crawl_again(
     other.send(line.as_str()).expect(host, "a request");
 }
 
-/// Observes a new path while a crawl is held, lets the crawl go on, and tells what is there after it.
+/// Observes a new path while a crawl is held, lets the crawl go on, and returns what is there after it.
 fn observe_meanwhile(rt: &HostRuntime, host: &impl Abort, place: &Place, gate: &Held) -> String {
     let root = place.root.as_str();
     let mut client = Client::connect(rt, host, place.socket.as_str());
@@ -109,8 +109,8 @@ fn operation_in_crawl(rt: HostRuntime) {
     check!(rt; told.contains("\"files\":[\"new\",\"a\",\"d\",\"d/b\"]"));
 }
 
-/// Unwatches a root while its crawl is held, and tells what is answered to who waits for that crawl. Then watches it again, lets the held
-/// crawl go on, and tells what is there.
+/// Unwatches a root while its crawl is held, watches it again, and lets the held crawl go on. Returns the reply to the client that waits
+/// for that crawl, and what is there then.
 fn unwatch_meanwhile(
     rt: &HostRuntime,
     host: &impl Abort,
@@ -123,16 +123,16 @@ fn unwatch_meanwhile(
     crawl_again(rt, host, &mut client, &mut other, root);
     await_held(rt, gate);
     ask_of(host, &mut client, "watch-del", root);
-    let told = other.line().expect(host, "a reply");
+    let reply = other.line().expect(host, "a reply");
     ask_of(host, &mut client, "watch", root);
     gate.is_open.store(true, Ordering::SeqCst);
     let there = names(rt, host, &mut client, root);
     drop(other);
     drop(client);
-    (told, there)
+    (reply, there)
 }
 
-/// Who waits for a crawl is told at once that its root isn't watched any longer, and the end of that crawl troubles nobody.
+/// A client that waits for a crawl is refused at once if the root is unwatched, and the end of that crawl changes nothing.
 #[test]
 fn unwatched_in_crawl(rt: HostRuntime) {
     let alloc = rt.alloc();
@@ -142,16 +142,16 @@ fn unwatched_in_crawl(rt: HostRuntime) {
         is_open: AtomicBool::new(false),
         gave_up: AtomicBool::new(false),
     };
-    let (served, told) = thread::join(
+    let (served, seen) = thread::join(
         &rt,
         || place.serve(&rt, alloc, &gate, 2),
         || unwatch_meanwhile(&rt, &rt, &place, &gate),
     );
     drop(place);
-    let (told, there) = told;
+    let (reply, there) = seen;
     check!(rt; served.is_ok());
     check!(rt; !gate.gave_up.load(Ordering::SeqCst));
-    check!(rt; told.as_str() == "{\"error\":\"5 NotWatched\",\"version\":\"w1\"}", told);
+    check!(rt; reply.as_str() == "{\"error\":\"5 NotWatched\",\"version\":\"w1\"}", reply);
     check!(rt; there.contains("\"files\":[\"a\",\"d\",\"d/b\"],\"is_fresh_instance\":true"), there);
 }
 
@@ -246,7 +246,7 @@ fn write_file(rt: &HostRuntime, host: &impl Abort, root: &str) {
     fs::write(rt, path.as_str(), b"x".as_slice()).expect(host, "a file");
 }
 
-/// What a trigger was given; an empty text where nothing came.
+/// What a trigger was given; an empty text if nothing came.
 fn given(rt: &HostRuntime, out: &str) -> String {
     for _ in 0..TRIES {
         if let Ok(told) = fs::read_to_string(rt, out)
@@ -259,7 +259,7 @@ fn given(rt: &HostRuntime, out: &str) -> String {
     String::new(rt.alloc())
 }
 
-/// Crawls a new root, and tells what was there; then makes a trigger and a file, and has the root crawled once more.
+/// Crawls a new root, makes a trigger and a file, and has the root crawled once more. Returns what was there first.
 fn crawl_twice(
     rt: &HostRuntime,
     host: &impl Abort,
@@ -275,7 +275,7 @@ fn crawl_twice(
     first
 }
 
-/// Crawls a new root, then once more for a trigger, and tells what was there first and what the trigger was given.
+/// Crawls a new root, then once more for a trigger, and returns what was there first and what the trigger was given.
 fn crawl_for_trigger(
     rt: &HostRuntime,
     host: &impl Abort,

@@ -8,7 +8,7 @@ use std::process::Abort;
 use std::sync::Wait;
 use wm_disk::Refusal;
 use wm_hall::{Change, Retention, RootHall, Seconds};
-use wm_lines::{Inquiry, Request, reply};
+use wm_lines::{Request, reply};
 use wm_names::RootPath;
 use wm_share::{MAX_VIEWERS, Naming, Opened, Shares, Viewer};
 use wm_shared::Viewers;

@@ -133,7 +133,7 @@ fn shared_alone<R: Wait + Abort>(
     replies
 }
 
-/// Whether both fronts reply the same, if the roots are changed at that second or later.
+/// Checks that both fronts reply the same if the roots are changed at that second or later.
 fn reply_the_same<R: Threads + Wait + Abort + Sync>(rt: &R, alloc: Global, second: u64) {
     let (desk, permit) = new_desk(rt, alloc);
     let ends = AtomicU64::new(0);
