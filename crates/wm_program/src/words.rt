@@ -1,6 +1,6 @@
 //! What the command-line words ask of `watchmand`. Their definitions are in specs/ProgramWords.
 //! Tests: serve_tests/src/words.rt.
-ghost use Rattle.std.specs.Prelude.{◌≡◌, ◌≤◌, ℕ, IfOk, None, false, Option, Some, codes, map};
+ghost use Rattle.std.specs.Prelude.{◌≡◌, ◌≤◌, ℕ, IfOk, false, Option, Some, codes, map};
 ghost use Rattle.std.specs.Option.{MatchOption};
 ghost use Rattle.std.specs.Str.{bytes_eq};
 ghost use Rattle.clap.specs.Values.{kind_of};
@@ -42,9 +42,9 @@ impl Words {
     /// What the words ask for; the program's own name is not among them.
     ///
     /// The words are `format FILE`, `lines FILE`, `migrate OLD NEW`, or `serve FILE SOCKET [--workers N]
-    /// [--gc-age S] [--gc-interval S] [--sessions N] [--quiet]`. `workers` is 1 to 16 and 4 where it isn't told, `gc-age` 43200 and
+    /// [--gc-age S] [--gc-interval S] [--sessions N] [--quiet]`. `workers` is 1 to 16 and 4 if it isn't given, `gc-age` 43200 and
     /// `gc-interval` 86400 seconds, and without `sessions` no number of them is the last; each is at most
-    /// 2^32 - 1. `Err` comes only where memory runs out.
+    /// 2^32 - 1. `Err` comes only if memory runs out.
     pub fn read<'a>(alloc: Global, words: &'a [&'a str]) -> Result<Words, NoMemory>
         ensures { IfOk result (λ r. AsksProgram (map (λ word. word.now) words.entry.now) (program_wanted r)) }
     {
@@ -61,6 +61,7 @@ const STATUSES: &str = "Exit status:
   1  refused; standard error says why
   2  the words aren't understood";
 
+// What is said of a number that isn't taken.
 const NUMBERS: &str = "N and S are whole numbers from 0 to 4294967295, and the workers are 1 to 16";
 
 // The program's command, with a command for each thing that it does.
@@ -192,7 +193,7 @@ fn served(alloc: Global, matches: &ArgMatches<'_>) -> Result<Words, NoMemory>
     )
 }
 
-// What is asked for by what is there for FILE and SOCKET, and by the settings that the options tell.
+// What is asked for by what is there for FILE and SOCKET, and by the settings that the options give.
 fn told(
     alloc: Global,
     file: Option<&str>,
@@ -219,7 +220,7 @@ fn told(
     })
 }
 
-// The settings that the options tell; `None` where a number isn't one or isn't allowed.
+// The settings that the options give. `None` if a number isn't one, or isn't allowed.
 fn settings_of(
     workers: Option<&str>,
     age: Option<&str>,
@@ -265,7 +266,7 @@ fn workers_of(told: Option<&str>) -> Option<usize>
     Some(workers as usize)
 }
 
-// The number that is told, or the default where none is.
+// The number that is given, or the default if none is.
 fn number_of(told: Option<&str>, default: u64) -> Option<u64>
     ensures { MatchOption result ((n : ℕ) → TellsNumber default (word_text told.entry) n → ⊥) (λ n. TellsNumber default (word_text told.entry) n) }
 {
@@ -283,7 +284,7 @@ fn fault_text(alloc: Global, what: &str) -> Result<String, NoMemory> {
     Ok(format!(in alloc; "error: {what}\n\nFor more information, try '--help'.\n")?)
 }
 
-// A fault that is told in these words.
+// A fault with these words.
 fn fault(alloc: Global, what: &str) -> Result<Words, NoMemory>
     ensures { IfOk result (λ r. program_wanted r ≡ shown_status 2) }
 {
