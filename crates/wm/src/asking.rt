@@ -9,7 +9,6 @@ use crate::programs::has_inotifywait;
 use crate::server::{Reply, Server};
 use crate::unreadable::{Looks, name_unreadable, note_folder, unreadable_below, unreadable_found};
 use crate::waiting::Waiting;
-use serde_json::Value;
 use wm_commands::{Feeding, query_line, root_line, shown_of};
 use wm_orders::Order;
 

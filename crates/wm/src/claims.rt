@@ -23,7 +23,7 @@ fn socket_in<'a>(words: &'a str, state: &str, name: &str) -> Option<&'a str> {
     }
 }
 
-/// It is a failure if a process of a state folder runs for the server at another socket.
+/// Fails if a process of a state folder runs for the server at another socket.
 fn check_claim(server: &Server<'_>, places: &Places, name: &str) -> Result<(), Failure> {
     let (rt, alloc) = (server.rt, server.rt.alloc());
     let Some(number) = running(rt, places, name)? else {
@@ -47,7 +47,7 @@ fn check_claim(server: &Server<'_>, places: &Places, name: &str) -> Result<(), F
     Err(failed(1, text))
 }
 
-/// It is a failure if the files of a state folder are those of the server at another socket.
+/// Fails if the files of a state folder are those of the server at another socket.
 pub fn check_claims(server: &Server<'_>, places: &Places) -> Result<(), Failure> {
     for name in PROGRAMS {
         check_claim(server, places, name)?;

@@ -27,8 +27,8 @@ fn is_crawled(server: &Server<'_>, root: &str, waiting: &mut Waiting) -> Result<
     }
 }
 
-/// Waits until a root was crawled, and says so. A root that can't be read is a failure at once. A crawl that isn't done after
-/// ten seconds may have been refused, so another one is asked for, which says why.
+/// Waits until a root was crawled, and says meanwhile that this goes on. Fails at once if the root can't be read. A crawl that isn't done
+/// after ten seconds may have been refused, so another one is asked for, which says why.
 pub fn await_crawl(server: &Server<'_>, root: &str) -> Result<(), Failure> {
     let mut waiting = Waiting::for_crawl(server, "first crawl")?;
     for looks in 0..u64::MAX {

@@ -15,7 +15,7 @@ use wm_disk::Refusal;
 pub struct FeedLooks {
     /// The root's number. `None` if it isn't known, so that nothing is looked at.
     root: Option<u64>,
-    /// The number of the feed that was seen last.
+    /// The number of the process of the feed that was seen last.
     process: Option<String>,
     /// Whether a feed was seen that ran.
     has_run: bool,

@@ -181,7 +181,7 @@ impl Server<'_> {
         }
     }
 
-    /// The reply that a line is, which came over a connection.
+    /// The reply of a line that came over a connection.
     pub fn reply_in<R: BufRead>(
         &self,
         stream: &UnixStream,

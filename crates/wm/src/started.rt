@@ -9,7 +9,7 @@ use std::process::{Child, Command};
 use std::time::Duration;
 use std::{fs, thread};
 
-/// How often it is looked whether a program has ended that was told to.
+/// How many times it is looked whether a program that was asked to end has ended.
 const LOOKS: u32 = 200;
 
 /// How long it is waited between two looks, in milliseconds.

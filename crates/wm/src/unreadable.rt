@@ -86,13 +86,13 @@ pub fn root_seen(rt: &HostRuntime, root: &str) -> RootSeen {
     }
 }
 
-/// What is said of a root that can't be read.
+/// What is said of a folder that can't be read.
 pub fn unreadable_text(server: &Server<'_>, root: &str) -> Result<String, Failure> {
     let cause = unread_cause(server.rt, root).unwrap_or("no permission");
     Ok(format!(in server.rt.alloc(); "{root}: the folder can't be read ({cause}); {READ_ADVICE}")?)
 }
 
-/// The failure of a root that can't be read.
+/// The failure of a folder that can't be read.
 pub fn unreadable_root(server: &Server<'_>, root: &str) -> Result<Failure, Failure> {
     Ok(failed(1, unreadable_text(server, root)?))
 }
@@ -104,8 +104,8 @@ fn note_stale(server: &Server<'_>, dir: &str) -> Result<(), Failure> {
     Ok(())
 }
 
-/// Whether a place's folder and its root can be read now; if not, that is said on standard error. It is a failure if no file in the folder
-/// is known either.
+/// Says on standard error if a place's folder, or else its root, can't be read now, and returns `false` if the folder can't. Fails if no
+/// file in that is known either.
 pub fn note_folder(server: &Server<'_>, place: &Place) -> Result<bool, Failure> {
     let seen = root_seen(server.rt, &place.dir);
     let is_known = seen == RootSeen::Unreadable && is_known(server, place)?;
@@ -173,7 +173,7 @@ fn paths_in(
     Ok(paths)
 }
 
-/// Adds a folder to those that can't be read, if it can't.
+/// Adds a folder to those that can't be read if it can't, and returns whether it was added.
 fn add_unread(
     server: &Server<'_>,
     path: &str,
@@ -187,11 +187,11 @@ fn add_unread(
     Ok(true)
 }
 
-/// Adds the folders in a folder to those that are still to be looked at.
+/// Adds the folders in a folder to those that are still to be looked at, as long as paths may be looked at.
 fn add_folders(
     server: &Server<'_>,
     folder: &str,
-    waiting: &mut Vec<String>,
+    below: &mut Vec<String>,
     looks: &mut Looks,
 ) -> Result<(), Failure> {
     let Ok(entries) = fs::read_dir(server.rt, folder) else {
@@ -208,7 +208,7 @@ fn add_folders(
         if let Ok(found) = entry.metadata() {
             if found.is_dir() {
                 let name = entry.file_name();
-                waiting.push(format!(in server.rt.alloc(); "{folder}/{name}")?)?;
+                below.push(format!(in server.rt.alloc(); "{folder}/{name}")?)?;
             }
         }
     }
@@ -269,7 +269,7 @@ fn unread_of(
     Ok(unread)
 }
 
-/// Folders by their paths.
+/// Sorts folders by their paths.
 fn sorted(mut unread: Vec<Unreadable>) -> Result<Vec<Unreadable>, Failure> {
     unread.sort_by(|one, other| one.path.as_str().cmp(other.path.as_str()))?;
     Ok(unread)
@@ -301,7 +301,7 @@ pub fn unreadable_found(
     sorted(walked(server, folder, looks)?)
 }
 
-/// Names the first of the folders below a root that can't be read on standard error.
+/// Names on standard error the first of the folders in a folder that can't be read.
 pub fn name_unreadable(
     server: &Server<'_>,
     root: &str,

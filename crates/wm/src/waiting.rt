@@ -6,7 +6,7 @@ use std::io::{BufRead, BufReader, IsTerminal, Write};
 use std::time::{Duration, Instant};
 use wm_commands::{is_crawl_due, is_reply_due};
 
-/// How often it is looked whether something is said, in milliseconds.
+/// How long a read waits before it may be said that the wait goes on, in milliseconds.
 const TICK: u64 = 250;
 
 /// A wait for the server, and what was said of it.

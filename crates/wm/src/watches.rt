@@ -79,7 +79,7 @@ fn crawled_status(
     }
 }
 
-/// What a refusal tells of a root, which is stuck if no feed runs that passes over what can't be read.
+/// What a refusal says of a root, which is stuck if no feed runs that passes over what can't be read.
 fn refused_status(
     server: &Server<'_>,
     refusal: Option<Refusal>,

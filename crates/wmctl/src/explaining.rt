@@ -123,8 +123,8 @@ fn tells_of_files(kind: RequestKind) -> bool {
     )
 }
 
-/// The lines of the folders below a request's root that the server's user can't read, if that is the user of this program. Of a root that
-/// can't be read itself another line says it if the root is to be watched or crawled.
+/// The lines of the folders below a request's root that the server's user can't read, if that is the user of this program. If a root that is
+/// to be watched or crawled can't be read itself, another line says so.
 fn unread_lines<R: Files<File = File> + Clock + Alloc + Clone + Drop>(
     rt: &R,
     alloc: Global,
@@ -191,7 +191,7 @@ fn sync_line(alloc: Global, request: &Request) -> Result<Option<String>, NoMemor
     }
 }
 
-/// The line of a refusal by what a look at the request's roots tells.
+/// The line of a refusal by what a look at the request's roots finds.
 fn seen_line<R: Files<File = File>>(
     rt: &R,
     alloc: Global,

@@ -54,7 +54,8 @@ fn full_lines(alloc: Global, last: &str) -> Result<String, NoMemory> {
     Ok(text)
 }
 
-/// The line that explains why the root or the socket at a path isn't fed now. `None` if nothing more is to be said of it.
+/// The line that explains why the feed of a root, or of the server at a socket, waits: this is its path. `None` if nothing more is to be
+/// said of it.
 fn wait_line<R: Files<File = File> + Net>(
     rt: &R,
     alloc: Global,
