@@ -27,7 +27,7 @@ cause_of_kind kinds.PermissionDenied = causes.NoPermission
 cause_of_kind kinds.ArgumentListTooLong = causes.TooLong
 cause_of_kind kinds.WouldBlock = causes.NoProcess
 cause_of_kind kinds.OutOfMemory = causes.NoMemory
-cause_of_kind other = causes.Refused
+cause_of_kind _ = causes.Refused
 
 -- of a run of the trigger of this name and this program, which came to this, this is logged
 abbrev pub IsLoggedRun : (name program : List ℕ) → Result ProgramEnd FailedStart → Option What → Type 0
