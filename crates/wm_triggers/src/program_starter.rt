@@ -9,7 +9,7 @@ use crate::not_run::NotRun;
 use crate::program_end::ProgramEnd;
 use crate::run::Run;
 use crate::starter::Starter;
-use crate::starting::{run_command, run_input};
+use crate::starting::run_launch;
 use std::alloc::Global;
 use wm_disk::MAX_COUNTER;
 use wm_names::RootPath;
@@ -65,8 +65,7 @@ impl<L: Launcher> Starter for ProgramStarter<L> {
         trigger: &Trigger,
         run: &Run,
     ) -> Result<ProgramEnd, NotRun> {
-        let command = run_command(alloc, root, trigger, run)?;
-        let input = run_input(alloc, trigger, run)?;
+        let (command, input) = run_launch(alloc, root, trigger, run)?;
         match self.launcher.launch(command, input) {
             Ok(end) => Ok(end),
             Err(NotRun::DeviceFailed) => {

@@ -14,7 +14,7 @@ use crate::not_run::NotRun;
 use crate::permit::Permit;
 use crate::program_end::ProgramEnd;
 use crate::run::Run;
-use crate::starting::{run_command, run_input};
+use crate::starting::run_launch;
 use std::alloc::Global;
 use wm_names::RootPath;
 use wm_registry::Trigger;
@@ -71,8 +71,7 @@ impl<S: ProgramSystem> Programs for SystemPrograms<S> {
         run: &Run,
         permit: P,
     ) -> Result<(ProgramEnd, P::Ended), NotRun> {
-        let command = run_command(alloc, root, trigger, run)?;
-        let input = run_input(alloc, trigger, run)?;
+        let (command, input) = run_launch(alloc, root, trigger, run)?;
         self.system.start_and_wait(command, input, &permit)
     }
 }

@@ -2,7 +2,7 @@
 //! Definitions: specs/Starting.antt. Tests: registry_tests/src/trigger_runs/commands.rt.
 ghost use Rattle.std.specs.Prelude.{◌≡◌, ◌++◌, ℕ, List, Some, None, false, drop, option_map, IfOk, OnOk};
 ghost use Rattle.std.specs.Process.{SameDir, SameEnv, clears_env, command_args, command_dir, command_program, command_var};
-ghost use Rattle.wm_triggers.specs.Starting.{first_files as first_files_lem, input_for, path_lines, file_paths, program_in, words_for};
+ghost use Rattle.wm_triggers.specs.Starting.{first_files as first_files_lem, input_for, path_lines, file_paths, launch_by, launch_for, program_in, words_for};
 
 use crate::run::Run;
 use std::alloc::Global;
@@ -117,4 +117,18 @@ pub fn run_input(alloc: Global, trigger: &Trigger, run: &Run) -> Result<Option<V
             Ok(Some(lines))
         }
     }
+}
+
+/// What starts the program of a run: its command, and what it reads. `NoMemory`.
+pub fn run_launch(
+    alloc: Global,
+    root: &RootPath,
+    trigger: &Trigger,
+    run: &Run,
+) -> Result<(Command, Option<Vec<u8>>), NoMemory>
+    ensures { IfOk result (λ made. launch_by made.0 (option_map (λ i. i.items) made.1) ≡ launch_for root.now trigger.now run.now) }
+{
+    let command = run_command(alloc, root, trigger, run)?;
+    let input = run_input(alloc, trigger, run)?;
+    Ok((command, input))
 }
