@@ -80,7 +80,7 @@ build: $(PROGRAM)
 $(PROGRAM) $(CLIENT) $(FEED) $(COMMANDS) &: $(SOURCES)
 	tools/build.py >&2
 
-# What a crawl or a long reply took goes back to the system by the C library's setting. A `format` that fails ends it, and has taken its file away. A part that a killed one left is answered `14 Damaged`.
+# What a crawl or a long reply took goes back to the system, and threads share eight arenas of memory, by the C library's settings. A `format` that fails ends it, and has taken its file away. A part that a killed one left is answered `14 Damaged`.
 run: $(PROGRAM) $(CLIENT) $(FEED)
 	@test -e $(STATE) || $(PROGRAM) format $(STATE) >&2
 	@echo "Try in another shell of this folder:"
@@ -88,7 +88,7 @@ run: $(PROGRAM) $(CLIENT) $(FEED)
 	@echo "  $(CLIENT) $(SOCKET) '[\"query\",\"$(CURDIR)\",{\"expression\":[\"suffix\",\"md\"],\"fields\":[\"name\"]}]'"
 	@echo "  $(CLIENT) $(SOCKET) '[\"subscribe\",\"$(CURDIR)\",\"s\",{\"expression\":[\"suffix\",\"md\"],\"fields\":[\"name\"]}]' --follow 1"
 	@echo "  $(FEED) $(SOCKET)   # tells it what changes in all that is watched (inotify-tools)"
-	@MALLOC_TRIM_THRESHOLD_=131072 $(PROGRAM) serve $(STATE) $(SOCKET)
+	@MALLOC_TRIM_THRESHOLD_=131072 MALLOC_ARENA_MAX=8 $(PROGRAM) serve $(STATE) $(SOCKET)
 
 lines: $(PROGRAM)
 	@test -e $(STATE) || $(PROGRAM) format $(STATE) >&2

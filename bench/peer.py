@@ -44,7 +44,7 @@ class Watchmand:
     def __init__(self, program, folder, *words):
         self.path = f"{folder}/ours.socket"
         subprocess.run([program, "format", f"{folder}/ours.state"], check=True, stdout=subprocess.DEVNULL)
-        asks = dict(os.environ, MALLOC_TRIM_THRESHOLD_="131072")  # as `make run` starts it
+        asks = dict(os.environ, MALLOC_TRIM_THRESHOLD_="131072", MALLOC_ARENA_MAX="8")  # as `make run` starts it
         self.process = subprocess.Popen([program, "serve", f"{folder}/ours.state", self.path, *words], stdout=subprocess.PIPE, env=asks)
         self.process.stdout.readline()
 

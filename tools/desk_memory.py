@@ -98,7 +98,7 @@ def main():
     chosen = words.parse_args()
     if chosen.commands < 2 * FIRST:
         words.error(f"--commands has to be {2 * FIRST} at least")
-    os.environ["MALLOC_TRIM_THRESHOLD_"] = "131072"  # as `make run` starts it
+    os.environ.update(MALLOC_TRIM_THRESHOLD_="131072", MALLOC_ARENA_MAX="8")  # as `make run` starts it
     for count in (1, 4):
         tried(chosen.program, count, chosen.commands)
     return 1 if failed else 0

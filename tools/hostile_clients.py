@@ -105,7 +105,7 @@ def tried(program, name, lines, reads, root, seconds):
     with tempfile.TemporaryDirectory() as folder:
         path = f"{folder}/socket"
         subprocess.run([program, "format", f"{folder}/state"], check=True, stdout=subprocess.DEVNULL)
-        asks = dict(os.environ, MALLOC_TRIM_THRESHOLD_="131072")  # as `make run` starts it
+        asks = dict(os.environ, MALLOC_TRIM_THRESHOLD_="131072", MALLOC_ARENA_MAX="8")  # as `make run` starts it
         server = subprocess.Popen([program, "serve", f"{folder}/state", path], stdout=subprocess.PIPE, env=asks)
         try:
             server.stdout.readline()

@@ -84,6 +84,7 @@ fn start(rt: &HostRuntime, places: &Places, name: &str, words: &[&str]) -> Resul
         command.arg(*word)?;
     }
     command.env("MALLOC_TRIM_THRESHOLD_", "131072")?;
+    command.env("MALLOC_ARENA_MAX", "8")?;
     command.env("WATCHMAND_EXPLAIN", "1")?;
     command.stdin(Stdio::null()).stdout(output).stderr(errors);
     match command.spawn(rt) {
