@@ -6,31 +6,53 @@ ghost use Rattle.wm_hall.specs.TriggerSteps.{EndsTriggers};
 use crate::waiting_sessions::QueueStep;
 use crate::wake_flag::FlagStep;
 use crate::wake_state::Wake;
-use std::marker::Model;
+use std::marker::{Model, PhantomData};
 use wm_hall::HallEnded;
 
-/// How many halls were ended.
+/// How many values of a kind were counted. What counts them alone raises it.
 #[derive(Drop)]
-pub struct HallsEnded {
-    count: usize,
+pub struct Counted<T> {
+    count: u64,
+    kind: PhantomData<T>,
 }
 
-impl Model for HallsEnded {
+impl<T> Model for Counted<T> {
     ghost use Rattle.std.specs.Prelude.{ℕ};
 
     ghost Value = { ℕ };
 
-    ghost view = { λ h. h.count };
+    ghost view = { λ c. c.count };
 }
 
-impl HallsEnded {
+/// How many halls were ended.
+pub type HallsEnded = Counted<HallEnded>;
+
+/// How many wake flags were closed: those of the slots from the first one on.
+pub type FlagsClosed = Counted<FlagStep>;
+
+/// How many sessions were admitted.
+pub type SessionsAdmitted = Counted<QueueStep>;
+
+impl<T> Counted<T> {
     /// None yet.
-    pub fn none() -> HallsEnded
+    pub fn none() -> Counted<T>
         ensures { result ≡ 0 }
     {
-        HallsEnded { count: 0 }
+        Counted {
+            count: 0,
+            kind: PhantomData,
+        }
     }
 
+    /// How many.
+    pub fn count(&self) -> u64
+        ensures { result ≡ self.now }
+    {
+        self.count
+    }
+}
+
+impl Counted<HallEnded> {
     /// One more, whose work and whose triggers have ended.
     pub fn add(&mut self, ended: HallEnded)
         requires room { self.old < 2 ^ 64 - 1 }
@@ -42,28 +64,7 @@ impl HallsEnded {
     }
 }
 
-/// How many wake flags were closed: those of the slots from the first one on.
-#[derive(Drop)]
-pub struct FlagsClosed {
-    count: usize,
-}
-
-impl Model for FlagsClosed {
-    ghost use Rattle.std.specs.Prelude.{ℕ};
-
-    ghost Value = { ℕ };
-
-    ghost view = { λ f. f.count };
-}
-
-impl FlagsClosed {
-    /// None yet.
-    pub fn none() -> FlagsClosed
-        ensures { result ≡ 0 }
-    {
-        FlagsClosed { count: 0 }
-    }
-
+impl Counted<FlagStep> {
     /// That of the next slot, as its step says.
     pub fn add(&mut self, flag: FlagStep)
         requires room { self.old < 2 ^ 64 - 1 }
@@ -76,35 +77,7 @@ impl FlagsClosed {
     }
 }
 
-/// How many sessions were admitted.
-#[derive(Drop)]
-pub struct SessionsAdmitted {
-    count: u64,
-}
-
-impl Model for SessionsAdmitted {
-    ghost use Rattle.std.specs.Prelude.{ℕ};
-
-    ghost Value = { ℕ };
-
-    ghost view = { λ s. s.count };
-}
-
-impl SessionsAdmitted {
-    /// None yet.
-    pub fn none() -> SessionsAdmitted
-        ensures { result ≡ 0 }
-    {
-        SessionsAdmitted { count: 0 }
-    }
-
-    /// How many.
-    pub fn count(&self) -> u64
-        ensures { result ≡ self.now }
-    {
-        self.count
-    }
-
+impl Counted<QueueStep> {
     /// One more, which the accept queue has from this step on.
     pub fn add(&mut self, step: QueueStep)
         requires room { self.old < 2 ^ 64 - 1 }
