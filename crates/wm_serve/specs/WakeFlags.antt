@@ -2,6 +2,8 @@
 use Rattle.std.specs.Prelude.{◌≡◌, ◌^◌, ◌%◌, ℕ, ◌==◌, not, bit_and, bit_or, Bool, true, false, if◌then◌else◌, List, length, Some, slice_get}
 use Rattle.wm_hall.specs.LockedSteps.{StepState}
 use Rattle.wm_serve.specs.declared.notified.NotifiedFlags.{NotifiedFlags}
+use Rattle.wm_serve.specs.declared.notified.Published.{Published}
+use Rattle.wm_serve.specs.declared.notified.Published.TheVariants.{Reading, Change, End}
 use Rattle.wm_serve.specs.declared.wake_state.Wake.{Wake}
 use Rattle.wm_serve.specs.declared.wake_state.WakeState.{WakeState}
 use Rattle.wm_serve.specs.declared.wake_flag.WakeFlag.{WakeFlag}
@@ -67,6 +69,12 @@ AreSlotFlags flags = (length flags ≡ slot_count) × ((i : ℕ) (flag : WakeFla
 -- these roots have changed: lines may be due if the session has a subscription on one of them
 abbrev pub HasNotified : ℕ → StepState WakeState → Type 0
 HasNotified roots step = step.after ≡ (if has_common step.before.roots roots then record step.before { wake = set_wake step.before.wake } else step.before)
+
+-- the number of the root of which that was published
+abbrev pub root_published : Published → ℕ
+root_published (Reading handed_in) = handed_in.now.root
+root_published (Change changed) = changed.now.root
+root_published (End ended) = ended.now.triggers.root
 
 -- each of so many flags was notified of a change of the root of the number
 abbrev pub NotifiesAll : ℕ → ℕ → NotifiedFlags → Type 0

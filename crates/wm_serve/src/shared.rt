@@ -7,7 +7,7 @@ ghost use Rattle.std.specs.List.{list_any};
 ghost use Rattle.wm_names.specs.Paths.{Path};
 ghost use Rattle.wm_serve.specs.FollowedCommands.{hall_name};
 ghost use Rattle.wm_serve.specs.FollowedRoots.{FillsRoot, FollowsCommand, IsStepOf, left_to_halls, numbered_roots};
-ghost use Rattle.wm_serve.specs.WakeFlags.{AreSlotFlags, HasWaited, NotifiesAll, noted_flag, slot_count};
+ghost use Rattle.wm_serve.specs.WakeFlags.{AreSlotFlags, HasWaited, NotifiesAll, noted_flag, root_published, slot_count};
 ghost use Rattle.wm_serve.specs.WatchedRoots.{FindsHall, MayHaveHad, MayHaveLacked, MayHaveLackedNumber, has_path};
 
 use crate::event_log::EventLog;
@@ -217,6 +217,7 @@ impl<T: ServerDesk, J: Naming, K: Wait + Clock + Copy + Drop> Shared<T, J, K> {
     /// Lines may be due to each session that has a subscription on the root of this number, since something was published of it: each wake
     /// flag is notified.
     pub fn notify<R: Wait>(&self, rt: &R, root: u64, _published: Published<'_>) -> NotifiedFlags
+        requires { root_published _published ≡ root }
         ensures { NotifiesAll (length self.now.wakes.items) root result }
     {
         self.notify_flags(rt, bit_of(root))
