@@ -1,6 +1,6 @@
 //! The socket.
 //! Definitions: specs/Sockets.antt. Tests: serve_tests/src/sockets.rt.
-ghost use Rattle.std.specs.Prelude.{◌≡◌, ◌&&◌};
+ghost use Rattle.std.specs.Prelude.{◌≡◌, ◌&&◌, true};
 ghost use Rattle.std.specs.Fs.{permissions_mode};
 ghost use Rattle.wm_serve.specs.Sockets.{is_own_file};
 
@@ -93,6 +93,18 @@ fn is_own(own: Option<Identity>, found: Option<Identity>) -> bool
     }
 }
 
+/// Removes a file that was found to be a server's own.
+fn remove_own<R: Files<File = File>>(
+    rt: &R,
+    path: &str,
+    own: Option<Identity>,
+    found: Option<Identity>,
+) -> io::Result<()>
+    requires { is_own_file own found ≡ true }
+{
+    fs::remove_file(rt, path)
+}
+
 /// The socket of a server, which listens: where it stands, which file it was when it was made, and whether it replaced one. Nobody can drop
 /// it: it is removed at the end.
 pub struct ServerSocket<'a> {
@@ -139,8 +151,9 @@ impl<'a> ServerSocket<'a> {
             replaced: _,
         } = self;
         drop(listener);
-        if is_own(own, identity_of(rt, path)) {
-            let _gone = fs::remove_file(rt, path);
+        let found = identity_of(rt, path);
+        if is_own(own, found) {
+            let _gone = remove_own(rt, path, own, found);
         }
     }
 }
