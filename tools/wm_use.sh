@@ -142,6 +142,25 @@ says 0 "a server answers at $socket
 a feed was started" wm up
 says 0 '' wm sync
 says 0 'FOLDER/work: ready, fed' bash -c 'wm status | tail -1'
+
+# A server that was stopped: it is said that its answer is waited for, which comes once the server goes on.
+stopped() {
+    local server
+    server=$(cat "$XDG_STATE_HOME/watchmand/watchmand.pid")
+    kill -STOP "$server"
+    (sleep 1.5 && kill -CONT "$server") > "$folder/continued" 2>&1 &
+    "$@"
+}
+silent="wm: $socket: the server's answer is waited for: it is busy, or it was stopped"
+says 0 "$silent
+FOLDER/work" stopped wm list
+says 0 "$silent
+server: $socket
+FOLDER/work: ready, fed" stopped wm status
+says 0 "$silent
+lib/new.c" stopped wm files . 'new.c'
+
+# A feed that was stopped.
 kill -STOP "$(cat "$XDG_STATE_HOME/watchmand/wmfeed.pid")"
 mkdir unready
 touch unready/a

@@ -27,11 +27,11 @@ pub fn sync(server: &Server<'_>, root: &str) -> Result<(), Failure> {
     }
     await_crawl(server, root)?;
     let json = root_line(server.rt.alloc(), "clock", root)?;
-    match server.ask(json, Some(root))? {
-        Reply::Line(_) => Ok(()),
-        Reply::Refused(refusal, line) => Err(server.refused(root, refusal, &line)),
-        Reply::NoSession => Err(server.no_session()),
-        Reply::NoFeed => {
+    match server.ask_synced(root, json)? {
+        Some(Reply::Line(_)) => Ok(()),
+        Some(Reply::Refused(refusal, line)) => Err(server.refused(root, refusal, &line)),
+        Some(Reply::NoSession) => Err(server.no_session()),
+        None => {
             let is_running = is_fed(server.rt, server.socket, false)?;
             crawl_instead(server, root, is_running)
         }
@@ -53,7 +53,8 @@ pub fn answer_line(
     }
     let expression = expression_of(server, place, order)?;
     let json = query_line(server.rt.alloc(), &place.root, since, expression, is_json)?;
-    server.line(&place.root, json)
+    let mut waiting = Waiting::for_answer(server)?;
+    waiting.line(server, &place.root, &json)
 }
 
 /// Handles `files` and `changes`.

@@ -21,7 +21,7 @@ fn is_crawled(server: &Server<'_>, root: &str, waiting: &mut Waiting) -> Result<
     let json = root_line(server.rt.alloc(), "clock", root)?;
     match waiting.ask(server, root, &json)? {
         Reply::Line(_) => Ok(true),
-        Reply::Refused(Some(Refusal::NotReady), _) | Reply::NoFeed => Ok(false),
+        Reply::Refused(Some(Refusal::NotReady), _) => Ok(false),
         Reply::Refused(refusal, line) => Err(server.refused(root, refusal, &line)),
         Reply::NoSession => Err(server.no_session()),
     }
@@ -60,7 +60,6 @@ fn crawl_telling(server: &Server<'_>, root: &str, waiting: &mut Waiting) -> Resu
         Reply::Refused(Some(Refusal::DeviceFailed), _) => Err(uncrawled(server, root)?),
         Reply::Refused(refusal, line) => Err(server.refused(root, refusal, &line)),
         Reply::NoSession => Err(server.no_session()),
-        Reply::NoFeed => Err(server.lost("no feed")),
     }
 }
 

@@ -2,6 +2,7 @@
 
 use crate::failure::{Failure, failed};
 use crate::server::{Server, bare};
+use crate::waiting::Waiting;
 use serde_json::Value;
 use wm_commands::{NO_ROOT_ADVICE, expression, fits_in_pattern, holder_of, name_in};
 use wm_disk::Refusal;
@@ -18,7 +19,10 @@ pub struct Place {
 /// The watched roots.
 pub fn roots(server: &Server<'_>) -> Result<Vec<RootPath>, Failure> {
     let alloc = server.rt.alloc();
-    let reply = server.value(server.socket, bare(alloc, "watch-list")?)?;
+    let json = bare(alloc, "watch-list")?;
+    let mut waiting = Waiting::for_roots(server)?;
+    let line = waiting.line(server, server.socket, &json)?;
+    let reply = server.value(&line)?;
     let mut roots = Vec::new(alloc);
     let Some(listed) = reply.get("roots").and_then(Value::as_array) else {
         return Err(server.lost("its reply lists no roots"));

@@ -29,8 +29,6 @@ pub enum Reply {
     Refused(Option<Refusal>, String),
     /// The server refused the session, since all of its sessions are taken.
     NoSession,
-    /// No feed synced the root in time.
-    NoFeed,
 }
 
 /// For how many milliseconds a feed is waited for.
@@ -112,27 +110,24 @@ impl Server<'_> {
         }
     }
 
-    /// Sends a request, behind a sync of a root if one is named.
-    pub fn ask(&self, json: String, synced: Option<&str>) -> Result<Reply, Failure> {
+    /// Sends a request behind a sync of a root. `None` if no feed synced it in time.
+    pub fn ask_synced(&self, root: &str, json: String) -> Result<Option<Reply>, Failure> {
         let alloc = self.rt.alloc();
-        let sync = match synced {
-            Some(root) => Some(Sync {
-                root: String::from_str(alloc, root)?,
-                timeout: PATIENCE,
-            }),
-            None => None,
+        let sync = Sync {
+            root: String::from_str(alloc, root)?,
+            timeout: PATIENCE,
         };
         let request = Request {
             socket: String::from_str(alloc, self.socket)?,
             json,
             follow: 0,
-            sync,
+            sync: Some(sync),
         };
         self.talk(&request)
     }
 
-    /// Sends a request over a connection of its own.
-    fn talk(&self, request: &Request) -> Result<Reply, Failure> {
+    /// Sends a request over a connection of its own, behind its sync. `None` if no feed synced the root in time.
+    fn talk(&self, request: &Request) -> Result<Option<Reply>, Failure> {
         let alloc = self.rt.alloc();
         let stream = self.connected()?;
         let mut replies = BufReader::new(alloc, &stream)?;
@@ -153,7 +148,7 @@ impl Server<'_> {
         if refusal_of(&printed) == Some(Refusal::TooMany)
             && self.is_closed(&stream, &mut replies)?
         {
-            return Ok(Reply::NoSession);
+            return Ok(Some(Reply::NoSession));
         }
         self.reply(end, &printed)
     }
@@ -168,15 +163,15 @@ impl Server<'_> {
         }
     }
 
-    /// The reply of a talk that ended so, after it printed these bytes.
-    fn reply(&self, end: SyncEnd, printed: &[u8]) -> Result<Reply, Failure> {
+    /// The reply of a talk that ended so, after it printed these bytes. `None` if no feed synced the root in time.
+    fn reply(&self, end: SyncEnd, printed: &[u8]) -> Result<Option<Reply>, Failure> {
         let line = self.text(printed)?;
         match end {
-            SyncEnd::Talked(TalkEnd::Told) => Ok(Reply::Line(line)),
+            SyncEnd::Talked(TalkEnd::Told) => Ok(Some(Reply::Line(line))),
             SyncEnd::Talked(TalkEnd::Refused) | SyncEnd::Unsynced(TalkEnd::Refused) => {
-                Ok(Reply::Refused(refusal_of(printed), line))
+                Ok(Some(Reply::Refused(refusal_of(printed), line)))
             }
-            SyncEnd::NoFeed => Ok(Reply::NoFeed),
+            SyncEnd::NoFeed => Ok(None),
             _ => Err(self.lost("it ended before it replied")),
         }
     }
@@ -283,23 +278,9 @@ impl Server<'_> {
         }
     }
 
-    /// The line of the reply to a request about a folder; a refusal is a failure.
-    pub fn line(&self, about: &str, json: String) -> Result<String, Failure> {
-        let asked = json.clone()?;
-        match self.ask(json, None)? {
-            Reply::Line(line) => Ok(line),
-            Reply::Refused(refusal, line) => {
-                Err(self.explained(self.refused(about, refusal, &line), &asked))
-            }
-            Reply::NoSession => Err(self.no_session()),
-            Reply::NoFeed => Err(self.lost("no feed")),
-        }
-    }
-
-    /// The value of the reply to a request about a folder.
-    pub fn value(&self, about: &str, json: String) -> Result<Value, Failure> {
-        let line = self.line(about, json)?;
-        match Value::from_str(self.rt.alloc(), &line) {
+    /// The value that the line of a reply is.
+    pub fn value(&self, line: &str) -> Result<Value, Failure> {
+        match Value::from_str(self.rt.alloc(), line) {
             Ok(value) => Ok(value),
             Err(_) => Err(self.lost("its reply is no JSON")),
         }

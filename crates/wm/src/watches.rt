@@ -30,14 +30,7 @@ fn note_unreadable(server: &Server<'_>, dir: &str, waiting: &mut Waiting) -> Res
 pub fn watch(server: &Server<'_>, dir: &str) -> Result<u8, Failure> {
     let json = root_line(server.rt.alloc(), "watch", dir)?;
     let mut waiting = Waiting::for_answer(server)?;
-    match waiting.ask(server, dir, &json)? {
-        Reply::Line(_) => {}
-        Reply::Refused(refusal, line) => {
-            return Err(server.explained(server.refused(dir, refusal, &line), &json));
-        }
-        Reply::NoSession => return Err(server.no_session()),
-        Reply::NoFeed => return Err(server.lost("no feed")),
-    }
+    let _line = waiting.line(server, dir, &json)?;
     println!(server.rt; "{dir}")?;
     note_unreadable(server, dir, &mut waiting)?;
     Ok(0)
@@ -50,7 +43,8 @@ pub fn unwatch(server: &Server<'_>, named: Option<&str>) -> Result<u8, Failure> 
     let roots = roots(server)?;
     let root = named_root(&roots, &path, &folder);
     let json = root_line(server.rt.alloc(), "watch-del", root)?;
-    let _line = server.line(root, json)?;
+    let mut waiting = Waiting::for_answer(server)?;
+    let _line = waiting.line(server, root, &json)?;
     println!(server.rt; "{root}")?;
     Ok(0)
 }
@@ -114,7 +108,6 @@ fn answered_status(
         Reply::Line(line) => Ok(String::from_str(alloc, crawled_status(server, &line, has_feed)?)?),
         Reply::Refused(refusal, line) => refused_status(server, refusal, &line, is_stuck),
         Reply::NoSession => Ok(format!(in alloc; "not known: {NO_SESSION}")?),
-        Reply::NoFeed => Ok(String::from_str(alloc, "unknown")?),
     }
 }
 
