@@ -162,6 +162,7 @@ lib/new.c" stopped wm files . 'new.c'
 
 # A feed that was stopped.
 kill -STOP "$(cat "$XDG_STATE_HOME/watchmand/wmfeed.pid")"
+says 0 'FOLDER/work: ready, fed by a stopped process' bash -c 'wm status | tail -1'
 mkdir unready
 touch unready/a
 says 0 'FOLDER/work/unready' wm watch unready

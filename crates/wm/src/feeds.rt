@@ -78,6 +78,29 @@ pub fn is_fed(rt: &HostRuntime, socket: &str, is_for_all: bool) -> Result<bool, 
     Ok(process_that(rt, role, socket)?.is_some())
 }
 
+/// What is seen of the feeds for a server.
+#[derive(Clone, Copy, PartialEq, Eq)]
+pub enum FeedsFound {
+    /// There is none.
+    Missing,
+    /// A signal stopped each of them.
+    Stopped,
+    /// One runs.
+    Running,
+}
+
+/// What is seen of the feeds for the server at a socket.
+pub fn feeds_found(rt: &HostRuntime, socket: &str) -> Result<FeedsFound, Failure> {
+    if process_that(rt, Role::UnstoppedFeed, socket)?.is_some() {
+        return Ok(FeedsFound::Running);
+    }
+    if is_fed(rt, socket, false)? {
+        Ok(FeedsFound::Stopped)
+    } else {
+        Ok(FeedsFound::Missing)
+    }
+}
+
 /// How a feed is started: what has to be installed for it is named if it isn't there.
 pub fn start_advice(rt: &HostRuntime) -> Result<&'static str, Failure> {
     Ok(feed_advice(has_inotifywait(rt)?))

@@ -12,6 +12,8 @@ pub enum Role {
     Server,
     /// It is a feed for the server there.
     Feed,
+    /// It is such a feed, and no signal stopped it.
+    UnstoppedFeed,
     /// It is such a feed, and one for all roots.
     FeedOfAll,
 }
@@ -22,6 +24,9 @@ impl Role {
         match self {
             Role::Server => is_server_in(rt, process, socket),
             Role::Feed => is_feed_in(rt, process, socket, false),
+            Role::UnstoppedFeed => {
+                Ok(is_feed_in(rt, process, socket, false)? && !is_stopped(rt, process)?)
+            }
             Role::FeedOfAll => is_feed_in(rt, process, socket, true),
         }
     }
@@ -53,6 +58,15 @@ pub fn is_program(words: &str, name: &str) -> bool {
     match program.rsplit_once('/') {
         Some((_, last)) => last == name,
         None => program == name,
+    }
+}
+
+/// Whether a signal stopped a process, whose folder in /proc is named.
+fn is_stopped(rt: &HostRuntime, process: &str) -> Result<bool, Failure> {
+    let file = format!(in rt.alloc(); "{process}/status")?;
+    match fs::read_to_string(rt, file.as_str()) {
+        Ok(status) => Ok(status.as_str().contains("\nState:\tT")),
+        Err(_) => Ok(false),
     }
 }
 

@@ -2,7 +2,7 @@
 
 use crate::failure::Failure;
 use crate::feed_looks::is_ready;
-use crate::feeds::{is_fed, start_advice};
+use crate::feeds::{FeedsFound, feeds_found, start_advice};
 use crate::place::{place_of, roots};
 use crate::places::{gone_folder, whole};
 use crate::server::{Reply, Server};
@@ -62,12 +62,13 @@ pub fn list(server: &Server<'_>) -> Result<u8, Failure> {
 fn crawled_status(
     server: &Server<'_>,
     line: &str,
-    has_feed: bool,
+    feeds: FeedsFound,
 ) -> Result<&'static str, Failure> {
     let Some(number) = root_number_of(server.rt.alloc(), line.as_bytes())? else {
         return Ok("unknown");
     };
-    match Feeding::of(has_feed, is_ready(server, number)?) {
+    match Feeding::of(feeds != FeedsFound::Missing, is_ready(server, number)?) {
+        Feeding::Fed if feeds == FeedsFound::Stopped => Ok("ready, fed by a stopped process"),
         Feeding::Fed => Ok("ready, fed"),
         Feeding::Unready | Feeding::Unfed => Ok("ready, not fed"),
     }
@@ -98,14 +99,14 @@ fn refused_status(
 fn answered_status(
     server: &Server<'_>,
     root: &str,
-    has_feed: bool,
+    feeds: FeedsFound,
     is_stuck: bool,
     waiting: &mut Waiting,
 ) -> Result<String, Failure> {
     let alloc = server.rt.alloc();
     let json = root_line(alloc, "clock", root)?;
     match waiting.ask(server, root, &json)? {
-        Reply::Line(line) => Ok(String::from_str(alloc, crawled_status(server, &line, has_feed)?)?),
+        Reply::Line(line) => Ok(String::from_str(alloc, crawled_status(server, &line, feeds)?)?),
         Reply::Refused(refusal, line) => refused_status(server, refusal, &line, is_stuck),
         Reply::NoSession => Ok(format!(in alloc; "not known: {NO_SESSION}")?),
     }
@@ -115,13 +116,13 @@ fn answered_status(
 fn print_folder(
     server: &Server<'_>,
     root: &str,
-    has_feed: bool,
+    feeds: FeedsFound,
     looks: &mut Looks,
 ) -> Result<(), Failure> {
     let mut waiting = Waiting::for_answer(server)?;
     let unread = unreadable_below(server, root, root, looks, &mut waiting)?;
-    let is_stuck = !has_feed && !unread.is_empty();
-    let status = answered_status(server, root, has_feed, is_stuck, &mut waiting)?;
+    let is_stuck = feeds == FeedsFound::Missing && !unread.is_empty();
+    let status = answered_status(server, root, feeds, is_stuck, &mut waiting)?;
     println!(server.rt; "{root}: {status}")?;
     name_unreadable(server, root, &unread)
 }
@@ -130,12 +131,12 @@ fn print_folder(
 fn print_root(
     server: &Server<'_>,
     root: &str,
-    has_feed: bool,
+    feeds: FeedsFound,
     looks: &mut Looks,
 ) -> Result<(), Failure> {
     let rt = server.rt;
     match root_seen(rt, root) {
-        RootSeen::Folder => return print_folder(server, root, has_feed, looks),
+        RootSeen::Folder => return print_folder(server, root, feeds, looks),
         RootSeen::Unreadable => {
             let text = unreadable_text(server, root)?;
             println!(rt; "{text}")?;
@@ -155,14 +156,14 @@ pub fn status(server: &Server<'_>) -> Result<u8, Failure> {
     let socket = server.socket;
     let roots = roots(server)?;
     println!(server.rt; "server: {socket}")?;
-    let has_feed = is_fed(server.rt, socket, false)?;
-    if !has_feed {
+    let feeds = feeds_found(server.rt, socket)?;
+    if feeds == FeedsFound::Missing {
         let advice = start_advice(server.rt)?;
         println!(server.rt; "no feed runs: {advice}")?;
     }
     let mut looks = Looks::long(server)?;
     for root in &roots {
-        print_root(server, root.as_str(), has_feed, &mut looks)?;
+        print_root(server, root.as_str(), feeds, &mut looks)?;
     }
     Ok(0)
 }
