@@ -34,7 +34,8 @@ NO_WATCH = "the root isn't watched: 'wm watch ROOT' or [\"watch\",ROOT] watches 
 NO_LIST = "a request is a list that begins with the name of a command, as [\"watch-list\"]"
 NO_SESSION = "all of the server's 31 sessions are taken: try later, or end what holds them, as 'wm run' and feeds do"
 NO_CRAWL = "the root isn't crawled yet: try again, or send [\"recrawl\",ROOT], which waits"
-NO_READING = "a folder of the root can't be read, which 'wm status' and the server's log name (that of 'wm up' is ~/.local/state/watchmand/log): give the server's user the right to it, or watch a folder below"
+NO_READING = "a folder of the root can't be read, which 'wm status' and the server's log name: give the server's user the right to it, or watch a folder below"
+LOG = "the log of a server that 'wm up' started is %s/watchmand/log"
 UNREAD = "the folder can't be read; what is in it isn't listed, or is known from before"
 OF_ANOTHER = "this is another user's, and there is no right to it: name the socket of your own server, which 'wm up' starts"
 WAITS = "wmctl waits for an answer: the server is busy, or it was stopped\n"
@@ -225,7 +226,7 @@ def request_cases(root):
 
 def run(place, words, explain, no_rights):
     """The status, the output and the errors of a program."""
-    env = {key: value for key, value in os.environ.items() if key != "WATCHMAND_EXPLAIN"}
+    env = {key: value for key, value in os.environ.items() if key not in ("WATCHMAND_EXPLAIN", "XDG_STATE_HOME")}
     if explain:
         env["WATCHMAND_EXPLAIN"] = "1"
     rights = without_rights() if no_rights else {}
@@ -356,8 +357,10 @@ def check_unread(checks, place, wmctl):
             checks.same(f"{request} with {count} unreadable (explained)", run(place, words, True, True), (0, output, further))
         if rights:
             checks.same("a query by another user", run(place, asked, True, False), run(place, asked, False, False))
-    refused = run(place, [wmctl, "theirs/sock", '["recrawl","%s"]' % root], True, True)
-    checks.same("recrawl with 5 unreadable", refused, (1, '{"error":"13 DeviceFailed","version":"w1"}\n', f"{NO_READING}\n{further}"))
+    recrawl = [wmctl, "theirs/sock", '["recrawl","%s"]' % root]
+    for words, state in ((recrawl, "~/.local/state"), (["env", "XDG_STATE_HOME=", *recrawl], "~/.local/state"), (["env", "XDG_STATE_HOME=/x/state", *recrawl], "/x/state")):
+        lines = f"{NO_READING}\n{LOG % state}\n{further}"
+        checks.same(f"recrawl with 5 unreadable, log in {state}", run(place, words, True, True), (1, '{"error":"13 DeviceFailed","version":"w1"}\n', lines))
     for folder in folders:
         os.chmod(folder, 0o755)
 
@@ -370,7 +373,7 @@ def check_unready(checks, place, wmctl):
         watched = '{"version":"w1","watch":"%s"}\n' % root
         named = "" if root == dark else f"{dark}: {UNREAD}"
         check(checks, place, [wmctl, "theirs/sock", '["watch","%s"]' % root], 0, watched, "", named or unreadable, True)
-        unread = f"{unread}\n{named}" if named else unread
+        unread = f"{unread}\n{LOG % '~/.local/state'}\n{named}" if named else unread
         for request, refusal, further in (("clock", "6 NotReady", unready), ("recrawl", "13 DeviceFailed", unread)):
             words = [wmctl, "theirs/sock", '["%s","%s"]' % (request, root)]
             check(checks, place, words, 1, '{"error":"%s","version":"w1"}\n' % refusal, "", further, True)

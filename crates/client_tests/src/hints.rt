@@ -4,7 +4,8 @@ use std::alloc::Global;
 use std::process::Abort;
 use wm_disk::Refusal;
 use wm_parts::{
-    RequestKind, advice_line, braces_hint, no_feed_line, refusal_line, request_kind, root_asked,
+    RequestKind, advice_line, braces_hint, log_line, no_feed_line, refusal_line, request_kind,
+    root_asked,
 };
 
 /// Requests, the kind of each, and the root about which it is; an empty one if there is none.
@@ -141,7 +142,7 @@ const REFUSED: &[(Refusal, &str, &str)] = &[
     (
         Refusal::DeviceFailed,
         "[\"recrawl\",\"/r\"]",
-        "a folder of the root can't be read, which 'wm status' and the server's log name (that of 'wm up' is ~/.local/state/watchmand/log): give the server's user the right to it, or watch a folder below\n",
+        "a folder of the root can't be read, which 'wm status' and the server's log name: give the server's user the right to it, or watch a folder below\n",
     ),
     (
         Refusal::Exhausted,
@@ -256,5 +257,12 @@ fn says_that_no_feed_answers(rt: HostRuntime) {
     let said = no_feed_line(rt.alloc(), "s").expect(&rt, "memory");
     let line =
         "no feed answered in time: 'wm up' or 'wmfeed s' starts one, and --sync-timeout gives it more time; without one send [\"recrawl\",ROOT], and then ask\n";
+    check!(rt; said.as_str() == line, said);
+}
+
+#[test]
+fn says_where_the_log_is(rt: HostRuntime) {
+    let said = log_line(rt.alloc(), "/s\n/watchmand/log").expect(&rt, "memory");
+    let line = "the log of a server that 'wm up' started is /s\\x0a/watchmand/log\n";
     check!(rt; said.as_str() == line, said);
 }

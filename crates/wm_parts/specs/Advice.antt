@@ -20,7 +20,7 @@ at_too_many kinds.Recrawl = codes "all of the server's 31 sessions are taken: tr
 at_too_many kinds.Other = codes "all of the server's 31 sessions are taken: try later, or end what holds them, as 'wm run' and feeds do"
 
 abbrev pub at_failure : RequestKind → List ℕ
-at_failure kinds.Recrawl = codes "a folder of the root can't be read, which 'wm status' and the server's log name (that of 'wm up' is ~/.local/state/watchmand/log): give the server's user the right to it, or watch a folder below"
+at_failure kinds.Recrawl = codes "a folder of the root can't be read, which 'wm status' and the server's log name: give the server's user the right to it, or watch a folder below"
 at_failure kind = codes "the server can't write its state file: look at the disk and at the server's log, start it again, and ask what is there by watch-list or trigger-list"
 
 -- the cause is in the request
@@ -54,6 +54,10 @@ advice_line refusal kind = refusal_advice refusal kind ++ codes "\n"
 -- what to do if no feed answered a sync
 abbrev pub no_feed_line : (socket : List ℕ) → List ℕ
 no_feed_line socket = codes "no feed answered in time: 'wm up' or 'wmfeed " ++ socket ++ codes "' starts one, and --sync-timeout gives it more time; without one send [\"recrawl\",ROOT], and then ask\n"
+
+-- where the log is of a server that `wm up` started
+abbrev pub log_line : (log : List ℕ) → List ℕ
+log_line log = codes "the log of a server that 'wm up' started is " ++ log ++ codes "\n"
 
 -- ---- the line of a refusal
 

@@ -34,7 +34,7 @@ fn at_failure(kind: RequestKind) -> &'static str
 {
     match kind {
         RequestKind::Recrawl => {
-            "a folder of the root can't be read, which 'wm status' and the server's log name (that of 'wm up' is ~/.local/state/watchmand/log): give the server's user the right to it, or watch a folder below"
+            "a folder of the root can't be read, which 'wm status' and the server's log name: give the server's user the right to it, or watch a folder below"
         }
         _ => {
             "the server can't write its state file: look at the disk and at the server's log, start it again, and ask what is there by watch-list or trigger-list"

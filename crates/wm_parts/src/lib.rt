@@ -6,8 +6,8 @@
 //! request as a server does, and says its part in a line. [`refusal_line`] says why the refusal came that a server replied, and what to do:
 //! the request's part, or else an advice by the kind of the request ([`advice_line`]).
 //!
-//! [`braces_hint`] is about a pattern that lists nothing, and [`no_feed_line`] about a sync for which no feed answered. Nothing here talks
-//! to the system.
+//! [`braces_hint`] is about a pattern that lists nothing, [`no_feed_line`] about a sync for which no feed answered, and [`log_line`] about a
+//! server's log. Nothing here talks to the system.
 //!
 //! | Of | Definitions |
 //! |---|---|
@@ -40,6 +40,6 @@ pub use keys::Asking;
 pub use kinds::{RequestKind, request_kind, root_asked};
 pub use lines::{explanation, root_explanation};
 pub use parts::{Part, part_in};
-pub use refusals::{advice_line, no_feed_line, refusal_line};
+pub use refusals::{advice_line, log_line, no_feed_line, refusal_line};
 pub use terms::refused_term;
 pub use values::Key;

@@ -1,10 +1,10 @@
-//! The lines of a refusal that a server replied, and of a sync that no feed answered. Definitions: specs/Advice. Tests: client_tests/src/hints.rt.
+//! The lines of a refusal that a server replied, of its log, and of a sync that no feed answered. Definitions: specs/Advice. Tests: client_tests/src/hints.rt.
 ghost use Rattle.std.specs.Prelude.{◌≡◌, ◌++◌, IfOk, codes, string_bytes};
 ghost use Rattle.serde_json.specs.Read.{read as read_text};
 ghost use Rattle.serde_json.specs.View.{view};
 ghost use Rattle.wm_explain.specs.Shown.{shown_text};
 ghost use Rattle.wm_lines.specs.RecrawlLines.{server_request_of_line};
-ghost use Rattle.wm_parts.specs.Advice.{Explains, SaysPartOr, SaysRead, advice_line, no_feed_line};
+ghost use Rattle.wm_parts.specs.Advice.{Explains, SaysPartOr, SaysRead, advice_line, log_line, no_feed_line};
 ghost use Rattle.wm_parts.specs.RefusedParts.{refusing_part};
 
 use crate::advice::advice_of;
@@ -64,4 +64,12 @@ pub fn no_feed_line(alloc: Global, socket: &str) -> Result<String, NoMemory>
         "no feed answered in time: 'wm up' or 'wmfeed {socket}' starts one, and --sync-timeout gives it more time; without one send [\"recrawl\",ROOT], and then ask\n"
     )?;
     Ok(text)
+}
+
+/// The line that says where the log is of a server that `wm up` started.
+pub fn log_line(alloc: Global, log: &str) -> Result<String, NoMemory>
+    ensures { IfOk result (λ line. string_bytes line ≡ log_line (shown_text log.now)) }
+{
+    let log = shown(alloc, log)?;
+    Ok(format!(in alloc; "the log of a server that 'wm up' started is {log}\n")?)
 }

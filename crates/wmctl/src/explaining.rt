@@ -1,8 +1,11 @@
 //! The further line that explains a failure, or an answer that misleads, on a terminal. Tests: tools/quick_messages.py.
 
 use std::alloc::Global;
+use std::env;
+use std::env::VarError;
 use std::fs::{File, Files};
 use std::net::Net;
+use std::rt::Env;
 use std::time::Clock;
 use wm_client::{Request, Words};
 use wm_disk::{NoMemory, Refusal};
@@ -11,7 +14,7 @@ use wm_findings::{
     unread_below, unread_line,
 };
 use wm_parts::{
-    RequestKind, braces_hint, no_feed_line, refusal_line, request_kind, root_asked,
+    RequestKind, braces_hint, log_line, no_feed_line, refusal_line, request_kind, root_asked,
     root_explanation,
 };
 
@@ -205,8 +208,43 @@ fn seen_line<R: Files<File = File>>(
     }
 }
 
-/// The line of a refusal.
-fn refused_line<R: Files<File = File>>(
+/// Whether a crawl was refused since a folder can't be read.
+fn is_of_crawl(alloc: Global, refusal: Refusal, request: &Request) -> Result<bool, NoMemory> {
+    Ok(
+        refusal == Refusal::DeviceFailed
+            && request_kind(alloc, &request.json)? == RequestKind::Recrawl,
+    )
+}
+
+/// The log of a server that `wm up` started with this environment.
+fn log_path<R: Env + Alloc>(rt: &R, alloc: Global) -> Result<String, NoMemory> {
+    match env::var(rt, "XDG_STATE_HOME") {
+        Ok(state) if !state.as_str().is_empty() => {
+            Ok(format!(in alloc; "{state}/watchmand/log")?)
+        }
+        Err(VarError::OutOfMemory) => Err(NoMemory),
+        _ => Ok(String::from_str(alloc, "~/.local/state/watchmand/log")?),
+    }
+}
+
+/// The lines of a refusal that no look explains. Behind that of a crawl stands where the log is that names the folder.
+fn unseen_lines<R: Env + Alloc>(
+    rt: &R,
+    alloc: Global,
+    refusal: Refusal,
+    request: &Request,
+) -> Result<String, NoMemory> {
+    let mut text = refusal_line(alloc, refusal, &request.json)?;
+    if is_of_crawl(alloc, refusal, request)? {
+        let log = log_path(rt, alloc)?;
+        let line = log_line(alloc, &log)?;
+        text.push_str(&line)?;
+    }
+    Ok(text)
+}
+
+/// The lines of a refusal, without folders below a root.
+fn refused_lines<R: Files<File = File> + Env + Alloc>(
     rt: &R,
     alloc: Global,
     refusal: Refusal,
@@ -214,12 +252,12 @@ fn refused_line<R: Files<File = File>>(
 ) -> Result<String, NoMemory> {
     match seen_line(rt, alloc, refusal, request)? {
         Some(line) => Ok(line),
-        None => refusal_line(alloc, refusal, &request.json),
+        None => unseen_lines(rt, alloc, refusal, request),
     }
 }
 
 /// The lines of a refusal. Behind that of a crawl they name the folders that can't be read.
-fn refused_text<R: Files<File = File> + Clock + Alloc + Clone + Drop>(
+fn refused_text<R: Files<File = File> + Env + Clock + Alloc + Clone + Drop>(
     rt: &R,
     alloc: Global,
     refusal: Option<Refusal>,
@@ -228,10 +266,8 @@ fn refused_text<R: Files<File = File> + Clock + Alloc + Clone + Drop>(
     let Some(refusal) = refusal else {
         return Ok(None);
     };
-    let mut text = refused_line(rt, alloc, refusal, request)?;
-    if refusal == Refusal::DeviceFailed
-        && request_kind(alloc, &request.json)? == RequestKind::Recrawl
-    {
+    let mut text = refused_lines(rt, alloc, refusal, request)?;
+    if is_of_crawl(alloc, refusal, request)? {
         let unread = unread_lines(rt, alloc, request)?;
         text.push_str(&unread)?;
     }
@@ -258,7 +294,7 @@ fn unanswered_line<R: Files<File = File> + Net>(
 /// The lines that explain how `wmctl` ended. With status 1, which part of the request is refused, or what to do; with 2, that there are words
 /// in place of a request, or a request in that of the socket; with 3, why no server can be reached, or that no feed runs. `None` if that
 /// isn't found.
-pub fn text_of<R: Files<File = File> + Net + Clock + Alloc + Clone + Drop>(
+pub fn text_of<R: Files<File = File> + Env + Net + Clock + Alloc + Clone + Drop>(
     rt: &R,
     alloc: Global,
     ended: Ended,
