@@ -36,6 +36,8 @@ NO_SESSION = "all of the server's 31 sessions are taken: try later, or end what 
 NO_CRAWL = "the root isn't crawled yet: try again, or send [\"recrawl\",ROOT], which waits"
 NO_READING = "a folder of the root can't be read, which 'wm status' and the server's log name: give the server's user the right to it, or watch a folder below"
 LOG = "the log of a server that 'wm up' started is %s/watchmand/log"
+OFF_PATH = "is no program on this PATH: the server looks on its own PATH, and its log says if a run couldn't be started"
+NO_RUN = "no run of the trigger can be started until it is"
 UNREAD = "the folder can't be read; what is in it isn't listed, or is known from before"
 OF_ANOTHER = "this is another user's, and there is no right to it: name the socket of your own server, which 'wm up' starts"
 WAITS = "wmctl waits for an answer: the server is busy, or it was stopped\n"
@@ -316,6 +318,30 @@ def check_roots(checks, place, wmctl):
         checks.same(f"{expression} (explained)", run(place, words, True, False), (0, reply[1], further))
 
 
+def check_programs(checks, place, wmctl):
+    """What is said of a trigger's program that isn't found, behind the reply that it is defined."""
+    root = place.path("root")
+    for program, path, further in (
+        ("true", None, ""),
+        ("/bin/sh", None, ""),
+        ("nosuch", None, f"'nosuch' {OFF_PATH}\n"),
+        ("a\\u001bb", None, f"'a\\x1bb' {OFF_PATH}\n"),
+        ("true", "/nowhere:/usr/nowhere", f"'true' {OFF_PATH}\n"),
+        ("./nosuch", None, f"'{root}/./nosuch' isn't there: {NO_RUN}\n"),
+        ("/nowhere/make", None, f"'/nowhere/make' isn't there: {NO_RUN}\n"),
+        ("../plain", None, f"'{root}/../plain' is no file that is marked as a program (chmod +x): {NO_RUN}\n"),
+        ("./sub", None, f"'{root}/./sub' is no file that is marked as a program (chmod +x): {NO_RUN}\n"),
+    ):
+        defined = [wmctl, "sock", '["trigger","%s",{"name":"t","command":["%s","-"]}]' % (root, program)]
+        if path:
+            defined = ["env", f"PATH={path}", *defined]
+        for explain, errors in ((False, ""), (True, further)):
+            status, output, said = run(place, defined, explain, False)
+            checks.same(f"a trigger of {program}, {explain}", (status, '"triggerid":"t"' in output, said), (0, True, errors))
+            deleted = run(place, [wmctl, "sock", '["trigger-del","%s","t"]' % root], True, False)
+            checks.same(f"trigger-del of {program}", (deleted[0], deleted[2]), (0, ""))
+
+
 def check_full(checks, place, wmctl):
     """A session for which the server has no place, since 31 are held."""
     held = []
@@ -447,6 +473,7 @@ def check_all(checks, place, watchmand, wmctl):
         reply = '{"error":"%s","version":"w1"}\n' % refusal
         check(checks, place, [wmctl, "sock", request], 1, reply, "", further, False)
     check_roots(checks, place, wmctl)
+    check_programs(checks, place, wmctl)
     check_unready(checks, place, wmctl)
     check_waits(checks, place, wmctl)
     check_stopped(checks, place, wmctl)

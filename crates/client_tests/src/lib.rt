@@ -13,4 +13,6 @@ mod hints;
 #[cfg(test)]
 mod parts;
 #[cfg(test)]
+mod programs;
+#[cfg(test)]
 mod wmctl;

@@ -5,3 +5,4 @@ pub mod RefusedParts
 pub mod RefusedTerms
 pub mod RefusedValues
 pub mod RequestKinds
+pub mod TriggerPrograms

@@ -7,7 +7,8 @@
 //! the request's part, or else an advice by the kind of the request ([`advice_line`]).
 //!
 //! [`braces_hint`] is about a pattern that lists nothing, [`no_feed_line`] about a sync for which no feed answered, and [`log_line`] about a
-//! server's log. Nothing here talks to the system.
+//! server's log. [`program_sought`] is the program that a trigger names, and [`program_line`] what is said if it isn't there. Nothing here
+//! talks to the system.
 //!
 //! | Of | Definitions |
 //! |---|---|
@@ -18,8 +19,9 @@
 //! | the kind of a request, and its root | specs/RequestKinds.antt |
 //! | the advice at a refusal, and the line of a refusal | specs/Advice.antt |
 //! | the first pattern with a brace | specs/Braces.antt |
+//! | the program of a trigger, and its line | specs/TriggerPrograms.antt |
 //!
-//! Tests: client_tests/src/parts.rt, client_tests/src/hints.rt.
+//! Tests: client_tests/src/parts.rt, client_tests/src/hints.rt, client_tests/src/programs.rt.
 #![tactic(auto)]
 
 mod advice;
@@ -31,6 +33,7 @@ mod keys;
 mod kinds;
 mod lines;
 mod parts;
+mod programs;
 mod refusals;
 mod terms;
 mod values;
@@ -40,6 +43,7 @@ pub use keys::Asking;
 pub use kinds::{RequestKind, request_kind, root_asked};
 pub use lines::{explanation, root_explanation};
 pub use parts::{Part, part_in};
+pub use programs::{ProgramFound, program_line, program_sought};
 pub use refusals::{advice_line, log_line, no_feed_line, refusal_line};
 pub use terms::refused_term;
 pub use values::Key;

@@ -1,5 +1,6 @@
 //! The further line that explains a failure, or an answer that misleads, on a terminal. Tests: tools/quick_messages.py.
 
+use crate::programs::missing_program_line;
 use std::alloc::Global;
 use std::env;
 use std::env::VarError;
@@ -153,14 +154,17 @@ fn waits_in_vain(alloc: Global, request: &Request) -> Result<bool, NoMemory> {
 }
 
 /// What is said behind a reply that is no refusal: that no folder is at the root, that it is watched by a link, or that a pattern has braces;
-/// which folders can't be read; and that no further line comes, if some are awaited.
-pub fn answer_text<R: Files<File = File> + Clock + Alloc + Clone + Drop>(
+/// that a trigger's program isn't there; which folders can't be read; and that no further line comes, if some are awaited.
+pub fn answer_text<R: Files<File = File> + Env + Clock + Alloc + Clone + Drop>(
     rt: &R,
     alloc: Global,
     request: &Request,
 ) -> Result<String, NoMemory> {
     let mut text = String::new(alloc);
     if let Some(line) = answer_line(rt, alloc, &request.json)? {
+        text.push_str(&line)?;
+    }
+    if let Some(line) = missing_program_line(rt, alloc, &request.json)? {
         text.push_str(&line)?;
     }
     let unread = unread_lines(rt, alloc, request)?;

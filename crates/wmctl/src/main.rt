@@ -3,6 +3,7 @@
 
 mod explaining;
 mod noting;
+mod programs;
 mod waiting;
 
 use explaining::Ended;
