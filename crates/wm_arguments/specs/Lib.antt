@@ -1,0 +1,3 @@
+pub mod ArgumentRules
+pub mod ArgumentValues
+pub mod Parses
