@@ -5,7 +5,8 @@ use std::io;
 use std::io::{ErrorKind, Write};
 use std::process::Abort;
 use wm_disk::Refusal;
-use wm_log::{Event, EventQueue, LogLimiter, StartCause, StartFault, What, line_of, write_event};
+use wm_explain::StartCause;
+use wm_log::{Event, EventQueue, LogLimiter, StartFault, What, line_of, write_event};
 
 /// What happened, without memory of its own.
 #[derive(Clone, Copy)]

@@ -1,3 +1,4 @@
 pub mod CauseLines
 pub mod Causes
 pub mod Shown
+pub mod StartCauses

@@ -1,4 +1,4 @@
-//! The line that explains a refusal. Tests: tools/quick_messages.py.
+//! The line that explains a refusal. Tests: tools/try/messages.py.
 
 use crate::advice::{Hindrance, advice_at};
 use crate::findings::{found_file, found_socket};

@@ -1,4 +1,4 @@
-//! What is at a path. Tests: tools/quick_messages.py.
+//! What is at a path. Tests: tools/try/messages.py.
 
 use crate::heads::head_in;
 use crate::locks::lock_of;

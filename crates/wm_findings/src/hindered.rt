@@ -1,4 +1,4 @@
-//! What keeps a program from a file or a socket, by what the system shows of it. Tests: tools/quick_messages.py.
+//! What keeps a program from a file or a socket, by what the system shows of it. Tests: tools/try/messages.py.
 
 use crate::advice::Hindrance;
 use crate::locks::socket_of;

@@ -9,7 +9,7 @@
 //! [`fed_line`], [`unread_line`], [`more_line`], [`server_line`]; specs/Places.antt). [`unreached_line`] looks at a socket, and
 //! [`unread_below`] for folders.
 //!
-//! Tests: leaf_tests/src/heads.rt, leaf_tests/src/advice.rt, leaf_tests/src/places.rt; of the built programs tools/quick_messages.py.
+//! Tests: leaf_tests/src/heads.rt, leaf_tests/src/advice.rt, leaf_tests/src/places.rt; of the built programs tools/try/messages.py.
 #![tactic(auto)]
 
 mod advice;

@@ -1,4 +1,4 @@
-//! Who has the lock of a file, by what the system lists of its locks, and where a server listens. Tests: tools/quick_messages.py.
+//! Who has the lock of a file, by what the system lists of its locks, and where a server listens. Tests: tools/try/messages.py.
 
 use std::alloc::{AllocError, Global};
 use std::fs::{File, Files, Metadata};

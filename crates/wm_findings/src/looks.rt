@@ -1,4 +1,4 @@
-//! What is at the path of a root, and whose a socket is. Tests: tools/quick_messages.py.
+//! What is at the path of a root, and whose a socket is. Tests: tools/try/messages.py.
 
 use crate::findings::{folder_of, found_socket};
 use crate::places::{RootFound, server_line};

@@ -1,4 +1,4 @@
-//! A writer that notes what it was given. Tests: tools/quick_messages.py.
+//! A writer that notes what it was given. Tests: tools/try/messages.py.
 
 use std::io;
 use std::io::Write;

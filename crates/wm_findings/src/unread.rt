@@ -1,4 +1,4 @@
-//! The folders below a root that can't be read. Tests: tools/quick_messages.py.
+//! The folders below a root that can't be read. Tests: tools/try/messages.py.
 
 use std::alloc::Global;
 use std::fs;

@@ -27,5 +27,5 @@ pub use event_queue::EventQueue;
 pub use laws::one_line_a_second;
 pub use limiter::LogLimiter;
 pub use lines::line_of;
-pub use start_fault::{StartCause, StartFault};
+pub use start_fault::StartFault;
 pub use writing::write_event;
