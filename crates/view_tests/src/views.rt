@@ -14,7 +14,6 @@ mod listings;
 mod many;
 mod moments;
 mod observing;
-mod overlays;
 mod recrawling;
 mod reference;
 mod sessions;

@@ -8,7 +8,7 @@ ghost use Rattle.wm_since.specs.Cursors.{CursorList};
 ghost use Rattle.wm_expr.specs.Meanings.{holds};
 ghost use Rattle.wm_expr.specs.Terms.{Term};
 ghost use Rattle.wm_subs.specs.Subscribers.{Subscriber, due_answer};
-ghost use Rattle.wm_session.specs.session.Dues.{due_of};
+ghost use Rattle.wm_session.specs.session.Dues.{due_by};
 ghost use Rattle.wm_lines.specs.declared.query.Inquiry.{Inquiry};
 ghost use Rattle.wm_session.specs.session.Inquiries.{has_place, inquired, question_in};
 ghost use Rattle.wm_session.specs.session.PartLaws.{MeetsOnPart};
@@ -26,7 +26,7 @@ pub fn every_line()
     ensures answered { (h : History) (cursors : CursorList) (q : Inquiry) → IsMade h → is_ready h ≡ true → has_place q.since cursors ≡ true → inquired (Some (of_history h cursors)) q ≡ Ok (answer_to (holds q.expression) h (question_in q cursors)) }
     ensures unready { (h : History) (cursors : CursorList) (q : Inquiry) → IsMade h → is_ready h ≡ false → inquired (Some (of_history h cursors)) q ≡ Err NotReady }
     ensures no_place { (h : History) (cursors : CursorList) (q : Inquiry) → IsMade h → is_ready h ≡ true → has_place q.since cursors ≡ false → inquired (Some (of_history h cursors)) q ≡ Err TooMany }
-    ensures due { (h : History) (cursors : CursorList) (s : Subscriber Term) → IsMade h → due_of (Some (of_history h cursors)) s ≡ due_answer (holds s.query.test) h s }
+    ensures due { (h : History) (cursors : CursorList) (s : Subscriber Term) → IsMade h → due_by (of_history h cursors) s ≡ due_answer (holds s.query.test) h s }
     ensures begun { (r : registry.State) → AreOfHistories (first_views r) }
     ensures stays { (s : WithSubscriptions SessionState) (moment : ℕ) (line : List ℕ) → AreOfHistories s.front.views → AreOfHistories (line_met s moment line).state.views }
 {

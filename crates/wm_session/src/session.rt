@@ -113,7 +113,7 @@ impl<F: Front> Session<F> {
         self.subscriptions.remove_root(root);
     }
 
-    /// Ends the subscriptions on a root that were told of another root of its path than the one of this number: it was watched anew.
+    /// Ends the subscriptions on another root of a path than the one of this number: the path was watched anew.
     pub fn end_earlier(&mut self, root: &RootPath, number: u64)
         ensures { self.new ≡ record self.old { subscriptions = without_earlier root.now number self.old.subscriptions } }
     {

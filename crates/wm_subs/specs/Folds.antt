@@ -2,6 +2,7 @@
 use Rattle.std.specs.Prelude.{◌≡◌, Bool, true, false, List, [], ◌∷◌, Option, Some, None}
 use Rattle.std.specs.List.{fold}
 use Rattle.wm_names.specs.declared.entry.Entry.{Entry}
+use Rattle.wm_clock.specs.declared.clock_id.ClockId.{ClockId}
 use Rattle.wm_view.specs.declared.op.Op.{Op}
 use Rattle.wm_view.specs.Files.{Paths}
 use Rattle.wm_view.specs.Histories.{History, after_operation, is_ready, tick_of}
@@ -44,6 +45,14 @@ abbrev pub FoldsOn : {T : Type 0} → (Entry → Bool) → History → Subscribe
 FoldsOn passes h old told new =
     PathOnly passes → old.query.empty_on_fresh ≡ false → is_ready h ≡ true
     → (files : Paths) → HoldsSince passes h old.query.since files → KeepsList passes h new.query.since (files_told files told)
+
+-- what was due, once it was told up to its clock, keeps each client's list
+abbrev pub FoldsTold : {T : Type 0} → Subscriber T → ClockId → Subscriber T → Type 0
+FoldsTold old clock new = (passes : Entry → Bool) (h : History) (a : Answer) → due_answer passes h old ≡ Some a → a.clock ≡ clock → FoldsOn passes h old (Some a) new
+
+-- each call keeps it, whether an answer is due or not
+abbrev pub CallsFold : Type 0 → Type 0
+CallsFold T = (passes : Entry → Bool) (h : History) (s : Subscriber T) → FoldsOn passes h s (due_answer passes h s) (after_due s (due_answer passes h s))
 
 -- ---- over a whole run
 

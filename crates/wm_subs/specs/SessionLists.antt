@@ -1,10 +1,10 @@
 -- The subscriptions of one session, in the order of subscribing.
-use Rattle.std.specs.Prelude.{◌≡◌, ◌≤◌, ℕ, zero, suc, Bool, true, not, ◌&&◌, ◌||◌, List, [], ◌∷◌, ◌++◌, length, nat_lt, Option, Some, None}
+use Rattle.std.specs.Prelude.{◌≡◌, ◌≤◌, ℕ, zero, suc, Bool, true, not, ◌&&◌, ◌||◌, List, [], ◌∷◌, ◌++◌, length, nat_lt, nat_eq, Option, Some, None}
 use Rattle.std.specs.List.{filter, list_any}
 use Rattle.std.specs.Str.{bytes_eq}
 use Rattle.wm_names.specs.Paths.{Path}
 use Rattle.wm_clock.specs.declared.clock_id.ClockId.{ClockId}
-use Rattle.wm_subs.specs.Subscribers.{is_told_of_another, told_up_to}
+use Rattle.wm_subs.specs.Subscribers.{told_up_to}
 use Rattle.wm_subs.specs.declared.subscribed.Subscribed.{Subscribed}
 
 -- the most subscriptions of a session
@@ -27,11 +27,11 @@ module _ {T : Type 0} where
   abbrev pub without_subscribed : Path → List (Subscribed T) → List (Subscribed T)
   without_subscribed root ss = filter (λ s. not (bytes_eq root s.root)) ss
 
-  -- it is on that path, and was told of another root there than the one of that number
+  -- it is on another root of that path than the one of that number
   abbrev pub is_on_earlier : Path → ℕ → Subscribed T → Bool
-  is_on_earlier root number s = bytes_eq root s.root && is_told_of_another number s.subscription
+  is_on_earlier root number s = bytes_eq root s.root && not (nat_eq s.number number)
 
-  -- without those that were told of another root of that path
+  -- without those on another root of that path
   abbrev pub without_earlier : Path → ℕ → List (Subscribed T) → List (Subscribed T)
   without_earlier root number ss = filter (λ s. not (is_on_earlier root number s)) ss
 

@@ -5,7 +5,7 @@
 //! files of the view, after each call on a view that is ready (specs/Folds.antt);
 //! [`every_subscription`] has that over whole runs. Of a subscription that begins at a moment it is
 //! claimed only if the first answer is fresh. [`Subscriptions`] has those of one session, in
-//! the order of subscribing (specs/SessionLists.antt). [`Subscription::next`] is told of what a viewer of
+//! the order of subscribing (specs/SessionLists.antt). [`Subscription::due_of`] asks of what a viewer of
 //! `wm_share` has seen, while the root's keeper goes on.
 #![tactic(auto)]
 

@@ -8,6 +8,8 @@ use wm_since::Fields;
 #[derive(Drop)]
 pub struct Subscribed<T> {
     pub root: RootPath,
+    /// The number of the root: nothing is told of another root that is watched under the path later.
+    pub number: u64,
     pub fields: Fields,
     pub subscription: Subscription<T>,
 }

@@ -61,11 +61,11 @@ fn is_meant<T: Test>(
     }
 }
 
-/// Whether it is on the path, and was told of another root there than the one of the number.
+/// Whether it is on another root of the path than the one of the number.
 fn is_on_earlier<T: Test>(subscribed: &Subscribed<T>, root: &RootPath, number: u64) -> bool
     ensures { result ≡ is_on_earlier_lem root.now number subscribed.now }
 {
-    *root == subscribed.root && subscribed.subscription.is_told_of_another(number)
+    *root == subscribed.root && subscribed.number != number
 }
 
 /// Takes out those on the root or, where a name is given, the one of them that has it.
@@ -152,7 +152,7 @@ impl<T: Test> Subscriptions<T> {
         take_out(&mut self.all, root, None);
     }
 
-    /// Takes away those that were told of another root of the path than the one of this number.
+    /// Takes away those on another root of the path than the one of this number.
     pub fn remove_earlier(&mut self, root: &RootPath, number: u64)
         ensures { self.new ≡ without_earlier root.now number self.old }
     {

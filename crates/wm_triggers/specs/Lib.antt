@@ -3,7 +3,7 @@ pub mod Definitions
 pub mod Due
 pub mod KeptRuns
 pub mod ProgramEnds
-pub mod Starters
+pub mod StartErrors
 pub mod Starting
 pub mod Tables
 pub mod TriggerRuns

@@ -1,19 +1,14 @@
--- How the program of a run is started, and how its starts are counted.
-use Rattle.std.specs.Prelude.{◌≡◌, ◌≢◌, ◌≤◌, ℕ, List, [], ◌∷◌, ◌++◌, Bool, false, map, drop, take, Option, Some, None, Result, IfErr, OnOk, IsErrOf, if◌then◌else◌}
+-- How the program of a run is started.
+use Rattle.std.specs.Prelude.{ℕ, List, [], ◌∷◌, ◌++◌, Bool, false, map, drop, take, Option, Some, None, if◌then◌else◌}
 use Rattle.std.specs.List.{flat_map}
 use Rattle.std.specs.Process.{clears_env, command_args, command_dir, command_program, command_var}
 use Rattle.std.specs.declared.process.command.Command.{Command}
-use Rattle.wm_disk.specs.Contents.{Rose}
 use Rattle.wm_names.specs.Paths.{Path}
 use Rattle.wm_registry.specs.declared.stdin.Stdin.{Stdin}
 use Rattle.wm_registry.specs.declared.stdin.Stdin.TheVariants.{DevNull, NamePerLine}
 use Rattle.wm_registry.specs.Triggers.{Definition}
 use Rattle.wm_since.specs.declared.listed.Listed.{Listed}
 use Rattle.wm_since.specs.declared.query.Answer.{Answer}
-use Rattle.wm_triggers.specs.declared.not_run.NotRun.{NotRun}
-use Rattle.wm_triggers.specs.declared.not_run.NotRun.TheVariants.{DeviceFailed}
-
--- ---- what is started
 
 -- the paths of files, in their order
 abbrev pub file_paths : List Listed → List Path
@@ -77,13 +72,3 @@ launch_by command input = record {
   clears = clears_env command;
   variables = command_var command;
 }
-
--- ---- how starts are counted
-
--- The count of failures at a start: it doesn't fall, it stands where the run was started, it rose where the start failed, and stands where none
--- was tried.
-pub record CountsStart {A : Type 0} (before now : ℕ) (result : Result A NotRun) : Type 0 where
-  pub later : before ≤ now
-  pub started : OnOk result (now ≡ before)
-  pub failed : IsErrOf result DeviceFailed → Rose before now
-  pub untried : IfErr result (λ e. e ≢ DeviceFailed → now ≡ before)

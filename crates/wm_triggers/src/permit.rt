@@ -2,10 +2,10 @@
 //! Tests: registry_tests/src/trigger_runs/permits.rt.
 ghost use Rattle.std.specs.Prelude.{IfSome};
 
-/// The permit of one start. A launcher asks it once everything is prepared, and tells it as soon as the start was tried, so
+/// The permit of one start. A starter asks it once everything is prepared, and tells it as soon as the start was tried, so
 /// that it is held for the start alone and not until the program ends.
 pub trait Permit {
-    /// That a start was permitted. No bound lets a launcher drop it: it ends by `end` alone.
+    /// That a start was permitted. No bound lets a starter drop it: it ends by `end` alone.
     type Given;
 
     /// That a start which was permitted is over.
@@ -25,26 +25,4 @@ pub trait Permit {
     fn end(&self, given: Self::Given) -> Self::Ended
         requires { shows_given self.now given }
         ensures { shows_ended self.now result };
-}
-
-/// The permit of a start that nobody takes back.
-#[derive(Clone, Copy)]
-pub struct Unasked;
-
-impl Permit for Unasked {
-    ghost use Rattle.std.specs.Prelude.{⊤};
-
-    type Given = ();
-
-    type Ended = ();
-
-    ghost shows_given = { λ permit given. ⊤ };
-
-    ghost shows_ended = { λ permit ended. ⊤ };
-
-    fn begin(&self) -> Option<()> {
-        Some(())
-    }
-
-    fn end(&self, _given: ()) {}
 }

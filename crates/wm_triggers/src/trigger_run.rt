@@ -1,12 +1,11 @@
 //! Which run of a trigger is due: what changed since the last run that was started.
-//! Definitions: specs/Due.antt, specs/TriggerRuns.antt. Tests: registry_tests/src/trigger_runs/runs.rt.
-ghost use Rattle.std.specs.Prelude.{◌≡◌, ◌≢◌, ◌↔◌, Some, None, false, option_map, IfOk, IfErr, IfSome, IsErrOf};
+//! Definitions: specs/Due.antt, specs/TriggerRuns.antt, specs/Applying.antt. Tests: registry_tests/src/trigger_runs/runs.rt.
+ghost use Rattle.std.specs.Prelude.{◌≡◌, ◌≢◌, Some, None, option_map, IfOk, IfErr, IfSome};
 ghost use Rattle.serde_json.specs.Read.{read};
 ghost use Rattle.serde_json.specs.View.{view};
 ghost use Rattle.wm_expr.specs.Views.{term};
-ghost use Rattle.wm_view.specs.Histories.{History, IsMade};
-ghost use Rattle.wm_view.specs.Summaries.{summary};
-ghost use Rattle.wm_since.specs.Answers.{answer_by, answer_to, question};
+ghost use Rattle.wm_view.specs.Histories.{History};
+ghost use Rattle.wm_since.specs.Answers.{answer_to, question};
 ghost use Rattle.wm_triggers.specs.Applying.{BringsUpToNow, MissesNothing};
 ghost use Rattle.wm_triggers.specs.Due.{run_by, term_for, term_in};
 ghost use Rattle.wm_triggers.specs.TriggerRuns.{is_for, last_started, next_run, chosen_term};
@@ -18,8 +17,7 @@ use wm_clock::ClockId;
 use wm_disk::{NoMemory, Refusal};
 use wm_expr::Expr;
 use wm_registry::Trigger;
-use wm_since::{Answer, Query, Since, answer, every_client};
-use wm_view::View;
+use wm_since::{Answer, Query, Since, every_client};
 
 /// The runs of one trigger: which files they are for, and since when the next one tells.
 #[derive(Drop)]
@@ -97,31 +95,15 @@ impl TriggerRun {
         })
     }
 
-    /// The run that is due by the answer to what was asked, and `None` where the answer lists no
-    /// file. It takes no memory.
+    /// The run that is due by the answer to what was asked, and `None` if the answer lists no file. A program that applies each run
+    /// has all matching files of the root's history, of which no change goes without a run. It takes no memory.
     pub fn run_of(&self, answer: Answer) -> Option<Run>
-        ensures { result ≡ run_by answer }
-    {
-        Run::of(answer)
-    }
-
-    /// The run that is due by the view, and `None` where nothing changed that the trigger is for.
-    /// `NotReady` exactly where the view isn't ready, and `NoMemory`.
-    pub fn due(&self, alloc: Global, view: &View) -> Result<Option<Run>, Refusal>
-        ensures histories { IfOk result (λ run. (h : History) → IsMade h → summary h ≡ view.now → run ≡ run_by (answer_to (is_for self.now) h (next_run self.now))) }
-        ensures by_summary { IfOk result (λ run. run ≡ run_by (answer_by (is_for self.now) view.now (next_run self.now))) }
-        ensures applied { IfOk result (λ run. IfSome run (BringsUpToNow (is_for self.now) (last_started self.now) view.now)) }
-        ensures missed { IfOk result (λ run. run ≡ None → MissesNothing (is_for self.now) (last_started self.now) view.now) }
-        ensures refused { IsErrOf result Refusal.NotReady ↔ (view.now.ready ≡ false) }
-        ensures kinds { IfErr result (λ e. e ≢ Refusal.NoMemory → e ≡ Refusal.NotReady) }
+        ensures value { result ≡ run_by answer }
+        ensures applied { IfSome result (λ run. (h : History) → answer ≡ answer_to (is_for self.now) h (next_run self.now) → BringsUpToNow (is_for self.now) (last_started self.now) h run) }
+        ensures missed { result ≡ None → (h : History) → answer ≡ answer_to (is_for self.now) h (next_run self.now) → MissesNothing (is_for self.now) (last_started self.now) h }
     {
         every_client();
-        if !view.ready() {
-            return Err(Refusal::NotReady);
-        }
-        let query = self.ask(alloc)?;
-        let answer = answer(alloc, view, &query)?;
-        Ok(self.run_of(answer))
+        Run::of(answer)
     }
 
     /// The run was started: the next one tells what changed since its clock. It takes no memory.
@@ -131,10 +113,4 @@ impl TriggerRun {
     {
         self.since = Some(run.clock());
     }
-
-    /// The run couldn't be started: all stays as it was, so that the next run lists its files
-    /// again. It takes no memory.
-    pub fn failed_to_start(&mut self)
-        ensures { self.new ≡ self.old }
-    {}
 }

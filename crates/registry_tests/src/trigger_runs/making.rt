@@ -2,10 +2,11 @@
 use std::alloc::Global;
 use std::process::Abort;
 use wm_clock::ClockId;
+use wm_disk::Refusal;
 use wm_names::{Entry, Kind, Meta, RelPath, RootPath, Subtree};
 use wm_registry::{Stdin, Trigger};
-use wm_since::{Answer, Listed, ListedFiles};
-use wm_triggers::{DefinedTriggers, Run, TriggerRun};
+use wm_since::{Answer, Listed, ListedFiles, answer};
+use wm_triggers::{DefinedTriggers, Permit, Run, TriggerRun};
 use wm_view::{Listing, Pairs, View};
 
 /// A path with the size of the file that is there, or with `None`.
@@ -155,6 +156,14 @@ pub fn answer_with(rt: &impl Abort, alloc: Global, paths: &[&str]) -> Answer {
     }
 }
 
+/// The run that is due by the view: what the runs ask is answered by it.
+pub fn due(alloc: Global, runs: &TriggerRun, view: &View) -> Result<Option<Run>, Refusal> {
+    let query = runs.ask(alloc)?;
+    let answer = answer(alloc, view, &query);
+    drop(query);
+    Ok(runs.run_of(answer?))
+}
+
 /// The run with the files of the answer.
 pub fn run_of(rt: &impl Abort, runs: &TriggerRun, answer: Answer) -> Run {
     runs.run_of(answer).expect(rt, "a run")
@@ -176,4 +185,24 @@ pub fn has_files(run: &Run, paths: &[&str]) -> bool {
             .iter()
             .zip(paths)
             .all(|(file, path)| file.entry.path.as_str() == *path)
+}
+
+/// The permit of a start that nobody takes back.
+#[derive(Clone, Copy)]
+pub struct Unasked;
+
+impl Permit for Unasked {
+    type Given = ();
+
+    type Ended = ();
+
+    ghost shows_given = { λ permit given. Unit {0} };
+
+    ghost shows_ended = { λ permit ended. Unit {0} };
+
+    fn begin(&self) -> Option<()> {
+        Some(())
+    }
+
+    fn end(&self, _given: ()) {}
 }

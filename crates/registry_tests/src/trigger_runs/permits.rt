@@ -7,8 +7,9 @@ use std::sync::atomic::{AtomicU64, Ordering};
 use std::sync::{Mutex, Wait};
 use std::thread::join;
 use std::{env, fs};
+use wm_explain::StartCause;
 use wm_registry::{Stdin, Trigger};
-use wm_triggers::{DefinedTrigger, NotRun, Permit, Programs, Run, SystemPrograms, TriggerTable};
+use wm_triggers::{DefinedTrigger, NotRun, Permit, Run, Starter, SystemStarter, TriggerTable};
 
 /// A permit that counts what it is asked and told, and says this.
 #[derive(Drop)]
@@ -67,14 +68,14 @@ fn here(rt: &HostRuntime, host: &impl Abort) -> String {
 fn run_in<R: Processes + Drop, P: Permit + Drop>(
     host: &impl Abort,
     alloc: Global,
-    programs: &SystemPrograms<R>,
+    starter: &SystemStarter<R>,
     folder: &str,
     trigger: &Trigger,
     permit: P,
 ) -> Option<NotRun> {
     let root = root(host, alloc, folder);
     let run = run_with(host, alloc, &["a.c"]);
-    let refused = programs.run(alloc, &root, trigger, &run, permit).err();
+    let refused = starter.run(alloc, &root, trigger, &run, permit).err();
     drop(run);
     drop(root);
     refused
@@ -90,11 +91,11 @@ fn run_line<P: Permit + Drop>(
 ) -> Option<NotRun> {
     let folder = here(rt, host);
     let trigger = trigger(host, rt.alloc(), &["sh", "-c", line], false, stdin);
-    let programs = SystemPrograms::new(rt);
+    let starter = SystemStarter::new(rt);
     let refused = run_in(
         host,
         rt.alloc(),
-        &programs,
+        &starter,
         folder.as_str(),
         &trigger,
         permit,
@@ -145,10 +146,10 @@ fn is_told_of_failure(rt: &HostRuntime, host: &impl Abort) -> bool {
         answer: true,
     };
     let trigger = trigger(host, rt.alloc(), &["./no_such"], false, Stdin::DevNull);
-    let programs = SystemPrograms::new(rt);
-    let refused = run_in(host, rt.alloc(), &programs, "/tmp", &trigger, permit);
+    let starter = SystemStarter::new(rt);
+    let refused = run_in(host, rt.alloc(), &starter, "/tmp", &trigger, permit);
     drop(trigger);
-    let is_told = refused == Some(NotRun::DeviceFailed) && are(&counts, 1, 1);
+    let is_told = refused == Some(NotRun::DeviceFailed(StartCause::NoFile)) && are(&counts, 1, 1);
     drop(counts);
     is_told
 }
@@ -256,12 +257,12 @@ fn is_started<R: Wait>(
         table,
         defined,
     };
-    let programs = SystemPrograms::new(rt);
+    let starter = SystemStarter::new(rt);
     let alloc = rt.alloc();
     let refused = run_in(
         host,
         alloc,
-        &programs,
+        &starter,
         folder.as_str(),
         &defined.trigger,
         permit,

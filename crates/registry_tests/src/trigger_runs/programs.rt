@@ -1,14 +1,18 @@
 //! Programs that are really started, in the folder of the tests.
 use crate::checks::check;
-use crate::trigger_runs::making::{root, run_with, trigger, trigger_of_most};
+use crate::trigger_runs::making::{Unasked, root, run_with, trigger, trigger_of_most};
 use std::alloc::Global;
 use std::process::{Abort, Processes};
 use std::{env, fs};
+use wm_explain::StartCause;
 use wm_names::RootPath;
 use wm_registry::{Stdin, Trigger};
-use wm_triggers::{NotRun, ProgramEnd, ProgramStarter, Run, Starter, SystemLauncher};
+use wm_triggers::{NotRun, ProgramEnd, Run, Starter, SystemStarter};
 
-const WELL: Result<ProgramEnd, NotRun> = Ok(ProgramEnd::Exited(0));
+/// How the program ended.
+type Ran = Result<ProgramEnd, NotRun>;
+
+const WELL: Ran = Ok(ProgramEnd::Exited(0));
 
 /// A program's words, whether the files are appended, and what it reads.
 #[derive(Drop)]
@@ -18,9 +22,6 @@ struct Program<'a> {
     stdin: Stdin,
 }
 
-/// How often a start failed, and how the program ended.
-type Ran = (u64, Result<ProgramEnd, NotRun>);
-
 /// Starts the trigger's program for the run.
 fn started<R: Processes>(
     alloc: Global,
@@ -29,9 +30,11 @@ fn started<R: Processes>(
     trigger: &Trigger,
     run: &Run,
 ) -> Ran {
-    let mut starter = ProgramStarter::new(SystemLauncher::new(processes));
-    let ended = starter.run(alloc, root, trigger, run);
-    (starter.failures(), ended)
+    let starter = SystemStarter::new(processes);
+    match starter.run(alloc, root, trigger, run, Unasked) {
+        Ok((end, _ended)) => Ok(end),
+        Err(not_run) => Err(not_run),
+    }
 }
 
 /// Runs the program in a folder for these files.
@@ -92,10 +95,10 @@ fn leaves(
     wanted: &str,
 ) -> bool {
     let _ = fs::remove_file(rt, path);
-    let (failures, ended) = ran_here(rt, host, program, &["d/b.c", "a.c"]);
+    let ended = ran_here(rt, host, program, &["d/b.c", "a.c"]);
     let written = has_text(rt, host, path, wanted);
     fs::remove_file(rt, path).expect(host, "a file");
-    failures == 0 && ended == WELL && written
+    ended == WELL && written
 }
 
 /// A script with two words behind it, whether files are appended, its input, its file, the text there.
@@ -196,8 +199,7 @@ fn ran_for_one_name(rt: &HostRuntime, host: &impl Abort) -> Ran {
 
 #[test]
 fn a_program_reads_the_first_name_alone(rt: HostRuntime) {
-    let (failures, ended) = ran_for_one_name(&rt, &rt);
-    check!(rt; failures == 0 && ended == WELL);
+    check!(rt; ran_for_one_name(&rt, &rt) == WELL);
     check!(rt; has_text(&rt, &rt, "trigger_first", "x.c\n"));
     fs::remove_file(&rt, "trigger_first").expect(&rt, "a file");
 }
@@ -244,10 +246,10 @@ fn runs_in(rt: &HostRuntime, host: &impl Abort, folder: &str) -> bool {
         append_files: false,
         stdin: Stdin::DevNull,
     };
-    let (failures, ended) = ran(host, rt.alloc(), rt, folder, &program, &["a.c"]);
+    let ended = ran(host, rt.alloc(), rt, folder, &program, &["a.c"]);
     let told = has_line(rt, host, "trigger_root/here", folder);
     fs::remove_file(rt, "trigger_root/here").expect(host, "a file");
-    failures == 0 && ended == WELL && told
+    ended == WELL && told
 }
 
 #[test]
@@ -261,18 +263,18 @@ fn programs_run_in_the_root(rt: HostRuntime) {
     fs::remove_dir(&rt, FOLDER).expect(&rt, "a folder");
 }
 
-/// Words of a program that can't be started, and its folder.
-type Bad = (&'static [&'static str], &'static str);
+/// Words of a program that can't be started, its folder, and why.
+type Bad = (&'static [&'static str], &'static str, StartCause);
 
 const BAD: &[Bad] = &[
-    (&["no-such-program-here"], "/tmp"),
-    (&["/no/such/program"], "/tmp"),
-    (&["./trigger_no_such_program"], "/tmp"),
-    (&["true"], "/no-such-folder"),
-    (&["/bin/true"], "/no-such-folder"),
-    (&["true", "a\0b"], "/tmp"),
-    (&["tr\0ue"], "/tmp"),
-    (&["/tmp"], "/tmp"),
+    (&["no-such-program-here"], "/tmp", StartCause::NoFile),
+    (&["/no/such/program"], "/tmp", StartCause::NoFile),
+    (&["./trigger_no_such_program"], "/tmp", StartCause::NoFile),
+    (&["true"], "/no-such-folder", StartCause::NoFile),
+    (&["/bin/true"], "/no-such-folder", StartCause::NoFile),
+    (&["true", "a\0b"], "/tmp", StartCause::Refused),
+    (&["tr\0ue"], "/tmp", StartCause::Refused),
+    (&["/tmp"], "/tmp", StartCause::NoPermission),
 ];
 
 fn is_refused(rt: &HostRuntime, host: &impl Abort, bad: &Bad, stdin: Stdin) -> bool {
@@ -282,11 +284,11 @@ fn is_refused(rt: &HostRuntime, host: &impl Abort, bad: &Bad, stdin: Stdin) -> b
         stdin,
     };
     let ended = ran(host, rt.alloc(), rt, bad.1, &program, &["a.c"]);
-    ended == (1, Err(NotRun::DeviceFailed))
+    ended == Err(NotRun::DeviceFailed(bad.2))
 }
 
 #[test]
-fn starts_that_fail_are_counted(rt: HostRuntime) {
+fn starts_that_fail_have_a_cause(rt: HostRuntime) {
     for (i, bad) in BAD.iter().enumerate() {
         check!(rt; is_refused(&rt, &rt, bad, Stdin::DevNull), i);
         check!(rt; is_refused(&rt, &rt, bad, Stdin::NamePerLine), i);
@@ -335,8 +337,7 @@ fn a_program_may_end_as_it_likes(rt: HostRuntime) {
             append_files: false,
             stdin: Stdin::NamePerLine,
         };
-        let (failures, ended) = ran_for(&rt, &rt, &program, &paths);
-        check!(rt; failures == 0 && ended == Ok(*wanted), i);
+        check!(rt; ran_for(&rt, &rt, &program, &paths) == Ok(*wanted), i);
     }
     drop(paths);
 }
@@ -360,9 +361,9 @@ fn reads_more_than_a_pipe_holds(rt: HostRuntime) {
         stdin: Stdin::NamePerLine,
     };
     let paths = numbered(&rt, rt.alloc(), 65536);
-    let (failures, ended) = ran_for(&rt, &rt, &program, &paths);
+    let ended = ran_for(&rt, &rt, &program, &paths);
     drop(paths);
-    check!(rt; failures == 0 && ended == WELL);
+    check!(rt; ended == WELL);
     check!(rt; has_numbers(&rt, &rt, "trigger_many"));
     fs::remove_file(&rt, "trigger_many").expect(&rt, "a file");
 }
@@ -388,8 +389,8 @@ fn words_beyond_the_limit_of_the_system_are_refused(rt: HostRuntime) {
     // to
     let long = format!(in alloc; "{:01000}", 0).expect(&rt, "memory");
     let paths = repeated(&rt, alloc, &long, 8192);
-    let (failures, ended) = ran_here(&rt, &rt, &program, &paths);
+    let ended = ran_here(&rt, &rt, &program, &paths);
     drop(paths);
     drop(long);
-    check!(rt; failures == 1 && ended == Err(NotRun::DeviceFailed));
+    check!(rt; ended == Err(NotRun::DeviceFailed(StartCause::TooLong)));
 }

@@ -1,5 +1,6 @@
 //! The runs of a root's triggers from round to round.
 use crate::checks::check;
+use crate::trigger_runs::making;
 use crate::trigger_runs::making::{defined, empty_view, has_files, named, named_for, observe};
 use std::alloc::Global;
 use std::process::Abort;
@@ -32,10 +33,7 @@ fn due(
     if place >= runs.len() {
         return None;
     }
-    runs.at(place)
-        .runs()
-        .due(alloc, view)
-        .expect(rt, "an answer")
+    making::due(alloc, runs.at(place).runs(), view).expect(rt, "an answer")
 }
 
 /// Whether the run that is due at the place lists these files; none is due where there are no files.
@@ -172,7 +170,7 @@ fn with_expressions(rt: &impl Abort, alloc: Global) -> DefinedTriggers {
     all
 }
 
-// Memory is ample here. Where one growth after another is refused (tools/refuse_growth.c), some of them are the round's.
+// Memory is ample here. Where one growth after another is refused (tools/try/refuse_growth.c), some of them are the round's.
 #[test]
 fn a_round_without_memory_keeps_every_clock(rt: HostRuntime) {
     let alloc = rt.alloc();

@@ -22,15 +22,16 @@ const ROWS: &[(Handed, &str, &str)] = &[
     (Handed::Is("c", 1), "c:1:1:4 c", "none"),
 ];
 
-/// What the subscription tells, and `none` where that is nothing.
+/// What is due, which is then told, and `none` where that is nothing.
 fn told<J: Naming>(
     rt: &impl Abort,
     alloc: Global,
     subscription: &mut Subscription<Every>,
     viewer: &mut Viewer<J>,
 ) -> String {
-    match subscription.next(alloc, viewer).expect(rt, "an answer") {
+    match subscription.due_of(alloc, viewer).expect(rt, "an answer") {
         Some(answer) => {
+            subscription.told(answer.clock);
             let text = shown(rt, alloc, &answer);
             drop(answer);
             text

@@ -1,5 +1,5 @@
 -- The lines that are due to subscriptions, and where a session stands after a line and those.
-use Rattle.std.specs.Prelude.{ℕ, List, [], ◌∷◌, ◌++◌, map, Bool, true, false, ◌&&◌, Option, Some, None}
+use Rattle.std.specs.Prelude.{ℕ, List, [], ◌∷◌, ◌++◌, map, Bool, true, false, ◌&&◌, nat_eq, Option, Some, None, if◌then◌else◌}
 use Rattle.wm_expr.specs.Meanings.{holds}
 use Rattle.wm_expr.specs.Terms.{Term}
 use Rattle.wm_since.specs.declared.query.Answer.{Answer}
@@ -11,12 +11,16 @@ use Rattle.wm_session.specs.declared.local.root_views.RootView.{RootView}
 use Rattle.wm_session.specs.session.Sessions.{SessionState, WithSubscriptions, SubscriptionList, line_met, subscriptions_after, view_of}
 
 -- what a root's view has to tell
-abbrev pub due_of : Option RootView → Subscriber Term → Option Answer
-due_of None s = None
-due_of (Some root) s = due_answer_by (holds s.query.test) root.view s
+abbrev pub due_by : RootView → Subscriber Term → Option Answer
+due_by root s = due_answer_by (holds s.query.test) root.view s
+
+-- what the root of a path has to tell a subscription: nothing if it isn't watched, nor if it is another root than the one of the subscription
+abbrev pub due_of : Option RootView → Subscribed Term → Option Answer
+due_of None x = None
+due_of (Some root) x = if nat_eq root.view.root x.number then due_by root x.subscription else None
 
 abbrev pub due_in : SessionState → Subscribed Term → Option Answer
-due_in s x = due_of (view_of s x.root) x.subscription
+due_in s x = due_of (view_of s x.root) x
 
 abbrev pub due_line : Subscribed Term → Option Answer → List ℕ
 due_line x None = []

@@ -138,12 +138,18 @@ abbrev pub cursors_of : Option RootView → CursorList
 cursors_of None = []
 cursors_of (Some root) = root.cursors
 
--- what asks so of the files of a root, under a name: a cursor stands for its clock here and now
-abbrev pub subscribed_by : Path → List ℕ → Inquiry → CursorList → Subscribed Term
-subscribed_by root name q cursors = record {
+-- the number of a root; a root that isn't watched has none
+abbrev pub number_found : Option RootView → ℕ
+number_found None = 0
+number_found (Some root) = root.view.root
+
+-- what asks so of the files of a root that was found so, under a name: a cursor stands for its clock here and now
+abbrev pub subscribed_by : Path → Option RootView → List ℕ → Inquiry → Subscribed Term
+subscribed_by root found name q = record {
   root = root;
+  number = number_found found;
   fields = q.fields;
-  subscription = new_subscriber name (record { since = since_point q.since cursors; test = q.expression; empty_on_fresh = q.empty_on_fresh });
+  subscription = new_subscriber name (record { since = since_point q.since (cursors_of found); test = q.expression; empty_on_fresh = q.empty_on_fresh });
 }
 
 -- the root's clock is told, where there is room
@@ -158,7 +164,7 @@ unsubscribe_met s subscriptions root name (Some watched) = replied (unsubscribe_
 -- what a request that isn't refused makes of the session's subscriptions
 abbrev pub subscriptions_by : SessionState → SubscriptionList → Request → SubscriptionList
 subscriptions_by s subscriptions (WatchDel path) = without_subscribed path subscriptions
-subscriptions_by s subscriptions (Subscribe root name q) = with_subscription (subscribed_by root name q (cursors_of (view_of s root))) subscriptions
+subscriptions_by s subscriptions (Subscribe root name q) = with_subscription (subscribed_by root (view_of s root) name q) subscriptions
 subscriptions_by s subscriptions (Unsubscribe root name) = without_subscription root name subscriptions
 subscriptions_by s subscriptions _ = subscriptions
 

@@ -24,7 +24,7 @@ use wm_names::RootPath;
 use wm_registry::{Command, Registry, Reply};
 use wm_since::{Answer, Since};
 use wm_store::Store;
-use wm_subs::Subscription;
+use wm_subs::Subscribed;
 use wm_view::Op;
 
 /// A front of one thread over a disk: a store, and a view of each watched root.
@@ -180,14 +180,16 @@ impl<D: Disk + Drop> Front for LocalFront<D> {
     fn due(
         &mut self,
         alloc: Global,
-        root: &RootPath,
-        subscription: &Subscription<Expression>,
+        subscribed: &Subscribed<Expression>,
     ) -> Result<Option<Answer>, Refusal> {
         let roots = self.store.registry().roots();
-        let Some(root) = root_views::view_at(root, roots, &self.views) else {
+        let Some(root) = root_views::view_at(&subscribed.root, roots, &self.views) else {
             return Ok(None);
         };
-        subscription.due_on(alloc, &root.view)
+        if root.view.root() != subscribed.number {
+            return Ok(None);
+        }
+        subscribed.subscription.due_on(alloc, &root.view)
     }
 
     fn look(&mut self, _alloc: Global) -> Result<(), Refusal> {

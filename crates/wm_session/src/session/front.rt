@@ -4,7 +4,7 @@
 ghost use Rattle.std.specs.Prelude.{◌≡◌, ◌≤◌, ◌∷◌, ◌++◌, [], List, Bool, false, true, Ok, vec_capacity};
 ghost use Rattle.wm_registry.specs.declared.command.Command as commands;
 ghost use Rattle.wm_registry.specs.Roots.{State};
-ghost use Rattle.wm_session.specs.session.Dues.{due_of};
+ghost use Rattle.wm_session.specs.session.Dues.{due_in};
 ghost use Rattle.wm_session.specs.session.Faults.{FrontState, Way, Memory, Defined};
 ghost use Rattle.wm_session.specs.session.Fronts.{IsMetWhenGiven, IsOwn, Listed, Looked, Met, OperatedAt, Part, SubmittedAt, is_look, start_answer};
 ghost use Rattle.wm_session.specs.session.Fronts.{Asks, Looks, Nowhere};
@@ -19,7 +19,7 @@ use wm_lines::{Expression, Inquiry, Progress};
 use wm_names::RootPath;
 use wm_registry::{Command, Registry, Reply};
 use wm_since::{Answer, Since};
-use wm_subs::Subscription;
+use wm_subs::Subscribed;
 use wm_view::Op;
 
 /// What a session stands on: where its commands and operations go, and what it can ask. A front may be shared with other
@@ -80,15 +80,14 @@ pub trait Front {
         ensures met { Looked met self.old (Looks root.now) (λ s. start_answer (view_of s root.now) since.now) result self.new }
         ensures later { leads_to self.old [] self.new };
 
-    /// What a root has to report to a subscription: `None` if it isn't watched, and as
-    /// [`Subscription::due_on`] has it. `NoMemory`.
+    /// What a root has to report to a subscription on it: `None` if it isn't watched, also if another root is watched under its path; and
+    /// as `Subscription::due_on` has it. `NoMemory`.
     fn due(
         &mut self,
         alloc: Global,
-        root: &RootPath,
-        subscription: &Subscription<Expression>,
+        subscribed: &Subscribed<Expression>,
     ) -> Result<Option<Answer>, Refusal>
-        ensures met { Looked met self.old (Looks root.now) (λ s. Ok (due_of (view_of s root.now) subscription.now)) result self.new }
+        ensures met { Looked met self.old (Looks subscribed.now.root) (λ s. Ok (due_in s subscribed.now)) result self.new }
         ensures later { leads_to self.old [] self.new };
 
     /// Looks at the registry, which `registry` then shows. `NoMemory`.

@@ -7,7 +7,7 @@ ghost use Rattle.wm_session.specs.session.Streams.{lines_read, reader_failed, re
 
 use std::io;
 use std::io::{BufRead, ErrorKind};
-use wm_lines::MAX_LINE;
+use wm_protocol::MAX_LINE;
 
 /// A reader, with the number of lines that a session has read off it, and a note of whether a call of it
 /// has failed.

@@ -1,16 +1,16 @@
 //! The subscriptions of a session: how they begin and end, and what is due to them after a line. Their
 //! definitions are in specs/session: Sessions, Dues, Tellings.
 //! Tests: session_tests/src/lines/subscriptions.rt.
-ghost use Rattle.std.specs.Prelude.{◌≡◌, ◌≤◌, ◌<◌, ◌∷◌, ◌++◌, ◌+◌, [], true, false, length, vec_len, vec_capacity, IfErr, OnOk, OnErr};
+ghost use Rattle.std.specs.Prelude.{◌≡◌, ◌≤◌, ◌<◌, ◌∷◌, ◌++◌, ◌+◌, [], true, false, length, vec_len, vec_capacity, IfErr, OnOk, OnErr, Option};
 ghost use Rattle.wm_registry.specs.Roots.{root_at};
 ghost use Rattle.wm_registry.specs.declared.command.Command as commands;
-ghost use Rattle.wm_since.specs.Cursors.{CursorList};
 ghost use Rattle.wm_subs.specs.SessionLists.{may_subscribe, with_subscription, without_subscribed, without_subscription};
+ghost use Rattle.wm_session.specs.declared.local.root_views.RootView.{RootView};
 ghost use Rattle.wm_session.specs.session.Faults.{FrontState};
 ghost use Rattle.wm_session.specs.session.Fronts.{IsOwn, Met, MetLeaving};
 ghost use Rattle.wm_session.specs.session.Fronts.{Commands, Lists, Looks};
 ghost use Rattle.wm_session.specs.session.Inquiries.{since_point};
-ghost use Rattle.wm_session.specs.session.Sessions.{commanded, cursors_of, subscribe_met, subscribed_by, unsubscribe_met, view_of};
+ghost use Rattle.wm_session.specs.session.Sessions.{commanded, cursors_of, number_found, subscribe_met, subscribed_by, unsubscribe_met, view_of};
 ghost use Rattle.wm_session.specs.session.Telling.{TellsAll};
 ghost use Rattle.wm_session.specs.session.Tellings.{TellsOne, TellsUpTo};
 ghost use Rattle.wm_session.specs.session.Watched.{clock_answer};
@@ -25,14 +25,15 @@ use wm_registry::Command;
 use wm_since::{Query, Since};
 use wm_subs::{Subscribed, Subscription, SubscriptionName};
 
-/// What asks so of the files of a root, under a name.
+/// What asks so of the files of the root of a number, under a name.
 fn subscribed(
     root: RootPath,
+    number: u64,
     name: SubscriptionName,
     inquiry: Inquiry,
     since: Option<Since>,
 ) -> Subscribed<Expression>
-    ensures { (cursors : CursorList) → since ≡ since_point inquiry.since cursors → result ≡ subscribed_by root name inquiry cursors }
+    ensures { (found : Option RootView) → number ≡ number_found found → since ≡ since_point inquiry.since (cursors_of found) → result ≡ subscribed_by root found name inquiry }
 {
     let Inquiry {
         since: _,
@@ -47,6 +48,7 @@ fn subscribed(
     };
     Subscribed {
         root,
+        number,
         fields,
         subscription: Subscription::new(name, query),
     }
@@ -81,7 +83,7 @@ impl<F: Front> Session<F> {
         inquiry: Inquiry,
         out: &mut Vec<u8>,
     ) -> Result<(), Refusal>
-        ensures met { MetLeaving F.met self.old.front (Looks root) (λ s. subscribe_met s self.old.subscriptions root name (clock_answer (view_of s root))) (λ s. with_subscription (subscribed_by root name inquiry (cursors_of (view_of s root))) self.old.subscriptions) out.old.items result self.new.front out.new.items self.new.subscriptions }
+        ensures met { MetLeaving F.met self.old.front (Looks root) (λ s. subscribe_met s self.old.subscriptions root name (clock_answer (view_of s root))) (λ s. with_subscription (subscribed_by root (view_of s root) name inquiry) self.old.subscriptions) out.old.items result self.new.front out.new.items self.new.subscriptions }
         ensures room { vec_capacity out.old ≤ vec_capacity out.new }
         ensures later { F.leads_to self.old.front [] self.new.front }
         ensures err { OnErr result (self.new.subscriptions ≡ self.old.subscriptions) }
@@ -91,7 +93,7 @@ impl<F: Front> Session<F> {
             return Err(Refusal::TooMany);
         }
         let line = reply::subscribe_line(alloc, clock, &name, out)?;
-        let subscribed = subscribed(root, name, inquiry, since);
+        let subscribed = subscribed(root, clock.root, name, inquiry, since);
         self.begin(subscribed, &line, out)?;
         Ok(())
     }
@@ -151,9 +153,7 @@ impl<F: Front> Session<F> {
         ensures later { F.leads_to self.old.front [] self.new.front }
     {
         let subscribed = &self.subscriptions.as_slice()[place];
-        let due = self
-            .front
-            .due(alloc, &subscribed.root, &subscribed.subscription)?;
+        let due = self.front.due(alloc, subscribed)?;
         match due {
             None => Ok(()),
             Some(answer) => {

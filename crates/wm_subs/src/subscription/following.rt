@@ -1,19 +1,19 @@
 //! A subscription that follows a viewer, while the root's keeper goes on.
-//! Definitions: specs/Subscribers.antt, specs/Folds.antt. Tests: view_tests/src/shared/following.rt.
-ghost use Rattle.std.specs.Prelude.{◌≡◌, ◌⊎◌, IfOk, IfErr, OnErr};
+//! Definitions: specs/Subscribers.antt. Tests: view_tests/src/shared/following.rt.
+ghost use Rattle.std.specs.Prelude.{◌≡◌, ◌⊎◌, IfOk, IfErr};
 ghost use Rattle.wm_share.specs.PublishedLists.{Begins, disconnected, history};
-ghost use Rattle.wm_subs.specs.Subscribers.{after_due, due_answer};
-ghost use Rattle.wm_subs.specs.Folds.{FoldsOn};
+ghost use Rattle.wm_subs.specs.Subscribers.{due_answer};
 
 use super::Subscription;
 use std::alloc::Global;
 use wm_disk::Refusal;
 use wm_share::{Naming, Viewer};
-use wm_since::{Answer, Test, every_client};
+use wm_since::{Answer, Test};
 
 impl<T: Test> Subscription<T> {
     /// What is to be told on a published list that begins with all that the viewer had seen or learnt, and
-    /// that it has then seen: `None` as `next` has it. `NoPlace` if the keeper is gone, and `NoMemory`.
+    /// that it has then seen: `None` if the view isn't ready after that list, or the answer since the last
+    /// clock is neither the first nor fresh and lists no file. `NoPlace` if the keeper is gone, and `NoMemory`.
     /// Whoever tells it takes note of that with `told`.
     pub fn due_of<J: Naming>(
         &self,
@@ -33,46 +33,5 @@ impl<T: Test> Subscription<T> {
             return Ok(None);
         }
         Ok(Some(answer))
-    }
-
-    /// What is to be told on what the viewer has then seen, taken as told.
-    fn take_next<J: Naming>(
-        &mut self,
-        alloc: Global,
-        viewer: &mut Viewer<J>,
-    ) -> Result<Option<Answer>, Refusal>
-        ensures seen { Begins viewer.old.list viewer.new.list }
-        ensures due { IfOk result (λ o. o ≡ due_answer (T.passes self.old.query.test) (history viewer.new.list) self.old) }
-        ensures moved { IfOk result (λ o. self.new ≡ after_due self.old o) }
-        ensures refused { IfErr result (λ e. (e ≡ Refusal.NoMemory) ⊎ ((e ≡ Refusal.NoPlace) × (viewer.new ≡ disconnected viewer.old))) }
-        ensures err { OnErr result (self.new ≡ self.old) }
-    {
-        let due = self.due_of(alloc, viewer)?;
-        if let Some(answer) = &due {
-            self.told(answer.clock);
-        }
-        Ok(due)
-    }
-
-    /// What is to be told on a published list that begins with all that the viewer had seen or learnt, and
-    /// that it has then seen. `None` where the view isn't ready after that list, or the answer since the last
-    /// clock is neither the first nor fresh and lists no file. An answer is taken as told: the next is since
-    /// its clock. `None` changes nothing, nor does a refusal: `NoPlace` if the keeper is gone, and
-    /// `NoMemory`.
-    pub fn next<J: Naming>(
-        &mut self,
-        alloc: Global,
-        viewer: &mut Viewer<J>,
-    ) -> Result<Option<Answer>, Refusal>
-        ensures seen { Begins viewer.old.list viewer.new.list }
-        ensures due { IfOk result (λ o. o ≡ due_answer (T.passes self.old.query.test) (history viewer.new.list) self.old) }
-        ensures moved { IfOk result (λ o. self.new ≡ after_due self.old o) }
-        ensures folds { IfOk result (λ o. FoldsOn (T.passes self.old.query.test) (history viewer.new.list) self.old o self.new) }
-        ensures refused { IfErr result (λ e. (e ≡ Refusal.NoMemory) ⊎ ((e ≡ Refusal.NoPlace) × (viewer.new ≡ disconnected viewer.old))) }
-        ensures err { OnErr result (self.new ≡ self.old) }
-    {
-        every_client();
-        let due = self.take_next(alloc, viewer)?;
-        Ok(due)
     }
 }

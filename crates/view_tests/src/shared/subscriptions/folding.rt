@@ -17,7 +17,8 @@ fn follow(
     subscription: &mut Subscription<Every>,
     client: &mut Mirror<Every>,
 ) {
-    if let Some(answer) = subscription.next_on(alloc, view).expect(rt, "an answer") {
+    if let Some(answer) = subscription.due_on(alloc, view).expect(rt, "an answer") {
+        subscription.told(answer.clock);
         if !client.open() {
             drop(client.ask(alloc).expect(rt, "memory"));
         }

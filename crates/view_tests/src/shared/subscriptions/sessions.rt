@@ -10,7 +10,7 @@ use wm_since::{Every, Fields};
 use wm_subs::{MAX_SUBSCRIPTIONS, Subscribed, SubscriptionName, Subscriptions};
 use wm_view::View;
 
-/// One on a root, of which this is told of each file.
+/// One on the first root of a path, of which this is told of each file.
 fn subscribed(
     rt: &impl Abort,
     alloc: Global,
@@ -20,6 +20,7 @@ fn subscribed(
 ) -> Subscribed<Every> {
     Subscribed {
         root: RootPath::read(alloc, root).expect(rt, "a root path"),
+        number: 1,
         fields: Fields::read(alloc, &[field]).expect(rt, "fields"),
         subscription: subscription(rt, alloc, name, None),
     }
@@ -120,19 +121,17 @@ fn assert_order_of_the_rest(rt: &impl Abort, alloc: Global, all: &mut Subscripti
     check!(rt; stand_so(rt, alloc, all, "/rssize "));
 }
 
-/// A clock of the root of a number.
-fn clock_of(root: u64) -> ClockId {
-    ClockId {
-        incarnation: 1,
-        root,
-        tick: 1,
-    }
-}
+/// A clock of the first root.
+const CLOCK: ClockId = ClockId {
+    incarnation: 1,
+    root: 1,
+    tick: 1,
+};
 
-/// The subscription at a place was told of the root of a number.
-fn tell_of(all: &mut Subscriptions<Every>, place: usize, root: u64) {
+/// The subscription at a place was told of the first root.
+fn tell_first(all: &mut Subscriptions<Every>, place: usize) {
     if place < all.as_slice().len() {
-        all.told(place, clock_of(root));
+        all.told(place, CLOCK);
     }
 }
 
@@ -154,17 +153,16 @@ fn end_if_their_path_is_watched_anew(rt: HostRuntime) {
     for (root, name) in PUT {
         check!(&rt; puts(&rt, rt.alloc(), &mut all, root, name, "name"));
     }
-    // the first three were told of the first root of their path, and the last of nothing
-    for place in 0..3 {
-        tell_of(&mut all, place, 1);
+    // the last two were told nothing yet
+    for place in 0..2 {
+        tell_first(&mut all, place);
     }
     remove_earlier(&rt, rt.alloc(), &mut all, "/r", 1);
     check!(&rt; stand_so(&rt, rt.alloc(), &all, "/rsname /qsname /rtname /quname "));
-    tell_of(&mut all, 0, 2);
     remove_earlier(&rt, rt.alloc(), &mut all, "/r", 2);
-    check!(&rt; stand_so(&rt, rt.alloc(), &all, "/rsname /qsname /quname "));
+    check!(&rt; stand_so(&rt, rt.alloc(), &all, "/qsname /quname "));
     remove_earlier(&rt, rt.alloc(), &mut all, "/q", 3);
-    check!(&rt; stand_so(&rt, rt.alloc(), &all, "/rsname /quname "));
+    check!(&rt; stand_so(&rt, rt.alloc(), &all, ""));
     drop(all);
 }
 

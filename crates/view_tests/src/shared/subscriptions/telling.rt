@@ -35,7 +35,10 @@ fn tells_next(
     subscription: &mut Subscription<Every>,
     wanted: &str,
 ) -> bool {
-    let next = subscription.next_on(alloc, view).expect(rt, "an answer");
+    let next = subscription.due_on(alloc, view).expect(rt, "an answer");
+    if let Some(answer) = &next {
+        subscription.told(answer.clock);
+    }
     let text = told(rt, alloc, &next);
     drop(next);
     let is_so = text.as_str() == wanted;

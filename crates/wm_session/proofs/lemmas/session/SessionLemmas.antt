@@ -3,7 +3,7 @@ use Rattle.std.proofs.Common.{◌≡◌, ◌≤◌, ◌∙◌, ℕ, List, ◌++�
 use Rattle.std.specs.Prelude.{is_ok}
 use Rattle.serde_json.specs.Data.{Data}
 use Rattle.wm_disk.specs.declared.refusal.Refusal.{Refusal}
-use Rattle.wm_disk.specs.declared.refusal.Refusal.TheVariants.{NoMemory, TooMany}
+use Rattle.wm_disk.specs.declared.refusal.Refusal.TheVariants.{NoMemory, NotReady, TooMany}
 use Rattle.wm_names.specs.Paths.{Path}
 use Rattle.wm_clock.specs.declared.clock_id.ClockId.{ClockId}
 use Rattle.wm_since.specs.declared.query.Since.{Since}
@@ -21,8 +21,8 @@ use Rattle.wm_subs.specs.SessionLists.{may_subscribe, with_subscription}
 use Rattle.wm_session.specs.session.Faults.{Way, Defined, Device, Memory, Spent, refusal_or, state_or}
 use Rattle.wm_session.specs.session.Fronts.{Listed, Looked, Met, MetLeaving, OperatedAt, Part, Changes, Lists, Looks, Writes, at_moment, moment_given, reports_floor, start_answer, start_with}
 use Rattle.wm_session.specs.session.Inquiries.{since_point}
-use Rattle.wm_session.specs.session.Sessions.{SessionState, SubscriptionList, Outcome, by_reply, cursors_of, operation_met, operation_outcome, question_met, refused, replied, subscribe_met, subscribed_by, triggers_met, unsubscribe_met, view_of}
-use Rattle.wm_session.specs.session.Watched.{clock_answer, progress_after, view_after}
+use Rattle.wm_session.specs.session.Sessions.{SessionState, SubscriptionList, Outcome, by_reply, cursors_of, number_found, operation_met, operation_outcome, question_met, refused, replied, subscribe_met, subscribed_by, triggers_met, unsubscribe_met, view_of}
+use Rattle.wm_session.specs.session.Watched.{clock_answer, clock_in, progress_after, view_after}
 
 -- ---- what was answered, and how it was met
 
@@ -77,6 +77,17 @@ started (Ok c) since clock point is =
     let both : (c, since) ≡ (clock, point) = cc (is) in
     (ap (λ (x : ClockId × Option Since). Ok x.0) both, sym (ap (λ (x : ClockId × Option Since). x.1) both))
 started (Err e) since clock point is = absurd cc
+
+-- a root's clock has the root's number
+of_root : (ready : Bool) (root : RootView) (clock : ClockId) → cond {A = Result ClockId Refusal} ready (Ok (clock_in root)) (Err NotReady) ≡ Ok clock → clock.root ≡ root.view.root
+of_root true root clock is =
+    let same : clock_in root ≡ clock = cc (is) in
+    sym (ap (λ (c : ClockId). c.root) same)
+of_root false root clock is = absurd cc
+
+root_told : (view : Option RootView) (clock : ClockId) → clock_answer view ≡ Ok clock → clock.root ≡ number_found view
+root_told None clock is = absurd cc
+root_told (Some root) clock is = of_root root.view.ready root clock is
 
 -- an operation's reply
 done_is : (s : SessionState) (root : Path) (o : Op) (r : Result RootView Refusal) (progress : Progress) → progress_after r ≡ Ok progress → (operation_met s root o r).reply ≡ Ok (operation_reply o progress)
@@ -255,9 +266,9 @@ module _ {F : Type 0} (met : F → Part → Way → Bool → SessionState → Se
   -- ---- subscribing
   pub subscribed_done : (old new : F) (root name : List ℕ) (q : Inquiry) (subscriptions left : SubscriptionList) (clock : ClockId) (since : Option Since) (before after : List ℕ)
       → Looked met old (Looks root) (λ s. start_answer (view_of s root) q.since) (Ok (clock, since)) new → may_subscribe root name subscriptions ≡ true
-      → ((s : SessionState) → since ≡ since_point q.since (cursors_of (view_of s root)) → left ≡ with_subscription (subscribed_by root name q (cursors_of (view_of s root))) subscriptions)
+      → ((s : SessionState) → clock.root ≡ number_found (view_of s root) → since ≡ since_point q.since (cursors_of (view_of s root)) → left ≡ with_subscription (subscribed_by root (view_of s root) name q) subscriptions)
       → after ≡ before ++ line_text (subscribe_reply clock name)
-      → MetLeaving met old (Looks root) (λ s. subscribe_met s subscriptions root name (clock_answer (view_of s root))) (λ s. with_subscription (subscribed_by root name q (cursors_of (view_of s root))) subscriptions) before (Ok tt) new after left
+      → MetLeaving met old (Looks root) (λ s. subscribe_met s subscriptions root name (clock_answer (view_of s root))) (λ s. with_subscription (subscribed_by root (view_of s root) name q) subscriptions) before (Ok tt) new after left
   subscribed_done old new root name q subscriptions left clock since before after m may leaves put =
       let view = view_of m.found root in
       let is = granted m.way (clock, since) (start_answer view q.since) m.is in
@@ -271,7 +282,7 @@ module _ {F : Type 0} (met : F → Part → Way → Bool → SessionState → Se
           at = stays_met old new (Looks root) m.way m.found defined (subscribe_stays m.found subscriptions root name (clock_answer view)) m.at;
           written = writes m.way defined.reply (subscribe_reply clock name) before after is.0 reply put;
         },
-        leaves m.found at.1,
+        leaves m.found (root_told view clock at.0) at.1,
       )
 
   pub subscribed_full : (old new : F) (root name : List ℕ) (q : Inquiry) (subscriptions : SubscriptionList) (left : SessionState → SubscriptionList) (started_so : ClockId × Option Since) (before after : List ℕ) (kept : SubscriptionList)

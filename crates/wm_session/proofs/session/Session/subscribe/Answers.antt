@@ -3,7 +3,7 @@ use Rattle.std.proofs.lemmas.Result.{err_from_is_err_and}
 use Rattle.wm_lines.specs.Replies.{line_text, subscribe_reply}
 use Rattle.wm_subs.specs.SessionLists.{with_subscription}
 use Rattle.wm_session.specs.session.Fronts.{Looks, start_answer}
-use Rattle.wm_session.specs.session.Sessions.{cursors_of, subscribe_met, subscribed_by, view_of}
+use Rattle.wm_session.specs.session.Sessions.{subscribe_met, subscribed_by, view_of}
 use Rattle.wm_session.specs.session.Watched.{clock_answer}
 use Rattle.wm_session.proofs.lemmas.session.SessionLemmas.{looked_memory, ran_out, subscribed_done, subscribed_full, subscribed_no}
 use Rattle.wm_session.proofs.session.Session.subscribe.Goals as goal
@@ -13,14 +13,14 @@ returns-in_err-clock-clause-met g c =
     let root = c.args.root in
     let p = err_from_is_err_and c.from_residual.result c.from_residual.ensures.1 in
     rw (p.1, p.2) (subscribed_no g.F.Front.met c.args.self.now.front c.start.new.self root c.args.name c.args.inquiry c.args.self.now.subscriptions
-    (λ s. with_subscription (subscribed_by root c.args.name c.args.inquiry (cursors_of (view_of s root))) c.args.self.now.subscriptions)
+    (λ s. with_subscription (subscribed_by root (view_of s root) c.args.name c.args.inquiry) c.args.self.now.subscriptions)
     c.in_err-clock.field-0.0 c.args.out.now.items c.args.out.now.items c.args.self.now.subscriptions c.in_err-clock.ensures.met refl)
 
 pub returns-then-not-has_room-clause-met : goal.returns-then-not-has_room-clause-met
 returns-then-not-has_room-clause-met g c =
     let root = c.args.root in
     subscribed_full g.F.Front.met c.args.self.now.front c.start.new.self root c.args.name c.args.inquiry c.args.self.now.subscriptions
-    (λ s. with_subscription (subscribed_by root c.args.name c.args.inquiry (cursors_of (view_of s root))) c.args.self.now.subscriptions)
+    (λ s. with_subscription (subscribed_by root (view_of s root) c.args.name c.args.inquiry) c.args.self.now.subscriptions)
     (c.in_ok-clock.clock, c.in_ok-clock.since) c.args.out.now.items c.args.out.now.items c.args.self.now.subscriptions c.in_ok-clock.ensures.met (sym c.if-not-has_room.ensures) refl
 
 -- memory ran out for the line, or for the subscription
@@ -58,4 +58,4 @@ returns-clause-met g c =
     let put : c.begin.new.out.items ≡ c.args.out.now.items ++ line_text (subscribe_reply c.in_ok-clock.clock c.args.name) = search rules in
     rw c.in_ok-begin.ensures.front (subscribed_done g.F.Front.met old c.start.new.self root c.args.name c.args.inquiry c.args.self.now.subscriptions c.begin.new.self.subscriptions c.in_ok-clock.clock c.in_ok-clock.since
     c.args.out.now.items c.begin.new.out.items c.in_ok-clock.ensures.met (sym c.if-not-has_room.ensures)
-    (λ s is. c.in_ok-begin.ensures.ok ∙ ap (λ x. with_subscription x c.args.self.now.subscriptions) (c.subscribed-subscribed.ensures (cursors_of (view_of s root)) is)) put)
+    (λ s of is. c.in_ok-begin.ensures.ok ∙ ap (λ x. with_subscription x c.args.self.now.subscriptions) (c.subscribed-subscribed.ensures (view_of s root) of is)) put)

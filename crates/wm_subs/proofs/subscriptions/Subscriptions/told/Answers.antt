@@ -7,7 +7,7 @@ use Rattle.wm_subs.proofs.subscriptions.Subscriptions.told.Goals as goal
 -- the list with one item written
 written : goal.returns
 written g c =
-    ap (λ s. slice_set c.self.inside.all.items c.args.place (record { root = c.index_mut.result.now.root; fields = c.index_mut.result.now.fields; subscription = s })) c.told.ensures
+    ap (λ s. slice_set c.self.inside.all.items c.args.place (record { root = c.index_mut.result.now.root; number = c.index_mut.result.now.number; fields = c.index_mut.result.now.fields; subscription = s })) c.told.ensures.told
     ∙ told_is c.self.inside.all.items c.args.place c.args.clock c.index_mut.result.now (subst (λ (l : List (Subscribed g.row.T.Denot)). c.args.place < length l) (sym c.self.view_is) c.requires) c.index_mut.ensures.value
     ∙ ap (told_at c.args.place c.args.clock) c.self.view_is
 

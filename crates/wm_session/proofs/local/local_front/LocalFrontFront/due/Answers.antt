@@ -7,3 +7,6 @@ returns-in_default-clause-later g c = stays g.D.Disk [] c.args.self.now.store
 
 pub returns-clause-later : goal.returns-clause-later
 returns-clause-later g c = stays g.D.Disk [] c.args.self.now.store
+
+pub returns-then-root-subscribed-clause-later : goal.returns-then-root-subscribed-clause-later
+returns-then-root-subscribed-clause-later g c = stays g.D.Disk [] c.args.self.now.store
