@@ -12,5 +12,6 @@ pub mod PairLines
 pub mod QueryLines
 pub mod RecrawlLines
 pub mod Replies
+pub mod ReplyLaws
 pub mod SubscribeLines
 pub mod TriggerLines

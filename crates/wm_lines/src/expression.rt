@@ -51,13 +51,6 @@ impl Expression {
     {
         Expression { expr: Expr::True }
     }
-
-    /// The expression for a question.
-    pub fn into_expr(self) -> Expr
-        ensures { term result ≡ self }
-    {
-        self.expr
-    }
 }
 
 impl Test for Expression {

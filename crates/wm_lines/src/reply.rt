@@ -19,12 +19,10 @@ pub use subscriptions::{put_due, put_unsubscribe, subscribe_line};
 use wm_clock::{ClockId, put_number};
 use wm_disk::{NoMemory, Refusal};
 use wm_names::RootPath;
+use wm_protocol::VERSION;
 use wm_registry::{Command, Reply, Root, Stdin, Trigger, Word};
 use wm_since::{Answer, Fields, render};
 use wm_view::Op;
-
-/// What `version` and `--version` tell, and each reply carries.
-pub const VERSION: &str = "w1";
 
 /// The most bytes of a refusal's line.
 pub const REFUSAL_ROOM: usize = 64;

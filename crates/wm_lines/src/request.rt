@@ -17,6 +17,7 @@ use serde_json::Value;
 use std::alloc::Global;
 use wm_disk::Refusal;
 use wm_names::RootPath;
+use wm_protocol::MAX_LINE;
 use wm_registry::{Trigger, TriggerName};
 use wm_subs::SubscriptionName;
 use wm_view::{Listing, Pairs};
@@ -53,9 +54,6 @@ pub enum Request {
     /// That a root's subscription of that name end.
     Unsubscribe(RootPath, SubscriptionName),
 }
-
-/// The most bytes of a line, its newline among them.
-pub const MAX_LINE: usize = 1_048_576;
 
 /// Whether the line ends by its newline and isn't too long.
 fn is_whole(line: &[u8]) -> bool

@@ -22,7 +22,7 @@ enum End {
     Crashed(u64),
 }
 
-/// Whether each cut has all 67 ends: the gate takes a few (tools/migration_sweep.sh takes all).
+/// Whether each cut has all 67 ends: the gate takes a few (`make edits CRATE=sweep` takes all).
 const IS_WHOLE: bool = false;
 
 /// A few of them. The crashes leave what was durable, what a read gives, the byte `A5` or the byte `00` in each written place,

@@ -8,11 +8,12 @@ ghost use Rattle.wm_lines.specs.AnswerTexts.{due_middle, due_tail, due_text};
 ghost use Rattle.wm_lines.specs.Replies.{due_data, line_text, subscribe_reply, unsubscribe_reply};
 
 use crate::expression::Expression;
-use crate::reply::{HEAD_ROOM, VERSION, line_of, put_head, put_line};
+use crate::reply::{HEAD_ROOM, line_of, put_head, put_line};
 use serde_json::{Value, json};
 use std::alloc::{AllocError, Global};
 use wm_clock::ClockId;
 use wm_disk::NoMemory;
+use wm_protocol::VERSION;
 use wm_since::{Answer, render};
 use wm_subs::{Subscribed, SubscriptionName};
 

@@ -4,11 +4,8 @@ use Rattle.std.specs.Prelude.{◌==◌, ◌||◌, if◌then◌else◌, is_some, 
 use Rattle.std.specs.Option.{option_map_or}
 use Rattle.std.specs.Str.{bytes_eq, chars}
 use Rattle.std.specs.String.{string_bytes}
-use Rattle.clap.specs.Words.{App, Row, Rule, Text, first_of, new_app, new_rule, with_rule}
-use Rattle.clap.specs.Words.{with_subcommand}
-use Rattle.clap.specs.declared.builder.ArgAction.TheVariants.{Set}
-use Rattle.clap.specs.declared.error.ErrorKind.{ErrorKind}
-use Rattle.clap.specs.declared.error.ErrorKind.TheVariants as kind
+use Rattle.clap.specs.Words.{App, Row, Text, first_of, new_app, with_rule, with_subcommand}
+use Rattle.wm_arguments.specs.ArgumentRules.{needed_rule}
 use Rattle.wm_server.specs.declared.program.words.Words.{Words}
 use Rattle.wm_server.specs.declared.program.words.Words.TheVariants as words
 
@@ -105,17 +102,13 @@ asked (word ∷ rest) = if bytes_eq word (codes "format") then asked_after_comma
 
 -- ---- the command line as clap is told of it
 
--- a path, which the command needs
-abbrev pub path_rule : Text → Rule
-path_rule name = record (new_rule name) { action = Some Set; required = true }
-
 -- a command with FILE
 abbrev pub file_app : Text → App
-file_app name = with_rule (new_app name) (path_rule (codes "FILE"))
+file_app name = with_rule (new_app name) (needed_rule (codes "FILE"))
 
 -- `migrate`, with OLD and NEW
 abbrev pub migrate_app : App
-migrate_app = with_rule (with_rule (new_app (codes "migrate")) (path_rule (codes "OLD"))) (path_rule (codes "NEW"))
+migrate_app = with_rule (with_rule (new_app (codes "migrate")) (needed_rule (codes "OLD"))) (needed_rule (codes "NEW"))
 
 -- the program's command, with no command below it yet
 abbrev pub bare_app : App
@@ -147,10 +140,3 @@ abbrev pub asked_by_matches : Option (Text × List Row) → Option Asked
 asked_by_matches None = None
 asked_by_matches (Some met) = if bytes_eq met.0 (codes "migrate") then migrate_by met.1
     else option_map (λ file. if bytes_eq met.0 (codes "format") then format file else lines file) (first_of (codes "FILE") met.1)
-
--- what an error of this kind shows; running out of memory is never shown
-abbrev pub shown_for : ErrorKind → Option Asked
-shown_for kind.OutOfMemory = None
-shown_for kind.DisplayHelp = Some shown_as_asked
-shown_for kind.DisplayVersion = Some shown_as_asked
-shown_for other = Some fault

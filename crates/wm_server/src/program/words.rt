@@ -1,16 +1,15 @@
 //! What the command-line words ask of `watchmand`. Their definitions are in specs/program/Words.
 //! Tests: session_tests/src/programs/words.rt.
 ghost use Rattle.std.specs.Prelude.{◌≡◌, IfOk, Some, false, is_some, map, true};
-ghost use Rattle.clap.specs.Values.{kind_of};
 ghost use Rattle.clap.specs.declared.builder.Command.TheViews.{out-Command};
-ghost use Rattle.clap.specs.Words.{app_of, found_of, rows_of, rule_of, subcommand_rows_of, with_subcommand};
-ghost use Rattle.wm_server.specs.program.Words.{asked, asked_by_matches, asked_of, bare_app, file_app, migrate_app, migrate_by, path_rule, shown_for, watchmand_app};
+ghost use Rattle.clap.specs.Words.{app_of, found_of, rows_of, subcommand_rows_of, with_subcommand};
+ghost use Rattle.wm_server.specs.program.Words.{asked, asked_by_matches, asked_of, bare_app, file_app, migrate_app, migrate_by, shown as shown_lem, watchmand_app};
 
-use clap::error::ErrorKind;
-use clap::{Arg, ArgAction, ArgMatches, Command, Error};
+use clap::{ArgMatches, Command};
 use std::alloc::Global;
+use wm_arguments::{Shown, needed, parsed, subcommand_of, word_of};
 use wm_disk::NoMemory;
-use wm_lines::reply::VERSION;
+use wm_protocol::VERSION;
 
 /// What the words of `watchmand` ask for.
 #[derive(Drop)]
@@ -36,11 +35,19 @@ impl Words {
         ensures { IfOk result (λ r. asked_of r ≡ asked (map (λ word. word.now) words.entry.now)) }
     {
         let command = watchmand(alloc)?;
-        match command.try_get_matches_from(words) {
+        match parsed(alloc, command, words)? {
             Ok(matches) => chosen(alloc, &matches),
-            Err(error) => shown(alloc, &error),
+            Err(shown) => Ok(instead(shown)),
         }
     }
+}
+
+// What is shown in place of what the words ask for.
+fn instead(shown: Shown) -> Words
+    ensures { asked_of result ≡ shown_lem shown.status }
+{
+    let Shown { text, status, .. } = shown;
+    Words::Shown { text, status }
 }
 
 const STATUSES: &str = "Exit status:
@@ -104,7 +111,7 @@ fn file_command<'a>(alloc: Global, name: &'a str, about: &'a str) -> Result<Comm
     ensures app { IfOk result (λ c. app_of c ≡ file_app name.entry.now) }
     ensures local { IfOk result (λ c. (out-Command c).has_globals ≡ false) }
 {
-    let file = path_argument(alloc, "FILE", "The path of the state file");
+    let file = needed(alloc, "FILE", "The path of the state file");
     let command = Command::new(alloc, name).about(about).arg(file)?;
     Ok(command)
 }
@@ -123,12 +130,12 @@ fn migrate_command<'a>(alloc: Global) -> Result<Command<'a>, NoMemory>
     ensures app { IfOk result (λ c. app_of c ≡ migrate_app) }
     ensures local { IfOk result (λ c. (out-Command c).has_globals ≡ false) }
 {
-    let old = path_argument(
+    let old = needed(
         alloc,
         "OLD",
         "The path of the state file of version 1, which is retired",
     );
-    let new = path_argument(
+    let new = needed(
         alloc,
         "NEW",
         "The path of the state file of version 2, which is made, or written over unless OLD is retired",
@@ -142,29 +149,18 @@ fn migrate_command<'a>(alloc: Global) -> Result<Command<'a>, NoMemory>
     Ok(command)
 }
 
-// A path, which its command needs.
-fn path_argument<'a>(alloc: Global, name: &'a str, help: &'a str) -> Arg<'a>
-    ensures rule { rule_of result ≡ path_rule name.entry.now }
-    ensures local { result.global ≡ false }
-{
-    Arg::new(alloc, name)
-        .help(help)
-        .action(ArgAction::Set)
-        .required(true)
-}
-
 // What the matches of the program's command ask for: it met one of its commands, with the paths that this one takes.
 fn chosen(alloc: Global, matches: &ArgMatches<'_>) -> Result<Words, NoMemory>
     requires { is_some (asked_by_matches (subcommand_rows_of matches.now)) ≡ true }
     ensures { IfOk result (λ r. asked_by_matches (subcommand_rows_of matches.now) ≡ Some (asked_of r)) }
 {
-    let Some((name, inner)) = matches.subcommand() else {
+    let Some((name, inner)) = subcommand_of(matches) else {
         unreachable!()
     };
     if name == "migrate" {
         return migrating(alloc, inner);
     }
-    let Some(file) = inner.get_str("FILE") else {
+    let Some(file) = word_of(inner, "FILE") else {
         unreachable!()
     };
     let file = String::from_str(alloc, file)?;
@@ -180,25 +176,13 @@ fn migrating(alloc: Global, matches: &ArgMatches<'_>) -> Result<Words, NoMemory>
     requires { is_some (migrate_by (rows_of (found_of matches.now))) ≡ true }
     ensures { IfOk result (λ r. migrate_by (rows_of (found_of matches.now)) ≡ Some (asked_of r)) }
 {
-    let Some(old) = matches.get_str("OLD") else {
+    let Some(old) = word_of(matches, "OLD") else {
         unreachable!()
     };
-    let Some(new) = matches.get_str("NEW") else {
+    let Some(new) = word_of(matches, "NEW") else {
         unreachable!()
     };
     let old = String::from_str(alloc, old)?;
     let new = String::from_str(alloc, new)?;
     Ok(Words::Migrate { old, new })
-}
-
-// What is shown for an error of the parse. Running out of memory is no fault of the words: it is an `Err`.
-fn shown(alloc: Global, error: &Error) -> Result<Words, NoMemory>
-    ensures { IfOk result (λ r. shown_for (kind_of error.now) ≡ Some (asked_of r)) }
-{
-    if error.kind() == ErrorKind::OutOfMemory {
-        return Err(NoMemory);
-    }
-    let status = if error.use_stderr() { 2 } else { 0 };
-    let text = error.to_string(alloc)?;
-    Ok(Words::Shown { text, status })
 }

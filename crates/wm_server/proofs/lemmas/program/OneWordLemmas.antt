@@ -11,7 +11,8 @@ use Rattle.clap.specs.Faults.{bundle_fault, bundle_step_fault, flag_word_fault, 
 use Rattle.clap.specs.Kinds.{Kinds, or_else}
 use Rattle.clap.specs.Simple.{Shape, help_rule, version_rule, filled}
 use Rattle.clap.specs.Walk.{Held, Names, Row, Rule, Text, Walk, after_step, arg_by_long, arg_by_short, bundle_met, idle, long_or_other, subcommand_met, value, walked}
-use Rattle.wm_server.specs.program.Words.{asked_by_stray, asks_to_tell, ends_flags, fault, flag_of, is_flag, shown, shown_for, shown_as_asked}
+use Rattle.wm_arguments.specs.Parses.{status_for}
+use Rattle.wm_server.specs.program.Words.{asked_by_stray, asks_to_tell, ends_flags, fault, flag_of, is_flag, shown, shown_as_asked}
 
 -- ---- tests
 
@@ -39,12 +40,12 @@ not_some (Some x) e = absurd (true≢false e)
 
 abbrev pub AllShow : ℕ → Kinds → Type 0
 AllShow status [] = ⊤
-AllShow status (k ∷ ks) = (shown_for k ≡ Some (shown status)) × AllShow status ks
+AllShow status (k ∷ ks) = (status_for k ≡ Some status) × AllShow status ks
 
 -- there is a kind, and each shows a text with this status
 abbrev pub Shows : ℕ → Kinds → Type 0
 Shows status [] = ⊥
-Shows status (k ∷ ks) = (shown_for k ≡ Some (shown status)) × AllShow status ks
+Shows status (k ∷ ks) = (status_for k ≡ Some status) × AllShow status ks
 
 pub or_else-Shows : (status : ℕ) (ks next : Kinds) → Shows status ks → Shows status (or_else ks next)
 or_else-Shows status [] next shows = absurd shows

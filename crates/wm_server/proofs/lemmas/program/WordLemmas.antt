@@ -1,22 +1,20 @@
 -- What clap makes of the words, as `specs/program/Words.antt` says it.
-use Rattle.std.proofs.Common.{◌≡◌, ◌∙◌, ℕ, Bool, true, false, List, [], ◌∷◌, ◌++◌, Option, Some, None, inl, inr, refl, sym, ap, ap₂, subst, true≢false, codes, is_some, option_map}
+use Rattle.std.proofs.Common.{◌≡◌, ◌∙◌, ℕ, Bool, true, false, List, [], ◌∷◌, ◌++◌, Option, Some, None, inl, inr, refl, sym, ap, ap₂, subst, codes, is_some, option_map}
 use Rattle.std.proofs.lemmas.Slice.Eq.{bytes_eq-Decides}
 use Rattle.std.specs.List.{fold}
-use Rattle.std.specs.Prelude.{◌==◌, if◌then◌else◌, ◌⊎◌, option_and_then, unwrap_or}
+use Rattle.std.specs.Prelude.{◌==◌, if◌then◌else◌, option_and_then, unwrap_or}
 use Rattle.std.specs.Str.{bytes_eq, chars}
 use Rattle.clap.specs.Faults.{entered_fault, fault_of, walk_fault, defaults_fault, turn_fault}
 use Rattle.clap.specs.Kinds.{IsAmong, Kinds, or_else}
-use Rattle.clap.specs.Simple.{App, Shape, entered, is_simple, subcommand_of, with_filled_rules, with_help_flag, with_version_flag}
+use Rattle.clap.specs.Simple.{App, Shape, entered, subcommand_of, with_filled_rules, with_help_flag, with_version_flag}
 use Rattle.clap.specs.Faults.{is_simple_and_free}
 use Rattle.clap.specs.Walk.{Names, Row, Text, Walk, arg_by_long, arg_by_short, first_of, idle, settled_rows, subcommand_met, walked}
-use Rattle.clap.specs.Simple.{HasMatchesOf, subcommand_rows_of}
-use Rattle.clap.specs.Matches.{first_value, found_of, subcommand_name_of}
-use Rattle.clap.specs.Walk.{rows_of}
+use Rattle.clap.specs.Simple.{subcommand_rows_of}
 use Rattle.clap.specs.declared.error.ErrorKind.{ErrorKind}
-use Rattle.clap.specs.declared.error.ErrorKind.TheVariants.{OutOfMemory}
 use Rattle.clap.specs.declared.parser.ArgMatches.{ArgMatches}
-use Rattle.clap.proofs.WalkLemmas.{first_value-rows, walk_stopped}
-use Rattle.wm_server.specs.program.Words.{Asked, asked, asked_after_dashes, asked_after_migrate, asked_after_migrate_dashes, asked_by_matches, asked_by_stray, asked_after_command, ends_flags, fault, file_app, format, is_flag, lines, migrate, migrate_app, migrate_by, shown, shown_for, watchmand_app}
+use Rattle.clap.proofs.WalkLemmas.{walk_stopped}
+use Rattle.wm_arguments.specs.Parses.{IsParseOf, MayShow, status_for}
+use Rattle.wm_server.specs.program.Words.{Asked, asked, asked_after_dashes, asked_after_migrate, asked_after_migrate_dashes, asked_by_matches, asked_by_stray, asked_after_command, ends_flags, fault, file_app, format, is_flag, lines, migrate, migrate_app, migrate_by, shown, watchmand_app}
 use Rattle.wm_server.proofs.lemmas.program.OneWordLemmas.{AllShow, Shows, asks_nothing, at, by_status, flip, long_flag, or_else-Shows, short_flag, status_of, turn_flag, turn_plain}
 use Rattle.wm_server.proofs.lemmas.program.CommandLemmas.{Goes, above, after_dashes, built, command_goes, dashes, flagged, go_on, knows_flags, lacks, level_of, take_plain}
 
@@ -247,9 +245,6 @@ words_read (word ∷ rest) = by_format (bytes_eq word (codes "format")) refl
 
 -- ---- what the functions cite
 
-pub is_simple_app : is_simple watchmand_app ≡ true
-is_simple_app = refl
-
 pub is_free_app : is_simple_and_free watchmand_app ≡ true
 is_free_app = refl
 
@@ -260,89 +255,64 @@ watchmand_reads words = words_read words
 pub some_same : {X : Type 0} (x y : X) → Some x ≡ Some y → x ≡ y
 some_same x y same = ap (λ o. unwrap_or o x) same
 
-some≢none : {X : Type 0} (x : X) → Some x ≡ None → ⊥
-some≢none x same = true≢false (ap is_some same)
-
 -- where no kind may come, the matches say what the words ask for
-pub gives_met : (a : Asked) (ks : Kinds) (met : Option Asked) → Gives a ks met → ks ≡ [] → met ≡ Some a
+gives_met : (a : Asked) (ks : Kinds) (met : Option Asked) → Gives a ks met → ks ≡ [] → met ≡ Some a
 gives_met (format file) ks met gives none = gives.1
 gives_met (lines file) ks met gives none = gives.1
 gives_met (migrate old new) ks met gives none = gives.1
 gives_met (shown status) ks met gives none = absurd (subst (λ (k : Kinds). Shows status k) none gives)
 
-all_show : (status : ℕ) (k : ErrorKind) (ks : Kinds) → AllShow status ks → IsAmong k ks → shown_for k ≡ Some (shown status)
+all_show : (status : ℕ) (k : ErrorKind) (ks : Kinds) → AllShow status ks → IsAmong k ks → status_for k ≡ Some status
 all_show status k [] shows among = absurd among
-all_show status k (x ∷ xs) shows (inl same) = subst (λ (y : ErrorKind). shown_for y ≡ Some (shown status)) (sym same) shows.0
+all_show status k (x ∷ xs) shows (inl same) = subst (λ (y : ErrorKind). status_for y ≡ Some status) (sym same) shows.0
 all_show status k (x ∷ xs) shows (inr among) = all_show status k xs shows.1 among
 
-among_show : (status : ℕ) (k : ErrorKind) (ks : Kinds) → Shows status ks → IsAmong k ks → shown_for k ≡ Some (shown status)
+among_show : (status : ℕ) (k : ErrorKind) (ks : Kinds) → Shows status ks → IsAmong k ks → status_for k ≡ Some status
 among_show status k [] shows among = absurd shows
 among_show status k (x ∷ xs) shows among = all_show status k (x ∷ xs) shows among
 
--- a kind that may come shows what the words ask for
-pub gives_shown : (a : Asked) (ks : Kinds) (met : Option Asked) (k : ErrorKind) → Gives a ks met → IsAmong k ks → shown_for k ≡ Some a
-gives_shown (format file) ks met k gives among = absurd (subst (λ (l : Kinds). IsAmong k l) gives.0 among)
-gives_shown (lines file) ks met k gives among = absurd (subst (λ (l : Kinds). IsAmong k l) gives.0 among)
-gives_shown (migrate old new) ks met k gives among = absurd (subst (λ (l : Kinds). IsAmong k l) gives.0 among)
-gives_shown (shown status) ks met k gives among = among_show status k ks gives among
+-- the status of a kind that may come is what the words ask for
+gives_shown : (a : Asked) (ks : Kinds) (met : Option Asked) (k : ErrorKind) (status : ℕ) → Gives a ks met → IsAmong k ks → status_for k ≡ Some status → shown status ≡ a
+gives_shown (format file) ks met k status gives among is = absurd (subst (λ (l : Kinds). IsAmong k l) gives.0 among)
+gives_shown (lines file) ks met k status gives among is = absurd (subst (λ (l : Kinds). IsAmong k l) gives.0 among)
+gives_shown (migrate old new) ks met k status gives among is = absurd (subst (λ (l : Kinds). IsAmong k l) gives.0 among)
+gives_shown (shown wanted) ks met k status gives among is = ap shown (some_same status wanted (sym is ∙ among_show wanted k ks gives among))
 
 -- what a parse of the words that ended well met
-pub met_asked : (app : App) (words : List Text) (m : ArgMatches) → app ≡ watchmand_app → (is_simple_and_free app ≡ true → fault_of app words ≡ [])
-    → HasMatchesOf app words m → asked_by_matches (subcommand_rows_of m) ≡ Some (asked words)
-met_asked app words m same none matches =
-    let clean : fault_of watchmand_app words ≡ [] = subst (λ (a : App). fault_of a words ≡ []) same (none (ap is_simple_and_free same ∙ is_free_app)) in
-    let met : subcommand_rows_of m ≡ subcommand_of watchmand_app words =
-    (matches (ap is_simple same ∙ is_simple_app)).1 ∙ ap (λ (a : App). subcommand_of a words) same in
-    ap asked_by_matches met ∙ gives_met (asked words) (fault_of watchmand_app words) _ (watchmand_reads words) clean
+pub parse_asked : (app : App) (words : List Text) (m : ArgMatches) → app ≡ watchmand_app → IsParseOf app words m → asked_by_matches (subcommand_rows_of m) ≡ Some (asked words)
+parse_asked app words m same parse =
+    let P : App → Type 0 = λ a. IsParseOf a words m in
+    let at : P watchmand_app = subst P same parse in
+    ap asked_by_matches at.2 ∙ gives_met (asked words) (fault_of watchmand_app words) _ (watchmand_reads words) at.0
 
--- what a parse of the words that failed shows, unless memory ran out
-pub kind_asked : (app : App) (words : List Text) (k : ErrorKind) → app ≡ watchmand_app
-    → (is_simple_and_free app ≡ true → (k ≡ OutOfMemory) ⊎ IsAmong k (fault_of app words)) → (r : Asked) → shown_for k ≡ Some r → r ≡ asked words
-kind_asked app words k same kinds r shows = go (kinds (ap is_simple_and_free same ∙ is_free_app))
-  where
-    go : (k ≡ OutOfMemory) ⊎ IsAmong k (fault_of app words) → r ≡ asked words
-    go (inl memory) = absurd (some≢none r (sym shows ∙ ap shown_for memory))
-    go (inr among) = some_same r (asked words) (sym shows ∙ gives_shown (asked words) (fault_of watchmand_app words) _ k (watchmand_reads words)
-        (subst (λ (a : App). IsAmong k (fault_of a words)) same among))
+-- what a parse of the words that failed shows
+pub shown_asked : (app : App) (words : List Text) (status : ℕ) → app ≡ watchmand_app → MayShow app words status → shown status ≡ asked words
+shown_asked app words status same may =
+    let P : App → Type 0 = λ a. MayShow a words status in
+    let at : P watchmand_app = subst P same may in
+    gives_shown (asked words) (fault_of watchmand_app words) _ at.0 status (watchmand_reads words) at.1 at.2
 
 -- ---- the subcommand of the matches
-
-pairs : {X Y Z : Type 0} (f : X → Y) (g : X → Z) (o : Option X) (y : Y) (z : Z) → Some y ≡ option_map f o
-    → Some z ≡ option_map (λ (p : Y × Z). p.1) (option_map {U = Y × Z} (λ x. (f x, g x)) o) → option_map {U = Y × Z} (λ x. (f x, g x)) o ≡ Some (y, z)
-pairs f g None y z first_is second_is = absurd (some≢none y first_is)
-pairs f g (Some x) y z first_is second_is =
-    ap₂ (λ a b. Some (a, b)) (some_same _ _ (sym first_is)) (some_same _ _ (sym second_is))
 
 abbrev pub made_by : Text → Text → Asked
 made_by name file = if bytes_eq name (codes "format") then format file else lines file
 
--- the subcommand of the matches, with its rows
-pub rows_by_parts : (m : ArgMatches) (name : Text) (inner : ArgMatches) → Some name ≡ subcommand_name_of m
-    → Some (rows_of (found_of inner)) ≡ option_map (λ (p : Text × List Row). p.1) (subcommand_rows_of m)
-    → asked_by_matches (subcommand_rows_of m) ≡ asked_by_matches (Some (name, rows_of (found_of inner)))
-rows_by_parts m name inner name_is rows_are = ap asked_by_matches (pairs _ _ _ name (rows_of (found_of inner)) name_is rows_are)
+abbrev by_name : Bool → Text → List Row → Option Asked
+by_name is_migrate name rows = if is_migrate then migrate_by rows else option_map (made_by name) (first_of (codes "FILE") rows)
 
--- what the matches ask for, by the name of the subcommand, which isn't `migrate`, and the value of its FILE
-pub asked_by_parts : (m : ArgMatches) (name : Text) (inner : ArgMatches) (file : Option Text) → Some name ≡ subcommand_name_of m
-    → Some (rows_of (found_of inner)) ≡ option_map (λ (p : Text × List Row). p.1) (subcommand_rows_of m) → file ≡ first_value (found_of inner) (codes "FILE")
-    → bytes_eq name (codes "migrate") ≡ false
-    → asked_by_matches (subcommand_rows_of m) ≡ option_map (made_by name) file
-asked_by_parts m name inner file name_is rows_are file_is other =
-    rows_by_parts m name inner name_is rows_are
-    ∙ ap (λ t. if t then migrate_by (rows_of (found_of inner)) else option_map (made_by name) (first_of (codes "FILE") (rows_of (found_of inner)))) other
-    ∙ ap (option_map (made_by name)) (sym (file_is ∙ first_value-rows (found_of inner) (codes "FILE")))
+-- what is asked for, if the subcommand isn't `migrate`, by its FILE
+pub asked_by_file : (met : Option (Text × List Row)) (name : Text) (rows : List Row) (file : Option Text) → Some (name, rows) ≡ met
+    → file ≡ first_of (codes "FILE") rows → bytes_eq name (codes "migrate") ≡ false → asked_by_matches met ≡ option_map (made_by name) file
+asked_by_file met name rows file met_is file_is other =
+    ap asked_by_matches (sym met_is) ∙ ap (λ t. by_name t name rows) other ∙ ap (option_map (made_by name)) (sym file_is)
 
--- what the matches ask for, if the subcommand is `migrate`
-pub asked_by_migrate : (m : ArgMatches) (name : Text) (inner : ArgMatches) → Some name ≡ subcommand_name_of m
-    → Some (rows_of (found_of inner)) ≡ option_map (λ (p : Text × List Row). p.1) (subcommand_rows_of m) → bytes_eq name (codes "migrate") ≡ true
-    → asked_by_matches (subcommand_rows_of m) ≡ migrate_by (rows_of (found_of inner))
-asked_by_migrate m name inner name_is rows_are hit =
-    rows_by_parts m name inner name_is rows_are
-    ∙ ap (λ t. if t then migrate_by (rows_of (found_of inner)) else option_map (made_by name) (first_of (codes "FILE") (rows_of (found_of inner)))) hit
+-- what is asked for, if the subcommand is `migrate`
+pub asked_by_migrate : (met : Option (Text × List Row)) (name : Text) (rows : List Row) → Some (name, rows) ≡ met
+    → bytes_eq name (codes "migrate") ≡ true → asked_by_matches met ≡ migrate_by rows
+asked_by_migrate met name rows met_is hit = ap asked_by_matches (sym met_is) ∙ ap (λ t. by_name t name rows) hit
 
--- what `migrate` asks for, by the values of its OLD and NEW
-pub migrate_by_parts : (inner : ArgMatches) (old new : Option Text) → old ≡ first_value (found_of inner) (codes "OLD") → new ≡ first_value (found_of inner) (codes "NEW")
-    → migrate_by (rows_of (found_of inner)) ≡ option_and_then (λ o. option_map (migrate o) new) old
-migrate_by_parts inner old new old_is new_is =
-    ap₂ (λ (o n : Option Text). option_and_then (λ p. option_map (migrate p) n) o)
-    (sym (old_is ∙ first_value-rows (found_of inner) (codes "OLD"))) (sym (new_is ∙ first_value-rows (found_of inner) (codes "NEW")))
+-- what `migrate` asks for, by its OLD and NEW
+pub migrate_by_parts : (rows : List Row) (old new : Option Text) → old ≡ first_of (codes "OLD") rows → new ≡ first_of (codes "NEW") rows
+    → migrate_by rows ≡ option_and_then (λ o. option_map (migrate o) new) old
+migrate_by_parts rows old new old_is new_is =
+    ap₂ (λ (o n : Option Text). option_and_then (λ p. option_map (migrate p) n) o) (sym old_is) (sym new_is)
