@@ -1,0 +1,13 @@
+mod Changing
+mod Desks
+mod Ending
+mod Inquiring
+mod Looking
+mod OneRoot
+mod Placing
+mod RootCalls
+mod RootNumbers
+mod Submitting
+mod Sitting
+mod Starting
+mod Reporting

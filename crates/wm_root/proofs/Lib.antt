@@ -1,0 +1,3 @@
+pub mod Crawls
+pub mod Operating
+pub mod Turns

@@ -1,0 +1,12 @@
+pub mod AgeOuts
+pub mod AskedCrawls
+pub mod ChangeSeen
+pub mod Changes
+pub mod Forgotten
+pub mod Inquired
+pub mod Overlays
+pub mod Performed
+pub mod ReadingSeen
+pub mod Readings
+pub mod RootStates
+pub mod Starts

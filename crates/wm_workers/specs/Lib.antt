@@ -1,0 +1,11 @@
+pub mod BegunRoots
+pub mod FollowedRoots
+pub mod LogEvents
+pub mod LoggedParts
+pub mod RootsByNumber
+pub mod SubscribedRoots
+pub mod TriggerWork
+pub mod Turns
+pub mod UnstartedWorkers
+pub mod WakeFlags
+pub mod WatchedRoots
