@@ -2,15 +2,15 @@
 ghost use Rattle.std.specs.Prelude.{◌≡◌};
 
 use crate::checks::check;
-use crate::halls::{At, is_told, meet_line_at, opened_hall};
+use crate::roots::{At, is_told, meet_line_at, opened_root};
 use std::alloc::{Alloc, Global};
 use std::marker::Brand;
 use std::process::Abort;
 use std::sync::Wait;
-use wm_hall::{Change, Retention, RootHall};
+use wm_front::Viewers;
 use wm_lines::Request;
+use wm_root::{Change, Retention, WatchedRoot};
 use wm_share::{Naming, Opened, Shares};
-use wm_shared::Viewers;
 
 const LISTS_BOTH: &str =
     "[\"listing\",\"/r\",0,\"\",[[\"a\",{\"type\":\"f\",\"size\":1,\"mtime_ms\":0}],[\"b\",{\"type\":\"f\",\"size\":1,\"mtime_ms\":0}]]]\n";
@@ -68,14 +68,14 @@ const SOON: Retention = Retention {
 fn forget_rows<J: Naming, R: Wait + Abort, K: Wait + Drop>(
     rt: &R,
     alloc: Global,
-    hall: &RootHall<J, K>,
+    root: &WatchedRoot<J, K>,
     viewers: &mut Viewers<J>,
 ) {
     let mut out = Vec::new(alloc);
     for (moment, line, told) in FORGETS {
         out.clear();
         let at = At { moment: *moment };
-        let met = meet_line_at(rt, alloc, hall, viewers, at, line, &mut out);
+        let met = meet_line_at(rt, alloc, root, viewers, at, line, &mut out);
         check!(rt; is_told(met, &out, told), line);
     }
 }
@@ -84,11 +84,11 @@ fn forgets<J: Naming, R: Wait + Abort>(rt: &R, alloc: Global, opened: Opened)
     requires { opened.seen.book ≡ J.book }
 {
     let shares: Shares<J> = Shares::new(opened);
-    let hall = opened_hall(rt, alloc, shares, SOON);
+    let root = opened_root(rt, alloc, shares, SOON);
     let mut viewers = Viewers::new(alloc);
-    forget_rows(rt, alloc, &hall, &mut viewers);
+    forget_rows(rt, alloc, &root, &mut viewers);
     drop(viewers);
-    drop(hall);
+    drop(root);
 }
 
 /// A deleted file is forgotten once its age has passed, not before, and at most once in an interval.
@@ -125,16 +125,16 @@ fn change_of(rt: &impl Abort, alloc: Global, line: &str) -> Change {
 fn tell_rows<J: Naming, R: Wait + Abort, K: Wait + Drop>(
     rt: &R,
     alloc: Global,
-    hall: &RootHall<J, K>,
+    root: &WatchedRoot<J, K>,
     viewers: &mut Viewers<J>,
 ) {
     for (moment, line, forgot) in FORGOTTEN {
         let at = At { moment: *moment };
         let change = change_of(rt, alloc, line);
         let (_, changed) = viewers
-            .change(rt, alloc, hall, &at, change)
+            .change(rt, alloc, root, &at, change)
             .expect(rt, "a viewer");
-        check!(rt; changed.forgot() == *forgot, line);
+        check!(rt; changed.into_forgot() == *forgot, line);
     }
 }
 
@@ -142,11 +142,11 @@ fn tells_forgotten<J: Naming, R: Wait + Abort>(rt: &R, alloc: Global, opened: Op
     requires { opened.seen.book ≡ J.book }
 {
     let shares: Shares<J> = Shares::new(opened);
-    let hall = opened_hall(rt, alloc, shares, SOON);
+    let root = opened_root(rt, alloc, shares, SOON);
     let mut viewers = Viewers::new(alloc);
-    tell_rows(rt, alloc, &hall, &mut viewers);
+    tell_rows(rt, alloc, &root, &mut viewers);
     drop(viewers);
-    drop(hall);
+    drop(root);
 }
 
 /// A change of a root tells up to which tick it had the root forget, once.

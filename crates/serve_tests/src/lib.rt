@@ -15,15 +15,17 @@ mod crawls;
 #[cfg(test)]
 mod forgetting;
 #[cfg(test)]
-mod halls;
-#[cfg(test)]
 mod moments;
 #[cfg(test)]
 mod places;
 #[cfg(test)]
+mod readings;
+#[cfg(test)]
 mod requests;
 #[cfg(test)]
 mod restarts;
+#[cfg(test)]
+mod roots;
 #[cfg(test)]
 mod sessions;
 #[cfg(test)]

@@ -2,7 +2,7 @@
 ghost use Rattle.std.specs.Prelude.{◌≡◌};
 
 use crate::checks::check;
-use crate::halls::{NEVER, meet_line, opened_hall};
+use crate::roots::{NEVER, meet_line, opened_root};
 use std::alloc::{Alloc, Global};
 use std::marker::Brand;
 use std::process::Abort;
@@ -10,10 +10,10 @@ use std::sync::Wait;
 use std::sync::atomic::{AtomicU64, Ordering};
 use std::thread;
 use std::thread::Threads;
-use wm_hall::{Change, RootHall, Seconds};
+use wm_front::Viewers;
 use wm_names::{Kind, Meta, RelPath};
+use wm_root::{Change, Seconds, WatchedRoot};
 use wm_share::{Naming, Opened, Shares};
-use wm_shared::Viewers;
 use wm_view::Pairs;
 
 /// A clock that is a second later at each reading.
@@ -56,16 +56,16 @@ fn made<R: Abort>(rt: &R, alloc: Global, letter: &str, number: u64) -> Change {
 fn make_files<J: Naming, R: Wait + Abort, K: Wait + Drop>(
     rt: &R,
     alloc: Global,
-    hall: &RootHall<J, K>,
+    root: &WatchedRoot<J, K>,
     rising: &Rising,
     letter: &str,
 ) {
     let mut viewers = Viewers::new(alloc);
     for number in 0..FILES {
         let change = made(rt, alloc, letter, number);
-        let is_made = match viewers.change(rt, alloc, hall, rising, change) {
+        let is_made = match viewers.change(rt, alloc, root, rising, change) {
             Ok((met, changed)) => {
-                drop(changed);
+                changed.into_forgot();
                 met.is_ok()
             }
             Err(_) => false,
@@ -95,7 +95,7 @@ fn count_of(names: &str) -> u64 {
 fn answer_since<J: Naming, R: Wait + Abort, K: Wait + Drop>(
     rt: &R,
     alloc: Global,
-    hall: &RootHall<J, K>,
+    root: &WatchedRoot<J, K>,
     viewers: &mut Viewers<J>,
     second: u64,
     out: &mut Vec<u8>,
@@ -104,23 +104,23 @@ fn answer_since<J: Naming, R: Wait + Abort, K: Wait + Drop>(
         "[\"query\",\"/r\",{{\"since\":{second},\"fields\":[\"name\"]}}]\n"
     ).expect(rt, "memory");
     out.clear();
-    meet_line(rt, alloc, hall, viewers, &line, out).expect(rt, "an answer");
+    meet_line(rt, alloc, root, viewers, &line, out).expect(rt, "an answer");
 }
 
 /// What is listed since a second is what changed last: no later change has an earlier moment.
 fn moments_rise<J: Naming, R: Wait + Abort, K: Wait + Drop>(
     rt: &R,
     alloc: Global,
-    hall: &RootHall<J, K>,
+    root: &WatchedRoot<J, K>,
 ) {
     let mut viewers = Viewers::new(alloc);
     let mut all = Vec::new(alloc);
     let mut out = Vec::new(alloc);
-    answer_since(rt, alloc, hall, &mut viewers, FIRST, &mut all);
+    answer_since(rt, alloc, root, &mut viewers, FIRST, &mut all);
     let whole = names_in(&all).expect(rt, "names");
     check!(*rt; count_of(whole) == 2 * FILES);
     for second in FIRST..=FIRST + 2 * FILES {
-        answer_since(rt, alloc, hall, &mut viewers, second, &mut out);
+        answer_since(rt, alloc, root, &mut viewers, second, &mut out);
         let names = names_in(&out).expect(rt, "names");
         check!(*rt; whole.starts_with(names), second);
         check!(*rt; count_of(names) == FIRST + 2 * FILES - second, second);
@@ -136,7 +136,7 @@ fn two_threads<J: Naming + Send + Sync, R: Wait + Abort + Threads + Sync>(
     requires { opened.seen.book ≡ J.book }
 {
     let shares: Shares<J> = Shares::new(opened);
-    let hall = opened_hall(rt, alloc, shares, NEVER);
+    let root = opened_root(rt, alloc, shares, NEVER);
     let rising = Rising {
         next: AtomicU64::new(FIRST),
     };
@@ -145,7 +145,7 @@ fn two_threads<J: Naming + Send + Sync, R: Wait + Abort + Threads + Sync>(
     meet_line(
         rt,
         alloc,
-        &hall,
+        &root,
         &mut viewers,
         "[\"listing\",\"/r\",0,\"\",[]]\n",
         &mut out,
@@ -153,12 +153,12 @@ fn two_threads<J: Naming + Send + Sync, R: Wait + Abort + Threads + Sync>(
     .expect(rt, "a listing");
     let ((), ()) = thread::join(
         rt,
-        || make_files(rt, alloc, &hall, &rising, "a"),
-        || make_files(rt, alloc, &hall, &rising, "b"),
+        || make_files(rt, alloc, &root, &rising, "a"),
+        || make_files(rt, alloc, &root, &rising, "b"),
     );
-    moments_rise(rt, alloc, &hall);
+    moments_rise(rt, alloc, &root);
     drop(viewers);
-    drop(hall);
+    drop(root);
 }
 
 #[test]

@@ -10,8 +10,9 @@ use std::{env, io};
 use wm_crawler::{SystemFolders, Turnstile};
 use wm_disk::Refusal;
 use wm_file::{FileDisk, Unknown};
-use wm_hall::Retention;
+use wm_root::Retention;
 use wm_serve::{ServerPaths, Settings, Tools, serve};
+use wm_triggers::SystemStarter;
 
 /// The files of a test's server.
 #[derive(Drop)]
@@ -21,7 +22,7 @@ pub struct Place {
     /// The absolute path of a folder that it may watch.
     pub root: String,
     folders: SystemFolders<HostRuntime>,
-    programs: HostRuntime,
+    starter: SystemStarter<HostRuntime>,
     log: io::Stderr,
 }
 
@@ -63,7 +64,7 @@ impl Place {
             socket,
             root,
             folders: SystemFolders::new(rt.clone().expect(host, "a handle")),
-            programs: rt.clone().expect(host, "a handle"),
+            starter: SystemStarter::new(rt.clone().expect(host, "a handle")),
             log: rt.stderr(),
         }
     }
@@ -93,7 +94,7 @@ impl Place {
         let tools = Tools {
             folders: &self.folders,
             turnstile: gate,
-            programs: &self.programs,
+            starter: &self.starter,
             log: &self.log,
         };
         match serve(rt, alloc, paths, &tools, settings, &mut printed) {

@@ -12,10 +12,11 @@ use std::sync::Wait;
 use std::sync::atomic::{AtomicU64, Ordering};
 use std::thread::{Threads, join};
 use wm_disk::MemDisk;
+use wm_front::{DeskSeat, Roots, SharedFront, drop_ended, end_subscriptions};
 use wm_groupcommit::{ClosePermit, Desk};
+use wm_names::RootPath;
 use wm_session::{Front, Session};
 use wm_share::{Naming, Opened};
-use wm_shared::{Place, Roots, SharedFront, end_subscriptions};
 
 /// Two roots with a subscription on each.
 const BEGUN: &[&str] = &[
@@ -28,6 +29,8 @@ const BEGUN: &[&str] = &[
 ];
 
 const DELETED: &[&str] = &["[\"watch-del\",\"/r\"]\n"];
+
+const OTHER_DELETED: &[&str] = &["[\"watch-del\",\"/q\"]\n"];
 
 const ANEW: &[&str] = &["[\"watch\",\"/r\"]\n", "[\"listing\",\"/r\",0,\"\",[]]\n"];
 
@@ -72,22 +75,29 @@ fn are_left<F: Front, H: Roots<J, K>, J: Naming, K: Wait + Drop, R: Wait + Abort
     count: usize,
 ) {
     let ended = end_subscriptions(rt, alloc, roots, session);
-    check!(rt; ended.is_whole());
+    check!(rt; ended.is_ok());
     let left = session.subscriptions().len();
     check!(rt; left == count, left);
 }
 
-/// One session sees a root go that another one deletes.
-fn sees_a_root_go<F: Front, G: Front, H: Roots<J, K>, J: Naming, K: Wait + Drop, R: Wait + Abort>(
+/// A session subscribes to two roots.
+fn subscribes<F: Front, H: Roots<J, K>, J: Naming, K: Wait + Drop, R: Wait + Abort>(
     rt: &R,
     alloc: Global,
     roots: &H,
     own: &mut Session<F>,
-    other: &mut Session<G>,
 ) {
     drop(replies(rt, alloc, own, BEGUN));
     are_left(rt, alloc, roots, own, 2);
-    drop(replies(rt, alloc, other, DELETED));
+}
+
+/// A session sees that another one has deleted a root.
+fn sees_a_root_gone<F: Front, H: Roots<J, K>, J: Naming, K: Wait + Drop, R: Wait + Abort>(
+    rt: &R,
+    alloc: Global,
+    roots: &H,
+    own: &mut Session<F>,
+) {
     are_left(rt, alloc, roots, own, 1);
     replies_so(
         rt,
@@ -98,15 +108,13 @@ fn sees_a_root_go<F: Front, G: Front, H: Roots<J, K>, J: Naming, K: Wait + Drop,
     );
 }
 
-/// One session sees that another one has watched a root anew.
-fn sees_a_new_root<F: Front, G: Front, H: Roots<J, K>, J: Naming, K: Wait + Drop, R: Wait + Abort>(
+/// A session sees that another one has watched a root anew, and subscribes to that.
+fn sees_a_new_root<F: Front, H: Roots<J, K>, J: Naming, K: Wait + Drop, R: Wait + Abort>(
     rt: &R,
     alloc: Global,
     roots: &H,
     own: &mut Session<F>,
-    other: &mut Session<G>,
 ) {
-    drop(replies(rt, alloc, other, ANEW));
     replies_so(
         rt,
         alloc,
@@ -116,8 +124,15 @@ fn sees_a_new_root<F: Front, G: Front, H: Roots<J, K>, J: Naming, K: Wait + Drop
     );
     drop(replies(rt, alloc, own, SUBSCRIBED));
     are_left(rt, alloc, roots, own, 2);
-    drop(replies(rt, alloc, other, DELETED));
-    drop(replies(rt, alloc, other, ANEW));
+}
+
+/// A session sees that another one has deleted a root and watched it anew.
+fn sees_another_root<F: Front, H: Roots<J, K>, J: Naming, K: Wait + Drop, R: Wait + Abort>(
+    rt: &R,
+    alloc: Global,
+    roots: &H,
+    own: &mut Session<F>,
+) {
     are_left(rt, alloc, roots, own, 1);
     replies_so(
         rt,
@@ -128,18 +143,83 @@ fn sees_a_new_root<F: Front, G: Front, H: Roots<J, K>, J: Naming, K: Wait + Drop
     );
 }
 
+/// A root with a file.
+const LISTED: &[&str] = &[
+    "[\"watch\",\"/r\"]\n",
+    "[\"listing\",\"/r\",0,\"\",[[\"a.c\",{\"type\":\"f\",\"size\":1,\"mtime_ms\":0}]]]\n",
+];
+
+/// Another root takes the place of the one that a subscription was answered on, before its first line: no line is sent, and the
+/// subscription ends.
+fn holds_the_first_line_back<J: Naming, R: Wait + Abort>(
+    rt: &R,
+    alloc: Global,
+    desk: &Desk<MemDisk>,
+    opened: Opened,
+)
+    requires { opened.seen.book ≡ J.book }
+{
+    let roots: Watched<J, &R> = Watched::new(alloc, rt, 0, opened);
+    let front = SharedFront::new(rt, alloc, DeskSeat::new(desk), &roots);
+    let mut own = Session::new(alloc, front);
+    drop(replies(rt, alloc, &mut own, LISTED));
+    let path = RootPath::read(alloc, "/r").expect(rt, "a root path");
+    check!(rt; roots.replace_after(rt, alloc, &path, 1).is_some());
+    drop(path);
+    replies_so(
+        rt,
+        alloc,
+        &mut own,
+        SUBSCRIBED,
+        "{\"clock\":\"c:1:1:1\",\"subscribe\":\"s\",\"version\":\"w1\"}\n",
+    );
+    replies_so(
+        rt,
+        alloc,
+        &mut own,
+        CLOCK,
+        "{\"clock\":\"c:1:2:1\",\"version\":\"w1\"}\n",
+    );
+    are_left(rt, alloc, &roots, &mut own, 0);
+    drop(own);
+    drop(roots);
+}
+
+/// As `holds_the_first_line_back`, over a log of its own. Then the desk is closed.
+fn held_back_alone<R: Wait + Abort>(
+    rt: &R,
+    alloc: Global,
+    desk: &Desk<MemDisk>,
+    permit: ClosePermit,
+    ends: &AtomicU64,
+) {
+    holds_the_first_line_back::<Brand, _>(rt, alloc, desk, Opened::new());
+    ends.store(1, Ordering::SeqCst);
+    let closed = desk.close(rt, permit);
+    drop(closed.ok());
+}
+
 /// Both sessions over one desk and its roots.
 fn both<J: Naming, R: Wait + Abort>(rt: &R, alloc: Global, desk: &Desk<MemDisk>, opened: Opened)
     requires { opened.seen.book ≡ J.book }
 {
     let roots: Watched<J, &R> = Watched::new(alloc, rt, 0, opened);
-    let front = SharedFront::new(rt, alloc, Place::new(desk), &roots);
+    let front = SharedFront::new(rt, alloc, DeskSeat::new(desk), &roots);
     let mut own = Session::new(alloc, front);
-    let front = SharedFront::new(rt, alloc, Place::new(desk), &roots);
+    let front = SharedFront::new(rt, alloc, DeskSeat::new(desk), &roots);
     let mut other = Session::new(alloc, front);
-    sees_a_root_go(rt, alloc, &roots, &mut own, &mut other);
-    let _left = own.front.drop_ended();
-    sees_a_new_root(rt, alloc, &roots, &mut own, &mut other);
+    subscribes(rt, alloc, &roots, &mut own);
+    drop(replies(rt, alloc, &mut other, DELETED));
+    sees_a_root_gone(rt, alloc, &roots, &mut own);
+    drop_ended(rt, alloc, &mut own);
+    drop(replies(rt, alloc, &mut other, ANEW));
+    sees_a_new_root(rt, alloc, &roots, &mut own);
+    drop(replies(rt, alloc, &mut other, DELETED));
+    drop(replies(rt, alloc, &mut other, ANEW));
+    sees_another_root(rt, alloc, &roots, &mut own);
+    drop(replies(rt, alloc, &mut other, OTHER_DELETED));
+    drop_ended(rt, alloc, &mut own);
+    check!(rt; own.subscriptions().is_empty());
     drop(other);
     drop(own);
     drop(roots);
@@ -175,4 +255,22 @@ fn subscriptions_end<R: Threads + Wait + Abort + Sync>(rt: &R, alloc: Global) {
 #[test]
 fn subscriptions_end_with_their_root(rt: HostRuntime) {
     subscriptions_end(&rt, rt.alloc());
+}
+
+/// A session in a thread, beside one that commits what it submits.
+fn first_line_is_held_back<R: Threads + Wait + Abort + Sync>(rt: &R, alloc: Global) {
+    let (desk, permit) = new_desk(rt, alloc);
+    let ends = AtomicU64::new(0);
+    let (own, end) = (&desk, &ends);
+    let ((), ()) = join(
+        rt,
+        || flush_until(rt, own, end),
+        || held_back_alone(rt, alloc, own, permit, end),
+    );
+    drop(desk.into_store());
+}
+
+#[test]
+fn another_root_of_the_path_sends_no_first_line(rt: HostRuntime) {
+    first_line_is_held_back(&rt, rt.alloc());
 }

@@ -12,10 +12,10 @@ use std::sync::Wait;
 use std::sync::atomic::{AtomicU64, Ordering};
 use std::thread::{Threads, join};
 use wm_disk::MemDisk;
+use wm_front::{DeskSeat, SharedFront};
 use wm_groupcommit::{ClosePermit, Desk};
 use wm_session::{Front, LocalFront, Session};
 use wm_share::{Naming, Opened};
-use wm_shared::{Place, SharedFront};
 
 /// The lines; the first is given at moment 100, and each later one a second later.
 const LINES: &[&str] = &[
@@ -109,7 +109,7 @@ fn shared<J: Naming, R: Wait + Abort>(
     requires { opened.seen.book ≡ J.book }
 {
     let roots: Watched<J, &R> = Watched::new(alloc, rt, second, opened);
-    let front = SharedFront::new(rt, alloc, Place::new(desk), &roots);
+    let front = SharedFront::new(rt, alloc, DeskSeat::new(desk), &roots);
     let mut session = Session::new(alloc, front);
     let replies = replies_of(rt, alloc, &mut session, 0);
     drop(session);

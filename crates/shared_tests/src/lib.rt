@@ -8,6 +8,10 @@ mod desks;
 #[cfg(test)]
 mod ended;
 #[cfg(test)]
+mod failures;
+#[cfg(test)]
 mod fronts;
+#[cfg(test)]
+mod overlays;
 #[cfg(test)]
 mod watched;

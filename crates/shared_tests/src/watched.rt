@@ -4,12 +4,13 @@ ghost use Rattle.std.specs.Prelude.{◌≡◌, ◌⊎◌, IfErr};
 use std::alloc::Global;
 use std::sync::{Arc, Mutex, Wait};
 use wm_disk::Refusal;
+use wm_front::Roots;
 use wm_groupcommit::CommandNumber;
-use wm_hall::{Changed, Retention, RootHall, Seconds};
-use wm_names::RootPath;
+use wm_names::{RootPath, Subtree};
 use wm_registry::Command;
+use wm_root::{Change, Changed, Retention, Seconds, WatchedRoot};
 use wm_share::{Naming, Opened, Shares};
-use wm_shared::{FollowingRoots, Roots};
+use wm_view::Listing;
 
 /// Nothing is forgotten by itself.
 const RETENTION: Retention = Retention {
@@ -17,12 +18,21 @@ const RETENTION: Retention = Retention {
     interval_seconds: 1_000_000,
 };
 
-/// The roots in the order of watching, and the number of the next.
+/// A root that takes the place of the one of its path after so many look-ups, as if others had deleted that one and watched the path again.
+#[derive(Drop)]
+struct Successor<J: Naming, K: Wait + Drop> {
+    finds: u64,
+    root: Arc<WatchedRoot<J, K>>,
+}
+
+/// The roots in the order of watching, the number of the next, and how many have ended.
 #[derive(Drop)]
 struct Followed<J: Naming, K: Wait + Drop> {
-    halls: Vec<Arc<RootHall<J, K>>>,
+    roots: Vec<Arc<WatchedRoot<J, K>>>,
     next: u64,
+    ended: u64,
     shares: Shares<J>,
+    successor: Option<Successor<J, K>>,
 }
 
 /// The watched roots.
@@ -43,21 +53,71 @@ impl<J: Naming, K: Wait + Copy + Drop> Watched<J, K> {
             keeping,
             second,
             followed: Mutex::new(Followed {
-                halls: Vec::new(alloc),
+                roots: Vec::new(alloc),
                 next: 1,
+                ended: 0,
                 shares: Shares::new(opened),
+                successor: None,
             }),
         }
     }
+
+    /// The root of a path is looked up so many times before another one, which lists no file, takes its place.
+    pub(crate) fn replace_after<R: Wait>(
+        &self,
+        rt: &R,
+        alloc: Global,
+        path: &RootPath,
+        finds: u64,
+    ) -> Option<()> {
+        let mut followed = self.followed.lock(rt);
+        let number = followed.next;
+        let root = new_root(alloc, self.keeping, &mut followed.shares, path, number)?;
+        followed.next = number.saturating_add(1);
+        list_nothing(rt, alloc, self, &root)?;
+        followed.successor = Some(Successor { finds, root });
+        Some(())
+    }
+}
+
+/// The first listing of a root, which has no file.
+fn list_nothing<R: Wait, S: Seconds, J: Naming, K: Wait + Drop>(
+    rt: &R,
+    alloc: Global,
+    seconds: &S,
+    root: &WatchedRoot<J, K>,
+) -> Option<()> {
+    let mut viewer = root.acquire_viewer(rt).ok()?;
+    let listing = Listing::new(alloc, Subtree::Whole);
+    let change = Change::Recrawl(0, listing);
+    let (listed, changed) = root.change(rt, alloc, seconds, &mut viewer, change);
+    let _forgot = changed.into_forgot();
+    root.release_viewer(rt, viewer);
+    listed.ok()?;
+    Some(())
+}
+
+/// A root was looked up: its successor takes its place if it is time for that.
+fn count_find<J: Naming, K: Wait + Copy + Drop>(followed: &mut Followed<J, K>) {
+    let Some(Successor { finds, root }) = followed.successor.take() else {
+        return;
+    };
+    if finds > 0 {
+        let finds = finds - 1;
+        followed.successor = Some(Successor { finds, root });
+        return;
+    }
+    take_out(followed, &root.path);
+    let _pushed = followed.roots.push(root);
 }
 
 /// The place of the root of a path.
 fn place_of<J: Naming, K: Wait + Drop>(
-    halls: &[Arc<RootHall<J, K>>],
+    roots: &[Arc<WatchedRoot<J, K>>],
     path: &RootPath,
 ) -> Option<usize> {
-    for place in 0..halls.len() {
-        if halls[place].path == *path {
+    for place in 0..roots.len() {
+        if roots[place].path == *path {
             return Some(place);
         }
     }
@@ -65,40 +125,40 @@ fn place_of<J: Naming, K: Wait + Drop>(
 }
 
 /// The root of a path.
-fn hall_at<J: Naming, K: Wait + Drop>(
-    halls: &[Arc<RootHall<J, K>>],
+fn root_at<J: Naming, K: Wait + Drop>(
+    roots: &[Arc<WatchedRoot<J, K>>],
     path: &RootPath,
-) -> Result<Arc<RootHall<J, K>>, Refusal>
+) -> Result<Arc<WatchedRoot<J, K>>, Refusal>
     ensures { IfErr result (λ e. (e ≡ Refusal.NotWatched) ⊎ (e ≡ Refusal.NoMemory)) }
 {
-    let Some(place) = place_of(halls, path) else {
+    let Some(place) = place_of(roots, path) else {
         return Err(Refusal::NotWatched);
     };
-    let Some(hall) = halls.get(place) else {
+    let Some(root) = roots.get(place) else {
         return Err(Refusal::NotWatched);
     };
-    match Arc::try_clone(hall) {
-        Ok(hall) => Ok(hall),
+    match Arc::try_clone(root) {
+        Ok(root) => Ok(root),
         Err(_) => Err(Refusal::NoMemory),
     }
 }
 
 /// The number of the root at a place.
 fn number_at<J: Naming, K: Wait + Drop>(
-    halls: &[Arc<RootHall<J, K>>],
+    roots: &[Arc<WatchedRoot<J, K>>],
     path: &RootPath,
 ) -> Option<u64> {
-    let place = place_of(halls, path)?;
-    match halls.get(place) {
-        Some(hall) => Some(hall.number),
+    let place = place_of(roots, path)?;
+    match roots.get(place) {
+        Some(root) => Some(root.number),
         None => None,
     }
 }
 
 /// Whether a root has the number.
-fn has_number<J: Naming, K: Wait + Drop>(halls: &[Arc<RootHall<J, K>>], number: u64) -> bool {
-    for hall in halls {
-        if hall.number == number {
+fn has_number<J: Naming, K: Wait + Drop>(roots: &[Arc<WatchedRoot<J, K>>], number: u64) -> bool {
+    for root in roots {
+        if root.number == number {
             return true;
         }
     }
@@ -106,16 +166,16 @@ fn has_number<J: Naming, K: Wait + Drop>(halls: &[Arc<RootHall<J, K>>], number: 
 }
 
 /// A new root.
-fn hall_of<J: Naming, K: Wait + Copy + Drop>(
+fn new_root<J: Naming, K: Wait + Copy + Drop>(
     alloc: Global,
     keeping: K,
     shares: &mut Shares<J>,
     path: &RootPath,
     number: u64,
-) -> Option<Arc<RootHall<J, K>>> {
+) -> Option<Arc<WatchedRoot<J, K>>> {
     let (keeper, pool) = shares.share(keeping, alloc, 1, number).ok()?;
-    let hall = RootHall::new(alloc, path, number, keeper, pool, RETENTION).ok()?;
-    Arc::new(alloc, hall).ok()
+    let root = WatchedRoot::new(alloc, path, number, keeper, pool, RETENTION).ok()?;
+    Arc::new(alloc, root).ok()
 }
 
 /// Adds a root.
@@ -126,18 +186,19 @@ fn add<J: Naming, K: Wait + Copy + Drop>(
     path: &RootPath,
 ) {
     let number = followed.next;
-    if let Some(hall) = hall_of(alloc, keeping, &mut followed.shares, path, number) {
+    if let Some(root) = new_root(alloc, keeping, &mut followed.shares, path, number) {
         followed.next = number.saturating_add(1);
-        let _pushed = followed.halls.push(hall);
+        let _pushed = followed.roots.push(root);
     }
 }
 
 /// Takes a root out.
 fn take_out<J: Naming, K: Wait + Copy + Drop>(followed: &mut Followed<J, K>, path: &RootPath) {
-    if let Some(place) = place_of(&followed.halls, path)
-        && place < followed.halls.len()
+    if let Some(place) = place_of(&followed.roots, path)
+        && place < followed.roots.len()
     {
-        drop(followed.halls.remove(place));
+        drop(followed.roots.remove(place));
+        followed.ended = followed.ended.saturating_add(1);
     }
 }
 
@@ -160,38 +221,32 @@ impl<J: Naming, K: Wait + Copy + Drop> Roots<J, K> for Watched<J, K> {
 
     ghost ended = { λ roots number. ⊤ };
 
+    ghost followed = { λ roots number. ⊤ };
+
+    ghost woken = { λ roots number. ⊤ };
+
     fn find<R: Wait>(
         &self,
         rt: &R,
         _alloc: Global,
         path: &RootPath,
-    ) -> Result<Arc<RootHall<J, K>>, Refusal> {
-        hall_at(&self.followed.lock(rt).halls, path)
+    ) -> Result<Arc<WatchedRoot<J, K>>, Refusal> {
+        let mut followed = self.followed.lock(rt);
+        count_find(&mut followed);
+        root_at(&followed.roots, path)
     }
 
     fn is_watched<R: Wait>(&self, rt: &R, number: u64) -> bool {
-        has_number(&self.followed.lock(rt).halls, number)
+        has_number(&self.followed.lock(rt).roots, number)
     }
 
     fn number_of<R: Wait>(&self, rt: &R, path: &RootPath) -> Option<u64> {
-        number_at(&self.followed.lock(rt).halls, path)
+        number_at(&self.followed.lock(rt).roots, path)
     }
-}
 
-impl<J: Naming, K: Wait + Copy + Drop> FollowingRoots<J, K> for Watched<J, K> {
-    ghost use Rattle.std.specs.Prelude.{⊤};
-
-    type Followed = ();
-
-    type Count = ();
-
-    type Woken = ();
-
-    ghost shows_followed = { λ roots number command shown. ⊤ };
-
-    ghost shows_count = { λ roots count shown. ⊤ };
-
-    ghost shows_woken = { λ roots number shown. ⊤ };
+    fn ended_count<R: Wait>(&self, rt: &R) -> u64 {
+        self.followed.lock(rt).ended
+    }
 
     fn follow<R: Wait>(&self, rt: &R, alloc: Global, _number: CommandNumber, command: Command) {
         let mut followed = self.followed.lock(rt);
@@ -206,5 +261,7 @@ impl<J: Naming, K: Wait + Copy + Drop> FollowingRoots<J, K> for Watched<J, K> {
 
     fn await_followed<R: Wait>(&self, _rt: &R, _count: u64) {}
 
-    fn wake<R: Wait>(&self, _rt: &R, _hall: &RootHall<J, K>, _changed: Changed) {}
+    fn notify<R: Wait>(&self, _rt: &R, _root: &WatchedRoot<J, K>, changed: Changed) {
+        let _forgot = changed.into_forgot();
+    }
 }

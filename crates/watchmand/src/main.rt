@@ -18,6 +18,7 @@ use wm_program::{ProgramHost, watchmand};
 use wm_serve::{ServerPaths, Settings, Tools, serve};
 use wm_server::system::Host;
 use wm_session::{Input, Output};
+use wm_triggers::SystemStarter;
 
 /// How the program ended.
 #[derive(Clone, Copy)]
@@ -39,10 +40,11 @@ fn run<H: Threads + Wait + Clock + Net + Files<File = File> + Sync>(
     let errors = rt.stderr();
     let mut faults = Noted::new(io::writer(&errors));
     let folders = SystemFolders::new(rt.clone()?);
+    let starter = SystemStarter::new(rt);
     let tools = Tools {
         folders: &folders,
         turnstile: &Open,
-        programs: rt,
+        starter: &starter,
         log: &errors,
     };
     let mut ready = Noted::new(io::writer(rt));

@@ -3,7 +3,7 @@
 //! [`Words`] is what its words ask for (specs/ProgramWords.antt). [`watchmand`] does it on a [`ProgramHost`] (specs/ProgramRuns.antt):
 //! `format`, `lines` and `migrate` by `wm_server`, and `serve` by what its caller hands in, which is `wm_serve`'s.
 //!
-//! Tests: serve_tests/src/words.rt; of the built program tools/first_session.sh and tools/rough_use.py.
+//! Tests: serve_tests/src/words.rt; of the built program tools/pages.py and tools/try/serve.py.
 #![tactic(auto)]
 
 mod program;

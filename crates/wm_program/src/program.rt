@@ -1,5 +1,5 @@
 //! All of `watchmand`, with its status.
-//! Definitions: specs/ProgramRuns.antt, specs/ProgramWords.antt. Tests: tools/first_session.sh, tools/rough_use.py.
+//! Definitions: specs/ProgramRuns.antt, specs/ProgramWords.antt. Tests: tools/pages.py, tools/try/serve.py.
 ghost use Rattle.std.specs.Prelude.{◌≡◌, ◌⊎◌, ◌<◌, map};
 ghost use Rattle.std.specs.String.{string_bytes};
 ghost use Rattle.wm_session.specs.session.Streams.{streams};

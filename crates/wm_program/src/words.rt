@@ -1,21 +1,23 @@
 //! What the command-line words ask of `watchmand`. Their definitions are in specs/ProgramWords.
 //! Tests: serve_tests/src/words.rt.
-ghost use Rattle.std.specs.Prelude.{◌≡◌, ◌≤◌, ℕ, IfOk, false, Option, Some, codes, map};
+ghost use Rattle.std.specs.Prelude.{◌≡◌, ◌≤◌, ℕ, IfOk, false, Some, codes, map};
 ghost use Rattle.std.specs.Option.{MatchOption};
 ghost use Rattle.std.specs.Str.{bytes_eq};
-ghost use Rattle.clap.specs.Values.{kind_of};
-ghost use Rattle.clap.specs.Words.{app_of, found_of, new_app, rows_of, rule_of, subcommand_rows_of};
+ghost use Rattle.clap.specs.Words.{app_of, found_of, new_app, rows_of, subcommand_rows_of};
 ghost use Rattle.clap.specs.declared.builder.Command.TheViews.{out-Command};
+ghost use Rattle.wm_arguments.specs.ArgumentValues.{TellsNumber, text_of};
 ghost use Rattle.wm_crawler.specs.Crawls.{max_workers};
 ghost use Rattle.wm_serve.specs.declared.server.Settings.{Settings as settings_lem};
-ghost use Rattle.wm_program.specs.ProgramWords.{AsksProgram, FindsServe, MeetsFor, NamedFor, ServesBy, TellsNumber, TellsSettings, flag_rule, is_flag_set as is_flag_set_lem, place_rule, number_rule, program_app, serve_app, told_for_kind, shown_status, word_text, program_wanted};
+ghost use Rattle.wm_program.specs.ProgramWords.{AsksProgram, FindsServe, MeetsFor, NamedFor, ServesBy, TellsSettings, program_app, serve_app, shown_status, program_wanted};
 
-use clap::error::ErrorKind;
-use clap::{Arg, ArgAction, ArgMatches, Command, Error};
+use clap::{ArgMatches, Command};
 use std::alloc::Global;
+use wm_arguments::{
+    Shown, flag, is_set, needed, number_in, option, parsed, subcommand_of, usage_error, word_of,
+};
 use wm_crawler::MAX_WORKERS;
 use wm_disk::NoMemory;
-use wm_hall::Retention;
+use wm_root::Retention;
 use wm_serve::Settings;
 use wm_server::words;
 
@@ -49,9 +51,9 @@ impl Words {
         ensures { IfOk result (λ r. AsksProgram (map (λ word. word.now) words.entry.now) (program_wanted r)) }
     {
         let command = command(alloc)?;
-        match command.try_get_matches_from(words) {
+        match parsed(alloc, command, words)? {
             Ok(matches) => chosen(alloc, &matches),
-            Err(error) => shown(alloc, words, &error),
+            Err(shown) => unparsed(alloc, words, shown),
         }
     }
 }
@@ -91,25 +93,25 @@ fn serve_command<'a>(alloc: Global) -> Result<Command<'a>, NoMemory>
     let command = bare_serve(alloc)
         .arg(needed(alloc, "FILE", "The path of the state file"))?
         .arg(needed(alloc, "SOCKET", "The path of the socket, which is made"))?
-        .arg(number(
+        .arg(option(
             alloc,
             "workers",
             "N",
             "How many threads crawl a root, 1 to 16 [default: 4]",
         ))?
-        .arg(number(
+        .arg(option(
             alloc,
             "gc-age",
             "S",
             "After how many seconds a deleted path is forgotten [default: 43200]",
         ))?
-        .arg(number(
+        .arg(option(
             alloc,
             "gc-interval",
             "S",
             "How many seconds pass between two times of forgetting [default: 86400]",
         ))?
-        .arg(number(
+        .arg(option(
             alloc,
             "sessions",
             "N",
@@ -119,45 +121,11 @@ fn serve_command<'a>(alloc: Global) -> Result<Command<'a>, NoMemory>
     Ok(command)
 }
 
-// A word that has to be there.
-fn needed<'a>(alloc: Global, name: &'a str, help: &'a str) -> Arg<'a>
-    ensures rule { rule_of result ≡ place_rule name.entry.now }
-    ensures local { result.global ≡ false }
-{
-    Arg::new(alloc, name)
-        .help(help)
-        .action(ArgAction::Set)
-        .required(true)
-}
-
-// `--NAME N`.
-fn number<'a>(alloc: Global, name: &'a str, value: &'a str, help: &'a str) -> Arg<'a>
-    ensures rule { rule_of result ≡ number_rule name.entry.now }
-    ensures local { result.global ≡ false }
-{
-    Arg::new(alloc, name)
-        .long(name)
-        .value_name(value)
-        .help(help)
-        .action(ArgAction::Set)
-}
-
-// `--NAME`.
-fn flag<'a>(alloc: Global, name: &'a str, help: &'a str) -> Arg<'a>
-    ensures rule { rule_of result ≡ flag_rule name.entry.now }
-    ensures local { result.global ≡ false }
-{
-    Arg::new(alloc, name)
-        .long(name)
-        .help(help)
-        .action(ArgAction::SetTrue)
-}
-
 // What the matches of the program's command ask for.
 fn chosen(alloc: Global, matches: &ArgMatches<'_>) -> Result<Words, NoMemory>
     ensures { IfOk result (λ r. MeetsFor (subcommand_rows_of matches.now) (program_wanted r)) }
 {
-    match matches.subcommand() {
+    match subcommand_of(matches) {
         Some((name, inner)) => named(alloc, name, inner),
         None => fault(alloc, "a command is missing"),
     }
@@ -179,16 +147,16 @@ fn served(alloc: Global, matches: &ArgMatches<'_>) -> Result<Words, NoMemory>
     ensures { IfOk result (λ r. FindsServe (rows_of (found_of matches.now)) (program_wanted r)) }
 {
     let settings = settings_of(
-        matches.get_str("workers"),
-        matches.get_str("gc-age"),
-        matches.get_str("gc-interval"),
-        matches.get_str("sessions"),
-        matches.get_str("quiet"),
+        word_of(matches, "workers"),
+        word_of(matches, "gc-age"),
+        word_of(matches, "gc-interval"),
+        word_of(matches, "sessions"),
+        word_of(matches, "quiet"),
     );
     told(
         alloc,
-        matches.get_str("FILE"),
-        matches.get_str("SOCKET"),
+        word_of(matches, "FILE"),
+        word_of(matches, "SOCKET"),
         settings,
     )
 }
@@ -200,7 +168,7 @@ fn told(
     socket: Option<&str>,
     settings: Option<Settings>,
 ) -> Result<Words, NoMemory>
-    ensures { IfOk result (λ r. ServesBy (λ s. settings ≡ Some s) (word_text file.entry) (word_text socket.entry) (program_wanted r)) }
+    ensures { IfOk result (λ r. ServesBy (λ s. settings ≡ Some s) (text_of file.entry) (text_of socket.entry) (program_wanted r)) }
 {
     let Some(file) = file else {
         return fault(alloc, "FILE is missing");
@@ -228,8 +196,8 @@ fn settings_of(
     sessions: Option<&str>,
     quiet: Option<&str>,
 ) -> Option<Settings>
-    ensures { MatchOption result ((s : settings_lem) → TellsSettings (word_text workers.entry) (word_text age.entry) (word_text interval.entry) (word_text sessions.entry) (word_text quiet.entry) s → ⊥)
-        (λ s. TellsSettings (word_text workers.entry) (word_text age.entry) (word_text interval.entry) (word_text sessions.entry) (word_text quiet.entry) s) }
+    ensures { MatchOption result ((s : settings_lem) → TellsSettings (text_of workers.entry) (text_of age.entry) (text_of interval.entry) (text_of sessions.entry) (text_of quiet.entry) s → ⊥)
+        (λ s. TellsSettings (text_of workers.entry) (text_of age.entry) (text_of interval.entry) (text_of sessions.entry) (text_of quiet.entry) s) }
 {
     let workers = workers_of(workers)?;
     let retention = Retention {
@@ -241,23 +209,13 @@ fn settings_of(
         workers,
         retention,
         sessions,
-        is_quiet: is_flag_set(quiet),
+        is_quiet: is_set(quiet),
     })
-}
-
-// Whether a flag is set, by what clap found for it.
-fn is_flag_set(told: Option<&str>) -> bool
-    ensures { result ≡ is_flag_set_lem (word_text told.entry) }
-{
-    match told {
-        Some(text) => text == "true",
-        None => false,
-    }
 }
 
 // How many threads are to crawl a root: 1 to `MAX_WORKERS`.
 fn workers_of(told: Option<&str>) -> Option<usize>
-    ensures { MatchOption result ((n : ℕ) → TellsNumber 4 (word_text told.entry) n → (1 ≤ n) × (n ≤ max_workers) → ⊥) (λ n. TellsNumber 4 (word_text told.entry) n × ((1 ≤ n) × (n ≤ max_workers))) }
+    ensures { MatchOption result ((n : ℕ) → TellsNumber 4 (text_of told.entry) n → (1 ≤ n) × (n ≤ max_workers) → ⊥) (λ n. TellsNumber 4 (text_of told.entry) n × ((1 ≤ n) × (n ≤ max_workers))) }
 {
     let workers = number_of(told, 4)?;
     if workers < 1 || workers > MAX_WORKERS as u64 {
@@ -268,28 +226,23 @@ fn workers_of(told: Option<&str>) -> Option<usize>
 
 // The number that is given, or the default if none is.
 fn number_of(told: Option<&str>, default: u64) -> Option<u64>
-    ensures { MatchOption result ((n : ℕ) → TellsNumber default (word_text told.entry) n → ⊥) (λ n. TellsNumber default (word_text told.entry) n) }
+    ensures { MatchOption result ((n : ℕ) → TellsNumber default (text_of told.entry) n → ⊥) (λ n. TellsNumber default (text_of told.entry) n) }
 {
     match told {
         None => Some(default),
-        Some(text) => match text.parse::<u32>() {
-            Ok(n) => Some(n as u64),
-            Err(_) => None,
+        Some(text) => match number_in(text) {
+            Some(n) => Some(n as u64),
+            None => None,
         },
     }
 }
 
-// The text of a fault.
-fn fault_text(alloc: Global, what: &str) -> Result<String, NoMemory> {
-    Ok(format!(in alloc; "error: {what}\n\nFor more information, try '--help'.\n")?)
-}
-
-// A fault with these words.
+// A usage error in these words.
 fn fault(alloc: Global, what: &str) -> Result<Words, NoMemory>
     ensures { IfOk result (λ r. program_wanted r ≡ shown_status 2) }
 {
-    let text = fault_text(alloc, what)?;
-    Ok(Words::Shown { text, status: 2 })
+    let Shown { text, status, .. } = usage_error(alloc, what)?;
+    Ok(Words::Shown { text, status })
 }
 
 // Whether a word is an option that takes a number, which is the next word.
@@ -317,22 +270,21 @@ fn has_negative_number(words: &[&str]) -> bool {
     false
 }
 
-// The text of an error of the parse.
-fn error_text(alloc: Global, words: &[&str], error: &Error) -> Result<String, NoMemory> {
-    if error.kind() == ErrorKind::UnknownArgument && has_negative_number(words) {
-        return fault_text(alloc, NUMBERS);
-    }
-    Ok(error.to_string(alloc)?)
+// What is shown after a parse that failed: of a negative number, what the numbers have to be.
+fn unparsed(alloc: Global, words: &[&str], shown: Shown) -> Result<Words, NoMemory>
+    ensures { IfOk result (λ r. program_wanted r ≡ shown_status shown.status) }
+{
+    let status = shown.status;
+    let text = unparsed_text(alloc, words, shown)?;
+    Ok(Words::Shown { text, status })
 }
 
-// What is shown for an error of the parse of these words. Running out of memory is no fault of the words: it is an `Err`.
-fn shown(alloc: Global, words: &[&str], error: &Error) -> Result<Words, NoMemory>
-    ensures { IfOk result (λ r. told_for_kind (kind_of error.now) ≡ Some (program_wanted r)) }
-{
-    if error.kind() == ErrorKind::OutOfMemory {
-        return Err(NoMemory);
+// The text that is shown after a parse that failed.
+fn unparsed_text(alloc: Global, words: &[&str], shown: Shown) -> Result<String, NoMemory> {
+    if shown.is_unknown_argument && has_negative_number(words) {
+        let Shown { text, .. } = usage_error(alloc, NUMBERS)?;
+        return Ok(text);
     }
-    let status = if error.use_stderr() { 2 } else { 0 };
-    let text = error_text(alloc, words, error)?;
-    Ok(Words::Shown { text, status })
+    let Shown { text, .. } = shown;
+    Ok(text)
 }

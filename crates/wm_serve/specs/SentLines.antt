@@ -20,6 +20,11 @@ crawl_reply (Err e) = Err e
 abbrev pub no_memory_bytes : List ℕ
 no_memory_bytes = reply_bytes (Err NoMemory)
 
+-- a reply that is sent alone, or the line that says that memory ran out for it
+abbrev pub sent_alone : {V E : Type 0} → (V → List ℕ) → Result V E → List ℕ
+sent_alone items (Ok reply) = items reply
+sent_alone items (Err e) = no_memory_bytes
+
 module _ {F : Type 0} (met : F → Part → Way → Bool → SessionState → SessionState → F → Type 0) where
   -- The session answered the line, and its reply was written, with what is due behind it; or memory ran out for that, and the session is as it was.
   abbrev pub SendsReply : F → SubscriptionList → ℕ → List ℕ → Option (List ℕ) → Option (List ℕ) → F → SubscriptionList → Type 0

@@ -4,22 +4,16 @@ ghost use Rattle.std.specs.Prelude.{◌≡◌, true, IfErr, IfOk};
 ghost use Rattle.wm_file.specs.FileDisks.{IsJustOpened};
 ghost use Rattle.wm_groupcommit.specs.Seats.{IsNewDesk};
 ghost use Rattle.wm_lines.specs.KeptExpressions.{have_expressions as have_expressions_lem};
-ghost use Rattle.wm_serve.specs.SlotThreads.{HasServed};
 ghost use Rattle.wm_store.specs.Openings.{IsBegun};
 
-use crate::admission::Acceptor;
-use crate::log_worker::{LogPlace, LoggedService, serve_logged};
-use crate::registrar::ServerDesk;
-use crate::roots_begun::RootsBegun;
-use crate::server_threads::{ServerClosed, Service, closed};
-use crate::shared::Shared;
-use crate::slots::Slots;
-use crate::socket::ServerSocket;
-use crate::start_faults::StartFaults;
+use crate::socket::server_socket::ServerSocket;
+use crate::threads::handle::Handles;
+use crate::threads::server::Server;
+use crate::threads::start::{Closing, Service, serve_logged};
 use std::alloc::Global;
 use std::fs::{File, Files};
 use std::io::{Print, Write};
-use std::marker::Brand;
+use std::marker::{Brand, PhantomData};
 use std::net::Net;
 use std::snapshot::Snapshot;
 use std::sync::Wait;
@@ -28,11 +22,13 @@ use std::time::Clock;
 use wm_crawler::{Folders, Turnstile};
 use wm_disk::{Disk, NoMemory, Refusal};
 use wm_file::{FileDisk, Unknown};
-use wm_groupcommit::{ClosePermit, Desk};
-use wm_hall::{CrawlTools, Retention};
+use wm_groupcommit::{ClosePermit, Closed, Desk};
+use wm_root::{CrawlTools, Retention};
 use wm_session::open_file;
 use wm_share::{Naming, Opened, Shares};
 use wm_store::Store;
+use wm_triggers::Starter;
+use wm_workers::{ServerDesk, ServerRoots};
 
 /// How a server is to serve.
 #[derive(Clone, Copy)]
@@ -61,21 +57,15 @@ pub struct ServerPaths<'a> {
 pub struct Tools<'a, F, G, P, L> {
     pub folders: &'a F,
     pub turnstile: &'a G,
-    pub programs: &'a P,
+    pub starter: &'a P,
     pub log: &'a L,
 }
 
-/// That a server which had this desk has served its sessions, its workers were ended, and its store was closed: [`serve_shared`] alone makes it.
+/// A server has served so many sessions over a desk, as that was then, and its store was closed.
 #[derive(Drop)]
-struct DeskServed<T> {
-    desk: Snapshot<T>,
-    closed: ServerClosed,
-}
-
-/// A server has served so many sessions, its workers were ended, and its store was closed.
-#[derive(Drop)]
-pub struct Served {
-    over: DeskServed<Desk<FileDisk<Unknown>>>,
+pub struct Served<D: Disk + Drop> {
+    desk: Snapshot<Desk<D>>,
+    closed: Closed<D>,
 }
 
 /// Serves a state file on a socket until so many sessions have ended. The socket is removed then, unless another file
@@ -90,7 +80,7 @@ pub fn serve<
     R: Threads + Wait + Clock + Net + Files<File = File> + Sync,
     F: Folders + Sync,
     G: Turnstile + Sync,
-    P: StartFaults + Sync,
+    P: Starter + Sync,
     L: Print + Sync,
     W: Write,
 >(
@@ -100,9 +90,8 @@ pub fn serve<
     tools: &Tools<'_, F, G, P, L>,
     settings: Settings,
     writer: &mut W,
-) -> Result<Served, Refusal>
-    ensures served { IfOk result (λ served. HasServed settings.sessions served.over.closed.served) }
-    ensures store { IfOk result (λ served. (disk : _) × (store : _) × IsJustOpened disk × (⟦<FileDisk<Unknown> as Disk>⟧.honest store.disk → IsBegun ⟦<FileDisk<Unknown> as Disk>⟧ disk store) × IsNewDesk served.over.desk.value store) }
+) -> Result<Served<FileDisk<Unknown>>, Refusal>
+    ensures { IfOk result (λ served. (disk : _) × (store : _) × IsJustOpened disk × (⟦<FileDisk<Unknown> as Disk>⟧.honest store.disk → IsBegun ⟦<FileDisk<Unknown> as Disk>⟧ disk store) × IsNewDesk served.desk.value store) }
 {
     let store = open_file(rt, alloc, paths.file)?;
     let Ok(socket) = ServerSocket::listen(rt, paths.socket) else {
@@ -110,23 +99,17 @@ pub fn serve<
         return Err(Refusal::DeviceFailed);
     };
     let service = Service {
-        acceptor: Acceptor {
-            socket: &socket,
-            sessions: settings.sessions,
-        },
+        socket: &socket,
+        sessions: settings.sessions,
         crawls: CrawlTools {
             folders: tools.folders,
             turnstile: tools.turnstile,
             workers: settings.workers,
         },
-        programs: tools.programs,
+        starter: tools.starter,
         retention: settings.retention,
+        log: (!settings.is_quiet).then_some(tools.log),
     };
-    let log = LogPlace {
-        output: (!settings.is_quiet).then_some(tools.log),
-        taken_socket: socket.replaced(),
-    };
-    let service = LoggedService { service, log };
     let served = serve_over::<FileDisk<Unknown>, Brand, R, F, G, P, L, W>(
         rt,
         alloc,
@@ -136,10 +119,7 @@ pub fn serve<
         writer,
     );
     socket.remove(rt);
-    match served {
-        Ok(over) => Ok(Served { over }),
-        Err(refusal) => Err(refusal),
-    }
+    served
 }
 
 /// A desk over the store, which is dropped if memory runs out, and the permit to close it.
@@ -160,17 +140,17 @@ fn desk_over<D: Disk + Drop>(
 }
 
 /// What all threads share, over the desk, which is dropped if memory runs out.
-fn shared_over<D: Disk + Drop, J: Naming, K: Wait + Clock + Copy + Drop>(
+fn roots_over<D: Disk + Drop, J: Naming, K: Wait + Clock + Copy + Drop>(
     alloc: Global,
     keeping: K,
     desk: Desk<D>,
     shares: Shares<J>,
     retention: Retention,
-) -> Result<Shared<Desk<D>, J, K>, NoMemory>
-    ensures { IfOk result (λ shared. shared.desk ≡ desk) }
+) -> Result<ServerRoots<Desk<D>, J, K>, NoMemory>
+    ensures { IfOk result (λ roots. roots.desk ≡ desk) }
 {
-    match Shared::new(alloc, keeping, desk, shares, retention) {
-        Ok(shared) => Ok(shared),
+    match ServerRoots::new(alloc, keeping, desk, shares, retention) {
+        Ok(roots) => Ok(roots),
         Err((NoMemory, desk)) => {
             drop(desk.into_store());
             Err(NoMemory)
@@ -185,7 +165,7 @@ fn serve_over<
     R: Threads + Wait + Clock + Net + Files<File = File> + Sync,
     F: Folders + Sync,
     G: Turnstile + Sync,
-    P: StartFaults + Sync,
+    P: Starter + Sync,
     L: Print + Sync,
     W: Write,
 >(
@@ -193,49 +173,58 @@ fn serve_over<
     alloc: Global,
     store: Store<D>,
     opened: Opened,
-    service: &LoggedService<'_, '_, F, G, P, L>,
+    service: &Service<'_, F, G, P, L>,
     writer: &mut W,
-) -> Result<DeskServed<Desk<D>>, Refusal>
+) -> Result<Served<D>, Refusal>
     requires expressions { have_expressions_lem store.registry ≡ true }
     requires book { opened.seen.book ≡ J.book }
-    ensures served { IfOk result (λ over. HasServed service.now.service.acceptor.sessions over.closed.served) }
-    ensures store { IfOk result (λ over. IsNewDesk over.desk.value store) }
+    ensures { IfOk result (λ served. IsNewDesk served.desk.value store) }
 {
     let (desk, permit) = desk_over(alloc, store)?;
     let shares: Shares<J> = Shares::new(opened);
-    let shared = shared_over(alloc, rt, desk, shares, service.service.retention)?;
-    let served = serve_shared(rt, alloc, &shared, permit, service, writer);
-    drop(shared.into_desk().into_store());
-    served
+    let roots = roots_over(alloc, rt, desk, shares, service.retention)?;
+    let desk = Snapshot::of(&roots.desk);
+    let closing = Closing {
+        desk: &roots.desk,
+        permit,
+    };
+    let closed = serve_roots(rt, alloc, &roots, closing, service, writer);
+    drop(roots.into_desk().into_store());
+    match closed {
+        Ok(closed) => Ok(Served { desk, closed }),
+        Err(refusal) => Err(refusal),
+    }
 }
 
-/// Makes a hall for each root, and serves the socket.
-fn serve_shared<
+/// Begins each root, and serves the socket.
+fn serve_roots<
     T: ServerDesk + Sync,
+    D: Disk + Drop,
     J: Naming + Send + Sync,
     K: Wait + Clock + Copy + Drop + Send + Sync,
     R: Threads + Wait + Clock + Net + Files<File = File> + Sync,
     F: Folders + Sync,
     G: Turnstile + Sync,
-    P: StartFaults + Sync,
+    P: Starter + Sync,
     L: Print + Sync,
     W: Write,
 >(
     rt: &R,
     alloc: Global,
-    shared: &Shared<T, J, K>,
-    permit: ClosePermit,
-    service: &LoggedService<'_, '_, F, G, P, L>,
+    roots: &ServerRoots<T, J, K>,
+    closing: Closing<'_, D>,
+    service: &Service<'_, F, G, P, L>,
     writer: &mut W,
-) -> Result<DeskServed<T>, Refusal>
-    ensures served { IfOk result (λ over. HasServed service.now.service.acceptor.sessions over.closed.served) }
-    ensures desk { IfOk result (λ over. over.desk.value ≡ shared.now.desk) }
-{
-    let begun = RootsBegun::by(&shared.begin(rt, alloc)?);
-    let slots = Slots::new(alloc, shared, &begun)?;
-    let served = serve_logged(rt, alloc, &slots, permit, service, writer);
-    drop(slots);
-    let desk = Snapshot::of(&shared.desk);
-    let closed = closed(begun, served)?;
-    Ok(DeskServed { desk, closed })
+) -> Result<Closed<D>, Refusal> {
+    roots.begin(rt, alloc)?;
+    let server = Server::new(alloc, roots)?;
+    let handles = Handles {
+        server: &server,
+        workers: roots,
+        of: PhantomData::<(J, K)>,
+    };
+    let closed = serve_logged(rt, alloc, &handles, closing, service, writer);
+    drop(handles);
+    drop(server);
+    closed
 }

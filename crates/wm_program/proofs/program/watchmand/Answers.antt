@@ -1,4 +1,4 @@
-use Rattle.std.proofs.Common.{map, inl, inr, refl, sym, subst}
+use Rattle.std.proofs.Common.{◌∙◌, arith, map, inl, inr, refl, sym, subst}
 use Rattle.std.specs.String.{string_bytes}
 use Rattle.wm_session.specs.session.Streams.{streams}
 use Rattle.wm_program.specs.ProgramRuns.{EndsServed}
@@ -69,6 +69,22 @@ returns-in-Ok-Shown-clause-runs g c =
         elim c.shown-in-Ok-Shown.ensures [
           | inl h ↦ inl (h.0, (c.deref-in-Ok-Shown.result.now, (λ zero. absurd (c.in-Ok-Shown.status-test.1 zero)), (λ above. (h.1, refl))))
           | inr h ↦ inr (h.0, inr h.1)
+        ],
+      ),
+    )
+
+pub returns-in-Ok-Shown-default-eq0-clause-runs : goal.returns-in-Ok-Shown-default-eq0-clause-runs
+returns-in-Ok-Shown-default-eq0-clause-runs g c =
+    let words = map (λ word. word.now) c.args.words.now in
+    let is_zero = c.in-Ok-Shown-default-eq0.field-0-1-test in
+    inr (
+      shown_status c.in-Ok-Shown-default-eq0.field-0-1,
+      subst (λ w. AsksProgram words (program_wanted w)) c.in-Ok-Shown-default-eq0.field-0-is c.in-Ok-Shown-default-eq0.ensures,
+      (
+        refl,
+        elim c.shown.ensures [
+          | inl h ↦ inl (h.0 ∙ sym is_zero, (c.deref.result.now, (λ zero. h.1), (λ above. absurd (omega (arith, is_zero, above)))))
+          | inr h ↦ inr (h.0, inl h.1)
         ],
       ),
     )

@@ -1,2 +1,0 @@
-pub mod Crawls
-pub mod Operating

@@ -1,5 +1,0 @@
-use Rattle.std.proofs.Common.{◌≡◌, None}
-use Rattle.wm_serve.proofs.server_threads.start_slots.Given as goal
-
-abbrev pub invariant-loop-slot : goal.invariant-loop-slot
-invariant-loop-slot g l = (l.threads.count ≡ l.slot) × (l.threads.refused ≡ None) × (l.threads.updates ≡ l.fn.updates)

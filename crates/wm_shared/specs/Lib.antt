@@ -1,7 +1,0 @@
-pub mod Commands
-pub mod Ended
-pub mod Looks
-pub mod MetShared
-pub mod RootsSeen
-pub mod SharedLaws
-pub mod SinceAsked
