@@ -1,7 +1,7 @@
 //! What the command-line words ask of `wm`.
 use crate::checks::check;
 use std::alloc::{AllocError, Global};
-use wm_orders::{Order, Words};
+use wm_commands::arguments::{Order, Words};
 
 /// Lists of words, and what they ask for.
 const ASKED: &[(&[&str], &str)] = &[

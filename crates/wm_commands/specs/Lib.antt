@@ -10,3 +10,4 @@ pub mod Progresses
 pub mod Questions
 pub mod RootLooks
 pub mod Starts
+pub mod Verbs

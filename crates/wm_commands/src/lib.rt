@@ -1,4 +1,5 @@
-//! What the commands of `wm` decide, as functions of values: nothing here talks to the system.
+//! What the arguments of `wm` ask for ([`arguments`]), and what its commands decide, as functions of values: nothing here talks to the
+//! system.
 //!
 //! | Of | Definitions |
 //! |---|---|
@@ -13,11 +14,13 @@
 //! | [`RootSeen`] is what is at the path of a root, [`crawl_step`] what a wait for its crawl does then, [`folder_note`] what is said of a folder that can't be read, [`more_unnamed`] how many of them aren't named | specs/RootLooks.antt |
 //! | [`is_crawl_due`] and [`is_reply_due`] say when it is said that a wait goes on | specs/Progresses.antt |
 //! | [`HomeWord`] is what a shell replaces in a word, if no quotes keep it from that | specs/HomeWords.antt |
+//! | [`Verb`](arguments::Verb) is a command, by its name | specs/Verbs.antt |
 //! | [`advice_of`] is what to do at a refusal, [`is_advised`] whether that is said, [`root_status`] what a refusal tells of a root | |
 #![tactic(auto)]
 
 mod advice;
 mod answers;
+pub mod arguments;
 mod claims;
 mod feeding;
 mod folders;

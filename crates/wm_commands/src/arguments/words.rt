@@ -1,10 +1,11 @@
 //! What the command-line words ask of `wm`. Tests: commands_tests/src/words.rt.
 
-use crate::arguments::{of_folder, of_names, of_program, of_since, of_socket};
-use crate::order::{Order, Verb, order_of};
-use clap::error::ErrorKind;
-use clap::{ArgMatches, Command, Error};
+use crate::arguments::order::{Order, order_of};
+use crate::arguments::shared::{of_folder, of_names, of_program, of_since, of_socket};
+use crate::arguments::verb::Verb;
+use clap::{ArgMatches, Command};
 use std::alloc::Global;
+use wm_arguments::{Shown, parsed, program, usage_error};
 use wm_disk::NoMemory;
 
 /// What the words of `wm` ask for.
@@ -23,9 +24,9 @@ impl Words {
     /// `Err` comes only if memory runs out.
     pub fn read<'a>(alloc: Global, words: &'a [&'a str]) -> Result<Words, NoMemory> {
         let command = command(alloc)?;
-        match command.try_get_matches_from(words) {
+        match parsed(alloc, command, words)? {
             Ok(matches) => chosen(alloc, &matches),
-            Err(error) => shown(alloc, &error),
+            Err(Shown { text, status, .. }) => Ok(Words::Shown { text, status }),
         }
     }
 }
@@ -105,14 +106,10 @@ fn command<'a>(alloc: Global) -> Result<Command<'a>, NoMemory> {
 
 // The program's command alone.
 fn bare<'a>(alloc: Global) -> Result<Command<'a>, NoMemory> {
-    let command = Command::new(alloc, "wm")
-        .about("Watches folders, and says which files changed")
-        .after_help(STATUSES)
-        .version(VERSION)
-        .no_binary_name(true)
+    let about = "Watches folders, and says which files changed";
+    let command = program(alloc, "wm", VERSION, about, STATUSES)?
         .subcommand_required(true)
-        .disable_help_subcommand(true)
-        .bin_name("wm")?;
+        .disable_help_subcommand(true);
     Ok(command)
 }
 
@@ -152,18 +149,8 @@ fn chosen(alloc: Global, matches: &ArgMatches<'_>) -> Result<Words, NoMemory> {
     }
 }
 
-// A fault that is told in these words.
+// A usage error in these words.
 fn fault(alloc: Global, what: &str) -> Result<Words, NoMemory> {
-    let text = format!(in alloc; "error: {what}\n\nFor more information, try '--help'.\n")?;
-    Ok(Words::Shown { text, status: 2 })
-}
-
-// What is shown for an error of the parse. Running out of memory is no fault of the words: it is an `Err`.
-fn shown(alloc: Global, error: &Error) -> Result<Words, NoMemory> {
-    if error.kind() == ErrorKind::OutOfMemory {
-        return Err(NoMemory);
-    }
-    let status = if error.use_stderr() { 2 } else { 0 };
-    let text = error.to_string(alloc)?;
+    let Shown { text, status, .. } = usage_error(alloc, what)?;
     Ok(Words::Shown { text, status })
 }

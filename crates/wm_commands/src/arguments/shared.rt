@@ -2,24 +2,12 @@
 
 use clap::{Arg, ArgAction, Command};
 use std::alloc::Global;
+use wm_arguments::{flag, option, optional};
 use wm_disk::NoMemory;
 
 /// `--NAME VALUE`. A negative number is taken as a value, so that what is said of it is what the value has to be.
 fn value<'a>(alloc: Global, name: &'a str, value: &'a str, help: &'a str) -> Arg<'a> {
-    Arg::new(alloc, name)
-        .long(name)
-        .value_name(value)
-        .help(help)
-        .action(ArgAction::Set)
-        .allow_negative_numbers(true)
-}
-
-/// `--NAME`.
-fn flag<'a>(alloc: Global, name: &'a str, help: &'a str) -> Arg<'a> {
-    Arg::new(alloc, name)
-        .long(name)
-        .help(help)
-        .action(ArgAction::SetTrue)
+    option(alloc, name, value, help).allow_negative_numbers(true)
 }
 
 /// The words behind `--`, of which there is at least one.
@@ -45,9 +33,7 @@ pub(crate) fn of_socket<'a>(alloc: Global, command: Command<'a>) -> Result<Comma
 
 /// A command about a folder.
 pub(crate) fn of_folder<'a>(alloc: Global, command: Command<'a>) -> Result<Command<'a>, NoMemory> {
-    let folder = Arg::new(alloc, "DIR")
-        .help("The folder [default: the present one]")
-        .action(ArgAction::Set);
+    let folder = optional(alloc, "DIR", "The folder [default: the present one]");
     Ok(of_socket(alloc, command)?.arg(folder)?)
 }
 

@@ -1,63 +1,14 @@
 //! What is asked of `wm`, by what clap found in the words.
 
+use crate::arguments::verb::Verb;
+use crate::patterns::pattern_fault;
+use crate::questions::since_text;
+use crate::showing::Style;
 use clap::ArgMatches;
 use serde_json::Value;
 use std::alloc::Global;
-use wm_commands::{Style, pattern_fault, since_text};
+use wm_arguments::{copied, is_set, number_of};
 use wm_disk::NoMemory;
-
-/// The commands.
-#[derive(Clone, Copy, Debug, PartialEq, Eq)]
-pub enum Verb {
-    Up,
-    Down,
-    Watch,
-    Unwatch,
-    List,
-    Status,
-    Files,
-    Changes,
-    Wait,
-    Run,
-    Sync,
-}
-
-impl Verb {
-    /// The command of this name.
-    pub fn of(name: &str) -> Option<Verb> {
-        match name {
-            "up" => Some(Verb::Up),
-            "down" => Some(Verb::Down),
-            "watch" => Some(Verb::Watch),
-            "unwatch" => Some(Verb::Unwatch),
-            "list" => Some(Verb::List),
-            "status" => Some(Verb::Status),
-            "files" => Some(Verb::Files),
-            "changes" => Some(Verb::Changes),
-            "wait" => Some(Verb::Wait),
-            "run" => Some(Verb::Run),
-            "sync" => Some(Verb::Sync),
-            _ => None,
-        }
-    }
-
-    /// How a PATTERN stands behind DIR in this command. `None` if it takes none.
-    pub fn pattern_example(self) -> Option<&'static str> {
-        match self {
-            Verb::Files => Some("wm files . PATTERN"),
-            Verb::Changes => Some("wm changes . PATTERN --since CLOCK"),
-            Verb::Wait => Some("wm wait . PATTERN"),
-            Verb::Run => Some("wm run . PATTERN -- COMMAND"),
-            Verb::Up
-            | Verb::Down
-            | Verb::Watch
-            | Verb::Unwatch
-            | Verb::List
-            | Verb::Status
-            | Verb::Sync => None,
-        }
-    }
-}
 
 /// A command with its arguments.
 #[derive(Drop)]
@@ -99,14 +50,6 @@ pub struct Program {
     pub settle: u32,
 }
 
-/// A copy of a text that may be there.
-fn copied(alloc: Global, text: Option<&str>) -> Result<Option<String>, NoMemory> {
-    match text {
-        Some(text) => Ok(Some(String::from_str(alloc, text)?)),
-        None => Ok(None),
-    }
-}
-
 /// Copies of the texts that clap found by a name.
 fn all(alloc: Global, matches: &ArgMatches<'_>, name: &str) -> Result<Vec<String>, NoMemory> {
     let Some(texts) = matches.get_strs(name) else {
@@ -117,14 +60,6 @@ fn all(alloc: Global, matches: &ArgMatches<'_>, name: &str) -> Result<Vec<String
         copies.push(String::from_str(alloc, text)?)?;
     }
     Ok(copies)
-}
-
-/// Whether a flag is set.
-fn is_set(matches: &ArgMatches<'_>, name: &str) -> bool {
-    match matches.get_str(name) {
-        Some(text) => text == "true",
-        None => false,
-    }
 }
 
 /// The clock since which is asked.
@@ -147,20 +82,15 @@ fn own_of(alloc: Global, word: Option<&str>) -> Result<Option<Option<Value>>, No
     }
 }
 
-/// For how long nothing changes before a run. `None` if the word is no number.
-fn settle_of(word: Option<&str>) -> Option<u32> {
-    match word {
-        None => Some(50),
-        Some(word) => word.parse::<u32>().ok(),
-    }
-}
+/// For how many milliseconds nothing changes before a run, if nothing is told.
+const DEFAULT_SETTLE: u32 = 50;
 
 /// The style that is asked for.
 fn style_of(matches: &ArgMatches<'_>) -> Style {
     Style {
-        is_json: is_set(matches, "json"),
-        is_nul: is_set(matches, "nul"),
-        is_clock: is_set(matches, "clock"),
+        is_json: is_set(matches.get_str("json")),
+        is_nul: is_set(matches.get_str("nul")),
+        is_clock: is_set(matches.get_str("clock")),
     }
 }
 
@@ -202,7 +132,7 @@ fn question_of(
         patterns,
         own,
         since,
-        is_unsynced: is_set(matches, "no-sync"),
+        is_unsynced: is_set(matches.get_str("no-sync")),
     }))
 }
 
@@ -211,7 +141,7 @@ fn program_of(
     alloc: Global,
     matches: &ArgMatches<'_>,
 ) -> Result<Result<Program, String>, NoMemory> {
-    let Some(settle) = settle_of(matches.get_str("settle")) else {
+    let Some(settle) = number_of(matches.get_str("settle"), DEFAULT_SETTLE) else {
         let what = "MS isn't a whole number from 0 to 4294967295";
         return Ok(Err(String::from_str(alloc, what)?));
     };
