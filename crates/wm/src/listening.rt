@@ -11,7 +11,7 @@ use std::time::{Duration, Instant};
 use wm_client::refusal_of;
 use wm_commands::{Answer, Settle, answer_of, reported_name, subscribe_line};
 use wm_disk::Refusal;
-use wm_orders::Order;
+use wm_commands::arguments::Order;
 
 /// How often it is looked whether a change has settled, in milliseconds.
 const TICK: u64 = 10;

@@ -30,7 +30,7 @@ use std::io::ErrorKind;
 use std::process::ExitCode;
 use std::{env, io};
 use wm_commands::advice_of;
-use wm_orders::{Order, Verb, Words};
+use wm_commands::arguments::{Order, Verb, Words};
 
 /// Handles a command about a folder.
 fn about_folder(server: &Server<'_>, order: &Order) -> Result<u8, Failure> {

@@ -7,7 +7,7 @@ use serde_json::Value;
 use wm_commands::{NO_ROOT_ADVICE, expression, fits_in_pattern, holder_of, name_in};
 use wm_disk::Refusal;
 use wm_names::RootPath;
-use wm_orders::Order;
+use wm_commands::arguments::Order;
 
 /// A folder, and the watched root that holds it.
 #[derive(Drop)]

@@ -12,7 +12,7 @@ use std::process::{Child, Command, Stdio};
 use std::thread;
 use std::time::Duration;
 use wm_commands::{Answer, Runs};
-use wm_orders::Order;
+use wm_commands::arguments::Order;
 
 /// How long a server that isn't there is left alone, in milliseconds.
 const RETRY: u64 = 500;

@@ -1,10 +1,9 @@
 mod Asking
-mod FeedWanting
+mod Ending
 mod Lines
 mod Passing
 mod Printing
 mod Refusals
-mod ReplyLines
 mod Sending
 mod Synced
 mod Telling

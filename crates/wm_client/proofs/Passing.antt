@@ -1,5 +1,5 @@
 -- What is known of the time that a sync has waited.
-use Rattle.std.proofs.Common.{◌≡◌, ◌+◌, ◌≤◌, ◌<◌, ℕ, arith, subst}
+use Rattle.std.proofs.Common.{◌≡◌, ◌+◌, ◌≤◌, ℕ, arith, subst}
 use Rattle.std.proofs.Math.Logic.{∥∥₁_map}
 use Rattle.wm_client.specs.Waits.{HasPassed}
 

@@ -1,9 +1,9 @@
 -- What is sent of a line, byte by byte and line by line.
-use Rattle.std.proofs.Common.{◌≡◌, ◌∙◌, ◌≤◌, ◌+◌, ◌++◌, ◌∷◌, ℕ, List, [], Option, Some, None, length, take, drop, refl, sym, ap, subst, append_assoc, append-nil, take_all}
+use Rattle.std.proofs.Common.{◌≡◌, ◌∙◌, ◌≤◌, ◌+◌, ◌++◌, ◌∷◌, ℕ, List, [], Option, Some, None, length, take, drop, sym, ap, subst, append_assoc, append-nil, take_all}
 use Rattle.std.proofs.lemmas.List.{take-append-drop}
 use Rattle.std.proofs.lemmas.List.Elements.{All-append, All-cons, All-nil}
 use Rattle.std.specs.Io.KnownBytes.{Appends, Keeps}
-use Rattle.std.specs.List.{All, concat}
+use Rattle.std.specs.List.{concat}
 use Rattle.wm_client.specs.Syncs.{SendsStarts}
 use Rattle.wm_client.specs.Talks.{AppendsStart, IsStartOf}
 use Rattle.wm_client.proofs.Lines.{grown_twice}

@@ -1,5 +1,5 @@
 -- What is sent and printed with a sync.
-use Rattle.std.proofs.Common.{◌≡◌, ◌∙◌, ◌*◌, ◌++◌, ℕ, true, List, Option, Result, Ok, Err, IfOk, MatchResult, Some, None, codes, inl, inr, refl, sym, subst}
+use Rattle.std.proofs.Common.{◌≡◌, ◌*◌, ◌++◌, ℕ, List, Option, Result, Ok, Err, IfOk, MatchResult, Some, None, codes, inl, inr, refl, sym, subst}
 use Rattle.std.specs.Io.BufRead.{drop_through, take_through}
 use Rattle.wm_client.specs.Asks.{AsksWhole}
 use Rattle.wm_client.specs.ClientWords.{AsksFor, SyncWanted, talk_to}

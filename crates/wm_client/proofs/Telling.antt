@@ -2,7 +2,8 @@
 use Rattle.std.proofs.Common.{◌≡◌, ◌≢◌, ◌<◌, ◌≤◌, ◌+◌, ◌∷◌, [], ℕ, List, Option, Result, Ok, Err, IfErr, IfOk, true, false, refl, sym, subst, arith}
 use Rattle.std.specs.Io.BufRead.{drop_through, take_through}
 use Rattle.std.specs.Io.KnownBytes.{Appends}
-use Rattle.wm_client.specs.Talks.{HasLines, Prints, PrintsBefore, PrintsLines, PrintsReply, PrintsSome, is_refusal_line, has_come_whole, lines_first}
+use Rattle.wm_client.specs.Talks.{HasLines, Prints, PrintsBefore, PrintsLines, PrintsReply, PrintsSome, has_come_whole, lines_first}
+use Rattle.wm_protocol.specs.Protocol.{is_refusal_line}
 use Rattle.wm_client.specs.declared.talking.TalkEnd.{TalkEnd}
 use Rattle.wm_client.specs.declared.talking.TalkEnd.TheVariants.{Told, Refused, NoReply, ReadFailed, Unsent, Unprinted}
 use Rattle.wm_client.proofs.Lines.{grown_twice, reply_first, rest_whole, whole_first}

@@ -4,7 +4,7 @@ use Rattle.std.specs.Io.BufRead.{drop_through, take_through}
 use Rattle.wm_disk.specs.declared.refusal.Refusal.TheVariants.{NotReady}
 use Rattle.wm_client.specs.RefusalLines.{is_refused_by}
 use Rattle.wm_client.specs.Syncs.{IsClockOf, LacksClock}
-use Rattle.wm_client.specs.Talks.{Prints, PrintsLines, PrintsReply}
+use Rattle.wm_client.specs.Talks.{Prints, PrintsLines}
 use Rattle.wm_client.specs.declared.syncing.Asked.{Asked}
 use Rattle.wm_client.specs.declared.syncing.Asked.TheVariants.{Root, Unreadable, Ended}
 use Rattle.wm_client.specs.declared.talking.TalkEnd.TheVariants as talk

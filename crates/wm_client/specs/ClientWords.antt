@@ -1,13 +1,11 @@
 -- What the command-line words of `wmctl` ask for. A word is a text, as the list of its bytes.
-use Rattle.std.specs.Prelude.{◌≡◌, ◌⊎◌, ◌<◌, ◌==◌, ◌^◌, ℕ, true, false, [], List, Option, Some, None, codes, option_map}
-use Rattle.std.specs.Borrow.{Bor}
+use Rattle.std.specs.Prelude.{◌≡◌, ◌==◌, ℕ, false, List, Option, Some, None, codes, option_map}
 use Rattle.std.specs.List.{list_any}
-use Rattle.std.specs.Str.Parse.{IsNumeral, digits_value, without_leading_plus}
 use Rattle.std.specs.String.{string_bytes}
-use Rattle.clap.specs.Words.{App, IsAmong, Row, Rule, Text, fault_of, first_of, matches_of, new_app, new_rule, with_rule}
-use Rattle.clap.specs.declared.builder.ArgAction.TheVariants.{Set}
-use Rattle.clap.specs.declared.error.ErrorKind.{ErrorKind}
-use Rattle.clap.specs.declared.error.ErrorKind.TheVariants as kind
+use Rattle.clap.specs.Words.{App, Row, Text, first_of, matches_of, with_rule}
+use Rattle.wm_arguments.specs.ArgumentRules.{bare_program, needed_rule, option_rule}
+use Rattle.wm_arguments.specs.ArgumentValues.{TellsNumber}
+use Rattle.wm_arguments.specs.Parses.{AsksBy}
 use Rattle.wm_client.specs.declared.words.Request.{Request}
 use Rattle.wm_client.specs.declared.words.Sync.{Sync}
 use Rattle.wm_client.specs.declared.words.Words.{Words}
@@ -37,51 +35,28 @@ abbrev pub wanted_of : Words → Wanted
 wanted_of (words.Talk request) = request_wanted_of request
 wanted_of (words.Shown text status) = shown_status status
 
--- the text of a word that may be there
-abbrev pub text_of : Option (Bor Text) → Option Text
-text_of = option_map (λ s. s.now)
-
 -- ---- the command line as clap is told of it
 
--- SOCKET and JSON
-abbrev pub needed_rule : Text → Rule
-needed_rule id = record (new_rule id) { action = Some Set; required = true }
-
--- an option with a value
-abbrev pub option_rule : Text → Rule
-option_rule id = record (new_rule id) { long = Some id; action = Some Set; value_names = 1 }
-
-abbrev pub bare_wmctl : App
-bare_wmctl = record {
-  top = record (new_app (codes "wmctl")).top { no_binary_name = true; has_version = true };
-  subs = [];
-}
-
 abbrev pub words_app : App
-words_app = with_rule (with_rule bare_wmctl (needed_rule (codes "SOCKET"))) (needed_rule (codes "JSON"))
+words_app = with_rule (with_rule (bare_program (codes "wmctl")) (needed_rule (codes "SOCKET"))) (needed_rule (codes "JSON"))
 
 abbrev pub wmctl_app : App
 wmctl_app = with_rule (with_rule (with_rule words_app (option_rule (codes "follow"))) (option_rule (codes "sync"))) (option_rule (codes "sync-timeout"))
 
 -- ---- what clap finds in the words
 
--- the number that an option tells: decimal digits, with a plus before them or none, below 2^32; the default if it isn't there
-abbrev pub TellsOption : ℕ → Option Text → ℕ → Type 0
-TellsOption default None n = n ≡ default
-TellsOption default (Some text) n = IsNumeral 10 (without_leading_plus text) × (n < 2 ^ 32) × (n ≡ digits_value 10 (without_leading_plus text))
-
 -- what is there for `--sync` and `--sync-timeout` tells this sync: no timeout without a root, and a second if none is told
 abbrev pub TellsSync : (sync_word timeout_word : Option Text) → Option SyncWanted → Type 0
 TellsSync None timeout_word sync = (timeout_word ≡ None) × (sync ≡ None)
 TellsSync (Some root) timeout_word None = ⊥
-TellsSync (Some root) timeout_word (Some sync) = (sync.root ≡ root) × TellsOption 1000 timeout_word sync.timeout
+TellsSync (Some root) timeout_word (Some sync) = (sync.root ≡ root) × TellsNumber 1000 timeout_word sync.timeout
 
 -- these words are there for SOCKET, JSON and the options, and tell this line, which has no newline (10), this number and this sync
 pub record TellsTalk (socket_word json_word follow_word sync_word timeout_word : Option Text) (socket json : Text) (follow : ℕ) (sync : Option SyncWanted) : Type 0 where
   pub socket_is : socket_word ≡ Some socket
   pub json_is : json_word ≡ Some json
   pub one_line : list_any (λ byte. byte == 10) json ≡ false
-  pub follow_is : TellsOption 0 follow_word follow
+  pub follow_is : TellsNumber 0 follow_word follow
   pub sync_is : TellsSync sync_word timeout_word sync
 
 -- what they tell is wanted; where that is no talk, it is a fault
@@ -96,14 +71,6 @@ abbrev pub FindsFor : List Row → Wanted → Type 0
 FindsFor rows wanted =
     TellsOf (first_of (codes "SOCKET") rows) (first_of (codes "JSON") rows) (first_of (codes "follow") rows) (first_of (codes "sync") rows) (first_of (codes "sync-timeout") rows) wanted
 
--- what an error of this kind shows: help and the version as asked, all else as a fault; running out of memory is never shown
-abbrev pub shown_for_kind : ErrorKind → Option Wanted
-shown_for_kind kind.OutOfMemory = None
-shown_for_kind kind.DisplayHelp = Some (shown_status 0)
-shown_for_kind kind.DisplayVersion = Some (shown_status 0)
-shown_for_kind other = Some (shown_status 2)
-
--- what the words ask for: what clap finds in them, or one of the kinds of error that it may answer them with
+-- what the words ask for
 abbrev pub AsksFor : List Text → Wanted → Type 0
-AsksFor words wanted = ((fault_of wmctl_app words ≡ []) × FindsFor (matches_of wmctl_app words) wanted)
-    ⊎ ((k : ErrorKind) × IsAmong k (fault_of wmctl_app words) × (shown_for_kind k ≡ Some wanted))
+AsksFor words = AsksBy wmctl_app (FindsFor (matches_of wmctl_app words)) shown_status words

@@ -4,7 +4,6 @@ pub mod Ends
 pub mod FeedWords
 pub mod Negatives
 pub mod RefusalLines
-pub mod ReplyLaws
 pub mod Statuses
 pub mod Syncs
 pub mod Talks

@@ -16,7 +16,6 @@ use Rattle.wm_client.specs.ClientWords.{SyncWanted}
 use Rattle.wm_client.specs.RefusalLines.{is_refused_by}
 use Rattle.wm_client.specs.Talks.{IsStartOf, Prints, PrintsLines}
 use Rattle.wm_client.specs.Waits.{HasPassed}
-use Rattle.wm_client.specs.declared.talking.TalkEnd.{TalkEnd}
 use Rattle.wm_client.specs.declared.talking.TalkEnd.TheVariants as talk
 use Rattle.wm_client.specs.declared.syncing.SyncEnd.{SyncEnd}
 use Rattle.wm_client.specs.declared.syncing.SyncEnd.TheVariants.{Talked, Unsynced, Unreadable, NoFeed}

@@ -1,9 +1,9 @@
 -- What a talk with a server prints of the lines that come.
-use Rattle.std.specs.Prelude.{◌≡◌, ◌<◌, ◌≤◌, ◌+◌, ◌++◌, ◌∷◌, ⊤, ℕ, zero, suc, nat_eq, Bool, true, false, List, [], Option, length, take, codes}
+use Rattle.std.specs.Prelude.{◌≡◌, ◌<◌, ◌≤◌, ◌+◌, ◌++◌, ◌∷◌, ⊤, ℕ, zero, suc, nat_eq, Bool, true, false, List, [], Option, length, codes}
 use Rattle.std.specs.Io.BufRead.{drop_through, take_through}
 use Rattle.std.specs.Io.KnownBytes.{Appends}
 use Rattle.std.specs.List.{concat, ends_with, list_all}
-use Rattle.std.specs.Str.{bytes_eq}
+use Rattle.wm_protocol.specs.Protocol.{is_refusal_line}
 use Rattle.wm_client.specs.declared.talking.TalkEnd.{TalkEnd}
 use Rattle.wm_client.specs.declared.talking.TalkEnd.TheVariants.{Told, Refused, NoReply, ReadFailed, Unsent, Unprinted}
 
@@ -20,13 +20,6 @@ has_come_whole line = ends_with nat_eq line (codes "\n")
 abbrev pub HasLines : ℕ → List ℕ → Type 0
 HasLines zero input = ⊤
 HasLines (suc n) input = (has_come_whole (take_through 10 input) ≡ true) × HasLines n (drop_through 10 input)
-
--- how a refusal's line begins
-abbrev pub refusal_start : List ℕ
-refusal_start = codes "{\"error\":"
-
-abbrev pub is_refusal_line : List ℕ → Bool
-is_refusal_line line = bytes_eq (take (length refusal_start) line) refusal_start
 
 -- these bytes are a start of a line, which may be all of it
 abbrev pub IsStartOf : List ℕ → List ℕ → Type 0

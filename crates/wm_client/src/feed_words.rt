@@ -1,18 +1,17 @@
 //! What the command-line words ask of `wmfeed`. Their definitions are in specs/FeedWords.
-//! Tests: serve_tests/src/feeds/words.rt.
-ghost use Rattle.std.specs.Prelude.{◌≡◌, false, IfOk, None, Some, codes, map, option_map};
-ghost use Rattle.std.specs.String.{string_bytes};
-ghost use Rattle.clap.specs.Values.{kind_of};
-ghost use Rattle.clap.specs.Words.{app_of, found_of, rows_of, rule_of};
-ghost use Rattle.wm_client.specs.ClientWords.{text_of};
-ghost use Rattle.wm_client.specs.FeedWords.{FeedAsksFor, FeedFindsFor, FeedTellsOf, every_event_rule, feed_shown_for_kind, feed_shown, feed_wanted_of, is_set, optional_rule, wmfeed_app};
+//! Tests: client_tests/src/feed_words.rt.
+ghost use Rattle.std.specs.Prelude.{◌≡◌, IfOk, map};
+ghost use Rattle.clap.specs.Words.{app_of, found_of, rows_of};
+ghost use Rattle.wm_arguments.specs.ArgumentValues.{text_of};
+ghost use Rattle.wm_client.specs.FeedWords.{FeedAsksFor, FeedFindsFor, FeedTellsOf, feed_shown, feed_wanted_of, wmfeed_app};
 
-use crate::words::needed;
-use clap::error::ErrorKind;
-use clap::{Arg, ArgAction, ArgMatches, Command, Error};
+use clap::{ArgMatches, Command};
 use std::alloc::Global;
+use wm_arguments::{
+    Shown, copied, flag, is_set, needed, optional, parsed, program, usage_error, word_of,
+};
 use wm_disk::NoMemory;
-use wm_lines::reply::VERSION;
+use wm_protocol::VERSION;
 
 /// What the words of `wmfeed` ask for.
 #[derive(Drop)]
@@ -40,9 +39,9 @@ impl FeedWords {
         ensures { IfOk result (λ r. FeedAsksFor (map (λ word. word.now) words.entry.now) (feed_wanted_of r)) }
     {
         let command = command(alloc)?;
-        match command.try_get_matches_from(words) {
+        match parsed(alloc, command, words)? {
             Ok(matches) => chosen(alloc, &matches),
-            Err(error) => shown(alloc, &error),
+            Err(shown) => Ok(instead(shown)),
         }
     }
 }
@@ -61,37 +60,20 @@ Exit status:
 fn command<'a>(alloc: Global) -> Result<Command<'a>, NoMemory>
     ensures { IfOk result (λ c. app_of c ≡ wmfeed_app) }
 {
-    let command = Command::new(alloc, "wmfeed")
-        .about("Tells a file watch server what changes in folders, as inotifywait reports it")
-        .after_help(AFTER)
-        .version(VERSION)
-        .no_binary_name(true)
-        .bin_name("wmfeed")?
+    let about = "Tells a file watch server what changes in folders, as inotifywait reports it";
+    let command = program(alloc, "wmfeed", VERSION, about, AFTER)?
         .arg(needed(alloc, "SOCKET", "The path of the server's socket"))?
-        .arg(root(alloc))?
-        .arg(every_event(alloc))?;
+        .arg(optional(
+            alloc,
+            "ROOT",
+            "The folder to be watched and fed, an absolute path [default: each watched root]",
+        ))?
+        .arg(flag(
+            alloc,
+            "every-event",
+            "Reports a path also if its event shows nothing new, as a changed mode",
+        ))?;
     Ok(command)
-}
-
-// `ROOT`.
-fn root<'a>(alloc: Global) -> Arg<'a>
-    ensures rule { rule_of result ≡ optional_rule (codes "ROOT") }
-    ensures local { result.global ≡ false }
-{
-    Arg::new(alloc, "ROOT")
-        .help("The folder to be watched and fed, an absolute path [default: each watched root]")
-        .action(ArgAction::Set)
-}
-
-// `--every-event`.
-fn every_event<'a>(alloc: Global) -> Arg<'a>
-    ensures rule { rule_of result ≡ every_event_rule }
-    ensures local { result.global ≡ false }
-{
-    Arg::new(alloc, "every-event")
-        .long("every-event")
-        .help("Reports a path also if its event shows nothing new, as a changed mode")
-        .action(ArgAction::SetTrue)
 }
 
 // What the matches of the program's command ask for.
@@ -100,9 +82,9 @@ fn chosen(alloc: Global, matches: &ArgMatches<'_>) -> Result<FeedWords, NoMemory
 {
     told(
         alloc,
-        matches.get_str("SOCKET"),
-        matches.get_str("ROOT"),
-        matches.get_str("every-event"),
+        word_of(matches, "SOCKET"),
+        word_of(matches, "ROOT"),
+        word_of(matches, "every-event"),
     )
 }
 
@@ -128,42 +110,18 @@ fn told(
     })
 }
 
-// Whether a flag is set, by what clap found for it.
-fn is_set(told: Option<&str>) -> bool
-    ensures { result ≡ is_set (text_of told.entry) }
+// What is shown in place of what the words ask for.
+fn instead(shown: Shown) -> FeedWords
+    ensures { feed_wanted_of result ≡ feed_shown shown.status }
 {
-    match told {
-        Some(text) => text == "true",
-        None => false,
-    }
+    let Shown { text, status, .. } = shown;
+    FeedWords::Shown { text, status }
 }
 
-// A copy of a text that may be there.
-fn copied(alloc: Global, text: Option<&str>) -> Result<Option<String>, NoMemory>
-    ensures { IfOk result (λ r. option_map string_bytes r ≡ text_of text.entry) }
-{
-    match text {
-        Some(text) => Ok(Some(String::from_str(alloc, text)?)),
-        None => Ok(None),
-    }
-}
-
-// A fault that is told in these words.
+// A usage error in these words.
 fn fault(alloc: Global, what: &str) -> Result<FeedWords, NoMemory>
     ensures { IfOk result (λ r. feed_wanted_of r ≡ feed_shown 2) }
 {
-    let text = format!(in alloc; "error: {what}\n\nFor more information, try '--help'.\n")?;
-    Ok(FeedWords::Shown { text, status: 2 })
-}
-
-// What is shown for an error of the parse. Running out of memory is no fault of the words: it is an `Err`.
-fn shown(alloc: Global, error: &Error) -> Result<FeedWords, NoMemory>
-    ensures { IfOk result (λ r. feed_shown_for_kind (kind_of error.now) ≡ Some (feed_wanted_of r)) }
-{
-    if error.kind() == ErrorKind::OutOfMemory {
-        return Err(NoMemory);
-    }
-    let status = if error.use_stderr() { 2 } else { 0 };
-    let text = error.to_string(alloc)?;
-    Ok(FeedWords::Shown { text, status })
+    let shown = usage_error(alloc, what)?;
+    Ok(instead(shown))
 }

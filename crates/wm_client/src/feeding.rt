@@ -1,6 +1,6 @@
-//! All of `wmfeed` but the feed itself, with its status. Definitions: specs/Ends. Tests: feed_tests, tools/feed_use.py.
+//! All of `wmfeed` but the feed itself, with its status. Definitions: specs/Ends. Tests: feed_tests, tools/try/feed.
 ghost use Rattle.std.specs.Prelude.{◌≡◌, ◌⊎◌, ℕ, Bool, List, Option, Some, map};
-ghost use Rattle.wm_client.specs.ClientWords.{text_of};
+ghost use Rattle.wm_arguments.specs.ArgumentValues.{text_of};
 ghost use Rattle.wm_client.specs.Ends.{EndsAsAsked, MayEnd, status_of_stop};
 ghost use Rattle.wm_client.specs.FeedWords.{feed_to};
 ghost use Rattle.wm_client.specs.declared.stop.Stop.{Stop};

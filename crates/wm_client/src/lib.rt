@@ -5,14 +5,13 @@
 //! prints the reply (specs/Talks.antt), [`synced_talk`] does so once a feed has removed a file (specs/Syncs.antt), which it makes by a
 //! [`SyncSystem`] (specs/Waits.antt; [`SyncFiles`] is the operating system's), and [`wmctl`] is all of the program, with the status that it
 //! may end with (specs/Statuses.antt). [`negative_said`] is what is said of a negative number behind an option (specs/Negatives.antt).
-//! [`every_reply`] says what is taken for a refusal (specs/ReplyLaws.antt), and [`refusal_of`] which one it is (specs/RefusalLines.antt).
+//! [`refusal_of`] says which refusal a reply is (specs/RefusalLines.antt).
 //! [`FeedWords`] is what the words of `wmfeed` ask for (specs/FeedWords.antt), and [`wmfeed`] all of that program over a [`Feeder`], with its
 //! status (specs/Ends.antt).
 #![tactic(auto)]
 
 mod feed_words;
 mod feeding;
-mod laws;
 mod negative;
 mod program;
 mod refused;
@@ -28,7 +27,6 @@ mod words;
 
 pub use feed_words::FeedWords;
 pub use feeding::{Feeder, wmfeed};
-pub use laws::every_reply;
 pub use negative::negative_said;
 pub use program::wmctl;
 pub use refused::refusal_of;

@@ -1,5 +1,5 @@
 //! Why a feed stops.
-//! The status of each and what is told of it: specs/Ends. Tests: feed_tests, tools/feed_use.py.
+//! The status of each and what is told of it: specs/Ends. Tests: feed_tests, tools/try/feed.
 
 use std::alloc::{AllocError, AllocFailed};
 use wm_disk::{NoMemory, Refusal};

@@ -1,4 +1,4 @@
-//! The files of a sync, as the operating system has them. Tests: tools/feed_use.py.
+//! The files of a sync, as the operating system has them. Tests: tools/try/feed.
 ghost use Rattle.std.specs.Prelude.{⊤};
 
 use crate::sync_system::SyncSystem;

@@ -14,12 +14,13 @@ ghost use Rattle.wm_client.specs.Waits.{GaveUpIn, GoneIn, HasPassed};
 use crate::refused::is_of;
 use crate::root_number::{clock_request, root_number_of, sync_folder};
 use crate::sync_system::SyncSystem;
-use crate::talking::{TalkEnd, is_refusal, print, read_line, send, talk};
+use crate::talking::{TalkEnd, print, read_line, send, talk};
 use crate::timer::{RETRY, Timer};
 use crate::words::Request;
 use std::alloc::Global;
 use std::io::{BufRead, Write};
 use wm_disk::{NoMemory, Refusal};
+use wm_protocol::is_refusal;
 
 /// How a request ended that may have waited for a sync.
 #[derive(Clone, Copy, Debug, PartialEq, Eq)]

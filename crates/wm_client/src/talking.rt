@@ -3,11 +3,13 @@
 ghost use Rattle.std.specs.Prelude.{◌≡◌, ◌≢◌, ◌∷◌, ◌++◌, [], ℕ, true, false, codes, length, List, Some, IfErr, IfOk, Ok};
 ghost use Rattle.std.specs.Io.BufRead.{drop_through, take_through};
 ghost use Rattle.std.specs.Io.KnownBytes.{Appends};
-ghost use Rattle.wm_client.specs.Talks.{AppendsStart, HasLines, Prints, PrintsBefore, PrintsLines, PrintsReply, PrintsSome, is_refusal_line, has_come_whole, lines_first};
+ghost use Rattle.wm_client.specs.Talks.{AppendsStart, HasLines, Prints, PrintsBefore, PrintsLines, PrintsReply, PrintsSome, has_come_whole, lines_first};
+ghost use Rattle.wm_protocol.specs.Protocol.{is_refusal_line};
 
 use std::alloc::Global;
 use std::io::{BufRead, ErrorKind, Write};
 use wm_disk::NoMemory;
+use wm_protocol::is_refusal;
 
 /// How a talk ended.
 #[derive(Clone, Copy, Debug, PartialEq, Eq)]
@@ -88,13 +90,6 @@ fn send_bytes<S: Write>(bytes: &[u8], sender: &mut S) -> bool
         }
     }
     false
-}
-
-/// Whether a reply is a refusal, by how the server begins its line.
-pub(crate) fn is_refusal(line: &[u8]) -> bool
-    ensures { result ≡ is_refusal_line line.now }
-{
-    line.starts_with(b"{\"error\":")
 }
 
 /// Prints so many lines that come.

@@ -1,16 +1,15 @@
 //! What the command-line words ask of `wmctl`. Their definitions are in specs/ClientWords.
 //! Tests: client_tests/src/wmctl/words.rt.
-ghost use Rattle.std.specs.Prelude.{◌≡◌, ℕ, List, IfErr, IfOk, None, false, Option, Some, map, option_map};
-ghost use Rattle.std.specs.Option.{MatchOption};
-ghost use Rattle.clap.specs.Values.{kind_of};
-ghost use Rattle.clap.specs.Words.{app_of, found_of, rows_of, rule_of};
-ghost use Rattle.wm_client.specs.ClientWords.{AsksFor, FindsFor, SyncWanted, TellsOption, TellsOf, TellsSync, bare_wmctl, needed_rule, option_rule, shown_for_kind, shown_status, sync_wanted_of, text_of, wanted_of, wmctl_app};
+ghost use Rattle.std.specs.Prelude.{◌≡◌, ℕ, List, IfErr, IfOk, Option, map, option_map};
+ghost use Rattle.clap.specs.Words.{app_of, found_of, rows_of};
+ghost use Rattle.wm_arguments.specs.ArgumentValues.{text_of};
+ghost use Rattle.wm_client.specs.ClientWords.{AsksFor, FindsFor, SyncWanted, TellsOf, TellsSync, shown_status, sync_wanted_of, wanted_of, wmctl_app};
 
-use clap::error::ErrorKind;
-use clap::{Arg, ArgAction, ArgMatches, Command, Error};
+use clap::{ArgMatches, Command};
 use std::alloc::Global;
+use wm_arguments::{Shown, needed, number_of, option, parsed, program, usage_error, word_of};
 use wm_disk::NoMemory;
-use wm_lines::reply::VERSION;
+use wm_protocol::VERSION;
 
 /// A sync that is asked for before a request is sent.
 #[derive(Drop)]
@@ -54,9 +53,9 @@ impl Words {
         ensures { IfOk result (λ r. AsksFor (map (λ word. word.now) words.entry.now) (wanted_of r)) }
     {
         let command = command(alloc)?;
-        match command.try_get_matches_from(words) {
+        match parsed(alloc, command, words)? {
             Ok(matches) => chosen(alloc, &matches),
-            Err(error) => shown(alloc, &error),
+            Err(shown) => Ok(instead(shown)),
         }
     }
 }
@@ -70,24 +69,12 @@ const STATUSES: &str = "Exit status:
   2  the words aren't understood
   3  the socket failed or ended before a whole line came, or no feed synced ROOT in time";
 
-// The program's command without its arguments.
-fn bare<'a>(alloc: Global) -> Result<Command<'a>, NoMemory>
-    ensures { IfOk result (λ c. app_of c ≡ bare_wmctl) }
-{
-    let command = Command::new(alloc, "wmctl")
-        .about("Sends a request to a file watch server and prints its reply")
-        .after_help(STATUSES)
-        .version(VERSION)
-        .no_binary_name(true)
-        .bin_name("wmctl")?;
-    Ok(command)
-}
-
 // The program's command.
 fn command<'a>(alloc: Global) -> Result<Command<'a>, NoMemory>
     ensures { IfOk result (λ c. app_of c ≡ wmctl_app) }
 {
-    let command = bare(alloc)?
+    let about = "Sends a request to a file watch server and prints its reply";
+    let command = program(alloc, "wmctl", VERSION, about, STATUSES)?
         .arg(needed(alloc, "SOCKET", "The path of the server's socket"))?
         .arg(needed(alloc, "JSON", "The request, one line, as [\"watch-list\"]"))?
         .arg(option(
@@ -111,46 +98,23 @@ fn command<'a>(alloc: Global) -> Result<Command<'a>, NoMemory>
     Ok(command)
 }
 
-// A word that has to be there.
-pub(crate) fn needed<'a>(alloc: Global, name: &'a str, help: &'a str) -> Arg<'a>
-    ensures rule { rule_of result ≡ needed_rule name.entry.now }
-    ensures local { result.global ≡ false }
-{
-    Arg::new(alloc, name)
-        .help(help)
-        .action(ArgAction::Set)
-        .required(true)
-}
-
-// An option with a value.
-fn option<'a>(alloc: Global, name: &'a str, value: &'a str, help: &'a str) -> Arg<'a>
-    ensures rule { rule_of result ≡ option_rule name.entry.now }
-    ensures local { result.global ≡ false }
-{
-    Arg::new(alloc, name)
-        .long(name)
-        .value_name(value)
-        .help(help)
-        .action(ArgAction::Set)
-}
-
 // What the matches of the program's command ask for.
 fn chosen(alloc: Global, matches: &ArgMatches<'_>) -> Result<Words, NoMemory>
     ensures { IfOk result (λ r. FindsFor (rows_of (found_of matches.now)) (wanted_of r)) }
 {
     let sync = match sync_of(
         alloc,
-        matches.get_str("sync"),
-        matches.get_str("sync-timeout"),
+        word_of(matches, "sync"),
+        word_of(matches, "sync-timeout"),
     )? {
         Ok(sync) => sync,
         Err(what) => return fault(alloc, what),
     };
     told(
         alloc,
-        matches.get_str("SOCKET"),
-        matches.get_str("JSON"),
-        matches.get_str("follow"),
+        word_of(matches, "SOCKET"),
+        word_of(matches, "JSON"),
+        word_of(matches, "follow"),
         sync,
     )
 }
@@ -209,35 +173,18 @@ fn sync_of(
     Ok(Ok(Some(Sync { root, timeout })))
 }
 
-// The number that is told; the default if nothing is.
-fn number_of(told: Option<&str>, default: u32) -> Option<u32>
-    ensures { MatchOption result ((n : ℕ) → TellsOption default (text_of told.entry) n → ⊥) (λ n. TellsOption default (text_of told.entry) n) }
+// What is shown in place of what the words ask for.
+fn instead(shown: Shown) -> Words
+    ensures { wanted_of result ≡ shown_status shown.status }
 {
-    match told {
-        None => Some(default),
-        Some(text) => match text.parse::<u32>() {
-            Ok(n) => Some(n),
-            Err(_) => None,
-        },
-    }
+    let Shown { text, status, .. } = shown;
+    Words::Shown { text, status }
 }
 
-// A fault that is told in these words.
+// A usage error in these words.
 fn fault(alloc: Global, what: &str) -> Result<Words, NoMemory>
     ensures { IfOk result (λ r. wanted_of r ≡ shown_status 2) }
 {
-    let text = format!(in alloc; "error: {what}\n\nFor more information, try '--help'.\n")?;
-    Ok(Words::Shown { text, status: 2 })
-}
-
-// What is shown for an error of the parse. Running out of memory is no fault of the words: it is an `Err`.
-fn shown(alloc: Global, error: &Error) -> Result<Words, NoMemory>
-    ensures { IfOk result (λ r. shown_for_kind (kind_of error.now) ≡ Some (wanted_of r)) }
-{
-    if error.kind() == ErrorKind::OutOfMemory {
-        return Err(NoMemory);
-    }
-    let status = if error.use_stderr() { 2 } else { 0 };
-    let text = error.to_string(alloc)?;
-    Ok(Words::Shown { text, status })
+    let shown = usage_error(alloc, what)?;
+    Ok(instead(shown))
 }

@@ -1,4 +1,4 @@
-//! Lists that the server gives. Tests: feed_tests, tools/feed_use.py.
+//! Lists that the server gives. Tests: feed_tests, tools/try/feed.
 
 use crate::root::{Root, hand_over};
 use crate::server::Server;

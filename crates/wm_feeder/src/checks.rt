@@ -1,4 +1,4 @@
-//! Looks for folders that inotifywait doesn't watch, and for names that stand for no folder. Tests: feed_tests, tools/feed_use.py.
+//! Looks for folders that inotifywait doesn't watch, and for names that stand for no folder. Tests: feed_tests, tools/try/feed.
 
 use crate::feed::{Feed, IDLE, Turn};
 use crate::root::Root;

@@ -1,5 +1,5 @@
 //! Crawls, also around folders that the server can't read: what stands beside them is sent, and they are reported to the user, once.
-//! Tests: feed_tests, tools/feed_use.py.
+//! Tests: feed_tests, tools/try/feed.
 
 use crate::asking::ALL;
 use crate::root::{Root, stop_of};

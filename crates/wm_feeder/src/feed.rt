@@ -1,4 +1,4 @@
-//! The feed of a root under one watch: its records until a doubt. Tests: feed_tests, tools/feed_use.py.
+//! The feed of a root under one watch: its records until a doubt. Tests: feed_tests, tools/try/feed.
 
 use crate::gathering::Gathering;
 use crate::ready::UNREADY;

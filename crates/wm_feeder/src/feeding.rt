@@ -1,4 +1,4 @@
-//! A feed of one root, and one of all roots. Tests: feed_tests, tools/feed_use.py.
+//! A feed of one root, and one of all roots. Tests: feed_tests, tools/try/feed.
 
 use crate::asking::watched_roots;
 use crate::feeds::Feeds;

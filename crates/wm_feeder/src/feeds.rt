@@ -1,4 +1,4 @@
-//! The feeds of roots by one session with the server and one stream of records. Tests: feed_tests, tools/feed_use.py.
+//! The feeds of roots by one session with the server and one stream of records. Tests: feed_tests, tools/try/feed.
 
 use crate::feed::Turn;
 use crate::root::{Root, is_for_now};

@@ -1,5 +1,5 @@
 //! Which of the folders that are to be checked inotifywait doesn't watch, by the system's list of its watches.
-//! Tests: feed_tests, tools/feed_use.py.
+//! Tests: feed_tests, tools/try/feed.
 
 use crate::asking::FOLDERS;
 use crate::root::Root;

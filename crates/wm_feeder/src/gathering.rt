@@ -1,5 +1,5 @@
 //! What the records of a watch ask for together, at each place that the name of a folder may stand for.
-//! Tests: feed_tests, tools/feed_use.py.
+//! Tests: feed_tests, tools/try/feed.
 
 use std::alloc::Global;
 use wm_client::Stop;

@@ -1,4 +1,4 @@
-//! A feed by inotifywait, as `wmfeed` asks for one: the system that it runs on. Tests: tools/feed_use.py.
+//! A feed by inotifywait, as `wmfeed` asks for one: the system that it runs on. Tests: tools/try/feed.
 ghost use Rattle.std.specs.Prelude.{⊤};
 
 use crate::feeding::{Order, feed_by};

@@ -1,7 +1,7 @@
 //! inotifywait as a program of the system: its start, and the bytes that it writes.
 //! All inotifywaits of a feed write their records to one socket, since a socket can be read for so long and no longer; each has
 //! another one for what it says beside them. A record is one write, unless its path is longer than a view holds.
-//! Tests: tools/feed_use.py.
+//! Tests: tools/try/feed.
 
 use crate::system::{Records, Watcher};
 use std::alloc::Global;

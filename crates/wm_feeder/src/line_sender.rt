@@ -1,5 +1,5 @@
 //! The socket of a session as requests are written to it: each line by one call, so that the server wakes once for it.
-//! Tests: tools/feed_use.py.
+//! Tests: tools/try/feed.
 
 use std::alloc::Global;
 use std::io;

@@ -1,4 +1,4 @@
-//! What stands at paths of a folder now, as a crawl would report it. Tests: feed_tests, tools/feed_use.py.
+//! What stands at paths of a folder now, as a crawl would report it. Tests: feed_tests, tools/try/feed.
 
 use std::alloc::Global;
 use wm_client::Stop;

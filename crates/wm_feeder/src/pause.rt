@@ -1,4 +1,4 @@
-//! How long a root rests whose crawl was refused. Definitions: specs/Pauses.antt. Tests: feed_tests, tools/feed_use.py.
+//! How long a root rests whose crawl was refused. Definitions: specs/Pauses.antt. Tests: feed_tests, tools/try/feed.
 ghost use Rattle.std.specs.Prelude.{◌≡◌};
 ghost use Rattle.wm_feeder.specs.Pauses.{next_pause as next_pause_lem};
 

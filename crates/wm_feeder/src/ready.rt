@@ -1,4 +1,4 @@
-//! Whether the server knows a root, and what is done if it can't crawl it. Tests: feed_tests, tools/feed_use.py.
+//! Whether the server knows a root, and what is done if it can't crawl it. Tests: feed_tests, tools/try/feed.
 
 use crate::asking::quoted;
 use crate::root::{Root, hand_over, is_for_now};

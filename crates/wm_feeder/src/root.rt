@@ -1,9 +1,9 @@
 //! A watched root as a feed knows it, and what a feed asks the server of it. Definitions: specs/ForNow.antt.
-//! Tests: feed_tests, tools/feed_use.py.
+//! Tests: feed_tests, tools/try/feed.
 ghost use Rattle.std.specs.Prelude.{◌≡◌, true, false, Err, IfOk};
 ghost use Rattle.wm_disk.specs.declared.refusal.Refusal.{Refusal};
 ghost use Rattle.wm_client.specs.RefusalLines.{is_refused_by};
-ghost use Rattle.wm_client.specs.Talks.{is_refusal_line};
+ghost use Rattle.wm_protocol.specs.Protocol.{is_refusal_line};
 ghost use Rattle.wm_feeder.specs.ForNow.{is_for_now as is_for_now_lem};
 
 use crate::pause::next_pause;
@@ -16,8 +16,8 @@ use std::collections::BTreeSet;
 use wm_client::Stop;
 use wm_disk::Refusal;
 use wm_feed::observe_line;
-use wm_lines::MAX_LINE;
 use wm_names::{Meta, RelPath, RootPath, Subtree};
+use wm_protocol::MAX_LINE;
 
 /// The most pairs of a line, and of one in place of a line that was too long: a pair has at most some 6,300
 /// bytes, by a path of 1,024 bytes of which each takes six.

@@ -1,4 +1,4 @@
-//! The feed of one root: one watch after the other. Tests: feed_tests, tools/feed_use.py.
+//! The feed of one root: one watch after the other. Tests: feed_tests, tools/try/feed.
 
 use crate::feed::{Feed, Turn};
 use crate::root::Root;

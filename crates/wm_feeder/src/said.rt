@@ -1,4 +1,4 @@
-//! What a feed reported to its user: each line once. Tests: feed_tests, tools/feed_use.py.
+//! What a feed reported to its user: each line once. Tests: feed_tests, tools/try/feed.
 
 use crate::system::System;
 use std::alloc::Global;

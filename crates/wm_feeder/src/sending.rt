@@ -1,4 +1,4 @@
-//! A batch sent to the server, in the order of its steps. Tests: feed_tests, tools/feed_use.py.
+//! A batch sent to the server, in the order of its steps. Tests: feed_tests, tools/try/feed.
 
 use crate::asking::{clock_of, quoted};
 use crate::looking::Looking;

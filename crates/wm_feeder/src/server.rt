@@ -1,10 +1,10 @@
 //! A session with the server, one request at a time. Definitions: specs/RefusalLines of wm_client.
-//! Tests: feed_tests, tools/feed_use.py.
+//! Tests: feed_tests, tools/try/feed.
 ghost use Rattle.std.specs.Prelude.{◌≡◌, ◌≢◌, ◌⊎◌, true, false, None, Ok, IfErr, IfOk};
 ghost use Rattle.wm_disk.specs.declared.refusal.Refusal.{Refusal};
 ghost use Rattle.wm_disk.specs.declared.refusal.Refusal.TheVariants as refusals;
 ghost use Rattle.wm_client.specs.RefusalLines.{IsRefusalOf, is_refused_by};
-ghost use Rattle.wm_client.specs.Talks.{is_refusal_line};
+ghost use Rattle.wm_protocol.specs.Protocol.{is_refusal_line};
 
 use crate::system::System;
 use std::alloc::Global;

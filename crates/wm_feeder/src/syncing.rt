@@ -1,5 +1,5 @@
 //! Syncs: a client makes a file in the folder of a root's syncs, and the feed removes it once what happened in the root before is with
-//! the server. Tests: feed_tests, tools/feed_use.py.
+//! the server. Tests: feed_tests, tools/try/feed.
 
 use crate::feed::Feed;
 use crate::root::Root;

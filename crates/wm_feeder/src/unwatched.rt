@@ -1,4 +1,4 @@
-//! Folders that inotifywait missed, which further inotifywaits watch. Tests: feed_tests, tools/feed_use.py.
+//! Folders that inotifywait missed, which further inotifywaits watch. Tests: feed_tests, tools/try/feed.
 
 use crate::feed::{Feed, Turn, start_watch};
 use crate::root::Root;

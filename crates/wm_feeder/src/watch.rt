@@ -1,4 +1,4 @@
-//! One inotifywait as a feed sees it: its number, and what it says beside its records. Tests: feed_tests, tools/feed_use.py.
+//! One inotifywait as a feed sees it: its number, and what it says beside its records. Tests: feed_tests, tools/try/feed.
 
 use crate::root::Root;
 use crate::system::{System, Watcher};

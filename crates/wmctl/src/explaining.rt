@@ -1,4 +1,4 @@
-//! The further line that explains a failure, or an answer that misleads, on a terminal. Tests: tools/quick_messages.py.
+//! The further line that explains a failure, or an answer that misleads, on a terminal. Tests: tools/try/messages.py.
 
 use crate::programs::missing_program_line;
 use std::alloc::Global;

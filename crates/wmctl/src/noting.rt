@@ -1,4 +1,4 @@
-//! Writers that note what they were given. Tests: tools/quick_messages.py.
+//! Writers that note what they were given. Tests: tools/try/messages.py.
 
 use crate::explaining::answer_text;
 use crate::waiting::Answered;

@@ -1,4 +1,4 @@
-//! The line of a trigger whose program isn't found. Tests: tools/quick_messages.py.
+//! The line of a trigger whose program isn't found. Tests: tools/try/messages.py.
 
 use std::alloc::Global;
 use std::env::VarError;

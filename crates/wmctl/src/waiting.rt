@@ -1,4 +1,4 @@
-//! A line which says that an answer is waited for, if none comes for some seconds. Tests: tools/quick_messages.py.
+//! A line which says that an answer is waited for, if none comes for some seconds. Tests: tools/try/messages.py.
 
 use std::alloc::{AllocError, Global};
 use std::sync::Arc;

@@ -1,4 +1,4 @@
-//! The further line that explains a failure, or what is waited for, on a terminal. Tests: tools/quick_messages.py.
+//! The further line that explains a failure, or what is waited for, on a terminal. Tests: tools/try/messages.py.
 
 use std::alloc::Global;
 use std::fs::{File, Files};

@@ -1,4 +1,4 @@
-//! A writer of faults that notes the cause that is reported. Tests: tools/quick_messages.py.
+//! A writer of faults that notes the cause that is reported. Tests: tools/try/messages.py.
 
 use std::io;
 use std::io::Write;

@@ -1,5 +1,4 @@
-use Rattle.std.proofs.Common.{◌∙◌, rules, subst}
-use Rattle.wm_client.specs.Asks.{TellsRoot}
+use Rattle.std.proofs.Common.{◌∙◌, rules}
 use Rattle.wm_client.proofs.Asking.{asks_root}
 use Rattle.wm_client.proofs.syncing.ask_once.Goals as goal
 

@@ -1,9 +1,9 @@
-use Rattle.std.proofs.Common.{◌≡◌, ◌∙◌, ◌++◌, ◌*◌, ℕ, false, true, List, Option, Some, ap, codes, option_map, refl, rules, subst}
-use Rattle.std.specs.Io.BufRead.{drop_through, take_through}
+use Rattle.std.proofs.Common.{◌≡◌, ◌∙◌, ◌++◌, ap, codes, option_map, refl, rules, subst}
+use Rattle.std.specs.Io.BufRead.{drop_through}
 use Rattle.std.specs.String.{string_bytes}
 use Rattle.wm_client.specs.Asks.{Asks, AsksWhole}
 use Rattle.wm_client.specs.ClientWords.{sync_wanted_of}
-use Rattle.wm_client.specs.Syncs.{IsAfterWaits, SendsStarts, clock_request, sync_folder}
+use Rattle.wm_client.specs.Syncs.{SendsStarts, clock_request, sync_folder}
 use Rattle.wm_client.specs.Talks.{Prints, PrintsReply}
 use Rattle.wm_client.specs.Waits.{GaveUpIn, GoneIn, HasPassed}
 use Rattle.wm_client.specs.declared.syncing.Asked.TheVariants.{Ended}

@@ -1,4 +1,4 @@
-use Rattle.std.proofs.Common.{◌++◌, ◌∷◌, [], rules, subst}
+use Rattle.std.proofs.Common.{◌∷◌, [], rules, subst}
 use Rattle.wm_client.specs.Talks.{AppendsStart}
 use Rattle.wm_client.proofs.Sending.{start_first, start_second}
 use Rattle.wm_client.proofs.talking.send.Goals as goal

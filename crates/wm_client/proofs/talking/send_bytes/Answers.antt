@@ -1,7 +1,7 @@
 use Rattle.std.proofs.Common.{◌∙◌, ◌≡◌, ◌≤◌, ◌+◌, ◌-◌, ℕ, IfOk, ap, arith, length, rules, subst, sym, take-add}
 use Rattle.std.proofs.lemmas.List.{length-drop}
 use Rattle.std.specs.Io.KnownBytes.{Appends, WriteAppends}
-use Rattle.std.specs.Prelude.{take, drop}
+use Rattle.std.specs.Prelude.{take}
 use Rattle.wm_client.proofs.Sending.{all_taken, kept_grown, more_sent, none_grown, start_taken}
 use Rattle.wm_client.proofs.talking.send_bytes.Goals as goal
 use Rattle.wm_client.proofs.talking.send_bytes.Goals.{in-Ok, in-Err}

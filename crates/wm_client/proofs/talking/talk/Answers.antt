@@ -1,6 +1,6 @@
 use Rattle.std.proofs.Common.{◌≡◌, ◌∙◌, List, ℕ, Some, ap, sym, subst, rules}
 use Rattle.std.specs.Io.KnownBytes.{Appends}
-use Rattle.wm_client.specs.Talks.{is_refusal_line}
+use Rattle.wm_protocol.specs.Protocol.{is_refusal_line}
 use Rattle.wm_client.proofs.Printing.{one_line}
 use Rattle.wm_client.proofs.Telling.{BeginsPlain, begins_plain, then_more, then_short, then_whole}
 use Rattle.wm_client.proofs.talking.talk.Given.{Over}

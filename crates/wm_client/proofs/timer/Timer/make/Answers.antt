@@ -1,4 +1,4 @@
-use Rattle.std.proofs.Common.{rules, subst, MatchOption}
+use Rattle.std.proofs.Common.{rules, subst}
 use Rattle.wm_client.proofs.Passing.{passed_there}
 use Rattle.wm_client.proofs.timer.Timer.make.Goals as goal
 
