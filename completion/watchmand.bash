@@ -1,4 +1,4 @@
-# Completion for watchmand, wm, wmctl and wmfeed in bash. Tests: tools/completion.sh
+# Completion for watchmand, wm, wmctl and wmfeed in bash. Tests: completion/check.sh
 
 # The commands of a server that wmctl completes, without those that a feeder sends.
 _wmctl_requests='version watch watch-del watch-list clock since query recrawl subscribe unsubscribe trigger trigger-del trigger-list age-out'
