@@ -1,7 +1,8 @@
-// So many clients of a Unix socket send the lines of standard input in turn, again and again, each waiting for its reply, for so
-// many milliseconds; a # in a line stands for the client's number in two digits. Prints how many replies they were given in all,
-// without each one's first. Status 1 where a socket failed, or a reply is a refusal or doesn't begin as is asked for its line.
-// Usage: ask SOCKET CLIENTS MILLISECONDS [BEGINNING..], with the lines on standard input; a BEGINNING for each line, or none at all.
+// So many clients of a Unix socket send the lines of standard input in turn, again and again, for so many milliseconds. Each
+// waits for a reply before it sends the next line; a # in a line stands for the client's number in two digits. It prints how
+// many replies all clients got, without the first of each. The status is 1 if a socket failed, or if a reply is a refusal or
+// doesn't begin with the text that is given for its line.
+// usage: ask SOCKET CLIENTS MILLISECONDS [BEGINNING..]: a BEGINNING for each line, or none at all
 #include <pthread.h>
 #include <signal.h>
 #include <stdio.h>
@@ -16,7 +17,7 @@ enum { TEXT = 1 << 16, ROOM = 1 << 20, CLIENTS = 64 };
 
 static char text[TEXT];
 static size_t text_size;
-static char **beginnings;  // of the replies to the lines, up to a null
+static char **beginnings;  // of the replies to the lines, and a null
 static const char *path;
 static long milliseconds;
 static pthread_barrier_t ready;
@@ -25,7 +26,7 @@ struct client {
     long number, count;
     int has_failed, fd;
     char lines[2 * TEXT];  // the text, with the client's number
-    size_t size, at, next; // how long that is, where the line begins whose turn it is, and where the one behind it
+    size_t size, at, next; // its length, and where the present line and the next one begin
     size_t line;           // the number of that line
     char reply[ROOM];
 };
@@ -38,11 +39,11 @@ static double now(void) {
 
 static int begins(const char *reply, const char *with) { return strncmp(reply, with, strlen(with)) == 0; }
 
-// Sends the next line and reads its whole reply, of which the beginning is kept; 0 where the socket failed.
+// Sends the next line and reads its whole reply, of which the beginning is kept; 0 if the socket failed.
 static int ask(struct client *it) {
     const char *line = it->lines + it->at, *end = memchr(line, '\n', it->size - it->at);
     it->next = end ? (size_t)(end + 1 - it->lines) : it->size;
-    (void)!write(it->fd, line, it->next - it->at);  // who has no room for us may have answered and left before
+    (void)!write(it->fd, line, it->next - it->at);  // a server with too many sessions may have replied and closed already
     for (size_t have = 0;;) {
         if (have == ROOM) have = ROOM / 2;
         ssize_t n = read(it->fd, it->reply + have, ROOM - have);
@@ -52,7 +53,7 @@ static int ask(struct client *it) {
     }
 }
 
-// Whether the last reply is what was wanted; then the next line's turn comes.
+// Whether the last reply is as wanted; then the next line is the present one.
 static int is_answered(struct client *it) {
     const char *wanted = beginnings[0] ? beginnings[it->line] : "";
     if (begins(it->reply, "{\"error\"") || !begins(it->reply, wanted)) return 0;
@@ -62,7 +63,7 @@ static int is_answered(struct client *it) {
     return 1;
 }
 
-// Connects and asks once. A server that has too many sessions is tried again for a second, since some may have ended just now.
+// Connects and asks once. A server with too many sessions is tried again for a second, since some may just have ended.
 static int connect_and_ask(struct client *it) {
     struct sockaddr_un address = {.sun_family = AF_UNIX};
     strncpy(address.sun_path, path, sizeof address.sun_path - 1);

@@ -1,11 +1,28 @@
-"""What the benches share: a process of `watchmand lines`, asked a line at a time, and what ends a bench that was answered wrongly."""
-import contextlib, json, os, subprocess, sys, tempfile, time
+"""Shared by the benches: a client of a socket, a process of `watchmand lines`, and the end of a bench that got a
+wrong answer. It also puts tools/lib on the path."""
+import contextlib, json, os, pathlib, subprocess, sys, tempfile, time
+
+sys.dont_write_bytecode = True
+sys.path.insert(0, str(pathlib.Path(__file__).resolve().parent.parent / "tools/lib"))
+from server import Client
 
 
 def ensure(holds, what):
-    """Ends the bench with status 1 where it doesn't hold."""
+    """Ends the bench with status 1 if it doesn't hold."""
     if not holds:
         sys.exit(f"no figure: {what}"[:500])
+
+
+class Asker(Client):
+    """A client that reads long replies in large parts."""
+
+    def __init__(self, path):
+        super().__init__(path, 600)
+        self.lines.close()
+        self.lines = self.socket.makefile("rb", 1 << 20)
+
+    def asked(self, *request):
+        return self.reply(request)
 
 
 class Lines:
@@ -13,7 +30,8 @@ class Lines:
 
     def __init__(self, program, folder):
         subprocess.run([program, "format", f"{folder}/state"], check=True, stdout=subprocess.DEVNULL)
-        self.process = subprocess.Popen([program, "lines", f"{folder}/state"], stdin=subprocess.PIPE, stdout=subprocess.PIPE, bufsize=0)
+        pipes = {"stdin": subprocess.PIPE, "stdout": subprocess.PIPE}
+        self.process = subprocess.Popen([program, "lines", f"{folder}/state"], bufsize=0, **pipes)
         self.moment = 0
 
     def send(self, text):
@@ -37,19 +55,19 @@ class Lines:
         return self.timed(*request)[1]
 
     def memory(self, field):
-        """What the system tells of the process's memory (VmRSS, VmHWM), in bytes."""
+        """The process's memory by /proc/PID/status (VmRSS, VmHWM), in bytes."""
         with open(f"/proc/{self.process.pid}/status") as told:
             return next(1024 * int(line.split()[1]) for line in told if line.startswith(field))
 
     def waited(self):
-        """The seconds for which the process was ready to run and had no processor: on a quiet machine next to none."""
+        """The seconds for which the process was ready to run and had no processor: on a quiet machine almost none."""
         with open(f"/proc/{self.process.pid}/schedstat") as told:
             return int(told.read().split()[1]) / 1e9
 
 
 @contextlib.contextmanager
 def lines(program):
-    """Such a process in a folder of its own; both go at the end."""
+    """Such a process over a folder of its own."""
     with tempfile.TemporaryDirectory(prefix="watchmand-") as folder:
         it = Lines(program, folder)
         try:

@@ -1,24 +1,24 @@
 #!/usr/bin/env python3
-"""Accepted commands a second: commands.py PROGRAM ASK [COMMANDS]
+"""Accepted commands a second: commands.py WATCHMAND ASK [COMMANDS]
 
-A trigger of a watched root is set and taken away in turn, each durable before its reply: COMMANDS (default 400) one after another
-through `watchmand lines`, beside the same writes and syncs from here; and from 1, 8 and 31 clients of a server, by the program of
-ask.c, each with a trigger of its own. Beside both SQLite (synchronous=FULL), one insert or delete a transaction, from as many threads.
-Two seconds each where COMMANDS doesn't say how many, medians of five rounds. The files lie where TMPDIR says."""
-import contextlib, json, os, pathlib, sqlite3, statistics, subprocess, sys, tempfile, threading, time
+A trigger of a watched root is set and deleted in turn; each command is durable before its reply. COMMANDS of them
+(400) are sent one after another through `watchmand lines`, and the same writes and syncs are made from here. Then
+1, 8 and 31 clients of a server send such commands for two seconds (the program of ask.c), each for a trigger of
+its own. SQLite (synchronous=FULL) makes one insert or delete a transaction, from as many threads. Medians of five
+rounds. The files are in the folder of TMPDIR."""
+import contextlib, json, os, sqlite3, statistics, subprocess, sys, tempfile, threading, time
 from concurrent.futures import ThreadPoolExecutor
-from asked import ensure, lines
-sys.path.insert(0, str(pathlib.Path(__file__).resolve().parent.parent / "tools"))
-from served import Session, serving
+from asked import Client, ensure, lines
+from server import serving
 
 ROUNDS, SECONDS, CLIENTS = 5, 2, (1, 8, 31)
 NAME, WORD, ROOT = "t00", "true", "/r"
 SET, GONE = '{"disposition":"created",', '{"deleted":true,'  # how the replies begin
-STATE, JOURNAL, JOURNAL_END = 8916992, 4198400, 4460544  # a state file's bytes, and where its first journal lies (docs/FORMATS.md)
+STATE, JOURNAL, JOURNAL_END = 8916992, 4198400, 4460544  # the bytes of a state file, and its first journal (docs/FORMATS.md)
 
 
 def requests(root, name):
-    """A trigger is set, and taken away."""
+    """A trigger is set, and deleted."""
     return [json.dumps(["trigger", root, {"name": name, "command": [WORD]}]), json.dumps(["trigger-del", root, name])]
 
 
@@ -41,7 +41,8 @@ def by_lines(program, commands):
 
 
 def by_hand(commands):
-    """The writes and syncs of these commands: a record and a closed gate behind the last gate, a sync, that gate opened, a sync."""
+    """The writes and syncs of these commands: a record and a closed gate behind the last gate, a sync, that gate
+    opened, a sync."""
     text = lambda it: len(it).to_bytes(4, "big") + it.encode()
     set_it = b"\3" + text(ROOT) + text(NAME) + (1).to_bytes(4, "big") + text(WORD) + b"\0\0\0\0"
     records = [set_it + b"\0", b"\4" + text(ROOT) + text(NAME) + b"\0"]
@@ -80,7 +81,7 @@ def insert_and_delete(name, number, end, turn):
 
 
 def by_sqlite(mode, threads, turn):
-    """From so many threads. They wait for their turn at the lock, or as SQLite lets them wait."""
+    """From these threads. They wait at the lock for their turn, or as SQLite lets them wait."""
     with tempfile.TemporaryDirectory() as folder:
         name = f"{folder}/base"
         base = sqlite3.connect(name)
@@ -94,16 +95,15 @@ def by_sqlite(mode, threads, turn):
 
 
 def by_server(program, ask, clients):
-    """From so many clients of a new server, each with a trigger of its own, on a root in which nothing is."""
+    """From these clients of a new server, each with a trigger of its own, over an empty root."""
     with tempfile.TemporaryDirectory() as folder, serving(program, folder) as path:
         root = f"{folder}/root"
         os.mkdir(root)
-        session = Session(path)
-        session.socket.sendall(json.dumps(["watch", root]).encode() + b"\n")
-        ensure(json.loads(session.lines.readline()).get("watch") == root, "the watch was refused")
-        session.close()
+        with Client(path) as client:
+            ensure(client.reply(["watch", root]).get("watch") == root, "the watch was refused")
         text = "".join(line + "\n" for line in requests(root, "t#"))
-        asked = subprocess.run([ask, path, str(clients), str(1000 * SECONDS), SET, GONE], input=text, capture_output=True, text=True)
+        words = [ask, path, str(clients), str(1000 * SECONDS), SET, GONE]
+        asked = subprocess.run(words, input=text, capture_output=True, text=True)
         ensure(asked.returncode == 0, f"ask ended with status {asked.returncode}: {asked.stderr}")
         return int(asked.stdout) / SECONDS
 
@@ -135,7 +135,7 @@ def main():
         tell(f"{clients} at once", {
             "`watchmand serve`": lambda: by_server(program, ask, clients),
             "SQLite, WAL, in turn by a lock": lambda: by_sqlite("wal", clients, threading.Lock()),
-            "SQLite, WAL, as itself lets them wait": lambda: by_sqlite("wal", clients, free),
+            "SQLite, WAL, as it lets them wait": lambda: by_sqlite("wal", clients, free),
         })
 
 

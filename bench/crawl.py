@@ -1,16 +1,13 @@
 #!/usr/bin/env python3
-"""How long a server takes from `watch` to its first answer, by 1, 2 and 4 workers, beside `find -printf` on the same tree:
-crawl.py PROGRAM [ROUNDS] [MODULES]
+"""The time of a server from `watch` to its first answer, by 1, 2 and 4 workers, beside `find -printf` on the same tree: crawl.py
+WATCHMAND [ROUNDS] [MODULES]
 
-The trees have 20,000 and 100,000 entries, or MODULES modules of 19 folders with 51 files each. Each round runs find and a new server
-for each number of workers in turn; the least of the rounds is told, with the most memory that a server took."""
-import os
-import subprocess
-import sys
-import tempfile
-import time
-
-from peer import Client, Watchmand, of_process
+The trees have 20,000 and 100,000 entries, or MODULES modules of 19 folders with 51 files each. Each round runs
+find and a new server for each number of workers in turn. The shortest time of the rounds is printed, and the most
+memory that a server took."""
+import os, subprocess, sys, tempfile, time
+from asked import Asker
+from peer import Watchmand, of_process
 
 WORKERS = (1, 2, 4)
 FIND = ["-printf", "%p %s %T@ %y\\n"]
@@ -32,23 +29,18 @@ def milliseconds(call):
 
 
 def first_answer(client, root):
-    client.ask("watch", root)
-    while client.ask("clock", root).get("error", "").startswith("6 "):
+    client.asked("watch", root)
+    while client.asked("clock", root).get("error", "").startswith("6 "):
         time.sleep(0.0002)
 
 
 def crawled(program, root, workers):
-    """The milliseconds, the entries that the server lists then, and the megabytes that it took at most."""
-    with tempfile.TemporaryDirectory() as folder:
-        server = Watchmand(program, folder, "--workers", str(workers))
-        try:
-            client = Client(server.path)
-            took = milliseconds(lambda: first_answer(client, root))
-            memory = of_process(server.process, "VmHWM")
-            return took, len(client.ask("query", root, {"fields": ["type"]})["files"]), memory
-        finally:
-            server.process.kill()
-            server.process.wait()
+    """The milliseconds, the entries that the server then lists, and the megabytes that it took at most."""
+    with tempfile.TemporaryDirectory() as folder, Watchmand(program, folder, "--workers", str(workers)) as server:
+        client = Asker(server.path)
+        took = milliseconds(lambda: first_answer(client, root))
+        memory = of_process(server.process, "VmHWM")
+        return took, len(client.asked("query", root, {"fields": ["type"]})["files"]), memory
 
 
 def measure(program, root, rounds):
@@ -61,8 +53,10 @@ def measure(program, root, rounds):
             assert listed == entries, f"{listed} of {entries} entries"
             took[workers].append(one)
             memory = max(memory, most)
-    told = [f"{workers} workers {min(took[workers]):.1f} ms ({min(found) / min(took[workers]):.2f} times as fast)" for workers in WORKERS]
-    print(f"{entries} entries, load {os.getloadavg()[0]:.2f}: find {min(found):.1f} ms; {'; '.join(told)}; at most {memory:.0f} MB", flush=True)
+    least = {workers: min(took[workers]) for workers in WORKERS}
+    each = [f"{workers} workers {ms:.1f} ms ({min(found) / ms:.2f} times as fast)" for workers, ms in least.items()]
+    print(f"{entries} entries, load {os.getloadavg()[0]:.2f}: find {min(found):.1f} ms; {'; '.join(each)}", end="; ")
+    print(f"at most {memory:.0f} MB", flush=True)
 
 
 def main(program, rounds="10", modules=None):

@@ -1,14 +1,14 @@
 #!/usr/bin/env python3
 """A server with its feed beside Watchman: feed.py WATCHMAND WMFEED [--sizes 1000,100000] [--runs 1] [--syncs 1000] [--json FILE]
 
-Both watch a tree of their own of so many files, ten to a folder, at the same time; what a row says is done to the one and then to the other. Each
-figure is printed as ours, theirs and the ratio ours / theirs, medians of the runs. Processor time and memory are those of server, feed and
-inotifywait together beside Watchman's. While processor time is taken nobody asks. With --json the figures of each run stand in FILE too, with the
-machine, the date and its load. bench/peer.sh installs Watchman and runs this, by --feed-alone."""
+Both watch a tree of their own with so many files, ten to a folder, at the same time. Each row's change is made in
+the one tree and then in the other. Each figure is printed as ours, theirs and the ratio ours / theirs, by medians
+of the runs. Processor time and memory are those of server, feed and inotifywait together, beside those of
+Watchman; nobody asks while processor time is taken. With --json FILE gets the figures of each run, with the
+machine, the date and its load. bench/peer.sh installs Watchman, and runs this for --feed-only."""
 import argparse, json, os, statistics, subprocess, sys, tempfile, time
-
-sys.dont_write_bytecode = True
-from peer import Client, Watchman, Watchmand, machine, show, timed
+import asked
+from peer import Watchman, Watchmand, machine, show, timed
 
 TICK = 1000 / os.sysconf("SC_CLK_TCK")
 FRESH = {"fields": ["name"], "sync_timeout": 0}
@@ -39,59 +39,55 @@ class Fed(Watchmand):
         self.program, self.of_root, self.feed = feed, of_root, None
 
     def watch(self, client, root):
-        client.ask("watch", root)
+        client.asked("watch", root)
         self.feed = subprocess.Popen([self.program, self.path, *([root] if self.of_root else [])])
-        await_it(lambda: "files" in client.ask("query", root, FRESH))
+        await_it(lambda: "files" in client.asked("query", root, FRESH))
 
     def processes(self):
         with open(f"/proc/{self.feed.pid}/task/{self.feed.pid}/children") as text:
             return [self.process.pid, self.feed.pid, *map(int, text.read().split())]
 
     def synced(self, client, root, number, query):
-        """A question about now: a file of the feed's folder has to go first."""
+        """A question about now: the feed must first delete a file of its sync folder."""
         mark = f"{self.path}.sync/{client.clock(root).split(':')[2]}/{number}"
         os.close(os.open(mark, os.O_CREAT | os.O_WRONLY, 0o600))
         end = time.monotonic() + 10
         while os.path.lexists(mark):
             assert time.monotonic() < end, "the feed removes no mark"
             time.sleep(0.00005)
-        return client.ask("query", root, query)
+        return client.asked("query", root, query)
 
     def can_sync(self):
         return os.path.isdir(self.path + ".sync")
 
     def end(self):
-        for process in (self.feed, self.process):
-            if process:
-                process.kill()
-                process.wait()
+        if self.feed:
+            self.feed.kill()
+            self.feed.wait()
+        super().end()
 
 
 class Peer(Watchman):
     def watch(self, client, root):
-        client.ask("watch", root)
+        client.asked("watch", root)
 
     def processes(self):
         return [self.process.pid]
 
     def synced(self, client, root, number, query):
         """A question about now: Watchman's cookie."""
-        return client.ask("query", root, {**query, "sync_timeout": 10000})
+        return client.asked("query", root, {**query, "sync_timeout": 10000})
 
     def can_sync(self):
         return True
 
-    def end(self):
-        self.process.kill()
-        self.process.wait()
 
-
-class Asker(Client):
+class Asker(asked.Asker):
     def clock(self, root):
-        return self.ask("clock", root)["clock"]
+        return self.asked("clock", root)["clock"]
 
     def changed(self, root, since, expression):
-        return self.ask("query", root, {**FRESH, "since": since, "expression": expression}).get("files", [])
+        return self.asked("query", root, {**FRESH, "since": since, "expression": expression}).get("files", [])
 
 
 def await_it(look, pause=0.001, seconds=120):
@@ -102,7 +98,7 @@ def await_it(look, pause=0.001, seconds=120):
 
 
 class Site:
-    """A server with a root of its own, and what is done there."""
+    """A server with a root of its own, and the changes made there."""
 
     def __init__(self, server, folder, size):
         self.server, self.root, self.size = server, f"{folder}/{server.name}", size
@@ -110,11 +106,11 @@ class Site:
         self.folders = make_tree(self.root, size)
         self.client = Asker(server.path)
         server.watch(self.client, self.root)
-        self.told("ready")
+        self.await_file("ready")
         self.made = 0
 
-    def told(self, name):
-        """Waits until a file that is made is known."""
+    def await_file(self, name):
+        """Waits until the server knows a new file."""
         since = self.client.clock(self.root)
         def look():
             with open(f"{self.root}/{name}", "a") as file:
@@ -164,14 +160,14 @@ def memory_when_ready(site, note):
 def saved_files(site, note):
     """A saved file until a subscriber's line names it."""
     client, times = Asker(site.server.path), []
-    client.ask("subscribe", site.root, "s", {"fields": ["name"]})
-    client.lines.readline()
+    client.asked("subscribe", site.root, "s", {"fields": ["name"]})
+    client.line()
     for n in range(200):
         name = f"{site.folders[n % len(site.folders)]}/saved"
         began = time.perf_counter()
         with open(f"{site.root}/{name}", "a") as file:
             file.write("x")
-        while name not in json.loads(client.lines.readline()).get("files", []):
+        while name not in client.next().get("files", []):
             pass
         times.append(1000 * (time.perf_counter() - began))
         time.sleep(0.03)
@@ -271,7 +267,8 @@ def grown(site):
 
 def grown_is_known(site, since):
     """The last of each folder first, since that is a short answer."""
-    return len(site.client.changed(site.root, since, ["name", "f99"])) == 200 and len(site.client.changed(site.root, since, ["type", "f"])) == 20000
+    return len(site.client.changed(site.root, since, ["name", "f99"])) == 200 and len(site.client.changed(site.root, since,
+        ["type", "f"])) == 20000
 
 
 def many_files(site, note):
@@ -294,7 +291,8 @@ def many_files(site, note):
 
 def measure(chosen, size, rows):
     """One run: both on a new tree each, row by row."""
-    steps = [memory_when_ready, saved_files, touched_files, lambda site, note: synced_questions(site, note, chosen.syncs), new_folders, moved_folders, many_files]
+    steps = [memory_when_ready, saved_files, touched_files, lambda site, note: synced_questions(site, note, chosen.syncs),
+             new_folders, moved_folders, many_files]
     with tempfile.TemporaryDirectory(prefix="feed-", dir=os.environ.get("PEER_FOLDER")) as folder:
         servers = [Fed(chosen.program, folder, chosen.feed, chosen.of_root)]
         try:

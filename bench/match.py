@@ -1,22 +1,24 @@
 #!/usr/bin/env python3
-"""How long `match` takes for patterns that are hard to refuse: match.py PROGRAM
+"""The time of `match` for patterns that are hard to refuse: match.py WATCHMAND
 
-Each pattern ends with a b, which its paths lack, so that no run of any star makes it fit. For each shape and length a root of
-`watchmand lines` has 200 files of that length, and a query by the pattern is timed, less one by a name that no file has: a table of
-microseconds for one file, by medians of 21 of each. Neither lists a file; but the pattern has to fit a path that does end with a b."""
+Each pattern ends with a b, which its paths lack: so no choice for any star makes it fit. For each shape and length
+a root of `watchmand lines` has 200 files of that length. A query by the pattern is timed, less one by a name that
+no file has: a table of microseconds for one file, by medians of 21 of each. Neither lists a file; but the pattern
+must fit a path that does end with a b."""
 import statistics, sys
 from asked import ensure, lines
 
 FILES, ROUNDS = 200, 21
-# What it is called, what a pattern begins with, what follows as often as there is room, what parts the letters of a path, and its
-# scope. Each path lies in a folder of its own, so that there can be 200: the first two look at what stands behind that alone.
+# The name of a shape, the beginning of its pattern, the part that follows as often as the length allows, the text
+# between the letters of a path, and the scope. Each path has a folder of its own, so that there can be 200; the
+# first two shapes see only the name in it.
 SHAPES = [
     ("*a*a*..*b", "*", "a*", "", []),
     ("*aaa..ab", "*", "a", "", []),
     ("**/a/**/a/**/..b", "**/", "a/**/", "/", ["wholename"]),
     ("**/a/a/..b", "**/", "a/", "/", ["wholename"]),
 ]
-LENGTHS = [64, 128, 256, 512, 1019]  # of a pattern, and of a path behind its folder: 1,024 bytes with the 5 of that
+LENGTHS = [64, 128, 256, 512, 1019]  # of a pattern, and of a path in its folder: 1,024 bytes with the folder's 5
 
 
 def pattern_of(front, part, length):
@@ -24,7 +26,7 @@ def pattern_of(front, part, length):
 
 
 def path_of(folder, between, length, last):
-    """A path of at most so many bytes behind its folder: one a after another, but for the last letter."""
+    """A path of at most so many bytes in its folder: one a after another, except for the last letter."""
     return f"d{folder:03}/" + ("a" + between) * ((length - 1) // (1 + len(between))) + last
 
 
@@ -65,7 +67,7 @@ def main():
         for at, shape in enumerate(SHAPES):
             times = [measured(asked, f"/{at}-{length}", shape, length) for length in LENGTHS]
             print(f"| `{shape[0]}` |", *(f"{took:.2f} |" for took in times), flush=True)
-        print(f"The program waited {asked.waited():.1f} s for a processor; where that is much, these times are too long.")
+        print(f"The program waited {asked.waited():.1f} s for a processor; if that is much, these times are too long.")
 
 
 if __name__ == "__main__":

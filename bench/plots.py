@@ -1,8 +1,9 @@
 #!/usr/bin/env python3
 """Draws the plots of bench/README.md from the medians of some runs, and prints its table: bench/plots.py RUNS.json FOLDER
 
-RUNS.json is what bench/peer.py --json wrote. It makes FOLDER/since_by_clients.svg, answers a second by clients at the middle size, and
-FOLDER/cost_by_files.svg, the cost of a question by files, on a logarithmic scale. Under each stands where and when the runs were made."""
+bench/peer.py --json writes RUNS.json. The plots are FOLDER/since_by_clients.svg, answers a second by clients at the
+middle size, and FOLDER/cost_by_files.svg, the time of a question by files on a logarithmic scale. The text under each
+says where and when the runs were made."""
 import json
 import math
 import statistics
@@ -12,21 +13,23 @@ from xml.sax.saxutils import escape
 WIDTH, HEIGHT, LEFT, TOP, RIGHT, BOTTOM = 780, 440, 90, 50, 40, 130
 COLOURS = {"watchmand": "#0b6e99", "watchman": "#b85c00"}
 ROWS = {"watch to first answer, ms": "from watch to the first answer", "all files, median ms": "an answer with all files",
-        "since, 1,000 changed, median ms": "since, 1,000 files changed", "since, nothing changed, median ms": "since, nothing changed"}
+        "since, 1,000 changed, median ms": "since, 1,000 files changed",
+        "since, nothing changed, median ms": "since, nothing changed"}
 
 
 class Plot:
-    """A picture whose values run from the bottom to the top by `height`, a number's share of the way."""
+    """A picture; `height` gives the place of a value between the bottom (0) and the top (1)."""
 
     def __init__(self, title, run, height):
         self.parts, self.height, self.title = [], height, title
         self.text(LEFT, 28, title, 16)
         self.text(LEFT, HEIGHT - 40, f"{run['date']}, {run['machine']}", 11)
         self.text(LEFT, HEIGHT - 26, f"load {run['load before']} before the run and {run['load after']} after it", 11)
-        self.text(LEFT, HEIGHT - 12, f"Watchman {run['watchman']}; made by bench/peer.sh --json and bench/plots.py", 11)
+        self.text(LEFT, HEIGHT - 12, f"Watchman {run['watchman']}; made by make bench NAME=plots", 11)
 
     def text(self, x, y, told, size=12, anchor="start", colour="#222"):
-        self.parts.append(f'<text x="{x:.1f}" y="{y:.1f}" font-size="{size}" text-anchor="{anchor}" fill="{colour}">{escape(told)}</text>')
+        place = f'x="{x:.1f}" y="{y:.1f}" font-size="{size}" text-anchor="{anchor}"'
+        self.parts.append(f'<text {place} fill="{colour}">{escape(told)}</text>')
 
     def y(self, value):
         return HEIGHT - BOTTOM - (HEIGHT - BOTTOM - TOP) * self.height(value)
@@ -38,7 +41,8 @@ class Plot:
 
     def bar(self, x, width, value, colour, told):
         at = self.y(value)
-        self.parts.append(f'<rect x="{x:.1f}" y="{at:.1f}" width="{width:.1f}" height="{HEIGHT - BOTTOM - at:.1f}" fill="{colour}"/>')
+        size = f'width="{width:.1f}" height="{HEIGHT - BOTTOM - at:.1f}"'
+        self.parts.append(f'<rect x="{x:.1f}" y="{at:.1f}" {size} fill="{colour}"/>')
         self.text(x + width / 2, at - 5, told, 11, "middle")
 
     def line(self, points, colour, dashes):
@@ -48,13 +52,16 @@ class Plot:
 
     def names(self, at):
         for place, (name, colour) in enumerate(COLOURS.items()):
-            self.parts.append(f'<rect x="{WIDTH - RIGHT - 220 + 110 * place}" y="{at - 10}" width="12" height="12" fill="{colour}"/>')
-            self.text(WIDTH - RIGHT - 202 + 110 * place, at, name)
+            left = WIDTH - RIGHT - 220 + 110 * place
+            self.parts.append(f'<rect x="{left}" y="{at - 10}" width="12" height="12" fill="{colour}"/>')
+            self.text(left + 18, at, name)
 
     def save(self, path):
         with open(path, "w") as file:
-            file.write(f'<svg xmlns="http://www.w3.org/2000/svg" width="{WIDTH}" height="{HEIGHT}" font-family="sans-serif" role="img">\n'
-                       f"<title>{escape(self.title)}</title>\n" + f'<rect width="{WIDTH}" height="{HEIGHT}" fill="white"/>\n' + "\n".join(self.parts) + "\n</svg>\n")
+            size = f'width="{WIDTH}" height="{HEIGHT}"'
+            file.write(f'<svg xmlns="http://www.w3.org/2000/svg" {size} font-family="sans-serif" role="img">\n')
+            file.write(f'<title>{escape(self.title)}</title>\n<rect {size} fill="white"/>\n')
+            file.write("\n".join(self.parts) + "\n</svg>\n")
 
 
 def medians(row):
@@ -63,7 +70,8 @@ def medians(row):
 
 def spread(found):
     """The least and the greatest of some runs."""
-    told = [f"{value:,.3f}" if value < 1 else f"{value:,.1f}" if value < 100 else f"{value:,.0f}" for value in (min(found), max(found))]
+    told = [f"{value:,.3f}" if value < 1 else f"{value:,.1f}" if value < 100 else f"{value:,.0f}"
+            for value in (min(found), max(found))]
     return told[0] if told[0] == told[1] else f"{told[0]} to {told[1]}"
 
 
@@ -116,7 +124,8 @@ def files_plot(run):
         for name, colour in COLOURS.items():
             plot.line([(x, found[size, row][name]) for x, size in zip(places, sizes)], colour, dashes)
         x, y = LEFT + 225 * (place % 2), HEIGHT - BOTTOM + 38 + 18 * (place // 2)
-        plot.parts.append(f'<line x1="{x}" y1="{y - 4}" x2="{x + 34}" y2="{y - 4}" stroke="#222" stroke-width="2" stroke-dasharray="{dashes}"/>')
+        ends = f'x1="{x}" y1="{y - 4}" x2="{x + 34}" y2="{y - 4}"'
+        plot.parts.append(f'<line {ends} stroke="#222" stroke-width="2" stroke-dasharray="{dashes}"/>')
         plot.text(x + 40, y, told, 11)
     plot.names(HEIGHT - BOTTOM + 42)
     return plot

@@ -1,15 +1,15 @@
 #!/usr/bin/env python3
-"""Answers a second while a root changes and while it doesn't: share.py PROGRAM ASK [FILES] [SECONDS]
+"""Answers a second while a root changes and while it doesn't: share.py WATCHMAND ASK [FILES] [SECONDS]
 
-One root of FILES empty files (default 100,000) in a server; 1, 8 and 30 clients ask all the time for the same 100 that changed, by the
-program of ask.c, for SECONDS (default 3) each: while nothing is published, and while one client more observes a change of one of
-these files for each millisecond. 31 clients, the most that there can be, leave no room for that one. What is answered before and
-behind all that has to be these 100 files, and no other reply may be a refusal."""
-import itertools, json, os, pathlib, subprocess, sys, tempfile, threading, time
-sys.path.insert(0, str(pathlib.Path(__file__).resolve().parent.parent / "tools"))
+A server has one root of FILES (100,000) empty files. 1, 8 and 30 clients ask for the same 100 changed files again
+and again (the program of ask.c), for SECONDS (3) each: first while nothing is published, then while a further
+client observes a change of one of these files each millisecond. With 31 clients, the most that a server takes,
+there is no such client. Before and after all that the answer must be these 100 files; no other reply may be a
+refusal."""
+import itertools, json, os, subprocess, sys, tempfile, threading, time
 from concurrent.futures import ThreadPoolExecutor
-from asked import ensure
-from served import Session, serving, until
+from asked import Asker, ensure
+from server import serving, until
 
 CHANGING, FOLDER = 100, 100
 sizes = itertools.count(1)  # no file gets a size twice
@@ -19,18 +19,17 @@ def path(number):
     return f"d{number // FOLDER:05}/f{number:07}"
 
 
-class Client(Session):
-    def send(self, *request):
-        self.socket.sendall(json.dumps(request).encode() + b"\n")
+class Sure(Asker):
+    """A client whose answers must be no refusals but `6 NotReady`, before the first crawl has ended."""
 
-    def reply(self):
-        reply = json.loads(self.lines.readline())
-        ensure(reply.get("error", "6 ").startswith("6 "), f"an answer was {reply}")  # `6`: the first crawl isn't done yet
+    def next(self):
+        reply = super().next()
+        ensure(reply.get("error", "6 ").startswith("6 "), f"an answer was {reply}")
         return reply
 
-    def ask(self, *request):
-        self.send(*request)
-        return self.reply()
+    def asked(self, *request):
+        self.send(request)
+        return self.next()
 
 
 def make_files(root, files):
@@ -41,19 +40,19 @@ def make_files(root, files):
 
 
 def change(client, root, files, numbers):
-    """Observes a change for each of these numbers: one of the changing files, which lie far apart, has a new size."""
+    """Observes a change for each of these numbers: one of the changing files, which are far apart, has a new size."""
     for number in numbers:
         pairs = [[path(number % CHANGING * (files // CHANGING)), {"mtime_ms": 0, "size": next(sizes), "type": "f"}]]
-        client.send("observe", root, pairs)
+        client.send(["observe", root, pairs])
     for _ in numbers:
-        ensure("clock" in client.reply(), "a change was refused")
+        ensure("clock" in client.next(), "a change was refused")
 
 
 def change_until(ended, socket, root, files):
-    """Observes a change for each millisecond that passed, from a session of its own, until the end; how many a second they were."""
-    client, begun, count = Client(socket), time.monotonic(), 0
+    """Observes a change each millisecond, in a session of its own, until the end; how many a second they were."""
+    client, begun, count = Sure(socket), time.monotonic(), 0
     while not ended.wait(0.001):
-        due = min(100, int(1000 * (time.monotonic() - begun)) - count)  # a session holds no more replies that nobody reads
+        due = min(100, int(1000 * (time.monotonic() - begun)) - count)  # a session keeps only so many unread replies
         change(client, root, files, range(count, count + due))
         count += due
     client.close()
@@ -61,9 +60,9 @@ def change_until(ended, socket, root, files):
 
 
 def answers(ask, socket, question, clients, seconds):
-    """How many answers a second these clients were given."""
-    line = json.dumps(question) + "\n"
-    asked = subprocess.run([ask, socket, str(clients), str(int(1000 * seconds)), '{"clock":"c:'], input=line, capture_output=True, text=True)
+    """How many answers a second these clients got."""
+    words = [ask, socket, str(clients), str(int(1000 * seconds)), '{"clock":"c:']
+    asked = subprocess.run(words, input=json.dumps(question) + "\n", capture_output=True, text=True)
     ensure(asked.returncode == 0, f"ask ended with status {asked.returncode}: {asked.stderr}")
     return int(asked.stdout) / seconds
 
@@ -81,15 +80,15 @@ def answers_beside(ask, socket, root, files, question, clients, seconds):
 
 
 def measure(ask, socket, root, files, seconds):
-    client = Client(socket)
-    client.ask("watch", root)
-    ready = until(lambda: client.ask("clock", root).get("clock"), 600)
-    there = client.ask("query", root, {"expression": ["type", "f"], "fields": ["name"]})["files"]
+    client = Sure(socket)
+    client.asked("watch", root)
+    ready = until(lambda: client.asked("clock", root).get("clock"), 600)
+    there = client.asked("query", root, {"expression": ["type", "f"], "fields": ["name"]})["files"]
     ensure(len(there) == files, f"the server found {len(there)} files of {files}")
     change(client, root, files, range(CHANGING))
     question = ["since", root, ready]
     wanted = sorted(path(number * (files // CHANGING)) for number in range(CHANGING))
-    is_right = lambda: sorted(file["name"] for file in client.ask(*question)["files"]) == wanted
+    is_right = lambda: sorted(file["name"] for file in client.asked(*question)["files"]) == wanted
     ensure(is_right(), "the answer isn't of the files that changed")
     client.close()
     print("| clients | nothing published | with changes | of what it is without | changes a second |\n|---|---|---|---|---|")
@@ -99,7 +98,7 @@ def measure(ask, socket, root, files, seconds):
         print(f"| {clients} | {quiet:,.0f} | {beside:,.0f} | {beside / quiet:.2f} | {changes:,.0f} |", flush=True)
     print(f"| 31 | {answers(ask, socket, question, 31, seconds):,.0f} | - | - | - |")
     time.sleep(0.5)  # those sessions end
-    client = Client(socket)
+    client = Sure(socket)
     ensure(is_right(), "the last answer isn't of the files that changed")
     client.close()
 

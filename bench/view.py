@@ -1,15 +1,15 @@
 #!/usr/bin/env python3
-"""What a root of many files costs: view.py PROGRAM [FILES]
+"""Times and memory of a root of many files: view.py WATCHMAND [FILES]
 
-A root of FILES / 10 and one of FILES files (default 100,000, a multiple of 10,000), each told to a `watchmand lines` of its own and asked
-there: a table of microseconds from the write of a request to the end of its reply, medians where it is repeated, and of the
-process's memory. A question since a moment and the one since the clock that lists the same are asked in turn. A server, which keeps a view
-twice, is told of the same files: how much memory a file takes there. Paths have 40 bytes, folders 100 files; each answer is looked at. Where
-it waited for a processor, times are too long."""
-import pathlib, statistics, sys
-sys.path.insert(0, str(pathlib.Path(__file__).resolve().parent.parent / "tools"))
+A root of FILES / 10 and one of FILES files (100,000; a multiple of 10,000) are listed to a `watchmand lines` each
+and asked about there. A table has the microseconds from the write of a request to the end of its reply, medians if
+it is repeated, and the memory of the process. A question since a moment and one since the clock with the same
+answer are asked in turn. Then the same files are listed to a server, which keeps a view twice: how much memory a
+file takes there. Paths have 40 bytes, folders 100 files; each answer is compared. If a process waited for a
+processor, the times are too long."""
+import statistics, sys
 from asked import ensure, lines
-from served import names, server
+from server import names, server
 
 ROOT, FOLDER, MANY, ROUNDS = "/r", 100, 1000, 11
 
@@ -38,7 +38,7 @@ class Root:
         for first in range(0, files, FOLDER):
             took += self.list_folder(first)
         self.rows["the first listing, folder by folder"] = 1e6 * took
-        self.rows["memory at most behind it, MB"] = asked.memory("VmHWM") / 1e6
+        self.rows["memory at most after it, MB"] = asked.memory("VmHWM") / 1e6
         self.resident = asked.memory("VmRSS")
         _, answer = asked.timed("query", ROOT, {"fields": ["name"]})
         ensure(len(answer["files"]) == files, f"{len(answer['files'])} files were listed")
@@ -73,7 +73,8 @@ class Root:
         return self.answered(count, query)[0]
 
     def since(self, count, moment):
-        """What changed last, asked since a clock and since a moment in turn. The line at this moment was the last change, and so was each before it then."""
+        """What changed last, asked since a clock and since a moment in turn. The line at this moment was the last
+        change, and so was each before it then."""
         clock, number = {"since": f"{self.front}:{self.tick - count}"}, {"since": moment - count + 1}
         times = []
         for _ in range(101 if count < MANY else ROUNDS):
@@ -95,7 +96,7 @@ class Root:
 
 
 def measured(asked, files):
-    """The rows of a root of so many files, and what its process has in memory behind its listing."""
+    """The rows of a root of so many files, and the memory of its process after the listing."""
     root = Root(asked, files)
     spread = range(0, files, files // MANY)  # a thousand files that lie far apart
     root.row("a folder of 100 files listed again, nothing new", [root.list_folder(3 * FOLDER) for _ in range(101)])
@@ -123,15 +124,15 @@ def measured(asked, files):
 
 
 def resident_twice(program, files):
-    """What a server has in memory once it was told of so many files, and both copies of its view have taken them in."""
+    """The memory of a server that keeps so many files in both copies of its view."""
     with server(program) as served:
         client, root = served.client(), served.folder + "/none"
         client.ask(["watch", root])
         names(client, root)
         requests = [["listing", root, 1, *folder_of(first)] for first in range(0, files, FOLDER)]
         for request in requests + [["observe", root, [[path(0), meta(size)]]] for size in (1, 2)]:
-            ensure("clock" in client.tell(request), f"{request[0]} was refused")
-        told = client.tell(["query", root, {"fields": ["name"], "expression": ["suffix", "none"]}])
+            ensure("clock" in client.reply(request), f"{request[0]} was refused")
+        told = client.reply(["query", root, {"fields": ["name"], "expression": ["suffix", "none"]}])
         ensure(told["clock"].endswith(f":{files // FOLDER + 3}"), f"the clock is {told['clock']}")
         return 1024 * served.memory()
 
@@ -155,9 +156,10 @@ def main():
     for what in few.rows:
         print(f"| {what} | {few.rows[what]:,.1f} | {many.rows[what]:,.1f} |")
     for count in few.ratios:
-        print(f"`since` a moment, {count:,} files changed: {few.ratios[count]:.2f} and {many.ratios[count]:.2f} times as long as since the clock.")
+        ratios = f"{few.ratios[count]:.2f} and {many.ratios[count]:.2f}"
+        print(f"`since` a moment, {count:,} files changed: {ratios} times as long as since the clock.")
     once, twice = (many.resident - few.resident) / (counts[1] - counts[0]), bytes_twice(sys.argv[1], *counts)
-    print(f"Each further file took {once:.0f} bytes of memory behind the listing, and {twice:.0f} in a server, which keeps a view twice.")
+    print(f"Each further file took {once:.0f} bytes of memory after the listing, and {twice:.0f} in a server: two copies.")
 
 
 if __name__ == "__main__":

@@ -1,7 +1,8 @@
 #!/usr/bin/env bash
-# A million `["watch-list"]` lines over a registry of 10 roots, answered by watchmand, and the same lines
-# parsed and the same replies printed by Python's json module, in one run. It shows the seconds and the
-# most memory of each, and that both printed the same bytes. Usage: bench/watch_list.sh PROGRAM [LINES]
+# Answers a million `["watch-list"]` lines over a registry of 10 roots by watchmand; then Python's json module
+# parses the same lines and prints the same replies. It prints the seconds and the most memory of each, and whether
+# both printed the same bytes.
+# usage: bench/lines.sh WATCHMAND [LINES]
 set -eu
 program=$(realpath "${1:-crates/watchmand/out/watchmand}")
 lines=${2:-1000000}
