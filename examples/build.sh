@@ -1,8 +1,9 @@
 #!/bin/sh
-# A build that compiles what changed since its last success, by a clock that it keeps itself (build) and by a cursor that the server keeps
-# (build_by_cursor). What is below "The demonstration" shows both on a folder of its own.
-# Usage: examples/build.sh SOCKET [WMCTL [RESTART]], where RESTART is a command that kills the server and starts it again
-# A name that has a quote, a backslash or a control character stands with a backslash in a reply: such a build fails here.
+# A build that compiles the files that changed since its last success: by a clock that it keeps itself (build), and
+# by a cursor that the server keeps (build_by_cursor). The part below "The demonstration" shows both with a folder
+# of its own.
+# usage: examples/build.sh SOCKET [WMCTL [RESTART]]; RESTART is a command that kills the server and starts it again
+# In a reply a name with a quote, a backslash or a control character has backslashes. Such a build fails here.
 set -eu
 socket=$1
 wmctl=${2:-wmctl}
@@ -10,27 +11,28 @@ restart=${3:-}
 top=$(mktemp -d)
 root=$top/src
 out=$top/out
-trap '"$wmctl" "$socket" "[\"watch-del\",\"$root\"]" > "$top/gone" || true; rm -rf "$top"' EXIT
+trap '"$wmctl" "$socket" "[\"watch-del\",\"$root\"]" > "$top/deleted" || true; rm -rf "$top"' EXIT
 mkdir "$root" "$out"
 
 ask() { "$wmctl" "$socket" "$1"; }
 
-# The sources that changed since a clock or a cursor ($1; all of them for an empty one), as of now. What is deleted is listed too. It waits until
-# the feed has sent all that happened before; status 3 means that no feed runs and nothing was asked: then the server looks at every file first.
+# The reply with the sources that changed since a clock or a cursor ($1; all sources if it is empty), up to now,
+# deleted ones too. wmctl waits until the feed has sent all earlier changes. Its status 3 means that no feed runs,
+# and that it sent no question: then the server crawls the folder first.
 changed() {
   query="[\"query\",\"$root\",{${1:+\"since\":\"$1\",}\"expression\":[\"suffix\",\"c\"],\"fields\":[\"name\"]}]"
   synced=0
   "$wmctl" "$socket" "$query" --sync "$root" 2> "$top/unsynced" || synced=$?
   [ "$synced" = 3 ] || return "$synced"
-  ask "[\"recrawl\",\"$root\"]" > "$top/looked" || { cat "$top/looked" && return 1; }
+  ask "[\"recrawl\",\"$root\"]" > "$top/crawled" || { cat "$top/crawled" && return 1; }
   ask "$query"
 }
 
 names_of() { sed -e 's/.*"files":\[//' -e 's/\],"is_fresh_instance".*//' -e 's/","/\
 /g' -e 's/^"//' -e 's/"$//'; }
 clock_of() { sed 's/.*"clock":"\([^"]*\)".*/\1/'; }
-# What a build begins with: an answer that is none, or has a name that isn't understood, fails. A fresh answer lists what is there and doesn't tell
-# what went, so nothing of before is trusted.
+# The beginning of each build. It fails if the question failed, or if a name has a backslash. A fresh answer lists
+# all files that exist, and no deleted ones: so the old objects go.
 begin() { # STATUS REPLY
   [ "$1" = 0 ] || { echo "  $2" && return 1; }
   case $2 in *\\*) echo "  a name has a quote, a backslash or a control character" && return 1 ;; esac
@@ -39,7 +41,7 @@ begin() { # STATUS REPLY
 
 is_fresh() { case $1 in *'"is_fresh_instance":true'*) true ;; *) false ;; esac }
 
-# Compiles each source that is named, a line each, and takes away the object of one that is gone.
+# Compiles the sources that standard input names, a line each, and removes the object of a deleted one.
 compile() {
   while read -r name; do
     object=$out/$(printf %s "$name" | tr / _).o
@@ -53,7 +55,7 @@ compile() {
   done
 }
 
-# By a kept clock, which is that of the answer and is kept once all was compiled. What changes in between has a later clock.
+# By a clock. It keeps the clock of the answer once all is compiled: a file that changes meanwhile changes after that clock.
 build() {
   status=0
   reply=$(changed "$(cat "$top/clock" 2> /dev/null || true)") || status=$?
@@ -64,8 +66,9 @@ build() {
   mv "$top/clock.new" "$top/clock"
 }
 
-# By a cursor, which moves with each answer, also where the build fails then: what is to be compiled is kept in a file until it is.
-# What the server was still answering when this script was killed is lost: who must miss nothing keeps the clock.
+# By a cursor. It moves with each answer, even if the build then fails: so a file lists the sources until they are
+# compiled. If this script is killed before it has read an answer, that answer is lost. A build that must miss
+# nothing keeps the clock.
 build_by_cursor() {
   status=0
   reply=$(changed n:build) || status=$?
@@ -100,7 +103,7 @@ for way in build build_by_cursor; do
   rm "$root/one.c"
   try "one.c went" "$way"
   ls "$out"
-  ask "[\"watch-del\",\"$root\"]" > "$top/gone"
+  ask "[\"watch-del\",\"$root\"]" > "$top/deleted"
   try "the root isn't watched any longer" "$way"
   ask "[\"watch\",\"$root\"]" > "$top/watched"
   try "it is watched again" "$way"

@@ -1,7 +1,7 @@
 #!/usr/bin/python3
-"""pywatchman with JSON at a watchmand: a question, a subscription, and what it is told unasked.
+"""pywatchman with JSON at a watchmand: a question, a subscription, and the lines that come unasked.
 
-Usage: examples/clients.py SOCKET ROOT"""
+usage: examples/clients.py SOCKET ROOT"""
 import os
 import sys
 
@@ -24,15 +24,15 @@ clock = asked("clock", root)["clock"]
 assert asked("since", root, clock)["files"] == []
 names = asked("query", root, {"fields": ["name"]})["files"]
 assert sorted(names) == ["a.c", "d", "d/b.h"], names
-asked("subscribe", root, "told", {"fields": ["name"], "since": clock})
+asked("subscribe", root, "s", {"fields": ["name"], "since": clock})
 with open(os.path.join(root, "new.c"), "w"):
     pass
 asked("recrawl", root)
-# what is told unasked may come before the reply: then it was kept
-told = client.getSubscription("told", root=root) or []
-while not any("new.c" in one["files"] for one in told):
+# pywatchman keeps a line that comes before the reply
+unasked = client.getSubscription("s", root=root) or []
+while not any("new.c" in line["files"] for line in unasked):
     client.receive()
-    told += client.getSubscription("told", root=root) or []
-print("told unasked ->", told)
-assert asked("unsubscribe", root, "told")["deleted"]
+    unasked += client.getSubscription("s", root=root) or []
+print("unasked ->", unasked)
+assert asked("unsubscribe", root, "s")["deleted"]
 client.close()

@@ -1,8 +1,8 @@
 #!/usr/bin/env bash
-# Watchman's own clients talk to watchmand: the command `watchman` with JSON both ways, and pywatchman with JSON. They are installed
-# from Debian's packages where they aren't there (apt-get, as root). Prints what each command was answered; the status is 1
-# where an answer isn't what the script waits for.
-# Usage: examples/clients.sh [WATCHMAND]
+# Watchman's own clients talk to watchmand: the command `watchman` with JSON both ways, and pywatchman with JSON.
+# As root it installs them from Debian's packages (apt-get), if they aren't there. It prints each command and its
+# answer. The status is 1 if an answer isn't as expected.
+# usage: examples/clients.sh [WATCHMAND]
 set -eu
 program=$(realpath "${1:-crates/watchmand/out/watchmand}")
 here=$(dirname "$(realpath "$0")")
@@ -20,7 +20,7 @@ echo two >"$folder/tree/d/b.h"
 server=$!
 until grep -q ready "$folder/out"; do sleep 0.05; done
 
-# One command by the client `watchman`; its text has to be found in the reply.
+# One command by the client `watchman`; its reply must have the text.
 by_watchman() { # JSON TEXT
     reply=$(printf '%s\n' "$1" | watchman -j --no-spawn --no-local --no-pretty --sockname="$folder/socket" \
         --server-encoding=json --output-encoding=json)

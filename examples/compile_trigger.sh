@@ -1,7 +1,7 @@
 #!/bin/sh
-# A trigger that compiles: the server itself runs a script where C files changed, and the script reads their names. What is below "The
-# demonstration" shows it on a folder of its own.
-# Usage: examples/compile_trigger.sh SOCKET [WMCTL [RESTART]], where RESTART is a command that kills the server and starts it again
+# A trigger that compiles: the server itself runs a script when C files changed, and the script reads their names.
+# The part below "The demonstration" shows it with a folder of its own.
+# usage: examples/compile_trigger.sh SOCKET [WMCTL [RESTART]]; RESTART is a command that kills the server and starts it again
 set -eu
 socket=$1
 wmctl=${2:-wmctl}
@@ -9,13 +9,14 @@ restart=${3:-}
 top=$(mktemp -d)
 root=$top/src
 out=$top/out
-trap '"$wmctl" "$socket" "[\"watch-del\",\"$root\"]" > "$top/gone" || true; rm -rf "$top"' EXIT
+trap '"$wmctl" "$socket" "[\"watch-del\",\"$root\"]" > "$top/deleted" || true; rm -rf "$top"' EXIT
 mkdir -p "$root" "$out/objects"
 
 ask() { "$wmctl" "$socket" "$1"; }
 
-# What the trigger runs, in the root's folder: a name a line, as it is, not as JSON. Deleted files are among them.
-# After a restart of the server all that exist are named, so what is compiled once more does no harm.
+# The script of the trigger, which runs in the root's folder. It reads a name a line, not as JSON, also those of
+# deleted files. After a restart of the server it reads the names of all C files: it does no harm to compile one
+# again.
 cat > "$top/compile.sh" <<'SCRIPT'
 out=$1
 while IFS= read -r name; do
@@ -32,10 +33,12 @@ SCRIPT
 
 # The demonstration.
 trigger() {
-  ask "[\"trigger\",\"$root\",{\"name\":\"compile\",\"command\":[\"sh\",\"$top/compile.sh\",\"$out\"],\"stdin\":\"NAME_PER_LINE\",\"expression\":[\"suffix\",\"c\"]}]"
+  command="[\"sh\",\"$top/compile.sh\",\"$out\"]"
+  definition="{\"name\":\"compile\",\"command\":$command,\"stdin\":\"NAME_PER_LINE\",\"expression\":[\"suffix\",\"c\"]}"
+  ask "[\"trigger\",\"$root\",$definition]"
 }
 
-# Until the log has a line as often as that.
+# Waits until the log has a line so many times.
 has_logged() { # LINE TIMES
   rounds=0
   while [ "$(grep -cx "$1" "$out/log")" -lt "$2" ]; do
@@ -46,25 +49,25 @@ has_logged() { # LINE TIMES
   echo "  $1"
 }
 
-looks() { ask "[\"recrawl\",\"$root\"]" > "$top/looked"; }
+crawl() { ask "[\"recrawl\",\"$root\"]" > "$top/crawled"; }
 
 : > "$out/log"
 ask "[\"watch\",\"$root\"]" > "$top/watched"
 echo 'int one(void) { return 1; }' > "$root/one.c"
 mkdir "$root/lib"
 echo 'int two(void) { return 2; }' > "$root/lib/two.c"
-looks
+crawl
 echo "the trigger is made:"
 trigger | grep -o '"disposition":"[a-z_]*"'
 has_logged "compiled one.c" 1
 has_logged "compiled lib/two.c" 1
 echo "one.c changed:"
 echo 'int one(void) { return 11; }' > "$root/one.c"
-looks
+crawl
 has_logged "compiled one.c" 2
 echo "one.c went:"
 rm "$root/one.c"
-looks
+crawl
 has_logged "forgot one.c" 1
 ls "$out/objects"
 if [ -n "$restart" ]; then

@@ -1,8 +1,8 @@
 #!/usr/bin/env python3
-"""Keeps a list of a root's files by a subscription, over the socket, with Python alone.
+"""Keeps a list of a root's files by a subscription, with Python's own library.
 
-Usage: examples/follow.py SOCKET [RESTART], where RESTART is a command that kills the server and starts it again.
-The class Followed is what to take; main shows it on a folder of its own."""
+usage: examples/follow.py SOCKET [RESTART]; RESTART is a command that kills the server and starts it again.
+Take the class Followed; main shows it with a folder of its own."""
 import json
 import os
 import socket
@@ -13,14 +13,14 @@ import time
 
 
 class Followed:
-    """The files of a root: `files` is what is there as the server knew it at `clock`."""
+    """The files of a root: `files` are those that the server knew at `clock`."""
 
     def __init__(self, path, root):
         self.path, self.root, self.files, self.clock = path, root, set(), None
         self.connect()
 
     def connect(self):
-        """Subscribes since the clock of the list; a server that was started since then answers fresh, with all files."""
+        """Subscribes since the clock of the list. A server that was started after that clock answers fresh, with all files."""
         for _ in range(100):
             try:
                 self.socket = socket.socket(socket.AF_UNIX)
@@ -30,7 +30,7 @@ class Followed:
                 reply = self.ask("subscribe", self.root, "followed", asked)
                 if "error" not in reply:
                     return
-                if not reply["error"].startswith("6 "):  # not crawled yet since its start
+                if not reply["error"].startswith("6 "):  # the server hasn't crawled the root yet since its start
                     raise ValueError(reply["error"])
             except OSError:
                 pass
@@ -48,24 +48,25 @@ class Followed:
         return json.loads(read)
 
     def next(self):
-        """Waits for the next line that is told, takes it in, and gives it."""
+        """Waits for the next line of the subscription, applies it to the list, and returns it."""
         while True:
             try:
-                told = self.line()
+                line = self.line()
                 break
             except ConnectionError:
                 self.connect()
-        if told["is_fresh_instance"]:
+        if line["is_fresh_instance"]:
             self.files.clear()
-        for file in told["files"]:
+        for file in line["files"]:
             (self.files.add if file["exists"] else self.files.discard)(file["name"])
-        self.clock = told["clock"]
-        return told
+        self.clock = line["clock"]
+        return line
 
 
 def found(root):
-    """What is in a folder, by a walk of our own."""
-    return {os.path.relpath(os.path.join(folder, name), root) for folder, folders, files in os.walk(root) for name in folders + files}
+    """The paths of all that is in a folder."""
+    walked = [(folder, name) for folder, folders, files in os.walk(root) for name in folders + files]
+    return {os.path.relpath(os.path.join(*place), root) for place in walked}
 
 
 def ask_once(path, *request):
@@ -76,8 +77,8 @@ def ask_once(path, *request):
 
 
 def show(what, followed, root):
-    told = followed.next()
-    print(f"{what}: fresh {told['is_fresh_instance']}, told {len(told['files'])}, there {len(followed.files)}")
+    line = followed.next()
+    print(f"{what}: fresh {line['is_fresh_instance']}, sent {len(line['files'])}, there {len(followed.files)}")
     assert followed.files == found(root), (followed.files, found(root))
 
 

@@ -1,16 +1,16 @@
 #!/bin/sh
-# Starts a server and runs each example against it, which has to print exactly what stands here; in the midst of each one the server is
-# killed and started again. Wants a C compiler (CC, or cc) and python3.
-# Usage: examples/run.sh WATCHMAND WMCTL
+# Starts a server and runs each example with it. Each must print exactly the lines below; in the middle of each the
+# server is killed and started again. It needs a C compiler (CC, or cc) and python3.
+# usage: examples/run.sh WATCHMAND WMCTL
 set -eu
 program=$(realpath "$1")
 wmctl=$(realpath "$2")
 here=$(dirname "$(realpath "$0")")
 folder=$(mktemp -d)
-trap 'kill -9 "$(cat "$folder/pid")" 2> "$folder/gone" || true; rm -rf "$folder"' EXIT
+trap 'kill -9 "$(cat "$folder/pid")" 2> "$folder/faults" || true; rm -rf "$folder"' EXIT
 "$program" format "$folder/state" > "$folder/formatted"
 
-# Kills the server, where there is one, and starts it over the same state file and socket. It is tried again while the killed one goes.
+# Kills the server, if there is one, and starts it over the same state file and socket. It tries again while the killed one ends.
 cat > "$folder/restart" <<SCRIPT
 #!/bin/sh
 cd "$folder"
@@ -19,7 +19,7 @@ for turn in 1 2 3 4 5 6 7 8 9 10; do
   : > ready
   "$program" serve state socket > ready 2> faults < /dev/null &
   echo \$! > pid
-  until grep -q ready ready || ! kill -0 \$! 2> gone; do sleep 0.02; done
+  until grep -q ready ready || ! kill -0 \$! 2> ended; do sleep 0.02; done
   ! grep -q ready ready || exit 0
   sleep 0.1
 done
@@ -29,14 +29,14 @@ SCRIPT
 chmod +x "$folder/restart"
 "$folder/restart"
 
-# Runs a command, which has to print what stands on standard input.
+# Runs a command, which must print the lines of standard input.
 prints() { # NAME COMMAND ..
   name=$1
   shift
   cat > "$folder/wanted"
   "$@" > "$folder/printed" 2>&1 || { cat "$folder/printed" && echo "$name failed" && exit 1; }
   diff -u "$folder/wanted" "$folder/printed" || { echo "$name printed something else" && exit 1; }
-  echo "$name printed what it has to"
+  echo "$name printed all that it must"
 }
 
 builds() { # WAY
@@ -101,7 +101,7 @@ the server was killed and started again:
 LINES
 
 prints follow.py "$here/follow.py" "$folder/socket" "$folder/restart" <<'LINES'
-subscribed: fresh True, told 3, there 3
-one came, one went: fresh False, told 2, there 3
-one went while the server was down: fresh True, told 2, there 2
+subscribed: fresh True, sent 3, there 3
+one came, one went: fresh False, sent 2, there 3
+one went while the server was down: fresh True, sent 2, there 2
 LINES
