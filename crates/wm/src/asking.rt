@@ -9,8 +9,8 @@ use crate::programs::has_inotifywait;
 use crate::server::{Reply, Server};
 use crate::unreadable::{Looks, name_unreadable, note_folder, unreadable_below, unreadable_found};
 use crate::waiting::Waiting;
-use wm_commands::{Feeding, query_line, root_line, shown_of};
 use wm_commands::arguments::Order;
+use wm_commands::{Feeding, query_line, root_line, shown_of};
 
 /// Says on standard error why a root is crawled, and has it crawled.
 fn crawl_instead(server: &Server<'_>, root: &str, is_running: bool) -> Result<(), Failure> {

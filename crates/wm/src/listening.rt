@@ -9,9 +9,9 @@ use std::io::{BufRead, BufReader, Write};
 use std::os::unix::net::UnixStream;
 use std::time::{Duration, Instant};
 use wm_client::refusal_of;
+use wm_commands::arguments::Order;
 use wm_commands::{Answer, Settle, answer_of, reported_name, subscribe_line};
 use wm_disk::Refusal;
-use wm_commands::arguments::Order;
 
 /// How often it is looked whether a change has settled, in milliseconds.
 const TICK: u64 = 10;

@@ -4,10 +4,10 @@ use crate::failure::{Failure, failed};
 use crate::server::{Server, bare};
 use crate::waiting::Waiting;
 use serde_json::Value;
+use wm_commands::arguments::Order;
 use wm_commands::{NO_ROOT_ADVICE, expression, fits_in_pattern, holder_of, name_in};
 use wm_disk::Refusal;
 use wm_names::RootPath;
-use wm_commands::arguments::Order;
 
 /// A folder, and the watched root that holds it.
 #[derive(Drop)]

@@ -11,8 +11,8 @@ use std::io::Write;
 use std::process::{Child, Command, Stdio};
 use std::thread;
 use std::time::Duration;
-use wm_commands::{Answer, Runs};
 use wm_commands::arguments::Order;
+use wm_commands::{Answer, Runs};
 
 /// How long a server that isn't there is left alone, in milliseconds.
 const RETRY: u64 = 500;
