@@ -31,7 +31,7 @@ EXAMPLES := build.sh compile_trigger.sh follow.py test_runner.sh
 
 # `make help` prints the comments that begin with two marks. A target's line ends with all that it needs and its time.
 ## make check     the fast checks without proofs: documents, names, must-fail edits, callers, widths
-##                of clauses, completion (python3, bash; seconds)
+##                of clauses, layout, completion (python3, bash; rattle for the layout; seconds)
 check:
 	tools/gate/check.py
 

@@ -2,7 +2,7 @@
 """What the gate's proofs don't see, without a proof, in seconds: tools/gate/check.py [PART ..]
 
 Each part prints what is wrong, a line each. The status is 1 if there is such a line."""
-import pathlib, re, subprocess, sys, textwrap, time
+import pathlib, re, shutil, subprocess, sys, textwrap, time
 
 sys.dont_write_bytecode = True
 import callers as called, documents as texts
@@ -155,7 +155,16 @@ def clauses():
     return found
 
 
-PARTS = {look.__name__: look for look in (documents, same_names, own_proofs, edits, layers, callers, clauses, contracts, completion)}
+def layout():
+    """Each file is as rt fmt writes it: rt ci fails a crate that has another one."""
+    files = [path for kind in ("rt", "antt") for folder in ("src", "specs", "proofs") for _, path in written(f"{folder}/**/*.{kind}")]
+    if not shutil.which("rattle"):
+        print("check: layout: not looked at, since rattle isn't found")
+        return []
+    return subprocess.run(["rattle", "fmt", "--check", *files], cwd=TOP, stdout=subprocess.PIPE, stderr=subprocess.STDOUT, text=True).stdout.splitlines()
+
+
+PARTS = {look.__name__: look for look in (documents, same_names, own_proofs, edits, layers, callers, clauses, contracts, completion, layout)}
 
 
 def main():
